@@ -1,0 +1,125 @@
+//! A list of bits with a capacity.
+ghost use Rattle.std.specs.Prelude.{◌≡◌, ◌<◌, ◌≤◌, ◌↔◌, List, [], ◌∷◌, ◌++◌, length, Bool, IsErr, IsTrue, IsNone, IfSome, IfNone, OnErr, IfOk, slice_get};
+
+use std::alloc::{AllocError, Global};
+use std::marker::Model;
+
+/// The answer of a call that wants memory where there is none. Nothing else is ever meant by it.
+pub type OutOfMemory = AllocError;
+
+/// The answer of a call that adds to a list whose free places don't suffice. Nothing was added.
+#[derive(Clone, Copy, Debug, PartialEq, Eq)]
+pub struct Full;
+
+/// A list of bits. Its capacity, in bits, is fixed when it is made, and no later call takes memory.
+///
+/// A contract sees it as a record of the list `items` and the number `capacity`.
+#[derive(Drop)]
+pub struct Bits {
+    bits: Vec<bool>,
+    room: u32,
+}
+
+/// A list of levels, one for each half period of the backscatter link frequency: `true` is high.
+pub type Levels = Bits;
+
+impl Model for Bits {
+    ghost use Rattle.std.specs.Prelude.{◌^◌, ◌<◌, ◌≤◌, vec_len, vec_capacity};
+    ghost use Rattle.bit_strings.specs.BitString.{BitString};
+
+    ghost Value = { BitString };
+
+    ghost view = { λ a. record { items = a.bits.items; capacity = a.room } };
+
+    ghost invariant = { λ a. (vec_len a.bits ≤ a.room) × (a.room ≤ vec_capacity a.bits) × (a.room < 2 ^ 32) };
+}
+
+impl Bits {
+    /// The empty list with room for `capacity` bits.
+    pub fn new(alloc: Global, capacity: u32) -> Result<Bits, OutOfMemory>
+        ensures { IfOk result (λ bits. (bits.items ≡ []) × (bits.capacity ≡ capacity)) }
+    {
+        let bits = Vec::with_capacity(alloc, capacity as usize)?;
+        Ok(Bits {
+            bits,
+            room: capacity,
+        })
+    }
+
+    /// How many bits the list has.
+    pub fn len(&self) -> u32
+        ensures count { result ≡ length self.now.items }
+        ensures within { length self.now.items ≤ self.now.capacity }
+    {
+        self.bits.len() as u32
+    }
+
+    /// Whether the list has no bit.
+    pub fn is_empty(&self) -> bool
+        ensures { IsTrue result ↔ (self.now.items ≡ []) }
+    {
+        self.bits.is_empty()
+    }
+
+    /// How many bits the list has room for, those that it has included.
+    pub fn capacity(&self) -> u32
+        ensures room { result ≡ self.now.capacity }
+        ensures within { length self.now.items ≤ self.now.capacity }
+    {
+        self.room
+    }
+
+    /// Takes all bits off. The capacity stays.
+    pub fn clear(&mut self)
+        ensures { self.new ≡ record self.old { items = [] } }
+    {
+        self.bits.clear();
+    }
+
+    /// The bit at the place `at`, counted from 0; none past the end.
+    pub fn get(&self, at: u32) -> Option<bool>
+        ensures value { result ≡ slice_get self.now.items at }
+        ensures none { IsNone result ↔ (length self.now.items ≤ at) }
+    {
+        self.bits.get(at as usize).copied()
+    }
+
+    /// The last bit; none where the list is empty.
+    pub fn last(&self) -> Option<bool>
+        ensures value { IfSome result (λ bit. (front : List Bool) × (self.now.items ≡ front ++ bit ∷ [])) }
+        ensures none { IsNone result ↔ (self.now.items ≡ []) }
+    {
+        self.bits.last().copied()
+    }
+
+    /// The whole list.
+    pub fn as_slice(&self) -> &[bool]
+        ensures value { result.now ≡ self.now.items }
+        ensures within { length self.now.items ≤ self.now.capacity }
+    {
+        self.bits.as_slice()
+    }
+
+    /// Adds a bit at the end. `Full` comes exactly where the list has as many bits as it has room
+    /// for, and changes nothing.
+    pub fn push(&mut self, bit: bool) -> Result<(), Full>
+        ensures full { IsErr result ↔ (length self.old.items ≡ self.old.capacity) }
+        ensures room { length self.old.items < self.old.capacity → self.new ≡ record self.old { items = self.old.items ++ bit ∷ [] } }
+        ensures err { OnErr result (self.new ≡ self.old) }
+    {
+        if self.bits.len() == self.room as usize {
+            return Err(Full);
+        }
+        self.bits.push_reserved(bit);
+        Ok(())
+    }
+
+    /// Takes the last bit off and answers it; none where the list is empty, and then nothing changes.
+    pub fn pop(&mut self) -> Option<bool>
+        ensures some { IfSome result (λ bit. self.old ≡ record self.new { items = self.new.items ++ bit ∷ [] }) }
+        ensures none { IsNone result ↔ (self.old.items ≡ []) }
+        ensures unchanged { IfNone result (self.new ≡ self.old) }
+    {
+        self.bits.pop()
+    }
+}
