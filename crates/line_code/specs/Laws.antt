@@ -1,0 +1,35 @@
+-- What holds of each line code, as facts on its table.
+use Rattle.std.specs.Prelude.{◌≡◌, ◌≢◌, ℕ, ◌<◌, ◌≤◌, Bool, true, false, not, List, [], ◌++◌, length, Option, Some, None, slice_get, slice_set}
+use Rattle.line_code.specs.Table.{Context, Table}
+use Rattle.line_code.specs.Stream.{blocks, Streams}
+
+-- each block has the same number of levels, from 1 to 16
+pub record IsEven (t : Table) (chips : ℕ) : Type 0 where
+  pub least : 1 ≤ chips
+  pub most : chips ≤ 16
+  pub blocks_even : (c : Context) (bit : Bool) → length (t.block c bit) ≡ chips
+
+-- something stands before the data
+abbrev pub HasLead : Table → Type 0
+HasLead t = (trext : Bool) → 1 ≤ length (t.lead trext)
+
+-- in one context the blocks of 0 and of 1 differ
+abbrev pub TellsBits : Table → Type 0
+TellsBits t = (c : Context) → t.block c false ≢ t.block c true
+
+-- the level, inverted
+abbrev pub inverted : Option Bool → Bool
+inverted (Some level) = not level
+inverted None = false
+
+-- the levels, with the one at a place inverted
+abbrev pub flipped : List Bool → ℕ → List Bool
+flipped levels at = slice_set levels at (inverted (slice_get levels at))
+
+-- no stream with one level flipped is a stream of the same code and TRext
+abbrev pub RefusesFlips : Table → Type 0
+RefusesFlips t = (trext : Bool) (levels : List Bool) (at : ℕ) → at < length levels → Streams t trext levels → ¬ Streams t trext (flipped levels at)
+
+-- no list of data blocks begins with the lead
+abbrev pub HidesLead : Table → Type 0
+HidesLead t = (trext : Bool) (c : Context) (bits rest : List Bool) → blocks t c bits ≢ t.lead trext ++ rest

@@ -1,0 +1,63 @@
+//! What a line code is.
+ghost use Rattle.std.specs.Prelude.{◌≡◌, ℕ, ◌<◌, length, Bool, Some, slice_get};
+ghost use Rattle.line_code.specs.Table.{Context, Table};
+ghost use Rattle.line_code.specs.Laws.{IsEven, HasLead, TellsBits, RefusesFlips, HidesLead};
+
+/// A line code of the link from tag to interrogator (6.3.1.3.2 of the standard).
+///
+/// A stream is a lead, which is the pilot and the preamble, then one block of [`LineCode::CHIPS`]
+/// levels for each bit, then the block of a dummy data-1.
+pub trait LineCode {
+    /// What the block of a bit depends on: the bit before it, and the phase in which the block
+    /// before it ended.
+    type Mark: Copy;
+
+    /// How many levels a bit has.
+    ghost CHIPS: { ℕ };
+
+    /// The code as a table.
+    ghost table: { Table };
+
+    /// The context that a mark stands for.
+    ghost context_of: { Self.Mark → Context };
+
+    /// How many levels a bit has, from 1 to 16.
+    const CHIPS: u32;
+
+    /// How many levels the pilot and the preamble have.
+    fn lead_len(trext: bool) -> u32
+        ensures { result ≡ length (table.lead trext) };
+
+    /// The level of the pilot and the preamble at the place `at`, counted from 0.
+    fn lead(trext: bool, at: u32) -> bool
+        requires { at < length (table.lead trext) }
+        ensures { slice_get (table.lead trext) at ≡ Some result };
+
+    /// The mark of the first bit after the lead.
+    fn after_lead() -> Self::Mark
+        ensures { context_of result ≡ table.start };
+
+    /// The level of a bit's block at the place `at`, counted from 0.
+    fn level(mark: Self::Mark, bit: bool, at: u32) -> bool
+        requires { at < CHIPS }
+        ensures { slice_get (table.block (context_of mark) bit) at ≡ Some result };
+
+    /// The mark of the bit that follows a bit.
+    fn after(mark: Self::Mark, bit: bool) -> Self::Mark
+        ensures { context_of result ≡ table.next (context_of mark) bit };
+
+    // Each block has the same number of levels, from 1 to 16.
+    ghost even: { IsEven table CHIPS };
+
+    // Something stands before the data.
+    ghost has_lead: { HasLead table };
+
+    // In one context the blocks of 0 and of 1 differ.
+    ghost tells_bits: { TellsBits table };
+
+    // No stream with one level flipped is a stream of the same code and TRext.
+    ghost refuses_flips: { RefusesFlips table };
+
+    // No list of data blocks begins with the lead.
+    ghost hides_lead: { HidesLead table };
+}
