@@ -1,5 +1,5 @@
 //! A list of bits with a capacity.
-ghost use Rattle.std.specs.Prelude.{◌≡◌, ◌<◌, ◌≤◌, ◌↔◌, List, [], ◌∷◌, ◌++◌, length, Bool, IsErr, IsTrue, IsNone, IfSome, IfNone, OnErr, IfOk, slice_get};
+ghost use Rattle.std.specs.Prelude.{◌≡◌, ◌<◌, ◌≤◌, ◌↔◌, List, [], ◌∷◌, ◌++◌, length, Bool, not, Some, IsErr, IsTrue, IsNone, IfSome, IfNone, OnErr, IfOk, slice_get, slice_set};
 
 use std::alloc::{AllocError, Global};
 use std::marker::Model;
@@ -121,5 +121,13 @@ impl Bits {
         ensures unchanged { IfNone result (self.new ≡ self.old) }
     {
         self.bits.pop()
+    }
+
+    /// Inverts the bit at the place `at`, counted from 0.
+    pub fn flip(&mut self, at: u32)
+        requires { at < length self.old.items }
+        ensures { (bit : Bool) → slice_get self.old.items at ≡ Some bit → self.new ≡ record self.old { items = slice_set self.old.items at (not bit) } }
+    {
+        self.bits[at as usize] = !self.bits[at as usize];
     }
 }

@@ -1,7 +1,16 @@
-//! Lists of bits with a capacity that is fixed when they are made, and what several subjects
-//! share about lists: the place at which a list stops being the front of some member of a family.
+//! Lists of bits with a capacity that is fixed when they are made, numbers in them, and what several
+//! subjects share: the place at which a list stops being the front of some member of a family,
+//! lists of items, small checked numbers and the line codes.
 #![tactic(auto)]
 
 mod bits;
+mod checked;
+mod code;
+mod fields;
+mod list;
 
 pub use bits::{Bits, Full, Levels, OutOfMemory};
+pub use checked::{Action, Count1, Payload, Pointer, QValue, Session};
+pub use code::Code;
+pub use fields::xor16;
+pub use list::List;
