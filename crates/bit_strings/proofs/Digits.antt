@@ -1,5 +1,5 @@
 -- How a loop over bits adds their digits.
-use Rattle.std.proofs.Common.{◌≡◌, ◌+◌, ◌*◌, ◌^◌, ◌<◌, ◌≤◌, ℕ, Bool, true, false, List, length, take, get_or, ◌/◌, ◌%◌, ◌∷◌, ◌++◌, [], append_assoc, append-nil, refl, ap, sym, ◌∙◌, arith, length-take}
+use Rattle.std.proofs.Common.{◌≡◌, ◌+◌, ◌*◌, ◌^◌, ◌<◌, ◌≤◌, ℕ, Bool, true, false, List, length, take, get_or, ◌/◌, ◌%◌, ◌∷◌, ◌++◌, [], append_assoc, append-nil, refl, ap, sym, ◌∙◌, arith, length-take, length-append}
 use Rattle.std.specs.Prelude.{◌==◌}
 use Rattle.bit_strings.specs.Numbers.{value_of, digit_of, field_of}
 use Rattle.bit_strings.specs.NumberLaws.{value_of-take_more, value_of-within, field_of-more, field_of-none}
@@ -33,3 +33,12 @@ field_all front whole value width none so_far =
 pub same_string : (bits : BitString) (items : List Bool) (capacity : ℕ) → bits.items ≡ items → bits.capacity ≡ capacity → bits ≡ record { items = items; capacity = capacity }
 same_string bits items capacity same_items same_capacity =
     ap (λ (i : List Bool). record { items = i; capacity = bits.capacity }) same_items ∙ ap (λ (n : ℕ). record { items = items; capacity = n }) same_capacity
+
+-- a bit and then a field of seven bits
+pub bit_and_field : (old mid new : BitString) (bit : Bool) (field : List Bool) → mid ≡ record { items = old.items ++ bit ∷ []; capacity = old.capacity } → length old.items + 8 ≤ old.capacity → (length mid.items + 7 ≤ mid.capacity → new ≡ record { items = mid.items ++ field; capacity = mid.capacity }) → new ≡ record { items = (old.items ++ bit ∷ []) ++ field; capacity = old.capacity }
+bit_and_field old mid new bit field pushed room put =
+    let capacity : mid.capacity ≡ old.capacity = ap (λ (b : BitString). b.capacity) pushed in
+    let items : mid.items ≡ old.items ++ bit ∷ [] = ap (λ (b : BitString). b.items) pushed in
+    let more : length mid.items ≡ length old.items + 1 = ap (λ (b : List Bool). length b) items ∙ length-append old.items (bit ∷ []) in
+    let written : new ≡ record { items = mid.items ++ field; capacity = mid.capacity } = put (omega arith) in
+    written ∙ rw (items, capacity)

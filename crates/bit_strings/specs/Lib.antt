@@ -1,5 +1,7 @@
 pub mod BitString
 pub mod Ebv
+pub mod EbvAnswers
+pub mod EbvLaws
 pub mod Family
 pub mod NumberLaws
 pub mod Numbers

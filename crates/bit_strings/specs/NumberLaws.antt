@@ -2,7 +2,7 @@
 use Rattle.std.specs.Prelude.{◌≡◌, ℕ, zero, suc, ◌+◌, ◌*◌, ◌/◌, ◌%◌, ◌^◌, ◌<◌, ◌≤◌, ◌==◌, Bool, true, false, List, [], ◌∷◌, ◌++◌, length, take, get_or, refl}
 use Rattle.std.proofs.Common.{sym, ◌∙◌, ap, subst, inl, inr, arith, length-append, add-one}
 use Rattle.std.proofs.Math.Nat.{pow-suc, mod-eq_of_lt, mod-one, eq-or-lt_of_le}
-use Rattle.std.proofs.lemmas.Nat.{mod-pow-add, div-mul-add, pow-add, pow_below}
+use Rattle.std.proofs.lemmas.Nat.{mod-pow-add, div-mul-add, pow-add, pow_below, shr_split}
 use Rattle.std.proofs.lemmas.List.{take_more}
 use Rattle.std.proofs.lemmas.Nat.Bits.{bit_at_cat_low}
 use Rattle.bit_strings.specs.Numbers.{digit_of, value_of, field_of}
@@ -93,3 +93,8 @@ field_of-more value width places same = ap (λ n. field_of value n) (same ∙ ad
 pub field_of-none : (value width : ℕ) → width ≡ 0 → field_of value width ≡ []
 unfolding field_of
 field_of-none value width same = ap (λ n. field_of value n) same
+
+-- a field looks at the last digits alone
+pub field_of-mod : (value width : ℕ) → field_of (value % 2 ^ width) width ≡ field_of value width
+field_of-mod value width =
+    sym (field_of-low (value / 2 ^ width) width (value % 2 ^ width) width (omega arith)) ∙ ap (λ n. field_of n width) (shr_split value width)

@@ -41,6 +41,7 @@ impl Bits {
         requires { width ≤ 31 }
         ensures some { IfSome result (λ value. value ≡ value_of (part_of self.now.items from width)) }
         ensures none { IsNone result ↔ (length self.now.items < from + width) }
+        ensures within { length self.now.items < 2 ^ 32 }
     {
         if self.len() < width || self.len() - width < from {
             return None;

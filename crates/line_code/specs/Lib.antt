@@ -4,5 +4,11 @@ pub mod Fm0
 pub mod Miller
 pub mod Laws
 pub mod Flips
+pub mod States
+pub mod Refusal
+pub mod AfterSeeking
+pub mod AfterInside
+pub mod AfterEnd
+pub mod Decoding
 pub use Rattle.bit_strings.specs.BitString
 pub use Rattle.bit_strings.specs.Family

@@ -3,5 +3,11 @@
 #![tactic(auto)]
 
 mod code;
+mod decoder;
+mod refusal;
+mod states;
 
 pub use code::LineCode;
+pub use decoder::decode;
+pub use refusal::LineRefusal;
+pub use states::{Ended, Inside, Seeking, Sought, Within};

@@ -1,0 +1,88 @@
+-- At most one answer holds where an extensible bit vector is looked for.
+use Rattle.std.proofs.Common.{◌≡◌, ◌≢◌, ℕ, zero, suc, ◌+◌, ◌-◌, ◌<◌, ◌≤◌, Bool, true, List, [], ◌∷◌, ◌++◌, length, take, drop, refl, sym, ◌∙◌, ap, subst, arith, length-append, length-take, length-drop, append_assoc, append-nil, Some}
+use Rattle.std.specs.Prelude.{slice_get}
+use Rattle.std.proofs.lemmas.Option.{slice_get_within}
+use Rattle.std.proofs.lemmas.List.{take-append-drop, take-append-le, nil_from_length}
+use Rattle.bit_strings.specs.Numbers.{part_of}
+use Rattle.bit_strings.specs.Ebv.{IsEbv, IsCutEbv, IsTooLong, BeginsWithNothing}
+use Rattle.bit_strings.specs.EbvLaws.{ebv_apart, says-ebv, ends-ebv}
+use Rattle.bit_strings.specs.EbvAnswers.{Answers, StandsAt}
+use Rattle.bit_strings.specs.declared.ebv.Ebv.{Ebv}
+use Rattle.bit_strings.specs.declared.ebv.Ebv.TheVariants.{Value, Short, NotShortest, TooLong}
+
+-- a list's front and what follows
+abbrev rest_of : List Bool → ℕ → ℕ → List Bool
+rest_of items from next = drop (next - from) (drop from items)
+
+split-at : (items : List Bool) (from next : ℕ) → part_of items from (next - from) ++ rest_of items from next ≡ drop from items
+split-at items from next = take-append-drop (next - from) (drop from items)
+
+value-value : (items : List Bool) (from n next m other : ℕ) → StandsAt items from n next → StandsAt items from m other → (n ≡ m) × (next ≡ other)
+value-value items from n next m other left right =
+    let same : (n ≡ m) × (part_of items from (next - from) ≡ part_of items from (other - from)) =
+    ebv_apart n m (part_of items from (next - from)) (part_of items from (other - from)) (rest_of items from next) (rest_of items from other) left.vector right.vector (split-at items from next ∙ sym (split-at items from other)) in
+    let lengths = ap length same.1 in
+    let l = length-take (next - from) (drop from items) in
+    let r = length-take (other - from) (drop from items) in
+    let d = length-drop from items in
+    (same.0, omega (arith, left.forward, left.within, right.forward, right.within))
+
+value-short : (items : List Bool) (from n next : ℕ) → StandsAt items from n next → IsCutEbv (drop from items) → ⊥
+value-short items from n next here cut =
+    let front : List Bool = part_of items from (next - from) in
+    let turned : front ++ (rest_of items from next ++ cut.more) ≡ (drop from items ++ cut.more) ++ [] =
+    sym (append_assoc front (rest_of items from next) cut.more) ∙ ap (λ (b : List Bool). b ++ cut.more) (split-at items from next) ∙ sym (append-nil (drop from items ++ cut.more)) in
+    let same : (n ≡ cut.number) × (front ≡ drop from items ++ cut.more) = ebv_apart n cut.number front (drop from items ++ cut.more) (rest_of items from next ++ cut.more) [] here.vector cut.whole turned in
+    cut.some_more (nil_from_length cut.more (omega (arith, ap length same.1, length-append (drop from items) cut.more, length-take (next - from) (drop from items))))
+
+value-nothing : (items : List Bool) (from n next : ℕ) → StandsAt items from n next → BeginsWithNothing (drop from items) → ⊥
+value-nothing items from n next here nothing =
+    says-ebv n (part_of items from (next - from)) (rest_of items from next) here.vector (subst BeginsWithNothing (sym (split-at items from next)) nothing)
+
+value-long : (items : List Bool) (from n next : ℕ) → StandsAt items from n next → IsTooLong (drop from items) → ⊥
+value-long items from n next here long =
+    let back = sym (split-at items from next) in
+    let at : (i : ℕ) → slice_get (drop from items) i ≡ Some true → slice_get (part_of items from (next - from) ++ rest_of items from next) i ≡ Some true =
+    λ i there. ap (λ (b : List Bool). slice_get b i) (split-at items from next) ∙ there in
+    ends-ebv n (part_of items from (next - from)) (rest_of items from next) here.vector (at 0 long.first) (at 8 long.second) (at 16 long.third) (at 24 long.fourth)
+
+slice_get-front : (xs more : List Bool) (i : ℕ) (bit : Bool) → slice_get xs i ≡ Some bit → slice_get (xs ++ more) i ≡ Some bit
+slice_get-front [] more i bit here = cc
+slice_get-front (x ∷ xs) more zero bit here = here
+slice_get-front (x ∷ xs) more (suc i) bit here = slice_get-front xs more i bit here
+
+more-there : (xs more : List Bool) (i : ℕ) → slice_get xs i ≡ Some true → slice_get (xs ++ more ++ []) i ≡ Some true
+more-there xs more i here =
+    ap (λ (b : List Bool). slice_get b i) (append-nil (xs ++ more)) ∙ slice_get-front xs more i true here
+
+short-nothing : (bits : List Bool) → IsCutEbv bits → BeginsWithNothing bits → ⊥
+short-nothing bits cut nothing =
+    let long : 8 ≤ length bits = omega (arith, ap length nothing, length-take 8 bits) in
+    let front : take 8 (bits ++ cut.more ++ []) ≡ take 8 bits = ap (λ (b : List Bool). take 8 b) (append-nil (bits ++ cut.more)) ∙ take-append-le 8 bits cut.more long in
+    says-ebv cut.number (bits ++ cut.more) [] cut.whole (front ∙ nothing)
+
+short-long : (bits : List Bool) → IsCutEbv bits → IsTooLong bits → ⊥
+short-long bits cut long =
+    ends-ebv cut.number (bits ++ cut.more) [] cut.whole (more-there bits cut.more 0 long.first) (more-there bits cut.more 8 long.second) (more-there bits cut.more 16 long.third) (more-there bits cut.more 24 long.fourth)
+
+pub one_answer : (items : List Bool) (from : ℕ) (a b : Ebv) → Answers a items from → Answers b items from → a ≡ b
+one_answer items from (Value n next) (Value m other) left right =
+    let same = value-value items from n next m other left right in
+    let number = same.0 in
+    let place = same.1 in
+    cc
+one_answer items from (Value n next) Short left right = absurd (value-short items from n next left right)
+one_answer items from (Value n next) NotShortest left right = absurd (value-nothing items from n next left right)
+one_answer items from (Value n next) TooLong left right = absurd (value-long items from n next left right)
+one_answer items from Short (Value m other) left right = absurd (value-short items from m other right left)
+one_answer items from Short Short left right = refl
+one_answer items from Short NotShortest left right = absurd (short-nothing (drop from items) left right)
+one_answer items from Short TooLong left right = absurd (short-long (drop from items) left right)
+one_answer items from NotShortest (Value m other) left right = absurd (value-nothing items from m other right left)
+one_answer items from NotShortest Short left right = absurd (short-nothing (drop from items) right left)
+one_answer items from NotShortest NotShortest left right = refl
+one_answer items from NotShortest TooLong left right = absurd (right.says left)
+one_answer items from TooLong (Value m other) left right = absurd (value-long items from m other right left)
+one_answer items from TooLong Short left right = absurd (short-long (drop from items) right left)
+one_answer items from TooLong NotShortest left right = absurd (left.says right)
+one_answer items from TooLong TooLong left right = refl

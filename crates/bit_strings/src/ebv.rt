@@ -1,0 +1,130 @@
+//! Extensible bit vectors in a list of bits.
+ghost use Rattle.std.specs.Prelude.{◌≡◌, ◌+◌, ◌*◌, ◌^◌, ◌<◌, ◌≤◌, ◌↔◌, ◌++◌, length, drop, IsErr, OnErr};
+ghost use Rattle.bit_strings.specs.Ebv.{ebv_of};
+ghost use Rattle.bit_strings.specs.EbvAnswers.{Answers, Begins};
+ghost use Rattle.bit_strings.specs.declared.ebv.Ebv.{Ebv};
+
+use crate::bits::{Bits, Full};
+
+/// What stands at the place where an extensible bit vector is looked for (Annex A). Only the
+/// shortest spelling, of at most four blocks, is one (profile).
+#[derive(Clone, Copy, Debug, PartialEq, Eq)]
+pub enum Ebv {
+    /// An extensible bit vector, and the place behind it.
+    Value {
+        /// The number, below `2^28`.
+        value: u32,
+        /// The place of the first bit behind it, counted from 0.
+        next: u32,
+    },
+    /// The list ends inside one.
+    Short,
+    /// The first block is 10000000, so a shorter spelling exists.
+    NotShortest,
+    /// Four blocks are begun and each says that another follows.
+    TooLong,
+}
+
+/// A block of eight bits.
+#[derive(Clone, Copy)]
+enum Block {
+    /// Fewer than eight bits stand there.
+    Cut,
+    /// The last block, and its digit to the base 128.
+    Last(u32),
+    /// A block that another follows, and its digit to the base 128.
+    More(u32),
+}
+
+impl Bits {
+    /// Adds the extensible bit vector of a number. `Full` comes exactly where its bits have not
+    /// enough free places, and changes nothing.
+    pub fn put_ebv(&mut self, value: u32) -> Result<(), Full>
+        requires { value < 2 ^ 28 }
+        ensures full { IsErr result ↔ (self.old.capacity < length self.old.items + length (ebv_of value)) }
+        ensures room { length self.old.items + length (ebv_of value) ≤ self.old.capacity → self.new ≡ record self.old { items = self.old.items ++ ebv_of value } }
+        ensures err { OnErr result (self.new ≡ self.old) }
+    {
+        let blocks = blocks_of(value);
+        if self.capacity() - self.len() < 8 * blocks {
+            return Err(Full);
+        }
+        let mut left = blocks;
+        while left > 0 {
+            left -= 1;
+            self.push(left > 0)?;
+            self.put_field((value >> (7 * left)) % 128, 7)?;
+        }
+        Ok(())
+    }
+
+    /// Reads the extensible bit vector that begins at the place `from`.
+    pub fn take_ebv(&self, from: u32) -> Ebv
+        ensures answer { Answers result self.now.items from }
+        ensures only { (other : Ebv) → Answers other self.now.items from → result ≡ other }
+    {
+        self.read_blocks(from)
+    }
+
+    /// Reads block by block: up to three that another may follow, and one that must be the last.
+    fn read_blocks(&self, from: u32) -> Ebv
+        ensures { Answers result self.now.items from }
+    {
+        let mut value = 0;
+        let mut at = from;
+        for before in 0..3u32 {
+            match self.block(at) {
+                Block::Cut => return Ebv::Short,
+                Block::Last(digit) => {
+                    return Ebv::Value {
+                        value: 128 * value + digit,
+                        next: at + 8,
+                    };
+                }
+                Block::More(digit) => {
+                    if before == 0 && digit == 0 {
+                        return Ebv::NotShortest;
+                    }
+                    value = 128 * value + digit;
+                    at += 8;
+                }
+            }
+        }
+        if self.get(at) == Some(true) {
+            return Ebv::TooLong;
+        }
+        match self.block(at) {
+            Block::Last(digit) => Ebv::Value {
+                value: 128 * value + digit,
+                next: at + 8,
+            },
+            Block::Cut | Block::More(_) => Ebv::Short,
+        }
+    }
+
+    /// The block at a place.
+    fn block(&self, at: u32) -> Block
+        ensures block { Begins result (drop at self.now.items) }
+        ensures within { length self.now.items < 2 ^ 32 }
+    {
+        match self.field(at, 8) {
+            None => Block::Cut,
+            Some(block) if block < 128 => Block::Last(block),
+            Some(block) => Block::More(block - 128),
+        }
+    }
+}
+
+/// How many blocks the shortest spelling of a number takes.
+fn blocks_of(value: u32) -> u32
+    requires { value < 2 ^ 28 }
+    ensures count { 8 * result ≡ length (ebv_of value) }
+    ensures few { result ≤ 4 }
+{
+    match value {
+        0..=0x7f => 1,
+        0x80..=0x3fff => 2,
+        0x4000..=0x1f_ffff => 3,
+        _ => 4,
+    }
+}

@@ -1,0 +1,16 @@
+use Rattle.std.proofs.Common.{sym, ap, ◌∙◌, not}
+use Rattle.std.proofs.lemmas.Bool.{false≢true}
+use Rattle.line_code.proofs.Whole.{decided}
+use Rattle.line_code.proofs.decoder.decode.Goals as goal
+
+pub returns-then-is_err-clause-only : goal.returns-then-is_err-clause-only
+returns-then-is_err-clause-only g c = λ bits s.
+    let levels = c.as_slice.ensures.value in
+    let answer = decided g.C.LineCode.table g.C.LineCode.CHIPS g.met.C.LineCode.even g.met.C.LineCode.tells_bits c.args.trext c.read-read.result c.as_slice.result.now c.read-read.new.out.items bits
+    c.read-read.ensures.ok c.read-read.ensures.refused (levels ∙ s) in
+    absurd (false≢true (sym (c.is_err.ensures.negation ∙ ap not c.if-is_err.true) ∙ answer.0))
+
+pub returns-else-is_err-clause-only : goal.returns-else-is_err-clause-only
+returns-else-is_err-clause-only g c = λ bits s.
+    decided g.C.LineCode.table g.C.LineCode.CHIPS g.met.C.LineCode.even g.met.C.LineCode.tells_bits c.args.trext c.read-read.result c.as_slice.result.now c.read-read.new.out.items bits
+    c.read-read.ensures.ok c.read-read.ensures.refused (c.as_slice.ensures.value ∙ s)

@@ -1,0 +1,7 @@
+use Rattle.std.proofs.Common.{refl}
+use Rattle.line_code.proofs.Reading.{reads_none}
+use Rattle.line_code.proofs.states.Inside.behind_lead.Goals as goal
+
+pub returns : goal.returns
+returns g c = λ trext taken.
+    reads_none g.C.LineCode.table g.C.LineCode.CHIPS g.met.C.LineCode.even trext _ c.after_lead.ensures refl refl refl taken refl refl

@@ -1,0 +1,2 @@
+pub mod SymbolContext
+pub mod MillerLaws

@@ -1,0 +1,6 @@
+-- The context of a bit, by the symbol before it.
+use Rattle.line_code.specs.Table.{Context}
+use Rattle.miller_line.specs.declared.subcarrier.SymbolBefore.{SymbolBefore}
+
+abbrev pub context : SymbolBefore → Context
+context symbol = record { before = symbol.bit; phase = symbol.phase }

@@ -1,0 +1,8 @@
+//! The Miller-modulated subcarrier, three of the line codes of the link from tag to interrogator.
+#![tactic(auto)]
+
+mod miller;
+mod subcarrier;
+
+pub use miller::{Miller2, Miller4, Miller8};
+pub use subcarrier::SymbolBefore;

@@ -1,0 +1,226 @@
+//! The three codes.
+ghost use Rattle.line_code.specs.Miller.{miller};
+ghost use Rattle.miller_line.specs.SymbolContext.{context};
+ghost use Rattle.miller_line.specs.MillerLaws.{two, four, eight, miller_even, miller_has_lead, miller_tells_bits, miller_refuses_flips, miller_hides_lead};
+
+use crate::subcarrier::{self, SymbolBefore};
+use line_code::LineCode;
+
+/// Miller-modulated subcarrier with M = 2 (6.3.1.3.2.3 of the standard): two cycles of the subcarrier,
+/// which are 4 levels, for each bit.
+#[derive(Clone, Copy, Debug, PartialEq, Eq)]
+pub struct Miller2;
+
+/// Miller-modulated subcarrier with M = 4 (6.3.1.3.2.3 of the standard): four cycles of the subcarrier,
+/// which are 8 levels, for each bit.
+#[derive(Clone, Copy, Debug, PartialEq, Eq)]
+pub struct Miller4;
+
+/// Miller-modulated subcarrier with M = 8 (6.3.1.3.2.3 of the standard): eight cycles of the
+/// subcarrier, which are 16 levels, for each bit.
+#[derive(Clone, Copy, Debug, PartialEq, Eq)]
+pub struct Miller8;
+
+impl LineCode for Miller2 {
+    type Mark = SymbolBefore;
+
+    ghost CHIPS = { 4 };
+
+    ghost table = { miller 2 };
+
+    ghost context_of = { context };
+
+    const CHIPS: u32 = 4;
+
+    fn lead_len(trext: bool) -> u32 {
+        subcarrier::lead_len(2, trext)
+    }
+
+    fn lead(trext: bool, at: u32) -> bool {
+        subcarrier::lead_level(2, trext, at)
+    }
+
+    fn after_lead() -> SymbolBefore {
+        subcarrier::after_lead()
+    }
+
+    fn level(mark: SymbolBefore, bit: bool, at: u32) -> bool {
+        subcarrier::block_level(2, mark, bit, at)
+    }
+
+    fn after(mark: SymbolBefore, bit: bool) -> SymbolBefore {
+        subcarrier::after(mark, bit)
+    }
+
+    ghost even = { miller_even 2 two };
+
+    ghost has_lead = { miller_has_lead 2 two };
+
+    ghost tells_bits = { miller_tells_bits 2 two };
+
+    ghost refuses_flips = { miller_refuses_flips 2 two };
+
+    ghost hides_lead = { miller_hides_lead 2 two };
+}
+
+impl LineCode for Miller4 {
+    type Mark = SymbolBefore;
+
+    ghost CHIPS = { 8 };
+
+    ghost table = { miller 4 };
+
+    ghost context_of = { context };
+
+    const CHIPS: u32 = 8;
+
+    fn lead_len(trext: bool) -> u32 {
+        subcarrier::lead_len(4, trext)
+    }
+
+    fn lead(trext: bool, at: u32) -> bool {
+        subcarrier::lead_level(4, trext, at)
+    }
+
+    fn after_lead() -> SymbolBefore {
+        subcarrier::after_lead()
+    }
+
+    fn level(mark: SymbolBefore, bit: bool, at: u32) -> bool {
+        subcarrier::block_level(4, mark, bit, at)
+    }
+
+    fn after(mark: SymbolBefore, bit: bool) -> SymbolBefore {
+        subcarrier::after(mark, bit)
+    }
+
+    ghost even = { miller_even 4 four };
+
+    ghost has_lead = { miller_has_lead 4 four };
+
+    ghost tells_bits = { miller_tells_bits 4 four };
+
+    ghost refuses_flips = { miller_refuses_flips 4 four };
+
+    ghost hides_lead = { miller_hides_lead 4 four };
+}
+
+impl LineCode for Miller8 {
+    type Mark = SymbolBefore;
+
+    ghost CHIPS = { 16 };
+
+    ghost table = { miller 8 };
+
+    ghost context_of = { context };
+
+    const CHIPS: u32 = 16;
+
+    fn lead_len(trext: bool) -> u32 {
+        subcarrier::lead_len(8, trext)
+    }
+
+    fn lead(trext: bool, at: u32) -> bool {
+        subcarrier::lead_level(8, trext, at)
+    }
+
+    fn after_lead() -> SymbolBefore {
+        subcarrier::after_lead()
+    }
+
+    fn level(mark: SymbolBefore, bit: bool, at: u32) -> bool {
+        subcarrier::block_level(8, mark, bit, at)
+    }
+
+    fn after(mark: SymbolBefore, bit: bool) -> SymbolBefore {
+        subcarrier::after(mark, bit)
+    }
+
+    ghost even = { miller_even 8 eight };
+
+    ghost has_lead = { miller_has_lead 8 eight };
+
+    ghost tells_bits = { miller_tells_bits 8 eight };
+
+    ghost refuses_flips = { miller_refuses_flips 8 eight };
+
+    ghost hides_lead = { miller_hides_lead 8 eight };
+}
+
+#[cfg(test)]
+mod tests {
+    use super::*;
+    use std::process::Abort;
+    use std::test::Fail;
+
+    // The lead of these levels, written as a text of 1 and 0, high and low.
+    fn assert_lead<C: LineCode>(rt: &impl Abort, trext: bool, lead: &[u8]) {
+        assert_eq!(rt; C::lead_len(trext) as usize, lead.len());
+        for (at, level) in lead.iter().enumerate() {
+            assert_eq!(rt; C::lead(trext, at as u32), *level == b'1', "at {at}");
+        }
+    }
+
+    // The block of these levels.
+    fn assert_block<C: LineCode<Mark = SymbolBefore>>(
+        rt: &impl Abort,
+        before: SymbolBefore,
+        bit: bool,
+        block: &[u8],
+    ) {
+        assert_eq!(rt; C::CHIPS as usize, block.len());
+        for (at, level) in block.iter().enumerate() {
+            assert_eq!(rt; C::level(before, bit, at as u32), *level == b'1', "at {at}");
+        }
+    }
+
+    #[test]
+    fn leads(rt: HostRuntime) -> Result<(), Fail> {
+        assert_lead::<Miller2>(&rt, false, b"1010101010101010101010010101011010010110");
+        assert_lead::<Miller2>(
+            &rt,
+            true,
+            b"1010101010101010101010101010101010101010101010101010101010101010101010010101011010010110",
+        );
+        assert_lead::<Miller4>(
+            &rt,
+            false,
+            b"10101010101010101010101010101010101010101010010101010101010110101010010101011010",
+        );
+        Ok(())
+    }
+
+    #[test]
+    fn lead_lengths(rt: HostRuntime) -> Result<(), Fail> {
+        assert_eq!(rt; Miller2::lead_len(false), 40);
+        assert_eq!(rt; Miller2::lead_len(true), 88);
+        assert_eq!(rt; Miller4::lead_len(false), 80);
+        assert_eq!(rt; Miller4::lead_len(true), 176);
+        assert_eq!(rt; Miller8::lead_len(false), 160);
+        assert_eq!(rt; Miller8::lead_len(true), 352);
+        Ok(())
+    }
+
+    #[test]
+    fn blocks(rt: HostRuntime) -> Result<(), Fail> {
+        let one_in_phase_0 = Miller2::after_lead();
+        let one_in_phase_1 = Miller2::after(one_in_phase_0, true);
+        let zero_in_phase_0 = Miller2::after(one_in_phase_0, false);
+        let zero_in_phase_1 = Miller2::after(one_in_phase_1, false);
+
+        assert_block::<Miller2>(&rt, one_in_phase_0, false, b"1010");
+        assert_block::<Miller2>(&rt, one_in_phase_0, true, b"1001");
+        assert_block::<Miller2>(&rt, one_in_phase_1, false, b"0101");
+        assert_block::<Miller2>(&rt, one_in_phase_1, true, b"0110");
+        assert_block::<Miller2>(&rt, zero_in_phase_0, false, b"0101");
+        assert_block::<Miller2>(&rt, zero_in_phase_0, true, b"1001");
+        assert_block::<Miller2>(&rt, zero_in_phase_1, false, b"1010");
+        assert_block::<Miller2>(&rt, zero_in_phase_1, true, b"0110");
+
+        assert_block::<Miller4>(&rt, one_in_phase_0, true, b"10100101");
+        assert_block::<Miller4>(&rt, zero_in_phase_0, false, b"01010101");
+        assert_block::<Miller8>(&rt, one_in_phase_0, true, b"1010101001010101");
+        assert_block::<Miller8>(&rt, zero_in_phase_0, false, b"0101010101010101");
+        Ok(())
+    }
+}

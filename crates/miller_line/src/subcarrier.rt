@@ -1,0 +1,136 @@
+//! What the three codes share. The number `m` is M of the standard: a symbol has `2 * m` levels, two
+//! halves of `m` levels each, and the subcarrier inverts at each level.
+ghost use Rattle.std.specs.Prelude.{◌≡◌, ℕ, ◌*◌, ◌<◌, ◌≤◌, Bool, false, true, ◌++◌, Some, length, slice_get};
+ghost use Rattle.line_code.specs.Table.{Context};
+ghost use Rattle.line_code.specs.Miller.{carrier, symbol, start_phase, middle_phase, miller_preamble, miller_lead, miller_block, miller_next};
+ghost use Rattle.miller_line.specs.SymbolContext.{context};
+
+/// The symbol before a bit's block.
+#[derive(Clone, Copy, Debug, PartialEq, Eq)]
+pub struct SymbolBefore {
+    bit: bool,
+    phase: bool,
+}
+
+/// The largest M.
+const MOST: u32 = 8;
+
+/// How many symbols the pilot has with TRext 0 (6.3.1.3.2.4 of the standard).
+const SHORT_PILOT: u32 = 4;
+
+/// How many symbols the pilot has with TRext 1 (6.3.1.3.2.4 of the standard).
+const LONG_PILOT: u32 = 16;
+
+/// How many symbols the preamble has, after the pilot.
+const PREAMBLE_SYMBOLS: u32 = 6;
+
+/// The preamble by the phases of the halves of its symbols 0, 1, 0, 1, 1, 1, of which the first goes
+/// on without inversion (6.3.1.3.2.4 of the standard).
+const PREAMBLE_PHASES: [bool; 12] = [
+    false, false, false, true, true, true, true, false, false, true, true, false,
+];
+
+/// The level of the subcarrier at the place `at`, counted from where it has this phase: high and low
+/// in turn, the first of them high in phase 0, which is `false`.
+fn carrier_level(phase: bool, at: u32) -> bool
+    ensures { (n : ℕ) → at < n → slice_get (carrier n phase) at ≡ Some result }
+{
+    if at % 2 == 0 { !phase } else { phase }
+}
+
+/// The level of a symbol at the place `at`, by the phases of its halves.
+fn symbol_level(m: u32, start: bool, middle: bool, at: u32) -> bool
+    requires { at < 2 * m }
+    ensures { slice_get (symbol m start middle) at ≡ Some result }
+{
+    if at < m {
+        carrier_level(start, at)
+    } else {
+        carrier_level(middle, at - m)
+    }
+}
+
+/// The phase at the start of a bit's symbol: a data-0 after a data-0 inverts it there.
+fn phase_at_start(before: SymbolBefore, bit: bool) -> bool
+    ensures { result ≡ start_phase (context before) bit }
+{
+    if bit || before.bit {
+        before.phase
+    } else {
+        !before.phase
+    }
+}
+
+/// The phase from the middle of a bit's symbol on: a data-1 inverts it there.
+fn phase_at_middle(start: bool, bit: bool) -> bool
+    ensures { result ≡ middle_phase start bit }
+{
+    if bit { !start } else { start }
+}
+
+/// How many levels the pilot has.
+fn pilot_len(m: u32, trext: bool) -> u32
+    requires { m ≤ MOST }
+    ensures pilot { miller_lead m trext ≡ carrier result false ++ miller_preamble m }
+    ensures most { result ≤ 32 * m }
+{
+    let symbols = if trext { LONG_PILOT } else { SHORT_PILOT };
+    2 * m * symbols
+}
+
+/// The level of the preamble at the place `at`, counted from the end of the pilot.
+fn preamble_level(m: u32, at: u32) -> bool
+    requires { at < 12 * m }
+    ensures { slice_get (miller_preamble m) at ≡ Some result }
+{
+    carrier_level(PREAMBLE_PHASES[(at / m) as usize], at % m)
+}
+
+/// How many levels the pilot and the preamble have.
+pub fn lead_len(m: u32, trext: bool) -> u32
+    requires { m ≤ MOST }
+    ensures { result ≡ length (miller_lead m trext) }
+{
+    pilot_len(m, trext) + 2 * m * PREAMBLE_SYMBOLS
+}
+
+/// The level of the pilot and the preamble at the place `at`, counted from 0.
+pub fn lead_level(m: u32, trext: bool, at: u32) -> bool
+    requires factor { m ≤ MOST }
+    requires within { at < length (miller_lead m trext) }
+    ensures { slice_get (miller_lead m trext) at ≡ Some result }
+{
+    let pilot = pilot_len(m, trext);
+    if at < pilot {
+        carrier_level(false, at)
+    } else {
+        preamble_level(m, at - pilot)
+    }
+}
+
+/// What stands before the first bit after the lead.
+pub fn after_lead() -> SymbolBefore
+    ensures { context result ≡ record { before = true; phase = false } }
+{
+    SymbolBefore {
+        bit: true,
+        phase: false,
+    }
+}
+
+/// The level of a bit's block at the place `at`, counted from 0.
+pub fn block_level(m: u32, before: SymbolBefore, bit: bool, at: u32) -> bool
+    requires { at < 2 * m }
+    ensures { slice_get (miller_block m (context before) bit) at ≡ Some result }
+{
+    let start = phase_at_start(before, bit);
+    symbol_level(m, start, phase_at_middle(start, bit), at)
+}
+
+/// What stands before the bit that follows a bit.
+pub fn after(before: SymbolBefore, bit: bool) -> SymbolBefore
+    ensures { context result ≡ miller_next (context before) bit }
+{
+    let phase = phase_at_middle(phase_at_start(before, bit), bit);
+    SymbolBefore { bit, phase }
+}

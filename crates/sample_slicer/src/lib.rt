@@ -1,0 +1,6 @@
+//! Levels from samples: a captured wave is a list of samples, of which a fixed number stand for one level.
+#![tactic(auto)]
+
+mod slicer;
+
+pub use slicer::{SliceRefusal, slice_levels};

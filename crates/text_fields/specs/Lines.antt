@@ -1,0 +1,33 @@
+-- Profile: how every text that the program reads is laid out. Each line ends with one line feed, and
+-- the fields of a line are separated by one space.
+use Rattle.std.specs.Prelude.{◌≢◌, ◌==◌, ℕ, List, All}
+use Rattle.std.specs.List.{slice_split, join_with_byte}
+
+-- the byte that ends a line
+abbrev pub line_feed : ℕ
+line_feed = 10
+
+-- the byte that separates two fields
+abbrev pub space : ℕ
+space = 32
+
+-- the pieces of a text between the places where the byte stands; one piece, the whole text, where it
+-- stands nowhere
+abbrev pub pieces_between : ℕ → List ℕ → List (List ℕ)
+pieces_between byte text = slice_split (λ each. each == byte) text
+
+-- the lines of a text: the last one is what stands behind the last line feed
+abbrev pub lines_of : List ℕ → List (List ℕ)
+lines_of text = pieces_between line_feed text
+
+-- the fields of a line
+abbrev pub fields_of : List ℕ → List (List ℕ)
+fields_of line = pieces_between space line
+
+-- the line with these fields
+abbrev pub line_with : List (List ℕ) → List ℕ
+line_with fields = join_with_byte space fields
+
+-- the byte stands nowhere in the text
+abbrev pub Lacks : ℕ → List ℕ → Type 0
+Lacks byte text = All (λ each. each ≢ byte) text

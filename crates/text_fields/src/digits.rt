@@ -1,0 +1,103 @@
+//! Binary digits as fields.
+ghost use Rattle.std.specs.Prelude.{◌≡◌, ◌≢◌, ◌≤◌, ℕ, ◌↔◌, ◌++◌, [], ◌∷◌, length, Bool, List, IsTrue, IfSome, IsSomeAnd, OnOk};
+ghost use Rattle.std.specs.List.{AllPass};
+ghost use Rattle.std.specs.String.{string_bytes};
+ghost use Rattle.text_fields.specs.Binary.{binary, hyphen, is_binary_digit, or_hyphen};
+
+use bit_strings::{Bits, OutOfMemory};
+use std::marker::Model;
+
+/// What stands for a list without items.
+pub const HYPHEN: u8 = b'-';
+
+/// A list of bits that a field spells: its digits 0 and 1, the first bit first, or a hyphen for no
+/// bits. A contract sees it as the list of these bits.
+#[derive(Drop)]
+pub struct Digits<'a> {
+    digits: &'a [u8],
+}
+
+impl<'a> Model for Digits<'a> {
+    ghost use Rattle.std.specs.Prelude.{List, Bool, ◌<◌, ◌^◌, length};
+    ghost use Rattle.std.specs.List.{AllPass};
+    ghost use Rattle.text_fields.specs.Binary.{bits_of_digits, is_binary_digit};
+
+    ghost Value = { List Bool };
+
+    ghost view = { λ a. bits_of_digits a.digits.now };
+
+    ghost invariant = { λ a. AllPass is_binary_digit a.digits.now × (length a.digits.now < 2 ^ 32) };
+}
+
+/// Whether each byte is one of the digits 0 and 1.
+fn is_binary(digits: &[u8]) -> bool
+    ensures { IsTrue result ↔ AllPass is_binary_digit digits.now }
+{
+    digits.iter().all(|digit| matches!(*digit, b'0' | b'1'))
+}
+
+/// What a field spells of a list: nothing where it is a hyphen. None exactly where the field is empty.
+pub(crate) fn without_hyphen(field: &[u8]) -> Option<&[u8]>
+    ensures value { IfSome result (λ spelling. field.now ≡ or_hyphen spelling.now) }
+    ensures only { (spelling : List ℕ) → spelling ≢ hyphen ∷ [] → field.now ≡ or_hyphen spelling → IsSomeAnd result (λ it. it.now ≡ spelling) }
+{
+    match field {
+        [] => None,
+        [HYPHEN] => Some(&[]),
+        _ => Some(field),
+    }
+}
+
+impl<'a> Digits<'a> {
+    /// The bits that a field spells; none exactly where the field isn't the spelling of a list of at
+    /// most `most` bits.
+    pub fn new(field: &'a [u8], most: u32) -> Option<Digits<'a>>
+        ensures value { IfSome result (λ bits. (field.now ≡ binary bits) × (length bits ≤ most)) }
+        ensures only { (bits : List Bool) → length bits ≤ most → field.now ≡ binary bits → IsSomeAnd result (λ it. it ≡ bits) }
+    {
+        let digits = without_hyphen(field)?;
+        if digits.len() > most as usize || !is_binary(digits) {
+            return None;
+        }
+        Some(Digits { digits })
+    }
+
+    /// How many bits there are.
+    pub fn len(&self) -> u32
+        ensures { result ≡ length self.now }
+    {
+        self.digits.len() as u32
+    }
+
+    /// Whether there are no bits.
+    pub fn is_empty(&self) -> bool
+        ensures { IsTrue result ↔ (self.now ≡ []) }
+    {
+        self.digits.is_empty()
+    }
+
+    /// Writes the bits into a list in place of what it holds.
+    pub fn copy_to(&self, out: &mut Bits)
+        requires { length self.now ≤ out.old.capacity }
+        ensures { out.new ≡ record out.old { items = self.now } }
+    {
+        out.clear();
+        for digit in self.digits {
+            let _ = out.push(*digit == b'1');
+        }
+    }
+}
+
+/// Writes bits in binary digits, or a hyphen for none, at the end of the text. After an error the
+/// text may hold a part of them.
+pub fn push_bits(text: &mut String, bits: &Bits) -> Result<(), OutOfMemory>
+    ensures { OnOk result (string_bytes text.new ≡ string_bytes text.old ++ binary bits.now.items) }
+{
+    if bits.is_empty() {
+        return text.push('-');
+    }
+    for bit in bits.as_slice() {
+        text.push(if *bit { '1' } else { '0' })?;
+    }
+    Ok(())
+}

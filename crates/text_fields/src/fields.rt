@@ -1,0 +1,58 @@
+//! The fields of a line.
+ghost use Rattle.std.specs.Prelude.{◌≡◌, ◌≢◌, ℕ, List, [], ◌∷◌, IfSome, IsSomeAnd};
+ghost use Rattle.std.specs.Iterator.{YieldsFirstBy, item_count};
+ghost use Rattle.text_fields.specs.Lines.{fields_of};
+
+use crate::lines::split_at_first;
+use std::marker::Model;
+
+/// The byte that separates two fields.
+pub const SPACE: u8 = b' ';
+
+/// The fields of a line that are left, in order. A contract sees it as the list of these fields.
+#[derive(Drop)]
+pub struct Fields<'a> {
+    /// What is left of the line; none where its last field was taken.
+    rest: Option<&'a [u8]>,
+}
+
+impl<'a> Model for Fields<'a> {
+    ghost use Rattle.std.specs.Prelude.{List, ℕ, []};
+    ghost use Rattle.std.specs.Option.{option_map_or};
+    ghost use Rattle.text_fields.specs.Lines.{fields_of};
+
+    ghost Value = { List (List ℕ) };
+
+    ghost view = { λ a. option_map_or (λ line. fields_of line.now) a.rest [] };
+}
+
+impl<'a> Fields<'a> {
+    /// All the fields of a line.
+    pub fn new(line: &'a [u8]) -> Fields<'a>
+        ensures { result ≡ fields_of line.now }
+    {
+        Fields { rest: Some(line) }
+    }
+}
+
+impl<'a> Iterator for Fields<'a> {
+    type Item = &'a [u8];
+
+    ghost next_gives = { YieldsFirstBy (λ field. field.now) (λ fields. fields) };
+
+    ghost remaining = { item_count (λ fields. fields) };
+
+    fn next(&mut self) -> Option<&'a [u8]> {
+        let line = self.rest?;
+        match split_at_first(line, SPACE) {
+            Some((field, rest)) => {
+                self.rest = Some(rest);
+                Some(field)
+            }
+            None => {
+                self.rest = None;
+                Some(line)
+            }
+        }
+    }
+}

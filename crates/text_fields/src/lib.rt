@@ -1,0 +1,22 @@
+//! The pieces that every text of the program is made of: lines, the fields of a line, and numbers,
+//! binary digits and hexadecimal digits as fields.
+//!
+//! A text that is read is a slice of bytes, and nothing here copies it. A text that is written is a
+//! `String`, which is all that takes memory.
+#![tactic(auto)]
+
+mod digits;
+mod exact;
+mod fields;
+mod flags;
+mod lines;
+mod numbers;
+#[cfg(test)]
+mod tests;
+
+pub use digits::{Digits, HYPHEN, push_bits};
+pub use exact::{four_fields, is_at_end, next_filled, one_field, three_fields, two_fields};
+pub use fields::{Fields, SPACE};
+pub use flags::flag;
+pub use lines::{LINE_FEED, split_line};
+pub use numbers::{number, push_number};

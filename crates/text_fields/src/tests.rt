@@ -1,0 +1,121 @@
+use crate::*;
+use bit_strings::Bits;
+use std::test::Fail;
+
+#[test]
+fn numbers_have_one_spelling(rt: HostRuntime) {
+    let most = u32::MAX;
+    for (field, at_most, wanted) in [
+        (b"0".as_slice(), most, Some(0)),
+        (b"7", 7, Some(7)),
+        (b"8", 7, None),
+        (b"10", most, Some(10)),
+        (b"4294967295", most, Some(4294967295)),
+        (b"4294967295", 4294967294, None),
+        (b"4294967296", most, None),
+        (b"99999999999999999999", most, None),
+        (b"", most, None),
+        (b"00", most, None),
+        (b"01", most, None),
+        (b"+1", most, None),
+        (b"-1", most, None),
+        (b"1 ", most, None),
+        (b" 1", most, None),
+        (b"1a", most, None),
+        (b"0x1", most, None),
+        (b"\xff", most, None),
+    ] {
+        assert_eq!(rt; number(field, at_most), wanted);
+    }
+}
+
+#[test]
+fn numbers_are_written(rt: HostRuntime) -> Result<(), Fail> {
+    let mut text = String::new(rt.alloc());
+    for number in [0, 9, 10, 65535, 4294967295] {
+        push_number(&mut text, number)?;
+        text.push(' ')?;
+    }
+    assert_eq!(rt; text.as_str(), "0 9 10 65535 4294967295 ");
+    Ok(())
+}
+
+#[test]
+fn flags_are_one_digit(rt: HostRuntime) {
+    for (field, wanted) in [
+        (b"0".as_slice(), Some(false)),
+        (b"1", Some(true)),
+        (b"2", None),
+        (b"", None),
+        (b"01", None),
+        (b"-", None),
+    ] {
+        assert_eq!(rt; flag(field), wanted);
+    }
+}
+
+#[test]
+fn bits_are_read_and_written(rt: HostRuntime) -> Result<(), Fail> {
+    let mut bits = Bits::new(rt.alloc(), 8)?;
+    for (field, most, wanted) in [
+        (b"-".as_slice(), 8, Some("-")),
+        (b"-", 0, Some("-")),
+        (b"0", 8, Some("0")),
+        (b"10010", 8, Some("10010")),
+        (b"11110000", 8, Some("11110000")),
+        (b"111100001", 8, None),
+        (b"1", 0, None),
+        (b"", 8, None),
+        (b"012", 8, None),
+        (b"-1", 8, None),
+        (b"--", 8, None),
+        (b"0 1", 8, None),
+    ] {
+        let mut text = String::new(rt.alloc());
+        let read = match Digits::new(field, most) {
+            Some(digits) => {
+                assert!(rt; digits.len() <= bits.capacity());
+                digits.copy_to(&mut bits);
+                push_bits(&mut text, &bits)?;
+                Some(text.as_str())
+            }
+            None => None,
+        };
+        assert_eq!(rt; read, wanted);
+    }
+    Ok(())
+}
+
+#[test]
+fn lines_and_fields_are_cut(rt: HostRuntime) -> Result<(), Fail> {
+    let (line, rest) = split_line(b"pie 1 2\n\nbits").ok_or("no line feed")?;
+    assert_eq!(rt; line, b"pie 1 2".as_slice());
+    let (empty, last) = split_line(rest).ok_or("no second line feed")?;
+    assert_eq!(rt; empty.len(), 0);
+    assert_eq!(rt; last, b"bits".as_slice());
+    assert!(rt; split_line(last).is_none());
+
+    let mut fields = Fields::new(line);
+    assert_eq!(rt; fields.next().ok_or("no field")?, b"pie".as_slice());
+    let (first, second) = two_fields(fields).ok_or("not two fields")?;
+    assert_eq!(rt; first, b"1".as_slice());
+    assert_eq!(rt; second, b"2".as_slice());
+
+    for (line, count) in [
+        (b"".as_slice(), 0),
+        (b"a", 1),
+        (b"a b", 2),
+        (b"a b c", 3),
+        (b"a b c d", 4),
+        (b"a b c d e", 5),
+        (b" a", 0),
+        (b"a ", 0),
+        (b"a  b", 0),
+    ] {
+        assert_eq!(rt; one_field(Fields::new(line)).is_some(), count == 1);
+        assert_eq!(rt; two_fields(Fields::new(line)).is_some(), count == 2);
+        assert_eq!(rt; three_fields(Fields::new(line)).is_some(), count == 3);
+        assert_eq!(rt; four_fields(Fields::new(line)).is_some(), count == 4);
+    }
+    Ok(())
+}
