@@ -1,5 +1,5 @@
 // A source and a sink over memory, whose calls fail where they are told to.
-ghost use Rattle.std.specs.Prelude.{◌≡◌, ◌⊎◌, ℕ, ◌+◌, ◌<◌, ◌≤◌, ◌↔◌, List, [], ◌++◌, length, min, take, Some, None, IfOk, IsTrue, Contains, if◌then◌else◌};
+ghost use Rattle.std.specs.Prelude.{◌≡◌, ◌⊎◌, ◌+◌, ◌<◌, ◌≤◌, ◌↔◌, [], ◌++◌, length, min, take, Some, IfOk, IsTrue, Contains, if◌then◌else◌};
 ghost use Rattle.air_io.specs.Flow.{FaultsRose, one_more};
 ghost use Rattle.air_io.specs.Takes.{IfTook, OnEnd, OnReadFailed, is_failed_read};
 ghost use Rattle.air_io.specs.Puts.{IfPut, OnWriteFailed, is_failed_write};
@@ -22,7 +22,12 @@ impl Model for MemSource {
 
     ghost Value = { SourceMemory };
 
-    ghost view = { λ s. record { left = s.source; failing = s.failing.items; calls = s.calls; faults = s.faults } };
+    ghost view = { λ s. record {
+      left = s.source;
+      failing = s.failing.items;
+      calls = s.calls;
+      faults = s.faults;
+    } };
 }
 
 impl MemSource {
@@ -46,13 +51,20 @@ impl Source for MemSource {
 
     fn read(&mut self, buf: &mut [u8]) -> Take
         requires { 0 < length buf.old }
-        ensures took { IfTook result (λ count. (0 < count) × (self.old.left ≡ take count buf.new ++ self.new.left)) }
-        ensures most { IfTook result (λ count. count ≡ min (length buf.new) (length self.old.left)) }
+        // What every source ensures.
+        ensures took { IfTook result (λ count. (0 < count)
+            × (self.old.left ≡ take count buf.new ++ self.new.left)) }
         ensures end { OnEnd result ((self.old.left ≡ []) × (self.new.left ≡ [])) }
-        ensures failed { OnReadFailed result (FaultsRose self.old.faults self.new.faults × (self.new.left ≡ self.old.left)) }
-        ensures fails { IsTrue (is_failed_read result) ↔ Contains self.old.failing (one_more self.old.calls) }
-        ensures faults { self.new.faults ≡ (if is_failed_read result then one_more self.old.faults else self.old.faults) }
+        ensures failed { OnReadFailed result (FaultsRose self.old.faults self.new.faults
+            × (self.new.left ≡ self.old.left)) }
         ensures count { self.old.faults ≤ self.new.faults }
+
+        // What this one ensures besides.
+        ensures most { IfTook result (λ count. count ≡ min (length buf.new) (length self.old.left)) }
+        ensures fails { IsTrue (is_failed_read result)
+            ↔ Contains self.old.failing (one_more self.old.calls) }
+        ensures faults { self.new.faults
+            ≡ (if is_failed_read result then one_more self.old.faults else self.old.faults) }
         ensures calls { self.new.calls ≡ one_more self.old.calls }
         ensures same { self.new.failing ≡ self.old.failing }
     {
@@ -81,7 +93,13 @@ impl Model for MemSink {
 
     ghost Value = { SinkMemory };
 
-    ghost view = { λ s. record { written = s.bytes.items; room = s.room; failing = s.failing.items; calls = s.calls; faults = s.faults } };
+    ghost view = { λ s. record {
+      written = s.bytes.items;
+      room = s.room;
+      failing = s.failing.items;
+      calls = s.calls;
+      faults = s.faults;
+    } };
 
     ghost invariant = { λ s. (vec_len s.bytes ≤ s.room) × (s.room ≤ vec_capacity s.bytes) };
 }
@@ -122,15 +140,19 @@ impl Sink for MemSink {
 
     fn write(&mut self, piece: &[u8]) -> Put
         requires { 0 < length piece.now }
+        // What every sink ensures, of whole pieces.
         ensures took { IfPut result (λ count. (count ≡ length piece.now)
             × (self.new.written ≡ self.old.written ++ piece.now)) }
         ensures failed { OnWriteFailed result (FaultsRose self.old.faults self.new.faults
             × (self.new.written ≡ self.old.written)) }
+        ensures count { self.old.faults ≤ self.new.faults }
+
+        // What this one ensures besides.
         ensures fails { IsTrue (is_failed_write result)
             ↔ (Contains self.old.failing (one_more self.old.calls)
             ⊎ (self.old.room < length self.old.written + length piece.now)) }
-        ensures faults { self.new.faults ≡ (if is_failed_write result then one_more self.old.faults else self.old.faults) }
-        ensures count { self.old.faults ≤ self.new.faults }
+        ensures faults { self.new.faults
+            ≡ (if is_failed_write result then one_more self.old.faults else self.old.faults) }
         ensures calls { self.new.calls ≡ one_more self.old.calls }
         ensures same { (self.new.failing ≡ self.old.failing) × (self.new.room ≡ self.old.room) }
     {

@@ -1,5 +1,5 @@
 // A source and a sink that never fail.
-ghost use Rattle.std.specs.Prelude.{◌≡◌, ◌≢◌, ℕ, ◌<◌, ◌≤◌, List, [], ◌++◌, length, take, drop, min, Some, None, false};
+ghost use Rattle.std.specs.Prelude.{◌≡◌, ◌<◌, ◌≤◌, [], ◌++◌, length, take, min, Some, None, false};
 ghost use Rattle.air_io.specs.Takes.{IfTook, OnEnd, is_failed_read};
 
 use crate::{Put, Sink, Source, Take};
@@ -39,9 +39,10 @@ impl Source for SureSource {
 
     fn read(&mut self, buf: &mut [u8]) -> Take
         requires { 0 < length buf.old }
-        ensures took { IfTook result (λ count. (0 < count) × (self.old ≡ take count buf.new ++ self.new)) }
-        ensures most { IfTook result (λ count. count ≡ min (length buf.new) (length self.old)) }
+        ensures took { IfTook result (λ count. (0 < count)
+            × (self.old ≡ take count buf.new ++ self.new)) }
         ensures end { OnEnd result ((self.old ≡ []) × (self.new ≡ [])) }
+        ensures most { IfTook result (λ count. count ≡ min (length buf.new) (length self.old)) }
         ensures never_fails { is_failed_read result ≡ false }
     {
         let rest = &self.bytes[self.read..];

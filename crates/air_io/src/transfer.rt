@@ -116,7 +116,8 @@ pub fn write_all<O: Sink>(out: &mut O, piece: &[u8]) -> Result<(), WriteFailed>
     ensures ok { OnOk result (Adds (O.written out.old) (O.written out.new) piece.now) }
     ensures failed { OnErr result (FaultsRose (O.faults out.old) (O.faults out.new)) }
     ensures part { OnErr result
-        ((count : ℕ) × (count ≤ length piece.now) × Adds (O.written out.old) (O.written out.new) (take count piece.now)) }
+        ((count : ℕ) × (count ≤ length piece.now)
+        × Adds (O.written out.old) (O.written out.new) (take count piece.now)) }
     ensures count { O.faults out.old ≤ O.faults out.new }
 {
     let mut done = 0;

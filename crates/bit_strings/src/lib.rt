@@ -18,3 +18,6 @@ pub use ebv::Ebv;
 pub use fields::xor16;
 pub use laws::{ebv_laws, field_laws};
 pub use list::List;
+
+#[cfg(test)]
+mod tests;

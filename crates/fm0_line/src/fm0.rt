@@ -108,6 +108,10 @@ impl LineCode for Fm0 {
 #[cfg(test)]
 mod tests {
     use super::*;
+    use bit_strings::Bits;
+    use line_code::{LineRefusal, decode, encode};
+    use std::alloc::Global;
+    use std::process::Abort;
     use std::test::Fail;
 
     // A list of levels as a text of 1 and 0, high and low.
@@ -151,5 +155,83 @@ mod tests {
             }
         }
         Ok(())
+    }
+
+    // The list of a text of 1 and 0, with room for a hundred.
+    fn list_of(alloc: Global, text: &[u8]) -> Result<Bits, Fail> {
+        let mut list = Bits::new(alloc, 100)?;
+        for digit in text {
+            list.push(*digit == b'1')?;
+        }
+        Ok(list)
+    }
+
+    fn assert_decodes(
+        rt: &impl Abort,
+        alloc: Global,
+        trext: bool,
+        levels: &[u8],
+        bits: &[u8],
+    ) -> Result<(), Fail> {
+        let levels = list_of(alloc, levels)?;
+        let bits = list_of(alloc, bits)?;
+        let mut decoded = list_of(alloc, b"")?;
+        assert!(rt; levels.len() <= 100);
+        assert!(rt; decoded.capacity() == 100);
+        assert_eq!(rt; decode::<Fm0>(trext, &levels, &mut decoded), Ok(()));
+        assert_eq!(rt; decoded.as_slice(), bits.as_slice());
+
+        let mut encoded = list_of(alloc, b"")?;
+        assert!(rt; bits.len() < 30);
+        assert!(rt; encoded.capacity() == 100);
+        encode::<Fm0>(trext, &bits, &mut encoded);
+        assert_eq!(rt; encoded.as_slice(), levels.as_slice());
+        Ok(())
+    }
+
+    fn assert_refuses(
+        rt: &impl Abort,
+        alloc: Global,
+        levels: &[u8],
+        refusal: LineRefusal,
+    ) -> Result<(), Fail> {
+        let levels = list_of(alloc, levels)?;
+        let mut decoded = list_of(alloc, b"")?;
+        assert!(rt; levels.len() <= 100);
+        assert!(rt; decoded.capacity() == 100);
+        assert_eq!(rt; decode::<Fm0>(false, &levels, &mut decoded), Err(refusal));
+        Ok(())
+    }
+
+    #[test]
+    fn streams(rt: HostRuntime) -> Result<(), Fail> {
+        assert_decodes(&rt, rt.alloc(), false, b"11010010001100", b"")?;
+        assert_decodes(&rt, rt.alloc(), false, b"1101001000110011", b"1")?;
+        assert_decodes(&rt, rt.alloc(), false, b"110100100011010100", b"00")?;
+        assert_decodes(
+            &rt,
+            rt.alloc(),
+            true,
+            b"1010101010101010101010101101001000110011",
+            b"1",
+        )
+    }
+
+    #[test]
+    fn refusals(rt: HostRuntime) -> Result<(), Fail> {
+        // The lead alone, a boundary without its inversion, and a last symbol that is no data-1.
+        assert_refuses(
+            &rt,
+            rt.alloc(),
+            b"110100100011",
+            LineRefusal::Unfinished(12),
+        )?;
+        assert_refuses(&rt, rt.alloc(), b"11010010001111", LineRefusal::Invalid(12))?;
+        assert_refuses(
+            &rt,
+            rt.alloc(),
+            b"1101001000110010",
+            LineRefusal::Unfinished(16),
+        )
     }
 }

@@ -5,3 +5,5 @@ pub mod Answered
 pub mod Buffer
 pub mod Whole
 pub mod Steps
+pub mod Writing
+pub mod Existence

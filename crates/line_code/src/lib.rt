@@ -4,10 +4,14 @@
 
 mod code;
 mod decoder;
+mod encoder;
+mod laws;
 mod refusal;
 mod states;
 
 pub use code::LineCode;
 pub use decoder::decode;
+pub use encoder::encode;
+pub use laws::one_answer;
 pub use refusal::LineRefusal;
 pub use states::{Ended, Inside, Seeking, Sought, Within};

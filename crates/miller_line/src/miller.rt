@@ -150,6 +150,9 @@ impl LineCode for Miller8 {
 #[cfg(test)]
 mod tests {
     use super::*;
+    use bit_strings::Bits;
+    use line_code::{decode, encode};
+    use std::alloc::Global;
     use std::process::Abort;
     use std::test::Fail;
 
@@ -221,6 +224,42 @@ mod tests {
         assert_block::<Miller4>(&rt, zero_in_phase_0, false, b"01010101");
         assert_block::<Miller8>(&rt, one_in_phase_0, true, b"1010101001010101");
         assert_block::<Miller8>(&rt, zero_in_phase_0, false, b"0101010101010101");
+        Ok(())
+    }
+
+    // The list of a text of 1 and 0, with room for a hundred.
+    fn list_of(alloc: Global, text: &[u8]) -> Result<Bits, Fail> {
+        let mut list = Bits::new(alloc, 100)?;
+        for digit in text {
+            list.push(*digit == b'1')?;
+        }
+        Ok(list)
+    }
+
+    #[test]
+    fn streams(rt: HostRuntime) -> Result<(), Fail> {
+        // The bits and their levels in the code with M = 2 and TRext 0.
+        let streams: [(&[u8], &[u8]); 3] = [
+            (b"", b"10101010101010101010100101010110100101101001"),
+            (b"0", b"101010101010101010101001010101101001011010101001"),
+            (
+                b"00",
+                b"1010101010101010101010010101011010010110101001010110",
+            ),
+        ];
+        for (bits, levels) in streams {
+            let bits = list_of(rt.alloc(), bits)?;
+            let levels = list_of(rt.alloc(), levels)?;
+            let mut list = list_of(rt.alloc(), b"")?;
+            assert!(rt; levels.len() <= 100);
+            assert!(rt; list.capacity() == 100);
+            assert_eq!(rt; decode::<Miller2>(false, &levels, &mut list), Ok(()));
+            assert_eq!(rt; list.as_slice(), bits.as_slice());
+
+            assert!(rt; bits.len() < 10);
+            encode::<Miller2>(false, &bits, &mut list);
+            assert_eq!(rt; list.as_slice(), levels.as_slice());
+        }
         Ok(())
     }
 }

@@ -1,7 +1,6 @@
 //! What the three codes share. The number `m` is M of the standard: a symbol has `2 * m` levels, two
 //! halves of `m` levels each, and the subcarrier inverts at each level.
-ghost use Rattle.std.specs.Prelude.{◌≡◌, ℕ, ◌*◌, ◌<◌, ◌≤◌, Bool, false, true, ◌++◌, Some, length, slice_get};
-ghost use Rattle.line_code.specs.Table.{Context};
+ghost use Rattle.std.specs.Prelude.{◌≡◌, ℕ, ◌*◌, ◌<◌, ◌≤◌, false, true, ◌++◌, Some, length, slice_get};
 ghost use Rattle.line_code.specs.Miller.{carrier, symbol, start_phase, middle_phase, miller_preamble, miller_lead, miller_block, miller_next};
 ghost use Rattle.miller_line.specs.SymbolContext.{context};
 
@@ -9,6 +8,7 @@ ghost use Rattle.miller_line.specs.SymbolContext.{context};
 #[derive(Clone, Copy, Debug, PartialEq, Eq)]
 pub struct SymbolBefore {
     bit: bool,
+    /// The phase in which the symbol ended: `false` is phase 0.
     phase: bool,
 }
 

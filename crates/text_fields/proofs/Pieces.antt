@@ -1,9 +1,10 @@
 -- The pieces of a text that is cut at a byte.
-use Rattle.std.proofs.Common.{◌≡◌, ◌≢◌, ℕ, false, eqb, List, [], ◌∷◌, ◌++◌, arith}
+use Rattle.std.proofs.Common.{◌≡◌, ◌≢◌, ℕ, false, eqb, List, [], ◌∷◌, ◌++◌, arith, ap, refl, ◌∙◌, append_assoc}
+use Rattle.std.specs.Prelude.{All}
 use Rattle.std.proofs.lemmas.Bool.Decides.{nat_tests}
-use Rattle.std.proofs.lemmas.List.Elements.{All-weaker}
+use Rattle.std.proofs.lemmas.List.Elements.{All-head, All-tail, All-weaker}
 use Rattle.std.proofs.lemmas.List.Splits.{slice_split_at, slice_split_none}
-use Rattle.text_fields.specs.Lines.{Lacks, pieces_between}
+use Rattle.text_fields.specs.Lines.{Lacks, fields_of, line_feed, line_with, lines_of, pieces_between, space, text_with}
 
 fails : (byte each : ℕ) → each ≢ byte → eqb each byte ≡ false
 fails byte each differs = grind (arith, nat_tests)
@@ -18,3 +19,18 @@ pieces_between-cut byte text front rest lacks cut =
 pub whole_piece : (byte : ℕ) (text : List ℕ) → Lacks byte text → pieces_between byte text ≡ text ∷ []
 whole_piece byte text lacks =
     slice_split_none (λ each. eqb each byte) text (All-weaker (λ each. each ≢ byte) (λ each. eqb each byte ≡ false) (fails byte) text lacks)
+
+-- the fields of a line that is made of fields
+pub fields_come_back : (fields : List (List ℕ)) → fields ≢ [] → All (Lacks space) fields → fields_of (line_with fields) ≡ fields
+fields_come_back [] some lack = absurd (some refl)
+fields_come_back (field ∷ []) some lack = whole_piece space field (All-head (Lacks space) field [] lack)
+fields_come_back (field ∷ next ∷ fields) some lack =
+    pieces_between-cut space (line_with (field ∷ next ∷ fields)) field (line_with (next ∷ fields)) (All-head (Lacks space) field (next ∷ fields) lack) refl
+    ∙ ap (λ (rest : List (List ℕ)). field ∷ rest) (fields_come_back (next ∷ fields) (λ none. cc) (All-tail (Lacks space) field (next ∷ fields) lack))
+
+-- the lines of a text that is made of lines
+pub lines_come_back : (lines : List (List ℕ)) → All (Lacks line_feed) lines → lines_of (text_with lines) ≡ lines ++ [] ∷ []
+lines_come_back [] lack = refl
+lines_come_back (line ∷ lines) lack =
+    pieces_between-cut line_feed (text_with (line ∷ lines)) line (text_with lines) (All-head (Lacks line_feed) line lines lack) (append_assoc line (line_feed ∷ []) (text_with lines))
+    ∙ ap (λ (rest : List (List ℕ)). line ∷ rest) (lines_come_back lines (All-tail (Lacks line_feed) line lines lack))

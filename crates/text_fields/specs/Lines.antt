@@ -1,7 +1,7 @@
 -- Profile: how every text that the program reads is laid out. Each line ends with one line feed, and
 -- the fields of a line are separated by one space.
-use Rattle.std.specs.Prelude.{◌≢◌, ◌==◌, ℕ, List, All}
-use Rattle.std.specs.List.{slice_split, join_with_byte}
+use Rattle.std.specs.Prelude.{◌≢◌, ◌==◌, ℕ, List, [], ◌∷◌, ◌++◌, All}
+use Rattle.std.specs.List.{flat_map, join_with_byte, slice_split}
 
 -- the byte that ends a line
 abbrev pub line_feed : ℕ
@@ -28,6 +28,16 @@ fields_of line = pieces_between space line
 abbrev pub line_with : List (List ℕ) → List ℕ
 line_with fields = join_with_byte space fields
 
+-- the text with these lines
+abbrev pub text_with : List (List ℕ) → List ℕ
+text_with lines = flat_map (λ line. line ++ line_feed ∷ []) lines
+
 -- the byte stands nowhere in the text
 abbrev pub Lacks : ℕ → List ℕ → Type 0
 Lacks byte text = All (λ each. each ≢ byte) text
+
+-- what may stand as one field of a line: it is not empty, and has neither a space nor a line feed
+pub record IsFieldText (text : List ℕ) : Type 0 where
+  pub filled : text ≢ []
+  pub no_space : Lacks space text
+  pub no_line_feed : Lacks line_feed text

@@ -9,14 +9,23 @@ mod digits;
 mod exact;
 mod fields;
 mod flags;
+mod hex_bytes;
+mod laws;
 mod lines;
 mod numbers;
 #[cfg(test)]
 mod tests;
+mod words;
 
 pub use digits::{Digits, HYPHEN, push_bits};
 pub use exact::{four_fields, is_at_end, next_filled, one_field, three_fields, two_fields};
 pub use fields::{Fields, SPACE};
 pub use flags::flag;
+pub use hex_bytes::HexBytes;
+pub use laws::{
+    bits_are_told_apart, fields_come_back, lines_come_back, numbers_are_told_apart,
+    spellings_are_field_texts, word_lists_are_told_apart, words_are_told_apart,
+};
 pub use lines::{LINE_FEED, split_line};
 pub use numbers::{number, push_number};
+pub use words::{push_byte_hex, push_word, push_words, word};

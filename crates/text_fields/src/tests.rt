@@ -119,3 +119,57 @@ fn lines_and_fields_are_cut(rt: HostRuntime) -> Result<(), Fail> {
     }
     Ok(())
 }
+
+#[test]
+fn words_have_one_spelling(rt: HostRuntime) -> Result<(), Fail> {
+    for (field, wanted) in [
+        (b"0000".as_slice(), Some(0)),
+        (b"FFFF", Some(0xFFFF)),
+        (b"1D0F", Some(0x1D0F)),
+        (b"A90E", Some(0xA90E)),
+        (b"1d0f", None),
+        (b"1D0", None),
+        (b"01D0F", None),
+        (b"", None),
+        (b"-", None),
+        (b"1D0G", None),
+        (b"1D0@", None),
+        (b"1D0:", None),
+    ] {
+        assert_eq!(rt; word(field), wanted);
+    }
+    let mut text = String::new(rt.alloc());
+    push_word(&mut text, 0x0A9F)?;
+    text.push(' ')?;
+    push_byte_hex(&mut text, 0x0B)?;
+    text.push(' ')?;
+    push_words(&mut text, &[])?;
+    text.push(' ')?;
+    push_words(&mut text, &[0x3000, 0x00EF])?;
+    assert_eq!(rt; text.as_str(), "0A9F 0B - 300000EF");
+    Ok(())
+}
+
+#[test]
+fn bytes_are_read_in_either_case(rt: HostRuntime) -> Result<(), Fail> {
+    let read = HexBytes::new(b"00fFa90E", 4).ok_or("no bytes")?;
+    assert_eq!(rt; read.len(), 4);
+    assert_eq!(rt;
+        read.decode(rt.alloc())?.as_slice(),
+        [0x00, 0xFF, 0xA9, 0x0E].as_slice()
+    );
+    for (field, most, wanted) in [
+        (b"00".as_slice(), 1, true),
+        (b"0000", 1, false),
+        (b"", 1, false),
+        (b"-", 1, false),
+        (b"0", 1, false),
+        (b"000", 2, false),
+        (b"0g", 1, false),
+        (b"0x", 1, false),
+        (b"00", 0, false),
+    ] {
+        assert_eq!(rt; HexBytes::new(field, most).is_some(), wanted);
+    }
+    Ok(())
+}

@@ -1,4 +1,4 @@
-use Rattle.std.proofs.Common.{◌≡◌, ◌≤◌, ◌+◌, ◌++◌, List, ℕ, length, take, arith}
+use Rattle.std.proofs.Common.{◌≤◌, ◌++◌, List, ℕ, length, take, arith}
 use Rattle.air_io.specs.Flow.{Reads}
 use Rattle.air_io.specs.ReadEnds.{most_read}
 use Rattle.air_io.specs.declared.transfer.ReadEnd.{ReadEnd}

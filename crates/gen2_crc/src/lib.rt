@@ -1,0 +1,70 @@
+//! The check numbers of packets: the CRC-5 of a Query and the CRC-16 of all other commands and replies
+//! that have one (6.3.2.1 Protection: CRC-16, CRC-5; Annex F).
+#![tactic(auto)]
+
+ghost use Rattle.std.specs.Prelude.{◌≡◌, ◌+◌, ◌<◌, ◌≤◌, ◌↔◌, List, Bool, [], ◌∷◌, ◌++◌, length, take, IsTrue};
+ghost use Rattle.bit_strings.specs.Numbers.{value_of, field_of};
+ghost use Rattle.gen2_crc.specs.Crc.{crc5_of, crc16_of, register_of, remainder_of, others5, residue};
+
+use bit_strings::Bits;
+
+mod register;
+
+pub use register::Crc16;
+
+/// The coefficients of `x^5 + x^3 + 1` behind the leading one.
+const POLYNOMIAL: u8 = 0b01001;
+
+/// What the register of CRC-5 holds before the first bit.
+const PRESET: u8 = 0b01001;
+
+/// The CRC-5 of the first `upto` bits, a number below 32.
+pub fn crc5(bits: &Bits, upto: u32) -> u8
+    requires { upto ≤ length bits.now.items }
+    ensures { result ≡ value_of (crc5_of (take upto bits.now.items)) }
+{
+    let mut register = PRESET;
+    for bit in &bits.as_slice()[..upto as usize] {
+        register = shifted5(register, *bit);
+    }
+    register
+}
+
+/// The register of CRC-5 one bit later.
+fn shifted5(register: u8, bit: bool) -> u8
+    requires { register < 32 }
+    ensures small { result < 32 }
+    ensures step { field_of result 5 ≡ remainder_of (field_of register 5) others5 (bit ∷ []) }
+{
+    let moved = 2 * (register % 16);
+    if (register >= 16) != bit {
+        moved ^ POLYNOMIAL
+    } else {
+        moved
+    }
+}
+
+/// The CRC-16 of the first `upto` bits.
+pub fn crc16(bits: &Bits, upto: u32) -> u16
+    requires { upto ≤ length bits.now.items }
+    ensures { result ≡ value_of (crc16_of (take upto bits.now.items)) }
+{
+    let mut crc = Crc16::new();
+    for bit in &bits.as_slice()[..upto as usize] {
+        crc.push(*bit);
+    }
+    crc.value()
+}
+
+/// Whether the register holds 1D0Fh after all bits: so it does exactly where a message of at least 16
+/// bits ends with its own CRC-16.
+pub fn residue_ok(bits: &Bits) -> bool
+    ensures register { IsTrue result ↔ (register_of bits.now.items ≡ residue) }
+    ensures message { (front last : List Bool) → bits.now.items ≡ front ++ last → length last ≡ 16 → (IsTrue result ↔ (last ≡ crc16_of front)) }
+{
+    let mut crc = Crc16::new();
+    for bit in bits.as_slice() {
+        crc.push(*bit);
+    }
+    crc.is_residue()
+}

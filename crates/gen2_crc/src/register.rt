@@ -1,0 +1,77 @@
+//! The CRC-16 bit by bit.
+ghost use Rattle.std.specs.Prelude.{◌≡◌, ◌↔◌, List, Bool, [], ◌∷◌, ◌++◌, IsTrue};
+ghost use Rattle.bit_strings.specs.Numbers.{value_of, field_of};
+ghost use Rattle.gen2_crc.specs.Crc.{crc16_of, register_of, remainder_of, others16, residue, StandsFor};
+
+use std::marker::Model;
+
+/// The coefficients of `x^16 + x^12 + x^5 + 1` behind the leading one.
+const POLYNOMIAL: u16 = 0x1021;
+
+/// What the register holds before the first bit.
+const PRESET: u16 = 0xffff;
+
+/// What the register holds after a message and its CRC-16.
+const RESIDUE: u16 = 0x1d0f;
+
+/// The CRC-16 of the bits pushed so far, in one register and with constant work a bit (Annex F).
+///
+/// A contract sees it as the number in the register, and says which list of bits it stands for.
+#[derive(Clone, Copy, Debug, PartialEq, Eq)]
+pub struct Crc16 {
+    register: u16,
+}
+
+impl Model for Crc16 {
+    ghost use Rattle.std.specs.Prelude.{ℕ, ◌^◌, ◌<◌};
+
+    ghost Value = { ℕ };
+
+    ghost view = { λ a. a.register };
+
+    ghost invariant = { λ a. a.register < 2 ^ 16 };
+
+    ghost inverse = { λ n. record { register = n } };
+}
+
+impl Crc16 {
+    /// Stands for no bits.
+    pub fn new() -> Crc16
+        ensures { StandsFor result [] }
+    {
+        Crc16 { register: PRESET }
+    }
+
+    /// Stands for one bit more.
+    pub fn push(&mut self, bit: bool)
+        ensures { (bits : List Bool) → StandsFor self.old bits → StandsFor self.new (bits ++ bit ∷ []) }
+    {
+        self.register = shifted16(self.register, bit);
+    }
+
+    /// The CRC-16 of the bits.
+    pub fn value(&self) -> u16
+        ensures { (bits : List Bool) → StandsFor self.now bits → result ≡ value_of (crc16_of bits) }
+    {
+        !self.register
+    }
+
+    /// Whether the register holds 1D0Fh.
+    pub fn is_residue(&self) -> bool
+        ensures { (bits : List Bool) → StandsFor self.now bits → (IsTrue result ↔ (register_of bits ≡ residue)) }
+    {
+        self.register == RESIDUE
+    }
+}
+
+/// The register one bit later.
+fn shifted16(register: u16, bit: bool) -> u16
+    ensures { field_of result 16 ≡ remainder_of (field_of register 16) others16 (bit ∷ []) }
+{
+    let moved = 2 * (register % 0x8000);
+    if (register >= 0x8000) != bit {
+        moved ^ POLYNOMIAL
+    } else {
+        moved
+    }
+}

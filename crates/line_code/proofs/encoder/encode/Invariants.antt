@@ -1,0 +1,13 @@
+use Rattle.std.proofs.Common.{◌≡◌, ◌++◌, take}
+use Rattle.line_code.specs.Stream.{blocks}
+use Rattle.line_code.specs.States.{context_after}
+use Rattle.line_code.proofs.encoder.encode.Given as goal
+
+abbrev pub invariant-loop-bit : goal.invariant-loop-bit
+invariant-loop-bit g l =
+    let t = g.C.LineCode.table in
+    record {
+      written : l.out.items ≡ t.lead l.trext ++ blocks t t.start (take l.bit-index l.bit-items);
+      marked : g.C.LineCode.context_of l.mark ≡ context_after t t.start (take l.bit-index l.bit-items);
+      same : l.out.capacity ≡ l.initial.out.capacity;
+    }

@@ -1,0 +1,19 @@
+//! What holds of the streams of every line code.
+ghost use Rattle.std.specs.Prelude.{◌≡◌, ℕ, Bool, List, Result};
+ghost use Rattle.line_code.specs.Table.{Table};
+ghost use Rattle.line_code.specs.Laws.{IsEven, TellsBits};
+ghost use Rattle.line_code.specs.Stream.{IsStream};
+ghost use Rattle.line_code.specs.Answer.{IsAnswer};
+ghost use Rattle.line_code.specs.declared.refusal.LineRefusal.{LineRefusal};
+
+/// To each list of levels there is exactly one answer, for each table whose blocks have one length
+/// and tell the bits apart, and each TRext: it is a stream, or it is refused at one place, or it is
+/// short. A stream is that of one list of bits.
+pub fn one_answer()
+    ensures some { (t : Table) (chips : ℕ) → IsEven t chips → TellsBits t → (trext : Bool) (levels : List Bool)
+        → (answer : Result (Unit {0}) LineRefusal) × IsAnswer t trext levels answer }
+    ensures one { (t : Table) (chips : ℕ) → IsEven t chips → TellsBits t → (trext : Bool) (levels : List Bool)
+        → (left right : Result (Unit {0}) LineRefusal) → IsAnswer t trext levels left → IsAnswer t trext levels right → left ≡ right }
+    ensures bits { (t : Table) (chips : ℕ) → IsEven t chips → TellsBits t → (trext : Bool) (levels : List Bool)
+        → (left right : List Bool) → IsStream t trext left levels → IsStream t trext right levels → left ≡ right }
+{}

@@ -1,0 +1,31 @@
+-- A list of intervals is one frame at most, and none where it is refused.
+use Rattle.std.proofs.Common.{◌≡◌, ℕ, Bool, List, [], ◌∷◌, refl, inl, inr, arith}
+use Rattle.pie_line.specs.declared.frame.FrameKind.{FrameKind}
+use Rattle.pie_line.specs.declared.frame.FrameKind.TheVariants.{Preamble, FrameSync}
+use Rattle.pie_line.specs.declared.frame.PieRefusal.{PieRefusal}
+use Rattle.pie_line.specs.Pie.{IsFrame, Frames, HasSums, pair_sums}
+use Rattle.pie_line.specs.Refusal.{Refuses}
+use Rattle.pie_line.proofs.FamilyLaws.{member-not_bad}
+
+-- the sums tell the header and the bits
+sums-one : (k k' : FrameKind) (b b' : List Bool) (sums : List ℕ) → HasSums k b sums → HasSums k' b' sums → (k ≡ k') × (b ≡ b')
+sums-one (FrameSync t r) (FrameSync t' r') b b' (t0 ∷ r0 ∷ sums) f g =
+    (rw (← f.tari_is, ← f.rtcal_is, ← g.tari_is, ← g.rtcal_is) refl, rw (f.symbols.told, g.symbols.told) refl)
+sums-one (Preamble t r c) (Preamble t' r' c') b b' (t0 ∷ r0 ∷ c0 ∷ sums) f g =
+    (rw (← f.tari_is, ← f.rtcal_is, ← f.trcal_is, ← g.tari_is, ← g.rtcal_is, ← g.trcal_is) refl, rw (f.symbols.told, g.symbols.told) refl)
+sums-one (FrameSync t r) (Preamble t' r' c') b b' (t0 ∷ r0 ∷ c0 ∷ sums) f g = absurd (omega arith)
+sums-one (Preamble t r c) (FrameSync t' r') b b' (t0 ∷ r0 ∷ c0 ∷ sums) f g = absurd (omega arith)
+sums-one (FrameSync t r) k' b b' [] f g = absurd f
+sums-one (FrameSync t r) k' b b' (t0 ∷ []) f g = absurd f
+sums-one (FrameSync t r) (Preamble t' r' c') b b' (t0 ∷ r0 ∷ []) f g = absurd g
+sums-one (Preamble t r c) k' b b' [] f g = absurd f
+sums-one (Preamble t r c) k' b b' (t0 ∷ []) f g = absurd f
+sums-one (Preamble t r c) k' b b' (t0 ∷ r0 ∷ []) f g = absurd f
+
+pub frame-one : (k k' : FrameKind) (b b' : List Bool) (xs : List ℕ) → IsFrame k b xs → IsFrame k' b' xs → (k ≡ k') × (b ≡ b')
+frame-one k k' b b' [] f g = absurd f
+frame-one k k' b b' (d ∷ xs) f g = sums-one k k' b b' (pair_sums xs) f.2 g.2
+
+pub refuses-no_frame : (refusal : PieRefusal) (xs : List ℕ) → Refuses refusal xs → ¬ Frames xs
+refuses-no_frame refusal xs (inl r) f = member-not_bad Frames xs r.0 f r.1.bad
+refuses-no_frame refusal xs (inr r) f = r.1.short.no_member f

@@ -1,0 +1,76 @@
+-- What the place that some intervals lead to says of them.
+use Rattle.std.proofs.Common.{◌≡◌, ℕ, ◌<◌, Bool, Option, List, [], ◌∷◌, ◌++◌, length, refl, sym, ◌∙◌, ap, subst, inr, append_assoc}
+use Rattle.std.proofs.lemmas.List.{append-nil, get_or_append_left}
+use Rattle.std.proofs.Math.Seq.{get_or-append_seam}
+use Rattle.std.specs.Option.{option_to_list}
+use Rattle.bit_strings.specs.Family.{Begins}
+use Rattle.pie_line.specs.declared.frame.FrameKind.{FrameKind}
+use Rattle.pie_line.specs.declared.frame.PieRefusal.{PieRefusal}
+use Rattle.pie_line.specs.declared.frame.PieRefusal.TheVariants.{Unfinished}
+use Rattle.pie_line.specs.declared.place.Place.{Place}
+use Rattle.pie_line.specs.Pie.{IsFrame, Frames}
+use Rattle.pie_line.specs.Place.{Completes, Moves, Stops}
+use Rattle.pie_line.specs.Refusal.{refusal_at, IsRefusedAt, Refuses}
+use Rattle.pie_line.specs.Edges.{LeadsTo}
+use Rattle.pie_line.proofs.Completions.{completion}
+use Rattle.pie_line.proofs.FamilyLaws.{bad-last, bad-more}
+
+pub leads-moves : (place next : Place) (bit : Option Bool) (bits : List Bool) (xs : List ℕ) (x : ℕ) → LeadsTo place bits xs → Moves place x next bit →
+    LeadsTo next (bits ++ option_to_list bit) (xs ++ x ∷ [])
+leads-moves place next bit bits xs x l m = record {
+  sound = m.sound;
+  only = λ kind all rest f.
+      let a = l.only kind all (x ∷ rest) (subst (IsFrame kind all) (append_assoc xs (x ∷ []) rest) f) in
+      let b = m.only kind a.0 rest a.2 in
+      (b.0, a.1 ∙ ap (λ ys. bits ++ ys) b.1 ∙ sym (append_assoc bits (option_to_list bit) b.0), b.2);
+  back = λ kind more rest c.
+      let f = l.back kind (option_to_list bit ++ more) (x ∷ rest) (m.back kind more rest c) in
+      rw (append_assoc bits (option_to_list bit) more, append_assoc xs (x ∷ []) rest) f;
+}
+
+pub leads-begins : (place : Place) (bits : List Bool) (xs : List ℕ) → LeadsTo place bits xs → Begins Frames xs
+leads-begins place bits xs l =
+    let c = completion place l.sound in
+    (c.2, (c.0, bits ++ c.1, l.back c.0 c.1 c.2 c.3))
+
+pub leads-stops : (place : Place) (bits : List Bool) (xs : List ℕ) (x : ℕ) → LeadsTo place bits xs → Stops place x → ¬ Begins Frames (xs ++ x ∷ [])
+leads-stops place bits xs x l s b =
+    let f = b.1 in
+    let a = l.only f.0 f.1 (x ∷ b.0) (subst (IsFrame f.0 f.1) (append_assoc xs (x ∷ []) b.0) f.2) in
+    s.never f.0 a.0 b.0 a.2
+
+-- the interval at which no frame goes on is the bad place
+pub leads-refused : (place : Place) (bits : List Bool) (xs : List ℕ) (x count : ℕ) (refusal : PieRefusal) → LeadsTo place bits xs → Stops place x →
+    count ≡ length xs → refusal ≡ refusal_at count x → (at : ℕ) × IsRefusedAt refusal (xs ++ x ∷ []) at
+leads-refused place bits xs x count refusal l s counted named = (
+  length xs,
+  record {
+    bad = bad-last Frames xs x (leads-begins place bits xs l) (leads-stops place bits xs x l s);
+    named = rw get_or-append_seam (rw (← counted) named);
+  },
+)
+
+pub refused-more : (refusal : PieRefusal) (xs ys : List ℕ) → (at : ℕ) × IsRefusedAt refusal xs at → (at : ℕ) × IsRefusedAt refusal (xs ++ ys) at
+refused-more refusal xs ys r =
+    let inside : r.0 < length xs = r.1.bad.inside in
+    (r.0, record { bad = bad-more Frames xs ys r.0 r.1.bad; named = rw get_or_append_left r.1.named })
+
+-- a frame that goes on is unfinished
+pub leads-unfinished : (place : Place) (bits : List Bool) (xs : List ℕ) (count : ℕ) → LeadsTo place bits xs → count ≡ length xs →
+    ((kind : FrameKind) (more : List Bool) → ¬ Completes place kind more []) → Refuses (Unfinished count) xs
+leads-unfinished place bits xs count l counted goes_on =
+    inr (
+      count,
+      record {
+        short = record {
+          whole = counted;
+          begins = leads-begins place bits xs l;
+          no_member = λ f. let a = l.only f.0 f.1 [] (subst (IsFrame f.0 f.1) (sym (append-nil xs)) f.2) in goes_on f.0 a.0 a.2;
+        };
+        named = refl;
+      },
+    )
+
+-- a frame that ends here is whole
+pub leads-ends : (place : Place) (bits : List Bool) (xs : List ℕ) (kind : FrameKind) → LeadsTo place bits xs → Completes place kind [] [] → IsFrame kind bits xs
+leads-ends place bits xs kind l c = rw (← append-nil bits, ← append-nil xs) (l.back kind [] [] c)

@@ -1,0 +1,10 @@
+pub mod Completions
+pub mod Decisions
+pub mod Decoding
+pub mod FamilyLaws
+pub mod FrameAnswers
+pub mod FrameLaws
+pub mod Leads
+pub mod Standings
+pub mod Symbols
+pub mod Writing

@@ -1,0 +1,30 @@
+use Rattle.std.proofs.Common.{refl, subst}
+use Rattle.pie_line.specs.Place.{Moves}
+use Rattle.pie_line.proofs.Leads.{leads-refused}
+use Rattle.pie_line.proofs.Standings.{stands-at, refused-again, answers-bit, answers-more}
+use Rattle.pie_line.proofs.edges.Edges.push.Goals as goal
+use Rattle.pie_line.proofs.edges.Edges.push.Goals.{in-Some-bit, in-None}
+
+pub returns-in-Err-clause-answer : goal.returns-in-Err-clause-answer
+returns-in-Err-clause-answer c = rw (← c.self.view_is) (λ bits xs s. refused-again _ c.in-Err.refusal c.args.interval bits xs c.in-Err.is s)
+
+pub returns-in_default-clause-answer : goal.returns-in_default-clause-answer
+returns-in_default-clause-answer c = rw (← c.self.view_is) (λ bits xs s.
+    let at = stands-at _ c.in-Ok.place bits xs c.in-Ok.is s in
+    (refl, leads-refused c.in-Ok.place bits xs c.args.interval c.self.inside.count c.refusal_of-refusal.result at.1 c.in_default.ensures.stops at.0 c.refusal_of-refusal.ensures))
+
+pub returns-clause-answer : goal.returns-clause-answer
+returns-clause-answer c = rw (← c.self.view_is) (λ bits xs s.
+    let at = stands-at _ c.in-Ok.place bits xs c.in-Ok.is s in
+    let place = c.in-Ok.place in
+    let next = c.in-Some.next in
+    let x = c.args.interval in
+    let m = c.in-Some.ensures.moves in
+    elim c.match-bit.branch [
+      | in-Some-bit w ↦
+          let m' = subst (Moves place x next) w.in-Some-bit.is m in
+          rw w.result-is (answers-bit place next w.in-Some-bit.bit bits xs x c.self.inside.count at m')
+      | in-None w ↦
+          let m' = subst (Moves place x next) w.in-None.is m in
+          rw w.result-is (answers-more place next bits xs x c.self.inside.count at m')
+    ])

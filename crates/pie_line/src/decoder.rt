@@ -1,0 +1,58 @@
+//! Frames to bits.
+ghost use Rattle.std.specs.Prelude.{◌≡◌, ◌≤◌, ℕ, Bool, List, [], All, IfOk, IfErr, OnErr, Ok, length};
+ghost use Rattle.pie_line.specs.Pie.{IsFrame};
+ghost use Rattle.pie_line.specs.declared.frame.FrameKind.{FrameKind};
+ghost use Rattle.pie_line.specs.Refusal.{Refuses};
+
+use crate::edges::{Edge, Edges};
+use crate::{FrameKind, Intervals, PieRefusal};
+use bit_strings::Bits;
+
+/// Reads a frame (6.3.1.2.3, 6.3.1.2.8): its kind, and its bits into `out`, which is cleared first and
+/// is empty after a refusal.
+///
+/// The intervals are in nanoseconds. A list that is no frame is refused at the first interval with
+/// which it begins no frame, or as `Unfinished` with its length where it begins one.
+pub fn decode_frame(intervals: &Intervals, out: &mut Bits) -> Result<FrameKind, PieRefusal>
+    requires room { length intervals.now.items ≤ out.old.capacity }
+    requires each { All (λ interval. interval ≤ 999999) intervals.now.items }
+    requires count { length intervals.now.items ≤ 4000000000 }
+    ensures ok { IfOk result (λ kind. IsFrame kind out.new.items intervals.now.items) }
+    ensures refused { IfErr result (λ refusal. Refuses refusal intervals.now.items) }
+    ensures err { OnErr result (out.new.items ≡ []) }
+    // A frame is read as what it is.
+    ensures only { (kind : FrameKind) (bits : List Bool) → IsFrame kind bits intervals.now.items →
+        (result ≡ Ok kind) × (out.new.items ≡ bits) }
+    ensures capacity { out.new.capacity ≡ out.old.capacity }
+{
+    out.clear();
+    let result = decode_intervals(intervals.as_slice(), out);
+    if result.is_err() {
+        out.clear();
+    }
+    result
+}
+
+/// Reads a frame as [`decode_frame`] does, into an empty list, and leaves there what it had read before
+/// a refusal.
+fn decode_intervals(intervals: &[u32], out: &mut Bits) -> Result<FrameKind, PieRefusal>
+    requires empty { out.old.items ≡ [] }
+    requires room { length intervals.now ≤ out.old.capacity }
+    requires each { All (λ interval. interval ≤ 999999) intervals.now }
+    requires count { length intervals.now ≤ 4000000000 }
+    ensures ok { IfOk result (λ kind. IsFrame kind out.new.items intervals.now) }
+    ensures refused { IfErr result (λ refusal. Refuses refusal intervals.now) }
+    ensures capacity { out.new.capacity ≡ out.old.capacity }
+{
+    let mut edges = Edges::new();
+    for &interval in intervals {
+        match edges.push(interval) {
+            Edge::More => {}
+            Edge::Bit(bit) => {
+                let _ = out.push(bit);
+            }
+            Edge::Refused(refusal) => return Err(refusal),
+        }
+    }
+    edges.finish()
+}

@@ -1,0 +1,116 @@
+//! A decoder that takes one interval at a time.
+ghost use Rattle.std.specs.Prelude.{◌≡◌, ◌+◌, ◌<◌, ◌≤◌, ℕ, Bool, List, [], ◌∷◌, ◌++◌, MatchResult};
+ghost use Rattle.pie_line.specs.Refusal.{refusal_at};
+
+use crate::place::Place;
+use crate::{FrameKind, PieRefusal};
+use std::marker::Model;
+
+/// What an interval brought.
+#[derive(Clone, Copy, Debug, PartialEq, Eq)]
+pub enum Edge {
+    /// The frame goes on, and no data symbol ended.
+    More,
+    /// The interval ended the symbol of this bit.
+    Bit(bool),
+    /// The intervals so far begin no frame.
+    Refused(PieRefusal),
+}
+
+/// A decoder that takes one interval at a time and keeps none of them. After a refusal it answers the
+/// same refusal.
+///
+/// A contract sees it as a record of where it stands and of how many intervals it took.
+#[derive(Drop)]
+pub struct Edges {
+    standing: Result<Place, PieRefusal>,
+    count: u32,
+}
+
+impl Model for Edges {
+    ghost use Rattle.std.specs.Prelude.{IfOk};
+    ghost use Rattle.pie_line.specs.Place.{IsSound};
+    ghost use Rattle.pie_line.specs.Edges.{EdgesValue};
+
+    ghost Value = { EdgesValue };
+
+    ghost view = { λ a. record { standing = a.standing; count = a.count } };
+
+    ghost invariant = { λ a. IfOk a.standing IsSound };
+}
+
+/// The name of a bad place, counted from 0, at which this interval stands.
+fn refusal_of(place: u32, interval: u32) -> PieRefusal
+    ensures { result ≡ refusal_at place interval }
+{
+    if place == 0 {
+        PieRefusal::Delimiter
+    } else if place <= 2 {
+        PieRefusal::Tari
+    } else if place <= 4 {
+        PieRefusal::RtCal
+    } else if place >= 7 || interval == 0 {
+        PieRefusal::Symbol(place)
+    } else {
+        PieRefusal::TrCal
+    }
+}
+
+impl Edges {
+    ghost use Rattle.pie_line.specs.Pie.{IsFrame};
+    ghost use Rattle.pie_line.specs.Refusal.{Refuses};
+    ghost use Rattle.pie_line.specs.Edges.{EdgesValue, StandsFor, Answers};
+
+    /// A decoder that was given no interval.
+    pub fn new() -> Edges
+        ensures stands { StandsFor result [] [] }
+        ensures count { result.count ≡ 0 }
+    {
+        Edges {
+            standing: Ok(Place::Delimiter),
+            count: 0,
+        }
+    }
+
+    /// Takes one more interval, in nanoseconds.
+    pub fn push(&mut self, interval: u32) -> Edge
+        requires interval { interval ≤ 999999 }
+        requires count { self.old.count < 4000000000 }
+        // The decoder stands for a list of intervals and for the bits that were read from it.
+        ensures answer { (bits : List Bool) (intervals : List ℕ) → StandsFor self.old bits intervals →
+            Answers result self.new bits (intervals ++ interval ∷ []) }
+        ensures count { self.new.count ≤ self.old.count + 1 }
+    {
+        let place = match self.standing {
+            Ok(place) => place,
+            Err(refusal) => return Edge::Refused(refusal),
+        };
+        let Some((next, bit)) = place.after(interval) else {
+            let refusal = refusal_of(self.count, interval);
+            self.standing = Err(refusal);
+            return Edge::Refused(refusal);
+        };
+        self.standing = Ok(next);
+        self.count += 1;
+        match bit {
+            Some(bit) => Edge::Bit(bit),
+            None => Edge::More,
+        }
+    }
+
+    /// The kind of the frame that the intervals are, or why they are none.
+    pub fn finish(self) -> Result<FrameKind, PieRefusal>
+        ensures answer { (bits : List Bool) (intervals : List ℕ) → StandsFor self bits intervals →
+            MatchResult result (λ kind. IsFrame kind bits intervals) (λ refusal. Refuses refusal intervals) }
+    {
+        let Edges { standing, count } = self;
+        let place = match standing {
+            Ok(place) => place,
+            Err(refusal) => return Err(refusal),
+        };
+        match place.kind() {
+            Some(kind) => Ok(kind),
+            None => Err(PieRefusal::Unfinished(count)),
+        }
+    }
+}

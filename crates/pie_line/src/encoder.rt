@@ -1,0 +1,64 @@
+//! Bits to frames.
+ghost use Rattle.std.specs.Prelude.{◌≡◌, ◌+◌, ◌-◌, ◌*◌, ◌<◌, ◌≤◌, ◌++◌, ◌∷◌, [], length, if◌then◌else◌};
+ghost use Rattle.pie_line.specs.Link.{IsLegal};
+ghost use Rattle.pie_line.specs.Pie.{IsFrame, pair_of, sum_of, header_of, wave_of, kind_of};
+
+use crate::{Intervals, Lead, Link};
+use bit_strings::Bits;
+
+/// How long a delimiter lasts that is written, in nanoseconds.
+const DELIMITER: u32 = 12_500;
+
+/// Writes the one frame of these bits (6.3.1.2.3, 6.3.1.2.8) in place of what `out` had: the delimiter,
+/// the header, and a symbol for each bit. Each low lasts PW.
+pub fn encode_frame(link: &Link, lead: Lead, bits: &Bits, out: &mut Intervals)
+    requires room { 7 + 2 * length bits.now.items ≤ out.old.capacity }
+    ensures wave { out.new.items ≡ wave_of link.now lead bits.now.items }
+    ensures frame { IsFrame (kind_of link.now lead) bits.now.items out.new.items }
+    ensures capacity { out.new.capacity ≡ out.old.capacity }
+{
+    put_header(link, lead, out);
+    for &bit in bits.as_slice() {
+        put_pair(link, symbol_sum(link, bit), out);
+    }
+}
+
+/// Writes the delimiter and the header in place of what `out` had.
+fn put_header(link: &Link, lead: Lead, out: &mut Intervals)
+    requires room { 7 ≤ out.old.capacity }
+    ensures header { out.new.items ≡ 12500 ∷ header_of link.now lead }
+    ensures written { length out.new.items ≤ 7 }
+    ensures legal { IsLegal link.now }
+    ensures capacity { out.new.capacity ≡ out.old.capacity }
+{
+    out.clear();
+    let _ = out.push(DELIMITER);
+    put_pair(link, link.tari(), out);
+    put_pair(link, link.rtcal(), out);
+    if lead == Lead::Preamble {
+        put_pair(link, link.trcal(), out);
+    }
+}
+
+/// Writes a pair that lasts `sum` nanoseconds: a high, and then a low of PW.
+fn put_pair(link: &Link, sum: u32, out: &mut Intervals)
+    requires sum { link.now.pw ≤ sum }
+    requires room { length out.old.items + 2 ≤ out.old.capacity }
+    ensures pair { out.new.items ≡ out.old.items ++ pair_of link.now sum }
+    ensures capacity { out.new.capacity ≡ out.old.capacity }
+{
+    let _ = out.push(sum - link.pw());
+    let _ = out.push(link.pw());
+}
+
+/// How long the symbol of a bit lasts, in nanoseconds.
+fn symbol_sum(link: &Link, bit: bool) -> u32
+    ensures sum { result ≡ sum_of link.now bit }
+    ensures room { link.now.pw ≤ result }
+{
+    if bit {
+        link.rtcal() - link.tari()
+    } else {
+        link.tari()
+    }
+}

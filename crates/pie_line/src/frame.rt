@@ -1,0 +1,37 @@
+//! What is said of a frame: which header it has, what is read from it, and why a list is none.
+
+/// With which header a frame begins.
+#[derive(Clone, Copy, Debug, PartialEq, Eq)]
+pub enum Lead {
+    /// The preamble, which begins a Query (6.3.1.2.8).
+    Preamble,
+    /// The frame-sync, which begins every other command.
+    FrameSync,
+}
+
+/// The header that was read from a frame, with the durations that it set, in nanoseconds.
+#[derive(Clone, Copy, Debug, PartialEq, Eq)]
+pub enum FrameKind {
+    /// A preamble, with a data-0, RTcal and TRcal.
+    Preamble { tari: u32, rtcal: u32, trcal: u32 },
+    /// A frame-sync, with a data-0 and RTcal.
+    FrameSync { tari: u32, rtcal: u32 },
+}
+
+/// Why a list of intervals is no frame. All but `Unfinished` name the first interval with which the
+/// list begins no frame any more, in whatever way it goes on (the names are profile).
+#[derive(Clone, Copy, Debug, PartialEq, Eq)]
+pub enum PieRefusal {
+    /// The delimiter, interval 0, lasts less than 11,875 or more than 13,125 nanoseconds.
+    Delimiter,
+    /// Interval 1 or 2 makes no pair that could be the first data-0.
+    Tari,
+    /// Interval 3 or 4 makes no pair that could be RTcal.
+    RtCal,
+    /// Interval 5 or 6, which is not 0, makes no pair that could be TRcal or a data symbol.
+    TrCal,
+    /// The interval at this place is 0, at place 5 or 6, or makes no data symbol, at a later place.
+    Symbol(u32),
+    /// All intervals, of which there are so many, begin a frame, and they are none.
+    Unfinished(u32),
+}

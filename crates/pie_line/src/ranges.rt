@@ -1,0 +1,50 @@
+//! Tests of the ranges of durations, all in nanoseconds.
+ghost use Rattle.std.specs.Prelude.{◌≡◌, ◌↔◌, ◌*◌, ◌≤◌, IsTrue};
+ghost use Rattle.pie_line.specs.Link.{IsTari, IsRtCal, IsTrCal, IsPw};
+ghost use Rattle.pie_line.specs.Pie.{IsDelimiter, bit_of};
+
+/// The longest Tari.
+pub const TARI_MOST: u32 = 25_000;
+
+/// Whether a delimiter may last so long.
+pub fn is_delimiter(interval: u32) -> bool
+    ensures { IsTrue result ↔ IsDelimiter interval }
+{
+    11_875 <= interval && interval <= 13_125
+}
+
+/// Whether Tari is in its range.
+pub fn is_tari(tari: u32) -> bool
+    ensures { IsTrue result ↔ IsTari tari }
+{
+    6_250 <= tari && tari <= TARI_MOST
+}
+
+/// Whether RTcal is in its range for a Tari.
+pub fn is_rtcal(tari: u32, rtcal: u32) -> bool
+    ensures { IsTrue result ↔ IsRtCal tari rtcal }
+{
+    5 * tari as u64 <= 2 * rtcal as u64 && rtcal as u64 <= 3 * tari as u64
+}
+
+/// Whether TRcal is in its range for an RTcal.
+pub fn is_trcal(rtcal: u32, trcal: u32) -> bool
+    ensures { IsTrue result ↔ IsTrCal rtcal trcal }
+{
+    11 * rtcal as u64 <= 10 * trcal as u64 && trcal as u64 <= 3 * rtcal as u64
+}
+
+/// Whether PW is in its range for a Tari.
+pub fn is_pw(tari: u32, pw: u32) -> bool
+    ensures { IsTrue result ↔ IsPw tari pw }
+{
+    let thousandths = 1_000 * pw as u64;
+    pw >= 2_000 && 265 * tari as u64 <= thousandths && thousandths <= 525 * tari as u64
+}
+
+/// The bit of a symbol that lasts `sum`: 0 where it is shorter than half of RTcal, else 1.
+pub fn bit_of_sum(rtcal: u32, sum: u32) -> bool
+    ensures { result ≡ bit_of rtcal sum }
+{
+    rtcal as u64 <= 2 * sum as u64
+}

@@ -1,0 +1,68 @@
+//! Bytes that are read as hexadecimal digits of either case.
+ghost use Rattle.std.specs.Prelude.{◌≡◌, ◌≤◌, ◌↔◌, ℕ, List, length, IsTrue, IfOk, IfSome, IsSomeAnd};
+ghost use Rattle.std.specs.List.{AllPass};
+ghost use Rattle.hex.specs.Hex.{decode_of, is_hex_digit};
+
+use bit_strings::OutOfMemory;
+use std::alloc::{AllocError, Global};
+use std::marker::Model;
+
+/// At least one byte, which a field spells in two hexadecimal digits a byte, of either case. A
+/// contract sees it as the list of these bytes.
+#[derive(Drop)]
+pub struct HexBytes<'a> {
+    digits: &'a [u8],
+}
+
+impl<'a> Model for HexBytes<'a> {
+    ghost use Rattle.std.specs.Prelude.{ℕ, List};
+    ghost use Rattle.text_fields.specs.Hexadecimal.{IsHexText, bytes_of_hex};
+
+    ghost Value = { List ℕ };
+
+    ghost view = { λ a. bytes_of_hex a.digits.now };
+
+    ghost invariant = { λ a. IsHexText a.digits.now };
+}
+
+/// Whether each byte is a hexadecimal digit of either case.
+fn is_hexadecimal(digits: &[u8]) -> bool
+    ensures { IsTrue result ↔ AllPass is_hex_digit digits.now }
+{
+    digits.iter().all(|digit| matches!(*digit, b'0'..=b'9' | b'A'..=b'F' | b'a'..=b'f'))
+}
+
+impl<'a> HexBytes<'a> {
+    /// The bytes that a field spells; none exactly where the field doesn't spell from 1 to `most`
+    /// bytes.
+    #[tactic(auto, using(crate::proofs::HexText::text))]
+    pub fn new(field: &'a [u8], most: u32) -> Option<HexBytes<'a>>
+        ensures value { IfSome result (λ bytes. (decode_of field.now ≡ Ok bytes) × (1 ≤ length bytes) × (length bytes ≤ most)) }
+        ensures only { (bytes : List ℕ) → decode_of field.now ≡ Ok bytes → 1 ≤ length bytes → length bytes ≤ most → IsSomeAnd result (λ it. it ≡ bytes) }
+    {
+        let count = field.len() / 2;
+        if count < 1 || count > most as usize || field.len() % 2 == 1 || !is_hexadecimal(field) {
+            return None;
+        }
+        Some(HexBytes { digits: field })
+    }
+
+    /// How many bytes there are.
+    #[tactic(auto, using(crate::proofs::HexText::text))]
+    pub fn len(&self) -> u32
+        ensures { result ≡ length self.now }
+    {
+        (self.digits.len() / 2) as u32
+    }
+
+    /// The bytes.
+    #[tactic(auto, using(crate::proofs::HexText::text))]
+    pub fn decode(&self, alloc: Global) -> Result<Vec<u8>, OutOfMemory>
+        ensures { IfOk result (λ bytes. bytes.items ≡ self.now) }
+    {
+        match hex::decode(alloc, self.digits) {
+            Ok(bytes) => Ok(bytes),
+            Err(_) => Err(AllocError),
+        }
+    }
+}

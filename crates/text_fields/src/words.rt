@@ -1,0 +1,87 @@
+//! Words and bytes in hexadecimal digits.
+ghost use Rattle.std.specs.Prelude.{◌≡◌, ◌<◌, ◌≤◌, ◌^◌, ◌++◌, ℕ, [], ◌∷◌, IfSome, OnOk};
+ghost use Rattle.std.specs.String.{string_bytes};
+ghost use Rattle.text_fields.specs.Hexadecimal.{hex_byte, hex_digit, hex_word, hex_words};
+
+use bit_strings::OutOfMemory;
+
+/// The number that one upper-case hexadecimal digit stands for; none exactly where the byte is no such
+/// digit.
+fn digit_value(digit: u8) -> Option<u8>
+    ensures value { IfSome result (λ n. (digit ≡ hex_digit n) × (n < 16)) }
+    ensures only { (n : ℕ) → n < 16 → digit ≡ hex_digit n → result ≡ Some n }
+{
+    match digit {
+        b'0'..=b'9' => Some(digit - b'0'),
+        b'A'..=b'F' => Some(digit - b'A' + 10),
+        _ => None,
+    }
+}
+
+/// The byte that two upper-case hexadecimal digits stand for.
+fn byte_value(high: u8, low: u8) -> Option<u8>
+    ensures value { IfSome result (λ n. high ∷ low ∷ [] ≡ hex_byte n) }
+    ensures only { (n : ℕ) → n < 256 → high ∷ low ∷ [] ≡ hex_byte n → result ≡ Some n }
+{
+    Some(digit_value(high)? * 16 + digit_value(low)?)
+}
+
+/// The word that a field spells in four upper-case hexadecimal digits; none exactly where the field
+/// isn't the spelling of a word.
+pub fn word(field: &[u8]) -> Option<u16>
+    ensures value { IfSome result (λ n. field.now ≡ hex_word n) }
+    ensures only { (n : ℕ) → n < 2 ^ 16 → field.now ≡ hex_word n → result ≡ Some n }
+{
+    let [first, second, third, fourth] = field else {
+        return None;
+    };
+    let high = byte_value(*first, *second)?;
+    let low = byte_value(*third, *fourth)?;
+    Some(u16::from_be_bytes([high, low]))
+}
+
+/// The digit of a number below 16.
+fn digit_of(value: u8) -> char
+    requires { value < 16 }
+    ensures { result ≡ hex_digit value }
+{
+    let digit = if value < 10 {
+        b'0' + value
+    } else {
+        b'A' + (value - 10)
+    };
+    char::from(digit)
+}
+
+/// Writes a byte in two upper-case hexadecimal digits at the end of the text. After an error the text
+/// may hold a part of them.
+pub fn push_byte_hex(text: &mut String, byte: u8) -> Result<(), OutOfMemory>
+    ensures { OnOk result (string_bytes text.new ≡ string_bytes text.old ++ hex_byte byte) }
+{
+    text.push(digit_of(byte / 16))?;
+    text.push(digit_of(byte % 16))
+}
+
+/// Writes a word in four upper-case hexadecimal digits at the end of the text. After an error the text
+/// may hold a part of them.
+pub fn push_word(text: &mut String, word: u16) -> Result<(), OutOfMemory>
+    ensures { OnOk result (string_bytes text.new ≡ string_bytes text.old ++ hex_word word) }
+{
+    let [high, low] = word.to_be_bytes();
+    push_byte_hex(text, high)?;
+    push_byte_hex(text, low)
+}
+
+/// Writes words in hexadecimal digits without anything between them, or a hyphen for none, at the end
+/// of the text. After an error the text may hold a part of them.
+pub fn push_words(text: &mut String, words: &[u16]) -> Result<(), OutOfMemory>
+    ensures { OnOk result (string_bytes text.new ≡ string_bytes text.old ++ hex_words words.now) }
+{
+    if words.is_empty() {
+        return text.push('-');
+    }
+    for word in words {
+        push_word(text, *word)?;
+    }
+    Ok(())
+}
