@@ -1,7 +1,7 @@
 -- What one more level does to what the decoder has taken of the lead.
 use Rattle.std.proofs.Common.{◌≡◌, ◌≢◌, ℕ, ◌+◌, Bool, true, List, [], ◌∷◌, ◌++◌, length, take, drop, Some, slice_get, sym, ap, ◌∙◌, arith, append_assoc, length-append}
 use Rattle.std.proofs.lemmas.List.{length-take-le, take_all, take_at, take_more, take-append-drop}
-use Rattle.std.proofs.lemmas.Option.{get_or_from_slice_get}
+use Rattle.std.proofs.lemmas.Option.{get_or_from_slice_get, same_Some}
 use Rattle.bit_strings.specs.Family.{Begins, IsBadAt, IsShortAt}
 use Rattle.line_code.specs.Table.{Table}
 use Rattle.line_code.specs.Stream.{blocks, Streams}
@@ -61,3 +61,17 @@ seeks_short t trext state levels s =
 pub lead_all : (t : Table) (trext : Bool) (state : SeekingValue) (levels : List Bool) (level : Bool) → Seeks t trext state levels
     → slice_get (t.lead trext) state.taken ≡ Some level → state.taken + 1 ≡ length (t.lead trext) → levels ++ level ∷ [] ≡ t.lead trext
 lead_all t trext state levels level s at last = seeks_more t trext state levels level s at ∙ take_all (state.taken + 1) (t.lead trext) (omega arith)
+
+-- the level that the lead has next, by the TRext of the state
+pub lead_level : (t : Table) (trext : Bool) (state : SeekingValue) (levels : List Bool) (read level : Bool) → Seeks t trext state levels
+    → slice_get (t.lead state.trext) state.taken ≡ Some read → read ≡ level → slice_get (t.lead trext) state.taken ≡ Some level
+lead_level t trext state levels read level s at same = sym (ap (λ x. slice_get (t.lead x) state.taken) s.trext_is) ∙ at ∙ ap Some same
+
+pub lead_other : (t : Table) (trext : Bool) (state : SeekingValue) (levels : List Bool) (read level : Bool) → Seeks t trext state levels
+    → slice_get (t.lead state.trext) state.taken ≡ Some read → read ≢ level → slice_get (t.lead trext) state.taken ≢ Some level
+lead_other t trext state levels read level s at other e =
+    other (same_Some read level (sym at ∙ ap (λ x. slice_get (t.lead x) state.taken) s.trext_is ∙ e))
+
+-- the lead by the TRext of the state
+pub lead_size : (t : Table) (trext : Bool) (state : SeekingValue) (levels : List Bool) → Seeks t trext state levels → length (t.lead state.trext) ≡ length (t.lead trext)
+lead_size t trext state levels s = ap (λ x. length (t.lead x)) s.trext_is

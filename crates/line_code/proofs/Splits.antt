@@ -18,6 +18,9 @@ pub context_after-push : (t : Table) (bits : List Bool) (bit : Bool) (c : Contex
 context_after-push t [] bit c = refl
 context_after-push t (x ∷ xs) bit c = context_after-push t xs bit (t.next c x)
 
+cons_same : (x z : Bool) (xs ys zs : List Bool) → x ≡ z → zs ≡ xs ++ ys → z ∷ zs ≡ x ∷ (xs ++ ys)
+cons_same x z xs ys zs same e = ap (λ ls. z ∷ ls) e ∙ ap (λ b. b ∷ (xs ++ ys)) (sym same)
+
 -- blocks that begin with the blocks of these bits are those of more bits
 pub blocks_split : (t : Table) (chips : ℕ) → IsEven t chips → TellsBits t → (xs zs rest : List Bool) (c : Context)
     → blocks t c xs ++ rest ≡ blocks t c zs
@@ -37,7 +40,7 @@ blocks_split t chips even tells (x ∷ xs) (z ∷ zs) rest c e =
     let parts = parts_same (t.block c x) (t.block c z) (blocks t (t.next c x) xs ++ rest) (blocks t (t.next c z) zs) (omega arith) joined in
     let same : x ≡ z = told t tells c x z parts.0 in
     let more = blocks_split t chips even tells xs zs rest (t.next c x) (parts.1 ∙ ap (λ b. blocks t (t.next c b) zs) (sym same)) in
-    (more.0, ap (λ ls. z ∷ ls) more.1 ∙ ap (λ b. b ∷ (xs ++ more.0)) (sym same), more.2)
+    (more.0, cons_same x z xs more.0 zs same more.1, more.2)
 
 -- where one list begins with a part and one more item, and also with a longer list, the part is that list's front
 pub front_of : (part block more rest : List Bool) (level : Bool) → length part < length block

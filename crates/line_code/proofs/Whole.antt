@@ -1,11 +1,11 @@
 -- From one place of the levels to the whole list, and that the answer is one.
-use Rattle.std.proofs.Common.{◌≡◌, ℕ, ◌+◌, ◌≤◌, Bool, true, List, [], ◌∷◌, ◌++◌, length, take, drop, Result, Ok, Err, IsOk, OnOk, IfErr, refl, sym, ap, ◌∙◌, subst, arith, length-append, length-take}
+use Rattle.std.proofs.Common.{◌<◌, ◌≡◌, ℕ, ◌+◌, ◌≤◌, Bool, true, List, [], ◌∷◌, ◌++◌, length, take, drop, Result, Ok, Err, IsOk, IsErr, OnOk, IfErr, refl, sym, ap, ◌∙◌, subst, arith, length-append, length-take}
 use Rattle.std.proofs.lemmas.List.{append-nil, append_cancel_left, same_from_push, take-take, take-append-drop}
 use Rattle.bit_strings.specs.Family.{IsBadAt}
 use Rattle.line_code.specs.Table.{Context, Table}
 use Rattle.line_code.specs.Stream.{blocks, IsStream, Streams}
 use Rattle.line_code.specs.States.{InsideValue, Reads, context_after}
-use Rattle.line_code.specs.Laws.{IsEven, TellsBits}
+use Rattle.line_code.specs.Laws.{IsEven, TellsBits, RefusesFlips, HidesLead, flipped}
 use Rattle.line_code.specs.Refusal.{Refuses}
 use Rattle.line_code.specs.declared.refusal.LineRefusal.{LineRefusal}
 use Rattle.line_code.specs.declared.refusal.LineRefusal.TheVariants.{Invalid, Unfinished}
@@ -71,3 +71,19 @@ pub decided : (t : Table) (chips : ℕ) → IsEven t chips → TellsBits t → (
     → OnOk result (IsStream t trext out levels) → IfErr result (Refuses (Streams t trext) levels) → IsStream t trext bits levels → IsOk result × (out ≡ bits)
 decided t chips even tells trext (Ok done) levels out bits ok refused s = (refl, one_stream t chips even tells trext out bits levels ok s)
 decided t chips even tells trext (Err refusal) levels out bits ok refused s = absurd (refused_is_none (Streams t trext) levels refusal refused (bits, s))
+
+-- where the levels are no stream, the answer is a refusal
+pub refused_else : (t : Table) (trext : Bool) (result : Result (Unit {0}) LineRefusal) (levels out : List Bool)
+    → OnOk result (IsStream t trext out levels) → ¬ Streams t trext levels → IsErr result
+refused_else t trext (Ok done) levels out ok none = absurd (none (out, ok))
+refused_else t trext (Err refusal) levels out ok none = refl
+
+-- a stream with one level inverted is none
+pub flip_is_none : (t : Table) (trext : Bool) (levels given sent : List Bool) (at : ℕ) → RefusesFlips t → levels ≡ given
+    → Streams t trext sent → at < length sent → given ≡ flipped sent at → ¬ Streams t trext levels
+flip_is_none t trext levels given sent at law is stream within e member =
+    law trext sent at within stream (subst (Streams t trext) (is ∙ e) member)
+
+-- data blocks alone are none
+pub blocks_are_none : (t : Table) (trext : Bool) (levels given : List Bool) (c : Context) (bits : List Bool) → HidesLead t → levels ≡ given → given ≡ blocks t c bits → ¬ Streams t trext levels
+blocks_are_none t trext levels given c bits law is e (sent, f) = law trext c bits (blocks t t.start (sent ++ true ∷ [])) (sym e ∙ sym is ∙ f)

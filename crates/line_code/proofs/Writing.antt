@@ -17,6 +17,16 @@ more_levels front levels at level read =
     ∙ ap (λ ls. front ++ ls)
     (ap (λ x. take at levels ++ x ∷ []) (sym (get_or_from_slice_get levels at level false read)) ∙ sym (take_more levels at false (slice_get_within levels at level read)))
 
+-- what a buffer has after one more level of a list
+pub puts_more : (before old new : BitString) (levels : List Bool) (at : ℕ) (level : Bool) → slice_get levels at ≡ Some level
+    → new ≡ record { items = old.items ++ level ∷ []; capacity = old.capacity }
+    → old ≡ record { items = before.items ++ take at levels; capacity = before.capacity }
+    → new ≡ record { items = before.items ++ take (at + 1) levels; capacity = before.capacity }
+puts_more before old new levels at level read put written =
+    let After : BitString → BitString = λ s. record { items = s.items ++ level ∷ []; capacity = s.capacity } in
+    let Written : List Bool → BitString = λ ls. record { items = ls; capacity = before.capacity } in
+    put ∙ ap After written ∙ ap Written (more_levels before.items levels at level read)
+
 -- one more block, behind the lead and the blocks before
 pub more_blocks : (t : Table) (lead bits : List Bool) (bit : Bool) (c : Context)
     → (lead ++ blocks t c bits) ++ t.block (context_after t c bits) bit ≡ lead ++ blocks t c (bits ++ bit ∷ [])
@@ -32,6 +42,9 @@ length-blocks t chips even (bit ∷ bits) c =
     let joined = length-append (t.block c bit) (blocks t (t.next c bit) bits) in
     let product = mul-suc chips (length bits) in
     omega arith
+
+pub capacity_of : (new old : BitString) (items : List Bool) → new ≡ record { items = items; capacity = old.capacity } → new.capacity ≡ old.capacity
+capacity_of new old items e = ap (λ (s : BitString). s.capacity) e
 
 -- there is room for the block of one bit more
 pub room_for_block : (t : Table) (chips : ℕ) → IsEven t chips → (lead bits given out : List Bool) (n capacity whole : ℕ) (c : Context)

@@ -1,6 +1,8 @@
 //! The decoder of a whole list of levels.
-ghost use Rattle.std.specs.Prelude.{◌≡◌, ◌≤◌, ◌<◌, List, Bool, [], length, OnOk, IfErr, OnErr, IsOk};
-ghost use Rattle.line_code.specs.Stream.{IsStream, Streams};
+ghost use Rattle.std.specs.Prelude.{◌≡◌, ◌≤◌, ◌<◌, ℕ, List, Bool, [], length, OnOk, IfErr, OnErr, IsOk, IsErr};
+ghost use Rattle.line_code.specs.Table.{Context};
+ghost use Rattle.line_code.specs.Stream.{IsStream, Streams, blocks};
+ghost use Rattle.line_code.specs.Laws.{flipped};
 ghost use Rattle.line_code.specs.Refusal.{Refuses};
 ghost use Rattle.line_code.specs.Decoding.{Follows, AfterLevel, taken_of};
 
@@ -11,7 +13,8 @@ use bit_strings::{Bits, Levels};
 
 /// The bits of a stream (6.3.1.3.2 of the standard), without the dummy at its end, in `out`, which is
 /// emptied first. `Invalid` and `Unfinished` come exactly where the levels are no stream, at the
-/// first place where it is certain, and leave `out` empty.
+/// first place where it is certain, and leave `out` empty. So a stream with one level inverted is
+/// refused, and so are data blocks without the lead.
 pub fn decode<C: LineCode>(trext: bool, levels: &Levels, out: &mut Bits) -> Result<(), LineRefusal>
     requires room { length levels.now.items ≤ out.old.capacity }
     requires few { length levels.now.items ≤ 4000000000 }
@@ -20,6 +23,8 @@ pub fn decode<C: LineCode>(trext: bool, levels: &Levels, out: &mut Bits) -> Resu
     ensures err { OnErr result (out.new.items ≡ []) }
     ensures capacity { out.new.capacity ≡ out.old.capacity }
     ensures only { (bits : List Bool) → IsStream C.table trext bits levels.now.items → IsOk result × (out.new.items ≡ bits) }
+    ensures flip { (sent : List Bool) (at : ℕ) → Streams C.table trext sent → at < length sent → levels.now.items ≡ flipped sent at → IsErr result }
+    ensures no_lead { (c : Context) (bits : List Bool) → levels.now.items ≡ blocks C.table c bits → IsErr result }
 {
     out.clear();
     let read = read::<C>(trext, levels.as_slice(), out);

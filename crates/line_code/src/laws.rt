@@ -2,7 +2,9 @@
 ghost use Rattle.std.specs.Prelude.{◌≡◌, ℕ, Bool, List, Result};
 ghost use Rattle.line_code.specs.Table.{Table};
 ghost use Rattle.line_code.specs.Laws.{IsEven, TellsBits};
-ghost use Rattle.line_code.specs.Stream.{IsStream};
+ghost use Rattle.line_code.specs.Stream.{IsStream, Streams};
+ghost use Rattle.line_code.specs.States.{SeekingValue, InsideValue, Seeks, Reads};
+ghost use Rattle.bit_strings.specs.Family.{Begins};
 ghost use Rattle.line_code.specs.Answer.{IsAnswer};
 ghost use Rattle.line_code.specs.declared.refusal.LineRefusal.{LineRefusal};
 
@@ -16,4 +18,13 @@ pub fn one_answer()
         → (left right : Result (Unit {0}) LineRefusal) → IsAnswer t trext levels left → IsAnswer t trext levels right → left ≡ right }
     ensures bits { (t : Table) (chips : ℕ) → IsEven t chips → TellsBits t → (trext : Bool) (levels : List Bool)
         → (left right : List Bool) → IsStream t trext left levels → IsStream t trext right levels → left ≡ right }
+{}
+
+/// The levels for which a state of the decoder stands begin a stream. So a level that is not refused
+/// is one with which some stream goes on, for each table.
+pub fn states_begin_streams()
+    ensures seeking { (t : Table) (trext : Bool) (state : SeekingValue) (levels : List Bool)
+        → Seeks t trext state levels → Begins (Streams t trext) levels }
+    ensures inside { (t : Table) (trext : Bool) (state : InsideValue) (levels bits : List Bool)
+        → Reads t trext state levels bits → Begins (Streams t trext) levels }
 {}

@@ -12,6 +12,6 @@ mod states;
 pub use code::LineCode;
 pub use decoder::decode;
 pub use encoder::encode;
-pub use laws::one_answer;
+pub use laws::{one_answer, states_begin_streams};
 pub use refusal::LineRefusal;
 pub use states::{Ended, Inside, Seeking, Sought, Within};

@@ -1,9 +1,9 @@
 -- The pieces of a text that is cut at a byte.
-use Rattle.std.proofs.Common.{◌≡◌, ◌≢◌, ℕ, false, eqb, List, [], ◌∷◌, ◌++◌, arith, ap, refl, ◌∙◌, append_assoc}
+use Rattle.std.proofs.Common.{◌≡◌, ◌≢◌, ℕ, false, eqb, List, [], ◌∷◌, ◌++◌, length, arith, ap, refl, ◌∙◌, append_assoc}
 use Rattle.std.specs.Prelude.{All}
 use Rattle.std.proofs.lemmas.Bool.Decides.{nat_tests}
 use Rattle.std.proofs.lemmas.List.Elements.{All-head, All-tail, All-weaker}
-use Rattle.std.proofs.lemmas.List.Splits.{slice_split_at, slice_split_none}
+use Rattle.std.proofs.lemmas.List.Splits.{length-slice_split, slice_split_at, slice_split_none}
 use Rattle.text_fields.specs.Lines.{Lacks, fields_of, line_feed, line_with, lines_of, pieces_between, space, text_with}
 
 fails : (byte each : ℕ) → each ≢ byte → eqb each byte ≡ false
@@ -19,6 +19,12 @@ pieces_between-cut byte text front rest lacks cut =
 pub whole_piece : (byte : ℕ) (text : List ℕ) → Lacks byte text → pieces_between byte text ≡ text ∷ []
 whole_piece byte text lacks =
     slice_split_none (λ each. eqb each byte) text (All-weaker (λ each. each ≢ byte) (λ each. eqb each byte ≡ false) (fails byte) text lacks)
+
+-- a text has at least one piece
+pub some_piece : (byte : ℕ) (text : List ℕ) → pieces_between byte text ≢ []
+some_piece byte text none =
+    let count = ap length none in
+    absurd (omega (arith, length-slice_split (λ each. eqb each byte) text))
 
 -- the fields of a line that is made of fields
 pub fields_come_back : (fields : List (List ℕ)) → fields ≢ [] → All (Lacks space) fields → fields_of (line_with fields) ≡ fields

@@ -22,8 +22,8 @@ hex_word n = hex_byte (n / 256) ++ hex_byte (n % 256)
 abbrev pub hex_words : List ℕ → List ℕ
 hex_words words = or_hyphen (flat_map hex_word words)
 
--- Profile: bytes that are read are spelled as two hexadecimal digits each, in either case. The digits are
--- in pairs, of which a 32-bit number can tell how many there are.
+-- Profile: bytes that are read are spelled as two hexadecimal digits each, in either case, and there are
+-- fewer than 2 ^ 32 of them.
 pub record IsHexText (text : List ℕ) : Type 0 where
   pub digits : AllPass is_hex_digit text
   pub even : length text % 2 ≡ 0

@@ -83,6 +83,7 @@ impl<'a> Digits<'a> {
     {
         out.clear();
         for digit in self.digits {
+            // There is room for each bit.
             let _ = out.push(*digit == b'1');
         }
     }

@@ -1,5 +1,5 @@
 //! The fields of a line.
-ghost use Rattle.std.specs.Prelude.{◌≡◌, ◌≢◌, ℕ, List, [], ◌∷◌, IfSome, IsSomeAnd};
+ghost use Rattle.std.specs.Prelude.{◌≡◌, ◌≢◌, ◌↔◌, ℕ, List, [], ◌∷◌, IfSome, IsNone, IsSomeAnd};
 ghost use Rattle.std.specs.Iterator.{YieldsFirstBy, item_count};
 ghost use Rattle.text_fields.specs.Lines.{fields_of};
 
@@ -32,6 +32,15 @@ impl<'a> Fields<'a> {
         ensures { result ≡ fields_of line.now }
     {
         Fields { rest: Some(line) }
+    }
+
+    /// The part of the line that has the fields that are left; none exactly where no field is left.
+    #[tactic(auto, using(crate::proofs::Pieces::some_piece))]
+    pub fn into_rest(self) -> Option<&'a [u8]>
+        ensures value { IfSome result (λ line. self.entry ≡ fields_of line.now) }
+        ensures none { IsNone result ↔ (self.entry ≡ []) }
+    {
+        self.rest
     }
 }
 

@@ -62,6 +62,7 @@ impl<'a> HexBytes<'a> {
     {
         match hex::decode(alloc, self.digits) {
             Ok(bytes) => Ok(bytes),
+            // The digits were checked, so nothing but memory can be wanting.
             Err(_) => Err(AllocError),
         }
     }

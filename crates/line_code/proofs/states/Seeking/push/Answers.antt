@@ -1,7 +1,6 @@
-use Rattle.std.proofs.Common.{◌≡◌, Bool, List, [], length, ◌+◌, Some, slice_get, sym, ap, ◌∙◌, arith, subst}
-use Rattle.std.proofs.lemmas.Option.{same_Some}
+use Rattle.std.proofs.Common.{◌≡◌, ◌+◌, Bool, List, [], length, arith, sym, subst}
 use Rattle.line_code.specs.States.{Reads}
-use Rattle.line_code.proofs.LeadLevels.{seeks_bad, seeks_more, seeks_size, lead_all}
+use Rattle.line_code.proofs.LeadLevels.{seeks_bad, seeks_more, seeks_size, lead_all, lead_level, lead_other, lead_size}
 use Rattle.line_code.proofs.Answered.{differs, agrees}
 use Rattle.line_code.proofs.states.Seeking.push.Goals as goal
 
@@ -9,37 +8,30 @@ pub returns-then-lead-level : goal.returns-then-lead-level
 returns-then-lead-level g c =
     rw (← c.self.view_is) (λ trext levels s.
     let t = g.C.LineCode.table in
-    let taken = c.self.inside.taken in
-    let size = seeks_size t trext _ levels s in (
-      size,
-      seeks_bad t trext _ levels c.args.level s (λ e.
-          differs c.lead.result c.args.level c.if-lead-level.true
-          (same_Some c.lead.result c.args.level (sym c.lead.ensures ∙ ap (λ x. slice_get (t.lead x) taken) s.trext_is ∙ e))) taken size,
-    ))
+    let size = seeks_size t trext _ levels s in
+    let other = lead_other t trext _ levels c.lead.result c.args.level s c.lead.ensures (differs c.lead.result c.args.level c.if-lead-level.true) in
+    (size, seeks_bad t trext _ levels c.args.level s other c.self.inside.taken size))
 
 pub returns-then-taken-lead_len : goal.returns-then-taken-lead_len
 returns-then-taken-lead_len g c =
     rw (← c.self.view_is) (λ trext levels s.
     let t = g.C.LineCode.table in
-    let taken = c.self.inside.taken in
-    let at : slice_get (t.lead trext) taken ≡ Some c.args.level =
-    sym (ap (λ x. slice_get (t.lead x) taken) s.trext_is) ∙ c.lead.ensures ∙ ap Some (agrees c.lead.result c.args.level c.if-lead-level.false) in
+    let at = lead_level t trext _ levels c.lead.result c.args.level s c.lead.ensures (agrees c.lead.result c.args.level c.if-lead-level.false) in
+    let size = lead_size t trext _ levels s in
     record {
       trext_is = s.trext_is;
       levels_are = seeks_more t trext _ levels c.args.level s at;
-      inside = let size = ap (λ x. length (t.lead x)) s.trext_is in let long = c.lead_len-lead_len.ensures in omega arith;
+      inside = let long = c.lead_len-lead_len.ensures in omega arith;
     })
 
 pub returns-else-taken-lead_len : goal.returns-else-taken-lead_len
 returns-else-taken-lead_len g c =
     rw (← c.self.view_is) (λ trext levels s.
     let t = g.C.LineCode.table in
-    let taken = c.self.inside.taken in
-    let at : slice_get (t.lead trext) taken ≡ Some c.args.level =
-    sym (ap (λ x. slice_get (t.lead x) taken) s.trext_is) ∙ c.lead.ensures ∙ ap Some (agrees c.lead.result c.args.level c.if-lead-level.false) in
-    let size = ap (λ x. length (t.lead x)) s.trext_is in
+    let at = lead_level t trext _ levels c.lead.result c.args.level s c.lead.ensures (agrees c.lead.result c.args.level c.if-lead-level.false) in
+    let size = lead_size t trext _ levels s in
     let long = c.lead_len-lead_len.ensures in
     let inside = s.inside in
-    let last : taken + 1 ≡ length (t.lead trext) = omega arith in
+    let last : c.self.inside.taken + 1 ≡ length (t.lead trext) = omega arith in
     let all = lead_all t trext _ levels c.args.level s at last in
     (all, let P : List Bool → Type 0 = λ ls. Reads t trext c.behind_lead.result ls [] in subst P (sym all) (c.behind_lead.ensures trext last)))
