@@ -1,3 +1,4 @@
+pub mod Bounds
 pub mod Completions
 pub mod Decisions
 pub mod Decoding

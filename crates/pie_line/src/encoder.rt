@@ -1,5 +1,5 @@
 //! Bits to frames.
-ghost use Rattle.std.specs.Prelude.{◌≡◌, ◌+◌, ◌-◌, ◌*◌, ◌<◌, ◌≤◌, ◌++◌, ◌∷◌, [], length, if◌then◌else◌};
+ghost use Rattle.std.specs.Prelude.{◌≡◌, ◌+◌, ◌-◌, ◌*◌, ◌<◌, ◌≤◌, ◌++◌, ◌∷◌, [], length, All, if◌then◌else◌};
 ghost use Rattle.pie_line.specs.Link.{IsLegal};
 ghost use Rattle.pie_line.specs.Pie.{IsFrame, pair_of, sum_of, header_of, wave_of, kind_of};
 
@@ -15,6 +15,9 @@ pub fn encode_frame(link: &Link, lead: Lead, bits: &Bits, out: &mut Intervals)
     requires room { 7 + 2 * length bits.now.items ≤ out.old.capacity }
     ensures wave { out.new.items ≡ wave_of link.now lead bits.now.items }
     ensures frame { IsFrame (kind_of link.now lead) bits.now.items out.new.items }
+    // The list can be read again.
+    ensures each { All (λ interval. interval ≤ 999999) out.new.items }
+    ensures count { length out.new.items ≤ 7 + 2 * length bits.now.items }
     ensures capacity { out.new.capacity ≡ out.old.capacity }
 {
     put_header(link, lead, out);

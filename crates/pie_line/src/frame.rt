@@ -1,4 +1,5 @@
 //! What is said of a frame: which header it has, what is read from it, and why a list is none.
+ghost use Rattle.std.specs.Prelude.{◌≡◌};
 
 /// With which header a frame begins.
 #[derive(Clone, Copy, Debug, PartialEq, Eq)]
@@ -16,6 +17,20 @@ pub enum FrameKind {
     Preamble { tari: u32, rtcal: u32, trcal: u32 },
     /// A frame-sync, with a data-0 and RTcal.
     FrameSync { tari: u32, rtcal: u32 },
+}
+
+impl FrameKind {
+    ghost use Rattle.pie_line.specs.Place.{rtcal_of};
+
+    /// RTcal, in nanoseconds.
+    pub fn rtcal(self) -> u32
+        ensures { result ≡ rtcal_of self }
+    {
+        match self {
+            FrameKind::Preamble { rtcal, .. } => rtcal,
+            FrameKind::FrameSync { rtcal, .. } => rtcal,
+        }
+    }
 }
 
 /// Why a list of intervals is no frame. All but `Unfinished` name the first interval with which the

@@ -1,6 +1,6 @@
 //! Where a decoder stands in a frame.
 ghost use Rattle.std.specs.Prelude.{◌≡◌, ◌+◌, ◌≤◌, ◌↔◌, IsTrue, IfSome, IfNone, Bool, List, []};
-ghost use Rattle.pie_line.specs.Place.{IsHigh, IsSound, Completes, Moves, Stops, rtcal_of};
+ghost use Rattle.pie_line.specs.Place.{IsHigh, IsSound, Completes, Moves, Stops};
 
 use crate::FrameKind;
 use crate::ranges::{TARI_MOST, bit_of_sum, is_delimiter, is_rtcal, is_tari, is_trcal};
@@ -13,28 +13,20 @@ pub enum Place {
     Delimiter,
     /// Before the first data-0, which sets Tari.
     TariHigh,
+    /// Before the low of the first data-0.
     TariLow { high: u32 },
     /// Before RTcal.
     RtCalHigh { tari: u32 },
+    /// Before the low of RTcal.
     RtCalLow { tari: u32, high: u32 },
     /// Before the first pair after RTcal, which is TRcal or a data symbol.
     FirstHigh { tari: u32, rtcal: u32 },
+    /// Before the low of this pair.
     FirstLow { tari: u32, rtcal: u32, high: u32 },
     /// Before a data symbol.
     High { kind: FrameKind },
+    /// Before the low of a data symbol.
     Low { kind: FrameKind, high: u32 },
-}
-
-impl FrameKind {
-    /// RTcal, in nanoseconds.
-    pub fn rtcal(self) -> u32
-        ensures { result ≡ rtcal_of self }
-    {
-        match self {
-            FrameKind::Preamble { rtcal, .. } => rtcal,
-            FrameKind::FrameSync { rtcal, .. } => rtcal,
-        }
-    }
 }
 
 /// Whether a low of at least one nanosecond may follow such a high in a pair that lasts at most `most`.
