@@ -1,16 +1,17 @@
 -- The number in a register and the list of its bits.
-use Rattle.std.proofs.Common.{◌≡◌, ◌≢◌, ℕ, zero, suc, ◌+◌, ◌-◌, ◌*◌, ◌/◌, ◌%◌, ◌^◌, ◌<◌, ◌≤◌, Bool, true, false, not, List, [], ◌∷◌, ◌++◌, length, take, get_or, replicate, refl, sym, ◌∙◌, ap, subst, inl, inr, arith, leb}
+use Rattle.std.proofs.Common.{◌≡◌, ℕ, zero, suc, ◌+◌, ◌-◌, ◌*◌, ◌/◌, ◌%◌, ◌^◌, ◌<◌, ◌≤◌, Bool, true, false, not, List, [], ◌∷◌, ◌++◌, length, take, get_or, replicate, refl, sym, ◌∙◌, ap, subst, inl, inr, arith, leb}
 use Rattle.std.specs.Prelude.{bit_xor, ◌==◌, map}
-use Rattle.std.proofs.Math.Nat.{mod-one, div-one, pow-suc}
+use Rattle.std.proofs.Math.Nat.{pow-suc}
 use Rattle.std.proofs.lemmas.Bool.{cases_lt, le-leb, lt-leb, eq-eqb, ne_eqb}
 use mathlib.Core.Bool.{beq}
 use Rattle.std.proofs.lemmas.Nat.{xor_lt, shr-shr}
-use Rattle.std.proofs.lemmas.Nat.Bits.{bit_at_xor, bit_at-suc, bit_at-lt}
+use Rattle.std.proofs.lemmas.Nat.Bits.{bit_at_xor}
 use Rattle.std.proofs.lemmas.List.{take_more, take_all, length-map}
-use Rattle.bit_strings.specs.Numbers.{value_of, field_of, digit_of}
-use Rattle.bit_strings.specs.NumberLaws.{length-field_of, value_of-field, value_of-within, field_of-value_of, field_of-mod, same_from_value}
+use Rattle.bit_strings.specs.Numbers.{value_of, field_of}
+use Rattle.bit_strings.specs.NumberLaws.{value_of-field, value_of-within, field_of-value_of, field_of-mod, same_from_value}
 use Rattle.gen2_crc.specs.Crc.{differ, minus, divide, remainder_of, others5, preset5, others16, preset16, crc5_of, register_of, crc16_of, residue, StandsFor}
-use Rattle.gen2_crc.proofs.Division.{one-bit, left_of, left_of-true, left_of-false, remainder_of-append, length-remainder_of}
+use Rattle.gen2_crc.specs.CrcLaws.{length-register_of, length-crc5_of}
+use Rattle.gen2_crc.specs.Division.{one-bit, left_of, left_of-true, left_of-false, remainder_of-append}
 
 parity : (a b : ℕ) → a < 2 → b < 2 → ((a + b) % 2 == 1) ≡ differ (a == 1) (b == 1)
 parity zero zero p q = refl
@@ -129,10 +130,6 @@ pub stands_none : StandsFor 65535 []
 unfolding register_of divide
 stands_none = record { is_remainder = refl }
 
-pub length-register_of : (bits : List Bool) → length (register_of bits) ≡ 16
-unfolding register_of
-length-register_of bits = length-remainder_of preset16 others16 bits (omega arith) (omega arith)
-
 pub register_of-push : (bits : List Bool) (bit : Bool) → register_of (bits ++ bit ∷ []) ≡ remainder_of (register_of bits) others16 (bit ∷ [])
 unfolding register_of
 register_of-push bits bit = remainder_of-append preset16 others16 bits (bit ∷ []) (omega arith) (omega arith)
@@ -176,10 +173,6 @@ stands_all bits i register past stands = subst (StandsFor register) (take_all i 
 pub crc5_of-none : 9 ≡ value_of (crc5_of [])
 unfolding crc5_of divide
 crc5_of-none = refl
-
-pub length-crc5_of : (bits : List Bool) → length (crc5_of bits) ≡ 5
-unfolding crc5_of
-length-crc5_of bits = length-remainder_of preset5 others5 bits (omega arith) (omega arith)
 
 pub crc5_of-below : (bits : List Bool) → value_of (crc5_of bits) < 32
 crc5_of-below bits = value_of-within (crc5_of bits) 5 (omega (arith, length-crc5_of bits))

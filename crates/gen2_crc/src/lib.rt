@@ -8,8 +8,10 @@ ghost use Rattle.gen2_crc.specs.Crc.{crc5_of, crc16_of, register_of, remainder_o
 
 use bit_strings::Bits;
 
+mod laws;
 mod register;
 
+pub use laws::crc_laws;
 pub use register::Crc16;
 
 /// The coefficients of `x^5 + x^3 + 1` behind the leading one.
@@ -23,8 +25,15 @@ pub fn crc5(bits: &Bits, upto: u32) -> u8
     requires { upto ≤ length bits.now.items }
     ensures { result ≡ value_of (crc5_of (take upto bits.now.items)) }
 {
+    crc5_of_bits(&bits.as_slice()[..upto as usize])
+}
+
+/// The CRC-5 of bits in a slice, a number below 32.
+pub fn crc5_of_bits(bits: &[bool]) -> u8
+    ensures { result ≡ value_of (crc5_of bits.now) }
+{
     let mut register = PRESET;
-    for bit in &bits.as_slice()[..upto as usize] {
+    for bit in bits {
         register = shifted5(register, *bit);
     }
     register
@@ -49,8 +58,15 @@ pub fn crc16(bits: &Bits, upto: u32) -> u16
     requires { upto ≤ length bits.now.items }
     ensures { result ≡ value_of (crc16_of (take upto bits.now.items)) }
 {
+    crc16_of_bits(&bits.as_slice()[..upto as usize])
+}
+
+/// The CRC-16 of bits in a slice.
+pub fn crc16_of_bits(bits: &[bool]) -> u16
+    ensures { result ≡ value_of (crc16_of bits.now) }
+{
     let mut crc = Crc16::new();
-    for bit in &bits.as_slice()[..upto as usize] {
+    for bit in bits {
         crc.push(*bit);
     }
     crc.value()
@@ -68,3 +84,6 @@ pub fn residue_ok(bits: &Bits) -> bool
     }
     crc.is_residue()
 }
+
+#[cfg(test)]
+mod tests;

@@ -1,4 +1,4 @@
-use Rattle.std.proofs.Common.{subst, List, Bool}
+use Rattle.std.proofs.Common.{subst}
 use Rattle.gen2_crc.specs.Crc.{StandsFor}
 use Rattle.gen2_crc.proofs.Registers.{stands_next, stands_all}
 use Rattle.gen2_crc.proofs.Residue.{residue_message}

@@ -1,6 +1,6 @@
 use Rattle.std.proofs.Common.{take}
 use Rattle.gen2_crc.specs.Crc.{StandsFor}
-use Rattle.gen2_crc.proofs.crc16.Given as goal
+use Rattle.gen2_crc.proofs.crc16_of_bits.Given as goal
 
 abbrev pub invariant-loop-bit : goal.invariant-loop-bit
-invariant-loop-bit l = StandsFor l.crc (take l.bit-index l.bit-items)
+invariant-loop-bit l = StandsFor l.crc (take l.bit-index l.bits)

@@ -1,8 +1,7 @@
 -- Long division bit by bit: it goes on from a remainder.
-use Rattle.std.proofs.Common.{◌≡◌, ◌≢◌, ℕ, zero, suc, ◌+◌, ◌<◌, ◌≤◌, Bool, true, false, not, List, [], ◌∷◌, ◌++◌, length, replicate, refl, sym, ◌∙◌, ap, subst, inl, inr, arith, append_assoc, append-nil, length-append}
-use Rattle.std.proofs.lemmas.List.{length-replicate, same_from_push}
-use Rattle.std.specs.Prelude.{map}
-use Rattle.gen2_crc.specs.Crc.{differ, minus, divide, remainder_of, others16, preset16, register_of, crc16_of, residue}
+use Rattle.std.proofs.Common.{◌≡◌, ℕ, zero, suc, ◌<◌, ◌≤◌, Bool, true, false, List, [], ◌∷◌, ◌++◌, length, replicate, refl, sym, ◌∙◌, ap, arith}
+use Rattle.std.proofs.lemmas.List.{length-replicate}
+use Rattle.gen2_crc.specs.Crc.{differ, minus, divide, remainder_of}
 
 differ-false : (x : Bool) → differ x false ≡ x
 differ-false true = refl

@@ -1,0 +1,5 @@
+use Rattle.air_channel.proofs.OneReceived.{same_received}
+use Rattle.air_channel.proofs.laws.one_received.Goals as goal
+
+pub returns : goal.returns
+returns c = record { one = same_received }

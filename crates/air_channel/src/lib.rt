@@ -1,0 +1,13 @@
+//! The channel between tags and interrogator: what an interrogator makes of the levels that it hears.
+#![tactic(auto)]
+
+mod laws;
+mod receive_reply;
+
+pub use laws::one_received;
+pub use line_codes::Code;
+pub use receive_reply::receive;
+pub use reply_grammar::{Expect, Received, Reply};
+
+#[cfg(test)]
+mod tests;

@@ -1,0 +1,47 @@
+//! Levels to replies.
+ghost use Rattle.std.specs.Prelude.{◌≡◌, ◌≤◌, List, Bool, [], length};
+ghost use Rattle.line_code.specs.Stream.{IsStream, Streams};
+ghost use Rattle.line_codes.specs.Codes.{table_of};
+ghost use Rattle.reply_grammar.specs.Table.{Answers};
+ghost use Rattle.reply_grammar.specs.declared.expected.Reply.{Reply};
+ghost use Rattle.reply_grammar.specs.declared.expected.Received.{Received};
+ghost use Rattle.reply_grammar.specs.declared.expected.Received.TheVariants.{Whole};
+ghost use Rattle.air_channel.specs.Received.{IsReceived};
+
+use bit_strings::{Bits, Levels};
+use line_codes::{Code, LineRefusal, decode_levels};
+use reply_grammar::{Expect, Received, decode_reply};
+
+/// What an interrogator makes of a stream of levels (6.3.1.3.2 and 6.3.2.11 of the standard), where it
+/// expects a reply of one kind: the reply, or the place of refusal, counted from 0. That is the place
+/// where the levels stop being a stream, or the number of levels where they begin a stream and are
+/// none, or where they are one, and its bits no reply that is expected.
+///
+/// `bits` is a buffer with room for as many bits as there are levels. It holds the bits of the stream
+/// afterwards, without the dummy at the end, whether or not they are a reply that is expected, and it
+/// is empty where the levels are no stream. No memory is taken.
+pub fn receive(
+    stream: &Levels,
+    code: Code,
+    trext: bool,
+    expect: &Expect,
+    bits: &mut Bits,
+) -> Received
+    requires room { length stream.now.items ≤ bits.old.capacity }
+    requires few { length stream.now.items ≤ 4000000000 }
+    ensures received { IsReceived (table_of code) trext expect.now stream.now.items result }
+    ensures only { (answer : Received) → IsReceived (table_of code) trext expect.now stream.now.items answer → result ≡ answer }
+    ensures only_whole { (reply : Reply) (sent : List Bool) → IsStream (table_of code) trext sent stream.now.items → Answers reply expect.now sent → result ≡ Whole reply }
+    ensures bits { (sent : List Bool) → IsStream (table_of code) trext sent stream.now.items → bits.new.items ≡ sent }
+    ensures no_bits { (¬ Streams (table_of code) trext stream.now.items) → bits.new.items ≡ [] }
+    ensures capacity { bits.new.capacity ≡ bits.old.capacity }
+{
+    match decode_levels(code, trext, stream, bits) {
+        Ok(()) => match decode_reply(bits, expect) {
+            Ok(reply) => Received::Whole(reply),
+            Err(_) => Received::Refused(stream.len()),
+        },
+        Err(LineRefusal::Invalid(place)) => Received::Refused(place),
+        Err(LineRefusal::Unfinished(count)) => Received::Refused(count),
+    }
+}

@@ -1,0 +1,14 @@
+use Rattle.std.proofs.Common.{arith}
+use Rattle.reply_grammar.proofs.Reading.{read_none, read_more}
+use Rattle.reply_grammar.proofs.decode.read_words.Goals as goal
+
+pub loop-at-init : goal.loop-at-init
+loop-at-init c = (rw c.new-words.ensures (read_none c.args.bits.now.items 1), omega arith)
+
+pub loop-at-preserved : goal.loop-at-preserved
+loop-at-preserved c =
+    let so_far = c.loop-at.invariant.0 in (
+      read_more c.args.bits.now.items 1 c.loop-at.at c.word_at.result c.loop-at.words c.push.new.self so_far (omega (arith, so_far.place, c.requires.whole)) c.word_at.ensures
+          (c.push.ensures.room (omega (arith, so_far.place, c.requires.few))),
+      omega (arith, so_far.place),
+    )

@@ -1,0 +1,114 @@
+use Rattle.std.proofs.Common.{◌≡◌, ℕ, ◌++◌, List, Bool, false, [], ◌∷◌, ap, sym, ◌∙◌, arith, length-append, length}
+use Rattle.bit_strings.specs.BitString.{BitString}
+use Rattle.bit_strings.specs.Numbers.{field_of}
+use Rattle.bit_strings.specs.NumberLaws.{length-field_of}
+use Rattle.reply_grammar.specs.declared.expected.Reply.{Reply}
+use Rattle.reply_grammar.specs.declared.expected.Reply.TheVariants.{Rn16, Epc, Handle, Words, Header, Error}
+use Rattle.reply_grammar.specs.Table.{words_of, spelling}
+use Rattle.reply_grammar.specs.WordLaws.{length-words_of}
+use Rattle.reply_grammar.proofs.Writing.{wrote, checked, room_left}
+use Rattle.reply_grammar.proofs.encode.write_reply.Goals as goal
+
+-- the spelling of the reply that was found
+spelled_as : (capacity handle : ℕ) (reply found : Reply) → reply ≡ found → ◌≡◌ {A = BitString} (record { items = spelling found handle; capacity = capacity }) (record { items = spelling reply handle; capacity = capacity })
+spelled_as capacity handle reply found is = ap (λ (r : Reply). record { items = spelling r handle; capacity = capacity }) (sym is)
+
+-- a list is the words that were lent
+words_lent : (capacity : ℕ) (front : List Bool) (lent words : List ℕ) → lent ≡ words → ◌≡◌ {A = BitString} (record { items = front ++ words_of lent; capacity = capacity }) (record { items = front ++ words_of words; capacity = capacity })
+words_lent capacity front lent words same = ap (λ (ws : List ℕ). record { items = front ++ words_of ws; capacity = capacity }) same
+
+pub put_words-requires : goal.put_words-requires
+put_words-requires c =
+    room_left c.put_word-in-Epc.new.out _ _ _ (wrote c.clear.new.self c.put_word-in-Epc.new.out [] _ _ c.clear.ensures c.put_word-in-Epc.ensures)
+    (omega (arith, length-field_of c.in-Epc.pc 16, ap length c.as_slice.ensures.value, c.as_slice.ensures.most, c.requires.room))
+
+pub put_check-requires : goal.put_check-requires
+put_check-requires c =
+    let first = wrote c.clear.new.self c.put_word-in-Epc.new.out [] _ _ c.clear.ensures c.put_word-in-Epc.ensures in
+    room_left c.put_words.new.out _ _ 16 (wrote c.put_word-in-Epc.new.out c.put_words.new.out _ _ _ first c.put_words.ensures)
+    (omega (arith, length-append (field_of c.in-Epc.pc 16) (words_of c.as_slice.result.now), length-field_of c.in-Epc.pc 16, length-words_of c.as_slice.result.now, ap length c.as_slice.ensures.value, c.as_slice.ensures.most, c.requires.room))
+
+pub put_check-requires-in-Handle : goal.put_check-requires-in-Handle
+put_check-requires-in-Handle c =
+    room_left c.put_word-in-Handle.new.out _ _ 16 (wrote c.clear.new.self c.put_word-in-Handle.new.out [] _ _ c.clear.ensures c.put_word-in-Handle.ensures)
+    (omega (arith, length-field_of c.in-Handle.rn 16, c.requires.room))
+
+pub put_word-requires-in-Words : goal.put_word-requires-in-Words
+put_word-requires-in-Words c =
+    let first = wrote c.clear.new.self c.put_bit.new.out [] _ _ c.clear.ensures c.put_bit.ensures in
+    room_left c.put_words-in-Words.new.out _ _ 16 (wrote c.put_bit.new.out c.put_words-in-Words.new.out _ _ _ first c.put_words-in-Words.ensures)
+    (omega (arith, length-words_of c.as_slice-in-Words.result.now, ap length c.as_slice-in-Words.ensures.value, c.as_slice-in-Words.ensures.most, c.requires.room))
+
+pub put_check-requires-in-Words : goal.put_check-requires-in-Words
+put_check-requires-in-Words c =
+    let first = wrote c.clear.new.self c.put_bit.new.out [] _ _ c.clear.ensures c.put_bit.ensures in
+    let second = wrote c.put_bit.new.out c.put_words-in-Words.new.out _ _ _ first c.put_words-in-Words.ensures in
+    room_left c.put_word-in-Words.new.out _ _ 16 (wrote c.put_words-in-Words.new.out c.put_word-in-Words.new.out _ _ _ second c.put_word-in-Words.ensures)
+    (omega (arith, length-append (words_of c.as_slice-in-Words.result.now) (field_of c.args.handle 16), length-field_of c.args.handle 16, length-words_of c.as_slice-in-Words.result.now, ap length c.as_slice-in-Words.ensures.value, c.as_slice-in-Words.ensures.most, c.requires.room))
+
+pub put_check-requires-in-Header : goal.put_check-requires-in-Header
+put_check-requires-in-Header c =
+    let first = wrote c.clear.new.self c.put_bit-in-Header.new.out [] _ _ c.clear.ensures c.put_bit-in-Header.ensures in
+    room_left c.put_word-in-Header.new.out _ _ 16 (wrote c.put_bit-in-Header.new.out c.put_word-in-Header.new.out _ _ _ first c.put_word-in-Header.ensures)
+    (omega (arith, length-field_of c.args.handle 16, c.requires.room))
+
+pub put_word-requires-in-Error : goal.put_word-requires-in-Error
+put_word-requires-in-Error c =
+    let first = wrote c.clear.new.self c.put_bit-in-Error.new.out [] _ _ c.clear.ensures c.put_bit-in-Error.ensures in
+    room_left c.put_code.new.out _ _ 16 (wrote c.put_bit-in-Error.new.out c.put_code.new.out _ _ _ first c.put_code.ensures)
+    (omega (arith, length-field_of c.in-Error.code 8, c.requires.room))
+
+pub put_check-requires-in-Error : goal.put_check-requires-in-Error
+put_check-requires-in-Error c =
+    let first = wrote c.clear.new.self c.put_bit-in-Error.new.out [] _ _ c.clear.ensures c.put_bit-in-Error.ensures in
+    let second = wrote c.put_bit-in-Error.new.out c.put_code.new.out _ _ _ first c.put_code.ensures in
+    room_left c.put_word-in-Error.new.out _ _ 16 (wrote c.put_code.new.out c.put_word-in-Error.new.out _ _ _ second c.put_word-in-Error.ensures)
+    (omega (arith, length-append (field_of c.in-Error.code 8) (field_of c.args.handle 16), length-field_of c.in-Error.code 8, length-field_of c.args.handle 16, c.requires.room))
+
+pub returns-in-Rn16-clause-bits : goal.returns-in-Rn16-clause-bits
+unfolding spelling
+returns-in-Rn16-clause-bits c =
+    wrote c.clear.new.self c.put_word.new.out [] _ _ c.clear.ensures c.put_word.ensures
+    ∙ spelled_as c.args.out.now.capacity c.args.handle c.args.reply.now (Rn16 c.in-Rn16.rn) c.in-Rn16.is
+
+pub returns-in-Epc-clause-bits : goal.returns-in-Epc-clause-bits
+unfolding spelling
+returns-in-Epc-clause-bits c =
+    let first = wrote c.clear.new.self c.put_word-in-Epc.new.out [] _ _ c.clear.ensures c.put_word-in-Epc.ensures in
+    let second = wrote c.put_word-in-Epc.new.out c.put_words.new.out _ _ _ first c.put_words.ensures ∙ words_lent c.args.out.now.capacity (field_of c.in-Epc.pc 16) c.as_slice.result.now _ c.as_slice.ensures.value in
+    checked c.put_words.new.out c.put_check.new.out _ _ second c.put_check.ensures
+    ∙ spelled_as c.args.out.now.capacity c.args.handle c.args.reply.now (Epc c.in-Epc.pc c.in-Epc.epc) c.in-Epc.is
+
+pub returns-in-Handle-clause-bits : goal.returns-in-Handle-clause-bits
+unfolding spelling
+returns-in-Handle-clause-bits c =
+    let first = wrote c.clear.new.self c.put_word-in-Handle.new.out [] _ _ c.clear.ensures c.put_word-in-Handle.ensures in
+    checked c.put_word-in-Handle.new.out c.put_check-in-Handle.new.out _ _ first c.put_check-in-Handle.ensures
+    ∙ spelled_as c.args.out.now.capacity c.args.handle c.args.reply.now (Handle c.in-Handle.rn) c.in-Handle.is
+
+pub returns-in-Words-clause-bits : goal.returns-in-Words-clause-bits
+unfolding spelling
+returns-in-Words-clause-bits c =
+    let first = wrote c.clear.new.self c.put_bit.new.out [] _ _ c.clear.ensures c.put_bit.ensures in
+    let second = wrote c.put_bit.new.out c.put_words-in-Words.new.out _ _ _ first c.put_words-in-Words.ensures
+    ∙ words_lent c.args.out.now.capacity (false ∷ []) c.as_slice-in-Words.result.now _ c.as_slice-in-Words.ensures.value in
+    let third = wrote c.put_words-in-Words.new.out c.put_word-in-Words.new.out _ _ _ second c.put_word-in-Words.ensures in
+    checked c.put_word-in-Words.new.out c.put_check-in-Words.new.out _ _ third c.put_check-in-Words.ensures
+    ∙ spelled_as c.args.out.now.capacity c.args.handle c.args.reply.now (Words c.in-Words.words) c.in-Words.is
+
+pub returns-in-Header-clause-bits : goal.returns-in-Header-clause-bits
+unfolding spelling
+returns-in-Header-clause-bits c =
+    let first = wrote c.clear.new.self c.put_bit-in-Header.new.out [] _ _ c.clear.ensures c.put_bit-in-Header.ensures in
+    let second = wrote c.put_bit-in-Header.new.out c.put_word-in-Header.new.out _ _ _ first c.put_word-in-Header.ensures in
+    checked c.put_word-in-Header.new.out c.put_check-in-Header.new.out _ _ second c.put_check-in-Header.ensures
+    ∙ spelled_as c.args.out.now.capacity c.args.handle c.args.reply.now Header c.in-Header.is
+
+pub returns-in-Error-clause-bits : goal.returns-in-Error-clause-bits
+unfolding spelling
+returns-in-Error-clause-bits c =
+    let first = wrote c.clear.new.self c.put_bit-in-Error.new.out [] _ _ c.clear.ensures c.put_bit-in-Error.ensures in
+    let second = wrote c.put_bit-in-Error.new.out c.put_code.new.out _ _ _ first c.put_code.ensures in
+    let third = wrote c.put_code.new.out c.put_word-in-Error.new.out _ _ _ second c.put_word-in-Error.ensures in
+    checked c.put_word-in-Error.new.out c.put_check-in-Error.new.out _ _ third c.put_check-in-Error.ensures
+    ∙ spelled_as c.args.out.now.capacity c.args.handle c.args.reply.now (Error c.in-Error.code) c.in-Error.is

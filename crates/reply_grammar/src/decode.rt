@@ -1,0 +1,231 @@
+//! Bits to replies.
+ghost use Rattle.std.specs.Prelude.{◌≡◌, ℕ, ◌+◌, ◌*◌, ◌≤◌, ◌==◌, ◌↔◌, length, take, IsTrue, IfOk, IfErr, Ok, Err};
+ghost use Rattle.bit_strings.specs.Numbers.{value_of, part_of};
+ghost use Rattle.reply_grammar.specs.Table.{Answers, AreWords, words_of};
+ghost use Rattle.reply_grammar.specs.Faults.{Faults, FitsLength, PassesCheck, PassesHeader, PassesNumber, EndsWithCheck, HasHeader, HasHandle, Passes};
+ghost use Rattle.reply_grammar.specs.declared.expected.Expect.TheVariants.{Epc as OneEpc};
+ghost use Rattle.reply_grammar.specs.declared.expected.Reply.{Reply};
+ghost use Rattle.reply_grammar.specs.declared.expected.ReplyRefusal.{ReplyRefusal};
+
+use crate::expected::{Expect, Reply, ReplyRefusal};
+use crate::words::{EpcWords, ReadWords};
+use bit_strings::Bits;
+use gen2_crc::residue_ok;
+
+/// The length of an error: header, code, handle and CRC-16, in bits.
+const ERROR_LENGTH: u32 = 41;
+
+/// Takes the bits of a reply apart. What comes back is the one reply that the bits are and that is
+/// expected; where there is none, the first refusal that applies, in the order Length, Crc, Header,
+/// Number.
+pub fn decode_reply(bits: &Bits, expect: &Expect) -> Result<Reply, ReplyRefusal>
+    ensures ok { IfOk result (λ reply. Answers reply expect.now bits.now.items) }
+    ensures refused { IfErr result (λ refusal. Faults refusal expect.now bits.now.items) }
+    ensures only { (reply : Reply) → Answers reply expect.now bits.now.items → result ≡ Ok reply }
+    ensures first { (refusal : ReplyRefusal) → Faults refusal expect.now bits.now.items → result ≡ Err refusal }
+{
+    take_apart(bits, expect)
+}
+
+/// Asks the four things in order, and then reads.
+fn take_apart(bits: &Bits, expect: &Expect) -> Result<Reply, ReplyRefusal>
+    ensures ok { IfOk result (λ reply. Answers reply expect.now bits.now.items) }
+    ensures refused { IfErr result (λ refusal. Faults refusal expect.now bits.now.items) }
+{
+    if !fits_length(bits, expect) {
+        return Err(ReplyRefusal::Length);
+    }
+    if !passes_check(bits, expect) {
+        return Err(ReplyRefusal::Crc);
+    }
+    if !passes_header(bits, expect) {
+        return Err(ReplyRefusal::Header);
+    }
+    if !passes_number(bits, expect) {
+        return Err(ReplyRefusal::Number);
+    }
+    Ok(read_reply(bits, expect))
+}
+
+/// Whether the number of bits is one that is allowed.
+fn fits_length(bits: &Bits, expect: &Expect) -> bool
+    ensures { IsTrue result ↔ FitsLength expect.now bits.now.items }
+{
+    let length = bits.len();
+    match expect {
+        Expect::Rn16 => length == 16,
+        Expect::Epc => fits_epc(bits),
+        Expect::Handle | Expect::Same(_) => length == 32,
+        Expect::Words(count, _) => length == 33 + 16 * u32::from(count.get())
+            || length == ERROR_LENGTH,
+        Expect::AnyWords(_) => fits_any_words(length) || length == ERROR_LENGTH,
+        Expect::Header(_) => length == 33 || length == ERROR_LENGTH,
+    }
+}
+
+/// Whether the number of bits is that of the EPC which the first five bits of its PC count.
+fn fits_epc(bits: &Bits) -> bool
+    ensures { IsTrue result ↔ ((16 ≤ length bits.now.items) × (length bits.now.items ≡ 32 + 16 * value_of (take 5 bits.now.items))) }
+{
+    match bits.field(0, 5) {
+        Some(words) => bits.len() >= 16 && bits.len() == 32 + 16 * words,
+        None => false,
+    }
+}
+
+/// Whether a length is that of 1 to 512 words with header, handle and CRC-16.
+fn fits_any_words(length: u32) -> bool
+    ensures { IsTrue result ↔ ((count : ℕ) × (1 ≤ count) × (count ≤ 512) × (length ≡ 33 + 16 * count)) }
+{
+    if length < 49 {
+        return false;
+    }
+    if length > 8225 {
+        return false;
+    }
+    length % 16 == 1
+}
+
+/// Whether the last 16 bits are the CRC-16 of the rest, where a reply has one.
+fn passes_check(bits: &Bits, expect: &Expect) -> bool
+    requires { FitsLength expect.now bits.now.items }
+    ensures { IsTrue result ↔ PassesCheck expect.now bits.now.items }
+{
+    match expect {
+        Expect::Rn16 => true,
+        _ => ends_with_check(bits),
+    }
+}
+
+/// Whether the last 16 bits are the CRC-16 of the rest.
+fn ends_with_check(bits: &Bits) -> bool
+    requires { 16 ≤ length bits.now.items }
+    ensures { IsTrue result ↔ EndsWithCheck bits.now.items }
+{
+    residue_ok(bits)
+}
+
+/// Whether the header bit says error exactly at the length of an error, where a reply has one.
+fn passes_header(bits: &Bits, expect: &Expect) -> bool
+    ensures { IsTrue result ↔ PassesHeader expect.now bits.now.items }
+{
+    match expect {
+        Expect::Rn16 | Expect::Epc | Expect::Handle | Expect::Same(_) => true,
+        Expect::Words(..) | Expect::AnyWords(_) | Expect::Header(_) => bits.get(0)
+            == Some(is_error(bits)),
+    }
+}
+
+/// Whether the length is that of an error.
+fn is_error(bits: &Bits) -> bool
+    ensures { result ≡ (length bits.now.items == 41) }
+{
+    bits.len() == ERROR_LENGTH
+}
+
+/// Whether the handle is the one that is expected, where one is.
+fn passes_number(bits: &Bits, expect: &Expect) -> bool
+    requires { FitsLength expect.now bits.now.items }
+    ensures { IsTrue result ↔ PassesNumber expect.now bits.now.items }
+{
+    match expect {
+        Expect::Rn16 | Expect::Epc | Expect::Handle => true,
+        Expect::Same(handle)
+        | Expect::Words(_, handle)
+        | Expect::AnyWords(handle)
+        | Expect::Header(handle) => has_handle(bits, *handle),
+    }
+}
+
+/// Whether the 16 bits before the CRC-16 are this handle.
+fn has_handle(bits: &Bits, handle: u16) -> bool
+    requires { 32 ≤ length bits.now.items }
+    ensures { IsTrue result ↔ HasHandle handle bits.now.items }
+{
+    word_at(bits, bits.len() - 32) == handle
+}
+
+/// The word at a place.
+fn word_at(bits: &Bits, at: u32) -> u16
+    requires { at + 16 ≤ length bits.now.items }
+    ensures { result ≡ value_of (part_of bits.now.items at 16) }
+{
+    bits.word(at).unwrap()
+}
+
+/// The reply that bits are which pass.
+fn read_reply(bits: &Bits, expect: &Expect) -> Reply
+    requires { Passes expect.now bits.now.items }
+    ensures { Answers result expect.now bits.now.items }
+{
+    match expect {
+        Expect::Rn16 => Reply::Rn16(word_at(bits, 0)),
+        Expect::Epc => Reply::Epc {
+            pc: word_at(bits, 0),
+            epc: epc_words(bits),
+        },
+        Expect::Handle => Reply::Handle(word_at(bits, 0)),
+        Expect::Same(_) => Reply::Handle(word_at(bits, 0)),
+        Expect::Words(count, _) => {
+            if is_error(bits) {
+                return Reply::Error(error_code(bits));
+            }
+            Reply::Words(read_words(bits, u32::from(count.get())))
+        }
+        Expect::AnyWords(_) => {
+            if is_error(bits) {
+                return Reply::Error(error_code(bits));
+            }
+            Reply::Words(read_words(bits, (bits.len() - 33) / 16))
+        }
+        Expect::Header(_) => {
+            if is_error(bits) {
+                return Reply::Error(error_code(bits));
+            }
+            Reply::Header
+        }
+    }
+}
+
+/// The error code behind the header bit.
+fn error_code(bits: &Bits) -> u8
+    requires { length bits.now.items ≡ 41 }
+    ensures { result ≡ value_of (part_of bits.now.items 1 8) }
+{
+    bits.field(1, 8).unwrap() as u8
+}
+
+/// The words between the PC and the CRC-16.
+fn epc_words(bits: &Bits) -> EpcWords
+    requires { FitsLength OneEpc bits.now.items }
+    ensures count { length result ≡ value_of (take 5 bits.now.items) }
+    ensures range { AreWords result }
+    ensures words { words_of result ≡ part_of bits.now.items 16 (16 * length result) }
+{
+    let mut words = EpcWords::new();
+    let end = bits.len() - 16;
+    let mut at = 16;
+    while at < end {
+        words.push(word_at(bits, at)).unwrap();
+        at += 16;
+    }
+    words
+}
+
+/// The words between the header bit and the handle.
+fn read_words(bits: &Bits, count: u32) -> ReadWords
+    requires few { count ≤ 512 }
+    requires whole { length bits.now.items ≡ 33 + 16 * count }
+    ensures count { length result ≡ count }
+    ensures range { AreWords result }
+    ensures words { words_of result ≡ part_of bits.now.items 1 (16 * count) }
+{
+    let mut words = ReadWords::new();
+    let end = 1 + 16 * count;
+    let mut at = 1;
+    while at < end {
+        words.push(word_at(bits, at)).unwrap();
+        at += 16;
+    }
+    words
+}

@@ -1,0 +1,103 @@
+//! Replies to bits.
+ghost use Rattle.std.specs.Prelude.{◌≡◌, ◌+◌, ◌*◌, ◌^◌, ◌<◌, ◌≤◌, [], ◌∷◌, ◌++◌, length};
+ghost use Rattle.bit_strings.specs.Numbers.{field_of};
+ghost use Rattle.reply_grammar.specs.Table.{Answers, CanBeSent, Carries, IsReply, Suits, spelling, words_of, with_check};
+ghost use Rattle.reply_grammar.specs.declared.expected.Expect.{Expect};
+
+use crate::expected::Reply;
+use bit_strings::Bits;
+use gen2_crc::crc16;
+
+/// Writes the bits of a reply, of which there are at most 8,240. The handle is used by `Words`,
+/// `Header` and `Error`. A PC must count the words of its EPC in its first five bits, and a Read must
+/// bring at least one word.
+pub fn encode_reply(reply: &Reply, handle: u16, out: &mut Bits)
+    requires room { 8240 ≤ out.old.capacity }
+    requires sendable { CanBeSent reply.now }
+    ensures bits { out.new ≡ record out.old { items = spelling reply.now handle } }
+    ensures answers { (expect : Expect) → Suits reply.now expect → Carries expect handle → Answers reply.now expect out.new.items }
+{
+    write_reply(reply, handle, out);
+}
+
+/// Writes the bits of a reply.
+fn write_reply(reply: &Reply, handle: u16, out: &mut Bits)
+    requires room { 8240 ≤ out.old.capacity }
+    requires sendable { CanBeSent reply.now }
+    ensures bits { out.new ≡ record out.old { items = spelling reply.now handle } }
+    ensures in_range { IsReply reply.now }
+{
+    out.clear();
+    match reply {
+        Reply::Rn16(rn) => put_word(out, *rn),
+        Reply::Epc { pc, epc } => {
+            put_word(out, *pc);
+            put_words(out, epc.as_slice());
+            put_check(out);
+        }
+        Reply::Handle(rn) => {
+            put_word(out, *rn);
+            put_check(out);
+        }
+        Reply::Words(words) => {
+            put_bit(out, false);
+            put_words(out, words.as_slice());
+            put_word(out, handle);
+            put_check(out);
+        }
+        Reply::Header => {
+            put_bit(out, false);
+            put_word(out, handle);
+            put_check(out);
+        }
+        Reply::Error(code) => {
+            put_bit(out, true);
+            put_code(out, *code);
+            put_word(out, handle);
+            put_check(out);
+        }
+    }
+}
+
+/// Adds a bit, for which there is room.
+fn put_bit(out: &mut Bits, bit: bool)
+    requires { length out.old.items + 1 ≤ out.old.capacity }
+    ensures { out.new ≡ record out.old { items = out.old.items ++ bit ∷ [] } }
+{
+    out.push(bit).unwrap();
+}
+
+/// Adds an error code, for which there is room.
+fn put_code(out: &mut Bits, code: u8)
+    requires { length out.old.items + 8 ≤ out.old.capacity }
+    ensures { out.new ≡ record out.old { items = out.old.items ++ field_of code 8 } }
+{
+    out.put_field(u32::from(code), 8).unwrap();
+}
+
+/// Adds a word, for which there is room.
+fn put_word(out: &mut Bits, word: u16)
+    requires { length out.old.items + 16 ≤ out.old.capacity }
+    ensures { out.new ≡ record out.old { items = out.old.items ++ field_of word 16 } }
+{
+    out.put_u16(word).unwrap();
+}
+
+/// Adds words, for which there is room.
+fn put_words(out: &mut Bits, words: &[u16])
+    requires { length out.old.items + 16 * length words.now ≤ out.old.capacity }
+    ensures { out.new ≡ record out.old { items = out.old.items ++ words_of words.now } }
+{
+    for word in words {
+        put_word(out, *word);
+    }
+}
+
+/// Adds the CRC-16 of the bits, for which there is room.
+fn put_check(out: &mut Bits)
+    requires { length out.old.items + 16 ≤ out.old.capacity }
+    ensures { out.new ≡ record out.old { items = with_check out.old.items } }
+{
+    let check = crc16(out, out.len());
+    put_word(out, check);
+}

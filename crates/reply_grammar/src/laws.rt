@@ -1,0 +1,16 @@
+//! The law of replies.
+ghost use Rattle.std.specs.Prelude.{◌≡◌, ◌⊎◌, List, Bool};
+ghost use Rattle.reply_grammar.specs.Table.{Answers};
+ghost use Rattle.reply_grammar.specs.Faults.{Faults};
+ghost use Rattle.reply_grammar.specs.declared.expected.Expect.{Expect};
+ghost use Rattle.reply_grammar.specs.declared.expected.Reply.{Reply};
+ghost use Rattle.reply_grammar.specs.declared.expected.ReplyRefusal.{ReplyRefusal};
+
+/// For each expectation and each list of bits there is exactly one of the two: a reply that the bits
+/// are, or a refusal that is the first to apply.
+pub fn reply_laws()
+    ensures some { (expect : Expect) (bits : List Bool) → ((reply : Reply) × Answers reply expect bits) ⊎ ((refusal : ReplyRefusal) × Faults refusal expect bits) }
+    ensures apart { (expect : Expect) (bits : List Bool) (reply : Reply) (refusal : ReplyRefusal) → Answers reply expect bits → Faults refusal expect bits → ⊥ }
+    ensures one_reply { (expect : Expect) (bits : List Bool) (r s : Reply) → Answers r expect bits → Answers s expect bits → r ≡ s }
+    ensures one_refusal { (expect : Expect) (bits : List Bool) (f g : ReplyRefusal) → Faults f expect bits → Faults g expect bits → f ≡ g }
+{}

@@ -1,0 +1,17 @@
+//! What tags answer, as bits: each reply by what is expected of it.
+#![tactic(auto)]
+
+mod decode;
+mod encode;
+mod expected;
+mod laws;
+mod words;
+
+pub use decode::decode_reply;
+pub use encode::encode_reply;
+pub use expected::{Expect, Received, Reply, ReplyRefusal};
+pub use laws::reply_laws;
+pub use words::{EpcWords, ReadWords};
+
+#[cfg(test)]
+mod tests;

@@ -1,0 +1,12 @@
+//! How what an interrogator expects, the replies of tags, and the refusals of bits stand in a text.
+#![tactic(auto)]
+
+mod expectation;
+mod laws;
+mod printing;
+#[cfg(test)]
+mod tests;
+
+pub use expectation::expect_of;
+pub use laws::{expectations_are_field_texts, expectations_are_told_apart};
+pub use printing::{push_refusal, push_reply};
