@@ -1,0 +1,15 @@
+pub mod Behind
+pub mod CheckLaws
+pub mod ChoiceLaws
+pub mod EachAgain
+pub mod EachCommand
+pub mod Elements
+pub mod Exact
+pub mod Fields
+pub mod Lengths
+pub mod Loops
+pub mod NamedFields
+pub mod SpellingLaws
+pub mod Vectors
+pub mod Verdict
+pub mod WordLaws

@@ -1,0 +1,124 @@
+-- The fields of a few bits, and the codes, are read as their tables say.
+use Rattle.std.proofs.Common.{◌≡◌, Bool, false, List, [], ◌∷◌, ◌++◌, Ok, refl}
+use Rattle.std.specs.Prelude.{codes, Some, None}
+use Rattle.bit_strings.specs.declared.code.Code.{Code}
+use Rattle.bit_strings.specs.declared.code.Code.TheVariants as lines_of
+use Rattle.command_grammar.specs.declared.choices.Kind.{Kind}
+use Rattle.command_grammar.specs.declared.choices.Kind.TheVariants as kinds
+use Rattle.command_grammar.specs.declared.command.Sel.{Sel}
+use Rattle.command_grammar.specs.declared.command.Sel.TheVariants as sels
+use Rattle.command_grammar.specs.declared.command.Side.{Side}
+use Rattle.command_grammar.specs.declared.command.Side.TheVariants as side
+use Rattle.command_grammar.specs.declared.command.UpDn.{UpDn}
+use Rattle.command_grammar.specs.declared.command.UpDn.TheVariants as updns
+use Rattle.command_grammar.specs.declared.command.Bank.{Bank}
+use Rattle.command_grammar.specs.declared.command.Bank.TheVariants as banks
+use Rattle.command_grammar.specs.declared.command.MaskBank.{MaskBank}
+use Rattle.command_grammar.specs.declared.command.MaskBank.TheVariants as mask_banks
+use Rattle.command_grammar.specs.declared.command.FlagName.{FlagName}
+use Rattle.command_grammar.specs.declared.command.FlagName.TheVariants as flags
+use Rattle.command_grammar.specs.declared.refusal.Reason.TheVariants as reasons
+use Rattle.command_grammar.specs.Commands.{binary, bits_of_code, bits_of_sel, bits_of_side, bits_of_updn, bits_of_target, bits_of_mask_bank, bits_of_bank}
+use Rattle.command_grammar.specs.Reading.{choice_at, lines, selected, sides, changes, targets, masked_banks, all_banks, three_zeros, all_kinds}
+use Rattle.command_grammar.proofs.Fields.{Reads}
+use Rattle.command_grammar.proofs.ChoiceLaws.{reads_choice, reads_full}
+
+-- the code of each command
+abbrev pub bits_of_kind : Kind → List Bool
+bits_of_kind kinds.QueryRep = binary (codes "00")
+bits_of_kind kinds.Ack = binary (codes "01")
+bits_of_kind kinds.Query = binary (codes "1000")
+bits_of_kind kinds.QueryAdjust = binary (codes "1001")
+bits_of_kind kinds.Select = binary (codes "1010")
+bits_of_kind kinds.Nak = binary (codes "11000000")
+bits_of_kind kinds.ReqRn = binary (codes "11000001")
+bits_of_kind kinds.Read = binary (codes "11000010")
+bits_of_kind kinds.Write = binary (codes "11000011")
+bits_of_kind kinds.Kill = binary (codes "11000100")
+bits_of_kind kinds.Lock = binary (codes "11000101")
+bits_of_kind kinds.Access = binary (codes "11000110")
+bits_of_kind kinds.BlockWrite = binary (codes "11000111")
+bits_of_kind kinds.BlockErase = binary (codes "11001000")
+
+kind_again : (kind : Kind) (rest : List Bool) → choice_at all_kinds reasons.Code (bits_of_kind kind ++ rest) ≡ Ok (kind, rest)
+kind_again kinds.QueryRep rest = refl
+kind_again kinds.Ack rest = refl
+kind_again kinds.Query rest = refl
+kind_again kinds.QueryAdjust rest = refl
+kind_again kinds.Select rest = refl
+kind_again kinds.Nak rest = refl
+kind_again kinds.ReqRn rest = refl
+kind_again kinds.Read rest = refl
+kind_again kinds.Write rest = refl
+kind_again kinds.Kill rest = refl
+kind_again kinds.Lock rest = refl
+kind_again kinds.Access rest = refl
+kind_again kinds.BlockWrite rest = refl
+kind_again kinds.BlockErase rest = refl
+
+pub reads_kind : Reads (λ kind bits. bits ≡ bits_of_kind kind) (Some reasons.Code) (choice_at all_kinds reasons.Code)
+reads_kind = reads_choice bits_of_kind reasons.Code all_kinds
+    ((refl, refl), (((refl, refl), (refl, tt)), ((((((refl, refl), (refl, refl)), ((refl, refl), (refl, refl))), (((refl, tt), tt), tt)), tt), tt))) refl refl kind_again
+
+line_again : (code : Code) (rest : List Bool) → choice_at lines reasons.Code (bits_of_code code ++ rest) ≡ Ok (code, rest)
+line_again lines_of.Fm0 rest = refl
+line_again lines_of.M2 rest = refl
+line_again lines_of.M4 rest = refl
+line_again lines_of.M8 rest = refl
+
+pub reads_line : Reads (λ code bits. bits ≡ bits_of_code code) None (choice_at lines reasons.Code)
+reads_line = reads_full bits_of_code reasons.Code lines None ((refl, refl), (refl, refl)) refl refl line_again
+
+sel_again : (sel : Sel) (rest : List Bool) → choice_at selected reasons.Code (bits_of_sel sel ++ rest) ≡ Ok (sel, rest)
+sel_again sels.All00 rest = refl
+sel_again sels.All01 rest = refl
+sel_again sels.NotSl rest = refl
+sel_again sels.Sl rest = refl
+
+pub reads_sel : Reads (λ sel bits. bits ≡ bits_of_sel sel) None (choice_at selected reasons.Code)
+reads_sel = reads_full bits_of_sel reasons.Code selected None ((refl, refl), (refl, refl)) refl refl sel_again
+
+side_again : (s : Side) (rest : List Bool) → choice_at sides reasons.Code (bits_of_side s ++ rest) ≡ Ok (s, rest)
+side_again side.A rest = refl
+side_again side.B rest = refl
+
+pub reads_side : Reads (λ s bits. bits ≡ bits_of_side s) None (choice_at sides reasons.Code)
+reads_side = reads_full bits_of_side reasons.Code sides None (refl, refl) refl refl side_again
+
+updn_again : (updn : UpDn) (rest : List Bool) → choice_at changes reasons.UpDn (bits_of_updn updn ++ rest) ≡ Ok (updn, rest)
+updn_again updns.Up rest = refl
+updn_again updns.Same rest = refl
+updn_again updns.Down rest = refl
+
+pub reads_updn : Reads (λ updn bits. bits ≡ bits_of_updn updn) (Some reasons.UpDn) (choice_at changes reasons.UpDn)
+reads_updn = reads_choice bits_of_updn reasons.UpDn changes (((refl, tt), (tt, refl)), (tt, (refl, tt))) refl refl updn_again
+
+target_again : (target : FlagName) (rest : List Bool) → choice_at targets reasons.Target (bits_of_target target ++ rest) ≡ Ok (target, rest)
+target_again flags.S0 rest = refl
+target_again flags.S1 rest = refl
+target_again flags.S2 rest = refl
+target_again flags.S3 rest = refl
+target_again flags.Sl rest = refl
+
+pub reads_target : Reads (λ target bits. bits ≡ bits_of_target target) (Some reasons.Target) (choice_at targets reasons.Target)
+reads_target = reads_choice bits_of_target reasons.Target targets (((refl, refl), (refl, refl)), ((refl, tt), tt)) refl refl target_again
+
+mask_bank_again : (bank : MaskBank) (rest : List Bool) → choice_at masked_banks reasons.Bank (bits_of_mask_bank bank ++ rest) ≡ Ok (bank, rest)
+mask_bank_again mask_banks.Epc rest = refl
+mask_bank_again mask_banks.Tid rest = refl
+mask_bank_again mask_banks.User rest = refl
+
+pub reads_mask_bank : Reads (λ bank bits. bits ≡ bits_of_mask_bank bank) (Some reasons.Bank) (choice_at masked_banks reasons.Bank)
+reads_mask_bank = reads_choice bits_of_mask_bank reasons.Bank masked_banks ((tt, refl), (refl, refl)) refl refl mask_bank_again
+
+bank_again : (bank : Bank) (rest : List Bool) → choice_at all_banks reasons.Code (bits_of_bank bank ++ rest) ≡ Ok (bank, rest)
+bank_again banks.Reserved rest = refl
+bank_again banks.Epc rest = refl
+bank_again banks.Tid rest = refl
+bank_again banks.User rest = refl
+
+pub reads_bank : Reads (λ bank bits. bits ≡ bits_of_bank bank) None (choice_at all_banks reasons.Code)
+reads_bank = reads_full bits_of_bank reasons.Code all_banks None ((refl, refl), (refl, refl)) refl refl bank_again
+
+pub reads_three_zeros : Reads {A = Unit {0}} (λ value bits. bits ≡ false ∷ false ∷ false ∷ []) (Some reasons.KillBits) (choice_at three_zeros reasons.KillBits)
+reads_three_zeros = reads_choice (λ (value : Unit {0}). false ∷ false ∷ false ∷ []) reasons.KillBits three_zeros (((refl, tt), tt), tt) refl refl (λ value rest. refl)

@@ -1,0 +1,124 @@
+-- One spelling a command, and one answer for each list of bits.
+use Rattle.std.proofs.Common.{◌≡◌, ℕ, ◌+◌, ◌-◌, ◌≤◌, Bool, List, [], ◌∷◌, ◌++◌, length, take, drop, Result, Ok, Err, refl, sym, ap, subst, ◌∙◌, append_assoc, append-nil, length-append, inl, inr, arith}
+use Rattle.std.specs.Prelude.{◌⊎◌, Option, Some, None}
+use Rattle.std.proofs.lemmas.Bool.{cases_lt}
+use Rattle.std.proofs.lemmas.List.{take-append-drop, take-take, take-append-le}
+use Rattle.command_grammar.specs.declared.refusal.Reason.{Reason}
+use Rattle.bit_strings.specs.Family.{Begins, IsBadAt, IsShortAt}
+use Rattle.command_grammar.specs.declared.commands.Command.{Command}
+use Rattle.command_grammar.specs.declared.commands.Command.TheVariants as commands
+use Rattle.command_grammar.specs.declared.refusal.Pushed.{Pushed}
+use Rattle.command_grammar.specs.declared.refusal.Pushed.TheVariants as pushed
+use Rattle.command_grammar.specs.Framing.{Keeps, refusal_in}
+use Rattle.command_grammar.specs.declared.reader.Stop.{Stop}
+use Rattle.command_grammar.specs.declared.reader.Stop.TheVariants.{Short, Bad}
+use Rattle.command_grammar.specs.Commands.{spelling_of, Spells, Spellings, IsRefusedAt, Judges}
+use Rattle.command_grammar.specs.Reading.{all_of}
+use Rattle.command_grammar.proofs.Verdict.{same_command, all_whole, all_short, all_bad}
+
+pub one_command : (c d : Command) (bits : List Bool) → Spells c bits → Spells d bits → c ≡ d
+one_command c d bits left right =
+    (same_command c d [] [] left.legal right.legal (ap (λ (l : List Bool). l ++ []) (sym left.spelled ∙ right.spelled))).0
+
+pub none_behind : (c d : Command) (bits more : List Bool) → Spells c bits → Spells d (bits ++ more) → more ≡ []
+none_behind c d bits more left right =
+    (same_command c d more [] left.legal right.legal (ap (λ (l : List Bool). l ++ more) (sym left.spelled) ∙ right.spelled ∙ sym (append-nil (spelling_of d)))).1
+
+-- ---- places of refusal, of any family
+
+begins_front : (X : List Bool → Type 0) (front back : List Bool) → Begins X (front ++ back) → Begins X front
+begins_front X front back member = (back ++ member.0, subst X (append_assoc front back member.0) member.1)
+
+begins_take : (X : List Bool → Type 0) (bits : List Bool) (n m : ℕ) → n ≤ m → Begins X (take m bits) → Begins X (take n bits)
+begins_take X bits n m less member =
+    let front : take n (take m bits) ≡ take n bits = take-take n m bits less in
+    subst (λ (l : List Bool). Begins X l) front (begins_front X (take n (take m bits)) (drop n (take m bits)) (subst (λ (l : List Bool). Begins X l) (sym (take-append-drop n (take m bits))) member))
+
+pub one_place : (X : List Bool → Type 0) (bits : List Bool) (p q : ℕ) → IsBadAt X bits p → IsBadAt X bits q → p ≡ q
+one_place X bits p q left right =
+    elim (cases_lt p q) [
+      | inl less ↦ absurd (left.stops (begins_take X bits (p + 1) q (omega arith) right.begins))
+      | inr within ↦ elim (cases_lt q p) [
+        | inl less ↦ absurd (right.stops (begins_take X bits (q + 1) p (omega arith) left.begins))
+        | inr back ↦ omega arith
+      ]
+    ]
+
+pub not_begun : (X : List Bool → Type 0) (bits : List Bool) (place : ℕ) → Begins X bits → IsBadAt X bits place → ⊥
+not_begun X bits place member bad = bad.stops (begins_front X (take (place + 1) bits) (drop (place + 1) bits) (subst (λ (l : List Bool). Begins X l) (sym (take-append-drop (place + 1) bits)) member))
+
+pub begun : (X : List Bool → Type 0) (bits : List Bool) → X bits → Begins X bits
+begun X bits member = ([], subst X (sym (append-nil bits)) member)
+
+-- a place of refusal stays where bits are added
+pub still_bad : (X : List Bool → Type 0) (bits : List Bool) (bit : Bool) (place : ℕ) → IsBadAt X bits place → IsBadAt X (bits ++ bit ∷ []) place
+still_bad X bits bit place bad = record {
+  inside = omega (arith, bad.inside, length-append bits (bit ∷ []));
+  begins = subst (λ (l : List Bool). Begins X l) (sym (take-append-le place bits (bit ∷ []) (omega (arith, bad.inside)))) bad.begins;
+  stops = λ member. bad.stops (subst (λ (l : List Bool). Begins X l) (take-append-le (place + 1) bits (bit ∷ []) (omega (arith, bad.inside))) member);
+}
+
+-- ... with its name
+pub still_refused : (bits : List Bool) (bit : Bool) (place : ℕ) (reason : Reason) → IsRefusedAt bits place reason → IsRefusedAt (bits ++ bit ∷ []) place reason
+still_refused bits bit place reason refused =
+    let front : take place (bits ++ bit ∷ []) ≡ take place bits = take-append-le place bits (bit ∷ []) (omega (arith, refused.bad.inside)) in
+    record {
+      bad = still_bad Spellings bits bit place refused.bad;
+      name = elim (refused.name) [
+        | inl extra ↦ inl (extra.0, (extra.1.0, record { legal = extra.1.1.legal; spelled = front ∙ extra.1.1.spelled }))
+        | inr field ↦ inr (record { command = field.command; legal = field.legal; more = field.more; begins = field.begins ∙ ap (λ (l : List Bool). l ++ field.more) (sym front); stands = field.stands })
+      ];
+    }
+
+-- refused bits are no spelling
+pub not_spelled : (bits : List Bool) (place : ℕ) → Spellings bits → IsBadAt Spellings bits place → ⊥
+not_spelled bits place member bad = not_begun Spellings bits place (begun Spellings bits member) bad
+
+abbrev Answer : List Bool → Type 0
+Answer bits = Spellings bits ⊎ (IsShortAt Spellings bits (length bits) ⊎ ((place : ℕ) × IsBadAt Spellings bits place))
+
+answer : (bits : List Bool) (read : Result Command Stop) → all_of bits ≡ read → Answer bits
+answer bits (Ok command) e = inl (command, all_whole command bits e)
+answer bits (Err Short) e = inr (inl (all_short bits e))
+answer bits (Err (Bad left reason)) e = inr (inr (length bits - left, (all_bad bits left reason e).1.bad))
+
+pub some_answer : (bits : List Bool) → Answer bits
+some_answer bits = answer bits (all_of bits) refl
+
+-- a NAK begins with no bits
+pub begins_nak : Begins Spellings []
+begins_nak = (spelling_of commands.Nak, (commands.Nak, record { legal = tt; spelled = refl }))
+
+-- ---- a Framer that takes one more bit
+
+pub stands_more : (kept : List Bool) (refused : Option (ℕ × Reason)) (now : List Bool) (bit : Bool) (answer : Pushed) (after : Option (ℕ × Reason)) → refused ≡ None → now ≡ kept ++ bit ∷ [] → after ≡ refusal_in answer → Judges answer now
+    → (bits : List Bool) → Keeps kept refused bits → Keeps now after (bits ++ bit ∷ [])
+stands_more kept refused now bit answer after none pushed_one told judged bits stands =
+    let open_one : Keeps kept None bits = subst (λ (r : Option (ℕ × Reason)). Keeps kept r bits) none stands in
+    let same : bits ++ bit ∷ [] ≡ now = ap (λ (l : List Bool). l ++ bit ∷ []) open_one.0 ∙ sym pushed_one in
+    subst (λ (r : Option (ℕ × Reason)). Keeps now r (bits ++ bit ∷ [])) (sym told) (subst (λ (l : List Bool). Keeps now (refusal_in answer) l) (sym same) (keeps answer judged))
+  where
+    keeps : (told_answer : Pushed) → Judges told_answer now → Keeps now (refusal_in told_answer) now
+    keeps pushed.More h = (refl, h.begins)
+    keeps pushed.Whole h = (refl, begun Spellings now h)
+    keeps (pushed.Bad place reason) h = h
+
+pub judges_more : (kept : List Bool) (refused : Option (ℕ × Reason)) (now : List Bool) (bit : Bool) (answer : Pushed) → refused ≡ None → now ≡ kept ++ bit ∷ [] → Judges answer now
+    → (bits : List Bool) → Keeps kept refused bits → Judges answer (bits ++ bit ∷ [])
+judges_more kept refused now bit answer none pushed_one judged bits stands =
+    let open_one : Keeps kept None bits = subst (λ (r : Option (ℕ × Reason)). Keeps kept r bits) none stands in
+    let same : bits ++ bit ∷ [] ≡ now = ap (λ (l : List Bool). l ++ bit ∷ []) open_one.0 ∙ sym pushed_one in
+    subst (λ (l : List Bool). Judges answer l) (sym same) judged
+
+-- ... and one that was refused
+pub stands_refused : (kept : List Bool) (refused : Option (ℕ × Reason)) (bit : Bool) (place : ℕ) (reason : Reason) → refused ≡ Some (place, reason) → (bits : List Bool) → Keeps kept refused bits → Keeps kept refused (bits ++ bit ∷ [])
+stands_refused kept refused bit place reason is bits stands =
+    let h : IsRefusedAt bits place reason = subst (λ (r : Option (ℕ × Reason)). Keeps kept r bits) is stands in
+    subst (λ (r : Option (ℕ × Reason)). Keeps kept r (bits ++ bit ∷ [])) (sym is) (still_refused bits bit place reason h)
+
+pub judges_refused : (kept : List Bool) (refused : Option (ℕ × Reason)) (bit : Bool) (place : ℕ) (reason : Reason) → refused ≡ Some (place, reason) → (bits : List Bool) → Keeps kept refused bits → IsRefusedAt (bits ++ bit ∷ []) place reason
+judges_refused kept refused bit place reason is bits stands =
+    still_refused bits bit place reason (subst (λ (r : Option (ℕ × Reason)). Keeps kept r bits) is stands)
+
+pub finishes_refused : (kept : List Bool) (refused : Option (ℕ × Reason)) (place : ℕ) (reason : Reason) → refused ≡ Some (place, reason) → (bits : List Bool) → Keeps kept refused bits → IsRefusedAt bits place reason
+finishes_refused kept refused place reason is bits stands = subst (λ (r : Option (ℕ × Reason)). Keeps kept r bits) is stands

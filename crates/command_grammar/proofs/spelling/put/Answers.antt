@@ -1,0 +1,9 @@
+use Rattle.std.proofs.Common.{ap, length, length-append, arith}
+use Rattle.bit_strings.specs.BitString.{BitString}
+use Rattle.bit_strings.specs.Numbers.{field_of}
+use Rattle.bit_strings.specs.NumberLaws.{length-field_of}
+use Rattle.command_grammar.proofs.spelling.put.Goals as goal
+
+pub returns-clause-count : goal.returns-clause-count
+returns-clause-count c =
+    omega (arith, ap (λ (bits : BitString). length bits.items) (c.put_field.ensures.room c.requires.room), length-append c.args.out.now.items (field_of c.args.value c.args.width), length-field_of c.args.value c.args.width)

@@ -1,0 +1,210 @@
+-- 6.3.2.11 Interrogator commands and tag replies: which bits spell which command. Bits go most significant first.
+use Rattle.std.specs.Prelude.{◌≡◌, ℕ, ◌+◌, ◌^◌, ◌<◌, ◌≤◌, ◌==◌, Bool, true, false, List, [], ◌∷◌, ◌++◌, length, map, take, codes, Option, Some, None, Result, Ok, Err, ◌⊎◌}
+use Rattle.std.specs.List.{flat_map, AllByRecursion}
+use Rattle.bit_strings.specs.Numbers.{field_of}
+use Rattle.bit_strings.specs.Ebv.{ebv_of}
+use Rattle.bit_strings.specs.Family.{IsBadAt, IsShortAt}
+use Rattle.bit_strings.specs.declared.code.Code.{Code}
+use Rattle.bit_strings.specs.declared.code.Code.TheVariants.{Fm0, M2, M4, M8}
+use Rattle.gen2_crc.specs.Crc.{crc5_of, crc16_of}
+use Rattle.command_grammar.specs.declared.command.Sel.{Sel}
+use Rattle.command_grammar.specs.declared.command.Sel.TheVariants as sels
+use Rattle.command_grammar.specs.declared.command.Side.{Side}
+use Rattle.command_grammar.specs.declared.command.Side.TheVariants.{A, B}
+use Rattle.command_grammar.specs.declared.command.UpDn.{UpDn}
+use Rattle.command_grammar.specs.declared.command.UpDn.TheVariants.{Up, Same, Down}
+use Rattle.command_grammar.specs.declared.command.Bank.{Bank}
+use Rattle.command_grammar.specs.declared.command.Bank.TheVariants as banks
+use Rattle.command_grammar.specs.declared.command.MaskBank.{MaskBank}
+use Rattle.command_grammar.specs.declared.command.MaskBank.TheVariants as mask_banks
+use Rattle.command_grammar.specs.declared.command.FlagName.{FlagName}
+use Rattle.command_grammar.specs.declared.command.FlagName.TheVariants as flags
+use Rattle.command_grammar.specs.declared.commands.Command.{Command}
+use Rattle.command_grammar.specs.declared.commands.Command.TheVariants.{QueryRep, Ack, Query, QueryAdjust, Select, Nak, ReqRn, Read, Write, Kill, Lock, Access, BlockWrite, BlockErase}
+use Rattle.command_grammar.specs.declared.refusal.CommandRefusal.{CommandRefusal}
+use Rattle.command_grammar.specs.declared.refusal.CommandRefusal.TheVariants as refusals
+use Rattle.command_grammar.specs.declared.refusal.Pushed.{Pushed}
+use Rattle.command_grammar.specs.declared.refusal.Pushed.TheVariants as pushed
+use Rattle.command_grammar.specs.declared.refusal.Reason.{Reason}
+use Rattle.command_grammar.specs.declared.refusal.Reason.TheVariants as reasons
+
+-- a field of a command: the reason for which a bit in it may be refused, where one may be, and its bits
+pub record Part : Type 0 where
+  pub name : Option Reason
+  pub bits : List Bool
+
+-- the bits that a text of the digits 0 and 1 names
+abbrev pub binary : List ℕ → List Bool
+binary digits = map (λ digit. digit == 49) digits
+
+-- one field: any bits of its width may stand in it
+abbrev pub plain : List Bool → List Part
+plain bits = record { name = None; bits = bits } ∷ []
+
+-- one field, in which some bits may not stand
+abbrev pub named : Reason → List Bool → List Part
+named reason bits = record { name = Some reason; bits = bits } ∷ []
+
+abbrev pub bits_of : List Part → List Bool
+bits_of parts = flat_map (λ part. part.bits) parts
+
+abbrev pub digit : Bool → List Bool
+digit bit = bit ∷ []
+
+-- 6.3.2.11.2.1 Query, M
+abbrev pub bits_of_code : Code → List Bool
+bits_of_code Fm0 = false ∷ false ∷ []
+bits_of_code M2 = false ∷ true ∷ []
+bits_of_code M4 = true ∷ false ∷ []
+bits_of_code M8 = true ∷ true ∷ []
+
+-- 6.3.2.11.2.1 Query, Sel
+abbrev pub bits_of_sel : Sel → List Bool
+bits_of_sel sels.All00 = false ∷ false ∷ []
+bits_of_sel sels.All01 = false ∷ true ∷ []
+bits_of_sel sels.NotSl = true ∷ false ∷ []
+bits_of_sel sels.Sl = true ∷ true ∷ []
+
+-- 6.3.2.11.2.1 Query, Target
+abbrev pub bits_of_side : Side → List Bool
+bits_of_side A = false ∷ []
+bits_of_side B = true ∷ []
+
+-- 6.3.2.11.2.2 QueryAdjust, UpDn
+abbrev pub bits_of_updn : UpDn → List Bool
+bits_of_updn Up = true ∷ true ∷ false ∷ []
+bits_of_updn Same = false ∷ false ∷ false ∷ []
+bits_of_updn Down = false ∷ true ∷ true ∷ []
+
+-- 6.3.2.11.1.1 Select, Target
+abbrev pub bits_of_target : FlagName → List Bool
+bits_of_target flags.S0 = false ∷ false ∷ false ∷ []
+bits_of_target flags.S1 = false ∷ false ∷ true ∷ []
+bits_of_target flags.S2 = false ∷ true ∷ false ∷ []
+bits_of_target flags.S3 = false ∷ true ∷ true ∷ []
+bits_of_target flags.Sl = true ∷ false ∷ false ∷ []
+
+-- 6.3.2.11.1.1 Select, MemBank; profile: no mask is compared with the Reserved bank
+abbrev pub bits_of_mask_bank : MaskBank → List Bool
+bits_of_mask_bank mask_banks.Epc = false ∷ true ∷ []
+bits_of_mask_bank mask_banks.Tid = true ∷ false ∷ []
+bits_of_mask_bank mask_banks.User = true ∷ true ∷ []
+
+-- 6.3.2.11.3.2 Read, MemBank
+abbrev pub bits_of_bank : Bank → List Bool
+bits_of_bank banks.Reserved = false ∷ false ∷ []
+bits_of_bank banks.Epc = false ∷ true ∷ []
+bits_of_bank banks.Tid = true ∷ false ∷ []
+bits_of_bank banks.User = true ∷ true ∷ []
+
+-- 16 bits a word
+abbrev pub bits_of_words : List ℕ → List Bool
+bits_of_words words = flat_map (λ word. field_of word 16) words
+
+-- Annex F: the check number stands last and is computed over the bits before it
+abbrev pub with_crc5 : List Part → List Part
+with_crc5 parts = parts ++ named reasons.Crc5 (crc5_of (bits_of parts))
+
+abbrev pub with_crc16 : List Part → List Part
+with_crc16 parts = parts ++ named reasons.Crc16 (crc16_of (bits_of parts))
+
+-- 6.3.2.11 Table 6.18 and the table of each command: its fields in order. Profile: Truncate is 0, and the three bits
+-- of a Kill behind the half are 000.
+abbrev pub code : List ℕ → List Part
+code digits = named reasons.Code (binary digits)
+
+abbrev pub parts_of : Command → List Part
+parts_of (QueryRep session) = code (codes "00") ++ plain (field_of session 2)
+parts_of (Ack rn) = code (codes "01") ++ plain (field_of rn 16)
+parts_of (Query dr line_code trext sel session target q) =
+    with_crc5 (code (codes "1000") ++ plain (digit dr) ++ plain (bits_of_code line_code) ++ plain (digit trext) ++ plain (bits_of_sel sel)
+    ++ plain (field_of session 2) ++ plain (bits_of_side target) ++ plain (field_of q 4))
+parts_of (QueryAdjust session updn) = code (codes "1001") ++ plain (field_of session 2) ++ named reasons.UpDn (bits_of_updn updn)
+parts_of (Select target action bank pointer mask) =
+    with_crc16 (code (codes "1010") ++ named reasons.Target (bits_of_target target) ++ plain (field_of action 3) ++ named reasons.Bank (bits_of_mask_bank bank)
+    ++ named reasons.Ebv (ebv_of pointer) ++ plain (field_of (length mask) 8) ++ plain mask ++ named reasons.Truncate (false ∷ []))
+parts_of Nak = code (codes "11000000")
+parts_of (ReqRn rn) = with_crc16 (code (codes "11000001") ++ plain (field_of rn 16))
+parts_of (Read bank pointer count rn) =
+    with_crc16 (code (codes "11000010") ++ plain (bits_of_bank bank) ++ named reasons.Ebv (ebv_of pointer) ++ plain (field_of count 8) ++ plain (field_of rn 16))
+parts_of (Write bank pointer covered rn) =
+    with_crc16 (code (codes "11000011") ++ plain (bits_of_bank bank) ++ named reasons.Ebv (ebv_of pointer) ++ plain (field_of covered 16) ++ plain (field_of rn 16))
+parts_of (Kill covered rn) =
+    with_crc16 (code (codes "11000100") ++ plain (field_of covered 16) ++ named reasons.KillBits (false ∷ false ∷ false ∷ []) ++ plain (field_of rn 16))
+parts_of (Lock payload rn) = with_crc16 (code (codes "11000101") ++ plain (field_of payload 20) ++ plain (field_of rn 16))
+parts_of (Access covered rn) = with_crc16 (code (codes "11000110") ++ plain (field_of covered 16) ++ plain (field_of rn 16))
+parts_of (BlockWrite bank pointer words rn) =
+    with_crc16 (code (codes "11000111") ++ plain (bits_of_bank bank) ++ named reasons.Ebv (ebv_of pointer) ++ named reasons.Count (field_of (length words) 8)
+    ++ plain (bits_of_words words) ++ plain (field_of rn 16))
+parts_of (BlockErase bank pointer count rn) =
+    with_crc16 (code (codes "11001000") ++ plain (bits_of_bank bank) ++ named reasons.Ebv (ebv_of pointer) ++ named reasons.Count (field_of count 8) ++ plain (field_of rn 16))
+
+-- the one spelling of a command
+abbrev pub spelling_of : Command → List Bool
+spelling_of command = bits_of (parts_of command)
+
+-- a number of so many bits
+abbrev pub IsWord : ℕ → Type 0
+IsWord number = number < 2 ^ 16
+
+-- Each number is within its field. A place is below 2 ^ 28, since an extensible bit vector has at most four blocks (profile).
+abbrev pub IsLegal : Command → Type 0
+IsLegal (QueryRep session) = session ≤ 3
+IsLegal (Ack rn) = IsWord rn
+IsLegal (Query dr line_code trext sel session target q) = (session ≤ 3) × (q ≤ 15)
+IsLegal (QueryAdjust session updn) = session ≤ 3
+IsLegal (Select target action bank pointer mask) = (action ≤ 7) × (pointer < 2 ^ 28) × (length mask ≤ 255)
+IsLegal Nak = Unit {0}
+IsLegal (ReqRn rn) = IsWord rn
+IsLegal (Read bank pointer count rn) = (pointer < 2 ^ 28) × (count ≤ 255) × IsWord rn
+IsLegal (Write bank pointer covered rn) = (pointer < 2 ^ 28) × IsWord covered × IsWord rn
+IsLegal (Kill covered rn) = IsWord covered × IsWord rn
+IsLegal (Lock payload rn) = (payload < 2 ^ 20) × IsWord rn
+IsLegal (Access covered rn) = IsWord covered × IsWord rn
+IsLegal (BlockWrite bank pointer words rn) = (pointer < 2 ^ 28) × (1 ≤ length words) × (length words ≤ 255) × AllByRecursion IsWord words × IsWord rn
+IsLegal (BlockErase bank pointer count rn) = (pointer < 2 ^ 28) × (1 ≤ count) × (count ≤ 255) × IsWord rn
+
+-- the bits are the spelling of the command
+pub record Spells (command : Command) (bits : List Bool) : Type 0 where
+  pub legal : IsLegal command
+  pub spelled : bits ≡ spelling_of command
+
+-- the family of all spellings
+abbrev pub Spellings : List Bool → Type 0
+Spellings bits = (command : Command) × Spells command bits
+
+-- the bit at the place stands in a field that may be refused for the reason
+pub record StandsIn (parts : List Part) (place : ℕ) (reason : Reason) : Type 0 where
+  pub before : List Part
+  pub field : Part
+  pub behind : List Part
+  pub whole : parts ≡ (before ++ field ∷ []) ++ behind
+  pub name : field.name ≡ Some reason
+  pub from : length (bits_of before) ≤ place
+  pub upto : place < length (bits_of before) + length field.bits
+
+-- a command that begins with the bits before the place has the field at the place
+pub record IsField (bits : List Bool) (place : ℕ) (reason : Reason) : Type 0 where
+  pub command : Command
+  pub legal : IsLegal command
+  pub more : List Bool
+  pub begins : spelling_of command ≡ take place bits ++ more
+  pub stands : StandsIn (parts_of command) place reason
+
+-- The bits are refused at the place, for the reason: it is Extra where the bits before are a whole command, and else the
+-- field in which the bit there stands.
+pub record IsRefusedAt (bits : List Bool) (place : ℕ) (reason : Reason) : Type 0 where
+  pub bad : IsBadAt Spellings bits place
+  pub name : ((reason ≡ reasons.Extra) × Spellings (take place bits)) ⊎ IsField bits place reason
+
+-- what is said of the bits that were pushed
+abbrev pub Judges : Pushed → List Bool → Type 0
+Judges pushed.Whole bits = Spellings bits
+Judges (pushed.Bad place reason) bits = IsRefusedAt bits place reason
+Judges pushed.More bits = IsShortAt Spellings bits (length bits)
+
+-- ... in the end
+abbrev pub Finishes : Result Command CommandRefusal → List Bool → Type 0
+Finishes (Ok command) bits = Spells command bits
+Finishes (Err (refusals.At place reason)) bits = IsRefusedAt bits place reason
+Finishes (Err (refusals.Short count)) bits = IsShortAt Spellings bits count

@@ -1,0 +1,299 @@
+-- Reading from left to right, one field after another, with the first place at which no command goes on. The private
+-- readers give this; what it has to do with spellings is what the laws in proofs/ say.
+use Rattle.std.specs.Prelude.{◌≡◌, ℕ, zero, suc, ◌+◌, ◌-◌, ◌*◌, Bool, true, false, List, [], ◌∷◌, length, take, drop, Result, Ok, Err, nat_lt, ◌==◌, if◌then◌else◌, ◌&&◌, not}
+use Rattle.bit_strings.specs.Numbers.{value_of}
+use Rattle.bit_strings.specs.declared.code.Code.{Code}
+use Rattle.bit_strings.specs.declared.code.Code.TheVariants.{Fm0, M2, M4, M8}
+use Rattle.gen2_crc.specs.Crc.{crc5_of, crc16_of}
+use Rattle.command_grammar.specs.declared.command.Sel.{Sel}
+use Rattle.command_grammar.specs.declared.command.Sel.TheVariants as sels
+use Rattle.command_grammar.specs.declared.command.Side.{Side}
+use Rattle.command_grammar.specs.declared.command.Side.TheVariants as side
+use Rattle.command_grammar.specs.declared.command.UpDn.{UpDn}
+use Rattle.command_grammar.specs.declared.command.UpDn.TheVariants.{Up, Same, Down}
+use Rattle.command_grammar.specs.declared.command.Bank.{Bank}
+use Rattle.command_grammar.specs.declared.command.Bank.TheVariants as banks
+use Rattle.command_grammar.specs.declared.command.MaskBank.{MaskBank}
+use Rattle.command_grammar.specs.declared.command.MaskBank.TheVariants as mask_banks
+use Rattle.command_grammar.specs.declared.command.FlagName.{FlagName}
+use Rattle.command_grammar.specs.declared.command.FlagName.TheVariants as flags
+use Rattle.command_grammar.specs.declared.commands.Command.{Command}
+use Rattle.command_grammar.specs.declared.commands.Command.TheVariants as commands
+use Rattle.command_grammar.specs.declared.reader.Block.{Block}
+use Rattle.command_grammar.specs.declared.choices.Kind.{Kind}
+use Rattle.command_grammar.specs.declared.choices.Kind.TheVariants as kinds
+use Rattle.command_grammar.specs.declared.refusal.Reason.{Reason}
+use Rattle.command_grammar.specs.declared.refusal.Reason.TheVariants as reasons
+use Rattle.command_grammar.specs.declared.reader.Stop.{Stop}
+use Rattle.command_grammar.specs.declared.reader.Stop.TheVariants.{Short, Bad}
+
+-- what was read and the bits behind it
+abbrev pub Reading : Type 0 → Type 0
+Reading A = Result (A × List Bool) Stop
+
+infixl 10 ◌>>=◌
+abbrev pub ◌>>=◌ : {A B : Type 0} → Result A Stop → (A → Result B Stop) → Result B Stop
+(Ok x) >>= f = f x
+(Err e) >>= f = Err e
+
+-- what a function returned, seen by view, is what reading gives
+abbrev pub Gives : {X Y : Type 0} → (X → Y) → Result X Stop → Result Y Stop → Type 0
+Gives view (Ok x) read = read ≡ Ok (view x)
+Gives view (Err e) read = read ≡ Err e
+
+-- one bit
+abbrev pub bit_at : List Bool → Reading Bool
+bit_at [] = Err Short
+bit_at (bit ∷ rest) = Ok (bit, rest)
+
+-- so many bits
+abbrev pub bits_at : ℕ → List Bool → Reading (List Bool)
+bits_at width bits = if nat_lt (length bits) width then Err Short else Ok (take width bits, drop width bits)
+
+-- a number
+abbrev pub field_at : ℕ → List Bool → Reading ℕ
+field_at width bits = if nat_lt (length bits) width then Err Short else Ok (value_of (take width bits), drop width bits)
+
+-- what a field of a few bits may be: by its bits, the next one 0 or 1
+pub data Choice (A : Type 0) : Type 0 where
+  pick : A → Choice A
+  none : Choice A
+  fork : Choice A → Choice A → Choice A
+
+abbrev pub choice_at : {A : Type 0} → Choice A → Reason → List Bool → Reading A
+choice_at (pick a) reason bits = Ok (a, bits)
+choice_at none reason bits = Err (Bad (length bits + 1) reason)
+choice_at (fork zeros ones) reason bits = bit_at bits >>= λ next. (if next.0 then choice_at ones reason next.1 else choice_at zeros reason next.1)
+
+abbrev pub lines : Choice Code
+lines = fork (fork (pick Fm0) (pick M2)) (fork (pick M4) (pick M8))
+
+abbrev pub selected : Choice Sel
+selected = fork (fork (pick sels.All00) (pick sels.All01)) (fork (pick sels.NotSl) (pick sels.Sl))
+
+abbrev pub sides : Choice Side
+sides = fork (pick side.A) (pick side.B)
+
+abbrev pub changes : Choice UpDn
+changes = fork (fork (fork (pick Same) none) (fork none (pick Down))) (fork none (fork (pick Up) none))
+
+abbrev pub targets : Choice FlagName
+targets = fork (fork (fork (pick flags.S0) (pick flags.S1)) (fork (pick flags.S2) (pick flags.S3))) (fork (fork (pick flags.Sl) none) none)
+
+abbrev pub masked_banks : Choice MaskBank
+masked_banks = fork (fork none (pick mask_banks.Epc)) (fork (pick mask_banks.Tid) (pick mask_banks.User))
+
+abbrev pub all_banks : Choice Bank
+all_banks = fork (fork (pick banks.Reserved) (pick banks.Epc)) (fork (pick banks.Tid) (pick banks.User))
+
+abbrev pub one_zero : Choice (Unit {0})
+one_zero = fork (pick tt) none
+
+abbrev pub three_zeros : Choice (Unit {0})
+three_zeros = fork (fork (fork (pick tt) none) none) none
+
+-- the kinds whose code begins with 10, 1100, 11000 and 11001
+abbrev pub kinds_10 : Choice Kind
+kinds_10 = fork (fork (pick kinds.Query) (pick kinds.QueryAdjust)) (fork (pick kinds.Select) none)
+
+abbrev pub kinds_11000 : Choice Kind
+kinds_11000 = fork
+    (fork (fork (pick kinds.Nak) (pick kinds.ReqRn)) (fork (pick kinds.Read) (pick kinds.Write)))
+    (fork (fork (pick kinds.Kill) (pick kinds.Lock)) (fork (pick kinds.Access) (pick kinds.BlockWrite)))
+
+abbrev pub kinds_11001 : Choice Kind
+kinds_11001 = fork (fork (fork (pick kinds.BlockErase) none) none) none
+
+abbrev pub kinds_11 : Choice Kind
+kinds_11 = fork (fork (fork kinds_11000 kinds_11001) none) none
+
+abbrev pub all_kinds : Choice Kind
+all_kinds = fork (fork (pick kinds.QueryRep) (pick kinds.Ack)) (fork kinds_10 kinds_11)
+
+-- 1 where the bits differ
+abbrev pub differ : Bool → Bool → Bool
+differ true b = not b
+differ false b = b
+
+-- these bits alone
+abbrev pub exactly_at : List Bool → Reason → List Bool → Reading (Unit {0})
+exactly_at [] reason bits = Ok (tt, bits)
+exactly_at (wanted ∷ others) reason bits = bit_at bits >>= λ next. (if differ wanted next.0 then Err (Bad (length next.1 + 1) reason) else exactly_at others reason next.1)
+
+-- a number of words that is not 0
+unfoldable pub count_at : List Bool → Reading ℕ
+count_at bits = field_at 8 bits >>= λ count. (if count.0 == 0 then Err (Bad (length count.1 + 1) reasons.Count) else Ok count)
+
+-- so many words
+unfoldable pub words_at : ℕ → List Bool → Reading (List ℕ)
+words_at zero bits = Ok ([], bits)
+words_at (suc count) bits = do
+  word ← field_at 16 bits
+  words ← words_at count word.1
+  Ok (word.0 ∷ words.0, words.1)
+
+-- 6.3.2.11 and Annex A: a block of an extensible bit vector says whether another follows, and has a digit
+unfoldable pub block_at : List Bool → Reading Block
+block_at bits = do
+  more ← bit_at bits
+  number ← field_at 7 more.1
+  Ok (record { more = more.0; digit = number.0 }, number.1)
+
+-- the first block: no vector begins with a block that says only that another follows
+unfoldable pub first_block_at : List Bool → Reading Block
+first_block_at bits = block_at bits >>= λ block.
+    (if block.0.more && (block.0.digit == 0) then Err (Bad (length block.1 + 1) reasons.Ebv) else Ok block)
+
+-- the fourth block, which no other follows
+unfoldable pub last_block_at : List Bool → Reading ℕ
+last_block_at bits = do
+  more ← choice_at one_zero reasons.Ebv bits
+  field_at 7 more.1
+
+unfoldable pub ebv_at : List Bool → Reading ℕ
+ebv_at bits = first_block_at bits >>= λ first.
+    (if not first.0.more then Ok (first.0.digit, first.1) else block_at first.1 >>= λ second.
+    (let two = first.0.digit * 128 + second.0.digit in
+    (if not second.0.more then Ok (two, second.1) else block_at second.1 >>= λ third.
+    (let three = two * 128 + third.0.digit in
+    (if not third.0.more then Ok (three, third.1) else last_block_at third.1 >>= λ fourth. Ok (three * 128 + fourth.0, fourth.1))))))
+
+-- the check numbers of the bits of `whole` before `bits`
+abbrev pub before : List Bool → List Bool → List Bool
+before whole bits = take (length whole - length bits) whole
+
+unfoldable pub crc5_at : List Bool → List Bool → Reading (Unit {0})
+crc5_at whole bits = exactly_at (crc5_of (before whole bits)) reasons.Crc5 bits
+
+unfoldable pub crc16_at : List Bool → List Bool → Reading (Unit {0})
+crc16_at whole bits = exactly_at (crc16_of (before whole bits)) reasons.Crc16 bits
+
+-- the fields behind the code, of the command of each kind
+unfoldable pub query_rep_at : List Bool → Reading Command
+query_rep_at bits = do
+  session ← field_at 2 bits
+  Ok (commands.QueryRep session.0, session.1)
+
+unfoldable pub ack_at : List Bool → Reading Command
+ack_at bits = do
+  rn ← field_at 16 bits
+  Ok (commands.Ack rn.0, rn.1)
+
+unfoldable pub query_at : List Bool → List Bool → Reading Command
+query_at whole bits = do
+  dr ← bit_at bits
+  line_code ← choice_at lines reasons.Code dr.1
+  trext ← bit_at line_code.1
+  sel ← choice_at selected reasons.Code trext.1
+  session ← field_at 2 sel.1
+  target ← choice_at sides reasons.Code session.1
+  q ← field_at 4 target.1
+  check ← crc5_at whole q.1
+  Ok (commands.Query dr.0 line_code.0 trext.0 sel.0 session.0 target.0 q.0, check.1)
+
+unfoldable pub query_adjust_at : List Bool → Reading Command
+query_adjust_at bits = do
+  session ← field_at 2 bits
+  updn ← choice_at changes reasons.UpDn session.1
+  Ok (commands.QueryAdjust session.0 updn.0, updn.1)
+
+unfoldable pub select_at : List Bool → List Bool → Reading Command
+select_at whole bits = do
+  target ← choice_at targets reasons.Target bits
+  action ← field_at 3 target.1
+  bank ← choice_at masked_banks reasons.Bank action.1
+  pointer ← ebv_at bank.1
+  count ← field_at 8 pointer.1
+  mask ← bits_at count.0 count.1
+  truncate ← choice_at one_zero reasons.Truncate mask.1
+  check ← crc16_at whole truncate.1
+  Ok (commands.Select target.0 action.0 bank.0 pointer.0 mask.0, check.1)
+
+unfoldable pub req_rn_at : List Bool → List Bool → Reading Command
+req_rn_at whole bits = do
+  rn ← field_at 16 bits
+  check ← crc16_at whole rn.1
+  Ok (commands.ReqRn rn.0, check.1)
+
+unfoldable pub read_at : List Bool → List Bool → Reading Command
+read_at whole bits = do
+  bank ← choice_at all_banks reasons.Code bits
+  pointer ← ebv_at bank.1
+  count ← field_at 8 pointer.1
+  rn ← field_at 16 count.1
+  check ← crc16_at whole rn.1
+  Ok (commands.Read bank.0 pointer.0 count.0 rn.0, check.1)
+
+unfoldable pub write_at : List Bool → List Bool → Reading Command
+write_at whole bits = do
+  bank ← choice_at all_banks reasons.Code bits
+  pointer ← ebv_at bank.1
+  covered ← field_at 16 pointer.1
+  rn ← field_at 16 covered.1
+  check ← crc16_at whole rn.1
+  Ok (commands.Write bank.0 pointer.0 covered.0 rn.0, check.1)
+
+unfoldable pub kill_at : List Bool → List Bool → Reading Command
+kill_at whole bits = do
+  covered ← field_at 16 bits
+  zeros ← choice_at three_zeros reasons.KillBits covered.1
+  rn ← field_at 16 zeros.1
+  check ← crc16_at whole rn.1
+  Ok (commands.Kill covered.0 rn.0, check.1)
+
+unfoldable pub lock_at : List Bool → List Bool → Reading Command
+lock_at whole bits = do
+  payload ← field_at 20 bits
+  rn ← field_at 16 payload.1
+  check ← crc16_at whole rn.1
+  Ok (commands.Lock payload.0 rn.0, check.1)
+
+unfoldable pub access_at : List Bool → List Bool → Reading Command
+access_at whole bits = do
+  covered ← field_at 16 bits
+  rn ← field_at 16 covered.1
+  check ← crc16_at whole rn.1
+  Ok (commands.Access covered.0 rn.0, check.1)
+
+unfoldable pub block_write_at : List Bool → List Bool → Reading Command
+block_write_at whole bits = do
+  bank ← choice_at all_banks reasons.Code bits
+  pointer ← ebv_at bank.1
+  count ← count_at pointer.1
+  words ← words_at count.0 count.1
+  rn ← field_at 16 words.1
+  check ← crc16_at whole rn.1
+  Ok (commands.BlockWrite bank.0 pointer.0 words.0 rn.0, check.1)
+
+unfoldable pub block_erase_at : List Bool → List Bool → Reading Command
+block_erase_at whole bits = do
+  bank ← choice_at all_banks reasons.Code bits
+  pointer ← ebv_at bank.1
+  count ← count_at pointer.1
+  rn ← field_at 16 count.1
+  check ← crc16_at whole rn.1
+  Ok (commands.BlockErase bank.0 pointer.0 count.0 rn.0, check.1)
+
+-- the fields of a kind; `whole` has all bits from the code on
+abbrev pub fields_at : Kind → List Bool → List Bool → Reading Command
+fields_at kinds.QueryRep whole bits = query_rep_at bits
+fields_at kinds.Ack whole bits = ack_at bits
+fields_at kinds.Query whole bits = query_at whole bits
+fields_at kinds.QueryAdjust whole bits = query_adjust_at bits
+fields_at kinds.Select whole bits = select_at whole bits
+fields_at kinds.Nak whole bits = Ok (commands.Nak, bits)
+fields_at kinds.ReqRn whole bits = req_rn_at whole bits
+fields_at kinds.Read whole bits = read_at whole bits
+fields_at kinds.Write whole bits = write_at whole bits
+fields_at kinds.Kill whole bits = kill_at whole bits
+fields_at kinds.Lock whole bits = lock_at whole bits
+fields_at kinds.Access whole bits = access_at whole bits
+fields_at kinds.BlockWrite whole bits = block_write_at whole bits
+fields_at kinds.BlockErase whole bits = block_erase_at whole bits
+
+unfoldable pub command_at : List Bool → Reading Command
+command_at bits = choice_at all_kinds reasons.Code bits >>= λ kind. fields_at kind.0 bits kind.1
+
+-- all of the bits
+unfoldable pub all_of : List Bool → Result Command Stop
+all_of bits = command_at bits >>= λ read. (if length read.1 == 0 then Ok read.0 else Err (Bad (length read.1) reasons.Extra))

@@ -1,0 +1,20 @@
+//! What holds of the spellings of commands.
+ghost use Rattle.std.specs.Prelude.{◌≡◌, ◌≤◌, ◌++◌, ◌⊎◌, ℕ, [], List, Bool, length};
+ghost use Rattle.bit_strings.specs.Family.{IsBadAt, IsShortAt};
+ghost use Rattle.command_grammar.specs.Commands.{Spells, Spellings};
+ghost use Rattle.command_grammar.specs.declared.commands.Command.{Command};
+
+/// Each command has one spelling, of at most 4,162 bits, no two have the same, and none begins
+/// another. Each list of bits is a spelling, or is refused at one place, or only begins a spelling,
+/// and is no two of these.
+pub fn spelling_laws()
+    ensures one { (c d : Command) (bits : List Bool) → Spells c bits → Spells d bits → c ≡ d }
+    ensures same { (c : Command) (xs ys : List Bool) → Spells c xs → Spells c ys → xs ≡ ys }
+    ensures apart { (c d : Command) (bits more : List Bool) → Spells c bits → Spells d (bits ++ more) → more ≡ [] }
+    ensures short { (c : Command) (bits : List Bool) → Spells c bits → length bits ≤ 4162 }
+    ensures some { (bits : List Bool) → Spellings bits ⊎ (IsShortAt Spellings bits (length bits) ⊎ ((place : ℕ) × IsBadAt Spellings bits place)) }
+    ensures not_bad { (bits : List Bool) (place : ℕ) → Spellings bits → IsBadAt Spellings bits place → ⊥ }
+    ensures not_short { (bits : List Bool) (count : ℕ) → Spellings bits → IsShortAt Spellings bits count → ⊥ }
+    ensures not_both { (bits : List Bool) (place count : ℕ) → IsBadAt Spellings bits place → IsShortAt Spellings bits count → ⊥ }
+    ensures place { (bits : List Bool) (p q : ℕ) → IsBadAt Spellings bits p → IsBadAt Spellings bits q → p ≡ q }
+{}

@@ -1,0 +1,23 @@
+//! The commands that an interrogator sends to tags (6.3.2.11 of the EPCglobal Class-1 Generation-2
+//! standard, version 1.2.0).
+#![tactic(auto)]
+
+mod bodies;
+mod choices;
+mod command;
+mod commands;
+mod framer;
+mod laws;
+mod reader;
+mod refusal;
+mod spelling;
+mod words;
+
+pub use bit_strings::{Action, Code, Count1, Payload, Pointer, QValue, Session};
+pub use command::{Bank, FlagName, MaskBank, Sel, Side, UpDn};
+pub use commands::Command;
+pub use framer::Framer;
+pub use laws::spelling_laws;
+pub use refusal::{CommandRefusal, Pushed, Reason};
+pub use spelling::encode_command;
+pub use words::{BlockWords, Mask};

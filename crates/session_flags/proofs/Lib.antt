@@ -1,0 +1,2 @@
+pub mod BankBits
+pub mod MaskLaws

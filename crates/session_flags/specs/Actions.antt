@@ -1,0 +1,47 @@
+-- 6.3.2.11.1.1 Select, the table of the tag's response to Action: one row for each action, from 000 to 111.
+use Rattle.std.specs.Prelude.{ℕ, Bool, true, false, not, List, [], ◌∷◌, if◌then◌else◌, slice_index_or}
+use Rattle.command_grammar.specs.declared.command.Side.{Side}
+use Rattle.command_grammar.specs.declared.command.Side.TheVariants.{A, B}
+use Rattle.session_flags.specs.declared.flags.Effect.{Effect}
+use Rattle.session_flags.specs.declared.flags.Effect.TheVariants.{Keep, Assert, Deassert, Negate}
+
+-- what an action does to its target at a tag that matches the mask, and at one that doesn't
+pub record Row : Type 0 where
+  pub matching : Effect
+  pub not_matching : Effect
+
+abbrev pub row : Effect → Effect → Row
+row matching not_matching = record { matching = matching; not_matching = not_matching }
+
+abbrev pub rows : List Row
+rows =
+    row Assert Deassert ∷
+    row Assert Keep ∷
+    row Keep Deassert ∷
+    row Negate Keep ∷
+    row Deassert Assert ∷
+    row Deassert Keep ∷
+    row Keep Assert ∷
+    row Keep Negate ∷ []
+
+-- no action is 8 or above
+abbrev pub row_of : ℕ → Row
+row_of action = slice_index_or rows action (row Keep Keep)
+
+abbrev pub effect_of : ℕ → Bool → Effect
+effect_of action matching = (if matching then (row_of action).matching else (row_of action).not_matching)
+
+-- what an effect is at an inventoried flag: where SL would be asserted, it becomes A
+abbrev pub side_after : Effect → Side → Side
+side_after Keep side = side
+side_after Assert side = A
+side_after Deassert side = B
+side_after Negate A = B
+side_after Negate B = A
+
+-- ... and at the selected flag
+abbrev pub sl_after : Effect → Bool → Bool
+sl_after Keep sl = sl
+sl_after Assert sl = true
+sl_after Deassert sl = false
+sl_after Negate sl = not sl

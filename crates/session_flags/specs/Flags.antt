@@ -1,0 +1,75 @@
+-- 6.3.2.2 Sessions and inventoried flags, 6.3.2.3 Selected flag: what changes a tag's flags, and which tags a
+-- Query speaks to. A session is its number; no session is 4 or above, and there nothing changes.
+use Rattle.std.specs.Prelude.{ℕ, Bool, true, false, not, ◌==◌, ◌&&◌, if◌then◌else◌}
+use Rattle.command_grammar.specs.declared.command.Side.{Side}
+use Rattle.command_grammar.specs.declared.command.Side.TheVariants.{A, B}
+use Rattle.command_grammar.specs.declared.command.Sel.{Sel}
+use Rattle.command_grammar.specs.declared.command.Sel.TheVariants.{All00, All01, NotSl, Sl as OnlySl}
+use Rattle.command_grammar.specs.declared.command.FlagName.{FlagName}
+use Rattle.command_grammar.specs.declared.command.FlagName.TheVariants.{S0, S1, S2, S3, Sl}
+use Rattle.session_flags.specs.declared.flags.Flags.{Flags}
+use Rattle.session_flags.specs.declared.flags.Effect.{Effect}
+use Rattle.session_flags.specs.declared.flags.Effect.TheVariants.{Negate}
+use Rattle.session_flags.specs.Actions.{effect_of, side_after, sl_after}
+
+-- the flags of a new tag
+abbrev pub new_flags : Flags
+new_flags = record { s0 = A; s1 = A; s2 = A; s3 = A; sl = false }
+
+-- the inventoried flag of a session
+abbrev pub side_of : Flags → ℕ → Side
+side_of flags session =
+    (if session == 0 then flags.s0 else (if session == 1 then flags.s1 else (if session == 2 then flags.s2 else flags.s3)))
+
+-- one flag changed by an effect, and all others as they were
+abbrev pub changed : Flags → FlagName → Effect → Flags
+changed flags S0 effect = record flags { s0 = side_after effect flags.s0 }
+changed flags S1 effect = record flags { s1 = side_after effect flags.s1 }
+changed flags S2 effect = record flags { s2 = side_after effect flags.s2 }
+changed flags S3 effect = record flags { s3 = side_after effect flags.s3 }
+changed flags Sl effect = record flags { sl = sl_after effect flags.sl }
+
+-- after a Select
+abbrev pub selected : Flags → FlagName → ℕ → Bool → Flags
+selected flags target action matching = changed flags target (effect_of action matching)
+
+-- the inventoried flag of a session changed from A to B or from B to A
+abbrev pub inverted : Flags → ℕ → Flags
+inverted flags session =
+    (if session == 0 then changed flags S0 Negate
+    else (if session == 1 then changed flags S1 Negate
+    else (if session == 2 then changed flags S2 Negate
+    else (if session == 3 then changed flags S3 Negate else flags))))
+
+-- 6.3.2.11.2.1 Query: the tags that Sel and Target name
+abbrev pub sel_allows : Sel → Bool → Bool
+sel_allows All00 sl = true
+sel_allows All01 sl = true
+sel_allows NotSl sl = not sl
+sel_allows OnlySl sl = sl
+
+abbrev pub is_side : Side → Side → Bool
+is_side A A = true
+is_side A B = false
+is_side B A = false
+is_side B B = true
+
+abbrev pub matches : Sel → ℕ → Side → Flags → Bool
+matches sel session target flags = sel_allows sel flags.sl && is_side target (side_of flags session)
+
+-- the inventoried flag of S0 is kept by power alone (6.3.2.2, the table of persistence)
+abbrev pub without_power : Flags → Flags
+without_power flags = record flags { s0 = A }
+
+-- the end of a flag's persistence (6.3.2.2, the table of persistence). That of S1 has no effect on a tag that takes
+-- part in a round (profile); S2, S3 and SL are kept by power; S0 has no such end.
+abbrev pub expired : Flags → FlagName → Bool → Bool → Flags
+expired flags S0 powered takes_part = flags
+expired flags S1 powered true = flags
+expired flags S1 powered false = record flags { s1 = A }
+expired flags S2 true takes_part = flags
+expired flags S2 false takes_part = record flags { s2 = A }
+expired flags S3 true takes_part = flags
+expired flags S3 false takes_part = record flags { s3 = A }
+expired flags Sl true takes_part = flags
+expired flags Sl false takes_part = record flags { sl = false }

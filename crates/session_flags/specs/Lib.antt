@@ -1,0 +1,4 @@
+pub mod Actions
+pub mod Flags
+pub mod FlagLaws
+pub mod MaskMatch

@@ -1,0 +1,12 @@
+//! The flags of a tag, how a Select changes them, and how its mask is compared with a bank
+//! (6.3.2.2, 6.3.2.3 and 6.3.2.11.1.1 of the EPCglobal Class-1 Generation-2 standard, version 1.2.0).
+#![tactic(auto)]
+
+mod flags;
+mod mask;
+
+pub use flags::Flags;
+pub use mask::mask_matches;
+
+#[cfg(test)]
+mod tests;
