@@ -1,0 +1,5 @@
+pub mod CheckedLines
+pub mod AnsweredLines
+pub mod OneReading
+pub mod Ends
+pub mod RightAnswers

@@ -1,0 +1,21 @@
+-- What a decoder answered is the answer to the request whose list it was given.
+use Rattle.std.proofs.Common.{◌≡◌, Bool, List, Result, Ok, Err, subst, sym}
+use Rattle.std.specs.Prelude.{IfOk, IfErr}
+use Rattle.bit_strings.specs.declared.code.Code.{Code}
+use Rattle.line_codes.specs.Codes.{table_of}
+use Rattle.reply_grammar.specs.Table.{Answers as AnswersExpected}
+use Rattle.reply_grammar.specs.Faults.{Faults}
+use Rattle.reply_grammar.specs.declared.expected.Expect.{Expect}
+use Rattle.reply_grammar.specs.declared.expected.Reply.{Reply}
+use Rattle.reply_grammar.specs.declared.expected.ReplyRefusal.{ReplyRefusal}
+use Rattle.reply_grammar.specs.declared.expected.Received.{Received}
+use Rattle.air_channel.specs.Received.{IsReceived}
+use Rattle.gen2run.specs.Answer.{IsAnswer, replied, heard}
+use Rattle.gen2run.specs.declared.decode.request.Request.TheVariants.{Reply as ReplyLine, Heard as HeardLine}
+
+pub replied_right : (expect : Expect) (bits items : List Bool) (outcome : Result Reply ReplyRefusal) → items ≡ bits → IfOk outcome (λ reply. AnswersExpected reply expect items) → IfErr outcome (λ refusal. Faults refusal expect items) → IsAnswer (ReplyLine expect bits) (replied outcome)
+replied_right expect bits items (Ok reply) same ok refused = subst (AnswersExpected reply expect) same ok
+replied_right expect bits items (Err refusal) same ok refused = subst (Faults refusal expect) same refused
+
+pub heard_right : (code : Code) (trext : Bool) (expect : Expect) (levels items : List Bool) (received : Received) → items ≡ levels → IsReceived (table_of code) trext expect items received → IsAnswer (HeardLine code trext expect levels) (heard received)
+heard_right code trext expect levels items received same found = subst (λ l. IsReceived (table_of code) trext expect l received) same found

@@ -1,0 +1,86 @@
+-- Profile: the decode lines. A line is a list of fields; the first says what is asked for.
+use Rattle.std.specs.Prelude.{◌≡◌, ◌≢◌, ℕ, ◌≤◌, Bool, List, [], ◌∷◌, length, map, codes, Ok}
+use Rattle.std.specs.List.{All}
+use Rattle.std.specs.Fmt.{decimal}
+use Rattle.hex.specs.Hex.{decode_of}
+use Rattle.text_fields.specs.Lines.{fields_of}
+use Rattle.text_fields.specs.Binary.{binary, binary_digit}
+use Rattle.line_codes.specs.Names.{code_word}
+use Rattle.reply_text.specs.ReplyText.{expect_word, IsExpect}
+use Rattle.gen2run.specs.declared.decode.request.Kind.{Kind}
+use Rattle.gen2run.specs.declared.decode.request.Kind.TheVariants.{Stream as StreamKind, Samples as SamplesKind, Reply as ReplyKind, Heard as HeardKind}
+use Rattle.gen2run.specs.declared.decode.request.Request.{Request}
+use Rattle.gen2run.specs.declared.decode.request.Request.TheVariants.{Stream, Samples, Reply, Heard}
+use Rattle.gen2run.specs.declared.decode.request.Reason.{Reason}
+use Rattle.gen2run.specs.declared.decode.request.Reason.TheVariants.{End, Word, Shape, Number}
+
+-- the first field of a line
+abbrev pub kind_word : Kind → List ℕ
+kind_word (StreamKind code) = code_word code
+kind_word SamplesKind = codes "samples"
+kind_word ReplyKind = codes "reply"
+kind_word HeardKind = codes "heard"
+
+-- how many fields may stand behind the first
+abbrev pub MayHave : Kind → ℕ → Type 0
+MayHave (StreamKind code) count = count ≡ 2
+MayHave SamplesKind count = count ≡ 3
+MayHave ReplyKind count = count ≡ 2
+MayHave HeardKind count = count ≡ 4
+
+-- the fields behind the first: their number is right, and none is empty
+abbrev pub HasShape : Kind → List (List ℕ) → Type 0
+HasShape kind others = MayHave kind (length others) × All (λ field. field ≢ []) others
+
+-- what the first field of a request's line says
+abbrev pub request_kind : Request → Kind
+request_kind (Stream code trext levels) = StreamKind code
+request_kind (Samples threshold per_level samples) = SamplesKind
+request_kind (Reply expect bits) = ReplyKind
+request_kind (Heard code trext expect levels) = HeardKind
+
+-- The fields behind the first spell the request. Sample bytes are hexadecimal digits of either case; all else has one
+-- spelling.
+abbrev pub AreSpelled : Request → List (List ℕ) → Type 0
+AreSpelled (Stream code trext levels) others = others ≡ (binary_digit trext ∷ []) ∷ binary levels ∷ []
+AreSpelled (Samples threshold per_level samples) others =
+    (digits : List ℕ) × (others ≡ decimal threshold ∷ decimal per_level ∷ digits ∷ []) × (decode_of digits ≡ Ok samples)
+AreSpelled (Reply expect bits) others = others ≡ expect_word expect ∷ binary bits ∷ []
+AreSpelled (Heard code trext expect levels) others = others ≡ code_word code ∷ (binary_digit trext ∷ []) ∷ expect_word expect ∷ binary levels ∷ []
+
+-- the limits on the numbers and lists of a line
+abbrev pub IsWithinLimits : Request → Type 0
+IsWithinLimits (Stream code trext levels) = length levels ≤ 132000
+IsWithinLimits (Samples threshold per_level samples) =
+    (threshold ≤ 255) × (1 ≤ per_level) × (per_level ≤ 64) × (1 ≤ length samples) × (length samples ≤ 132000)
+IsWithinLimits (Reply expect bits) = IsExpect expect × (length bits ≤ 8240)
+IsWithinLimits (Heard code trext expect levels) = IsExpect expect × (length levels ≤ 132000)
+
+-- behind a first field of this kind, these fields ask for this
+pub record AsksBehind (kind : Kind) (others : List (List ℕ)) (request : Request) : Type 0 where
+  pub same_kind : kind ≡ request_kind request
+  pub spelling : AreSpelled request others
+  pub limits : IsWithinLimits request
+
+-- the line asks for this
+pub record Spells (line : List ℕ) (request : Request) : Type 0 where
+  pub kind : Kind
+  pub others : List (List ℕ)
+  pub fields : fields_of line ≡ kind_word kind ∷ others
+  pub asks : AsksBehind kind others request
+
+-- the first reason for which the fields behind the first ask for nothing
+abbrev pub AreFaulty : Kind → List (List ℕ) → Reason → Type 0
+-- their number is wrong, or one is empty
+AreFaulty kind others Shape = ¬ HasShape kind others
+-- they are there, and one of them isn't of its form, range or length: they ask for nothing
+AreFaulty kind others Number = HasShape kind others × ((request : Request) → ¬ AsksBehind kind others request)
+AreFaulty kind others End = ⊥
+AreFaulty kind others Word = ⊥
+
+-- the first reason for which the fields of a line that has its line feed ask for nothing
+abbrev pub IsFaulty : List (List ℕ) → Reason → Type 0
+-- the first field is none that a line may begin with
+IsFaulty fields Word = (kind : Kind) (others : List (List ℕ)) → fields ≢ kind_word kind ∷ others
+IsFaulty fields reason =
+    (kind : Kind) × (others : List (List ℕ)) × (fields ≡ kind_word kind ∷ others) × AreFaulty kind others reason

@@ -1,0 +1,5 @@
+//! The word `decode`: captures and bit strings, explained line by line.
+
+pub mod answer;
+pub mod lines;
+pub mod request;

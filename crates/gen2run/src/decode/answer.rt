@@ -1,0 +1,203 @@
+//! The answer to a decode line.
+ghost use Rattle.std.specs.Prelude.{◌≡◌, ◌≤◌, ◌++◌, length, OnOk};
+ghost use Rattle.std.specs.String.{string_bytes};
+ghost use Rattle.gen2run.specs.Answer.{AddsAnswer, answer_line, outcome_answer, slicing_answer, replied, heard};
+ghost use Rattle.gen2run.specs.Request.{IsWithinLimits};
+
+use crate::decode::request::{MOST_LEVELS, Request};
+use air_channel::receive;
+use bit_strings::{Bits, Code, Levels, OutOfMemory};
+use line_codes::{LineRefusal, decode_levels};
+use reply_grammar::{Expect, Received, Reply, ReplyRefusal, decode_reply};
+use reply_text::{push_refusal, push_reply};
+use sample_slicer::{SliceRefusal, slice_levels};
+use std::alloc::Global;
+use text_fields::{Digits, HexBytes, push_bits, push_number};
+
+/// Room for the longest line, taken once for all lines.
+#[derive(Drop)]
+pub struct Workspace {
+    alloc: Global,
+    levels: Levels,
+    bits: Bits,
+    ghost levels_room: { levels.capacity ≡ 132000 },
+    ghost bits_room: { bits.capacity ≡ 132000 },
+}
+
+impl Workspace {
+    /// Takes the memory that the answers to all lines need.
+    pub fn new(alloc: Global) -> Result<Workspace, OutOfMemory> {
+        let levels = Levels::new(alloc, MOST_LEVELS)?;
+        let bits = Bits::new(alloc, MOST_LEVELS)?;
+        Ok(Workspace {
+            alloc,
+            levels,
+            bits,
+        })
+    }
+
+    /// Adds the answer to a request at the end of the text, as a line.
+    pub fn answer(&mut self, request: &Request, text: &mut String) -> Result<(), OutOfMemory>
+        requires { IsWithinLimits request.now }
+        ensures { OnOk result (AddsAnswer request.now (string_bytes text.old) (string_bytes text.new)) }
+    {
+        match request {
+            Request::Stream {
+                code,
+                trext,
+                levels,
+            } => self.answer_stream(*code, *trext, levels, text),
+            Request::Samples {
+                threshold,
+                per_level,
+                samples,
+            } => self.answer_samples(*threshold, *per_level, samples, text),
+            Request::Reply { expect, bits } => self.answer_reply(expect, bits, text),
+            Request::Heard {
+                code,
+                trext,
+                expect,
+                levels,
+            } => self.answer_heard(*code, *trext, expect, levels, text),
+        }
+    }
+
+    /// Adds the bits of a stream of levels, or the place at which it is none.
+    fn answer_stream(
+        &mut self,
+        code: Code,
+        trext: bool,
+        levels: &Digits,
+        text: &mut String,
+    ) -> Result<(), OutOfMemory>
+        requires { length levels.now ≤ MOST_LEVELS }
+        ensures { OnOk result (AddsAnswer (Request.Stream code trext levels.now) (string_bytes text.old) (string_bytes text.new)) }
+    {
+        levels.copy_to(&mut self.levels);
+        let outcome = decode_levels(code, trext, &self.levels, &mut self.bits);
+        push_outcome(text, outcome, &self.bits)
+    }
+
+    /// Adds the levels of samples, or the place at which they are none.
+    fn answer_samples(
+        &mut self,
+        threshold: u8,
+        per_level: u32,
+        samples: &HexBytes,
+        text: &mut String,
+    ) -> Result<(), OutOfMemory>
+        requires { IsWithinLimits (Request.Samples threshold per_level samples.now) }
+        ensures { OnOk result (AddsAnswer (Request.Samples threshold per_level samples.now) (string_bytes text.old) (string_bytes text.new)) }
+    {
+        let samples = samples.decode(self.alloc)?;
+        let outcome = slice_levels(&samples, threshold, per_level, &mut self.levels);
+        push_slicing(text, outcome, &self.levels)
+    }
+
+    /// Adds the reply that bits are, or why they are none that is expected.
+    fn answer_reply(
+        &mut self,
+        expect: &Expect,
+        bits: &Digits,
+        text: &mut String,
+    ) -> Result<(), OutOfMemory>
+        requires { IsWithinLimits (Request.Reply expect.now bits.now) }
+        ensures { OnOk result (AddsAnswer (Request.Reply expect.now bits.now) (string_bytes text.old) (string_bytes text.new)) }
+    {
+        bits.copy_to(&mut self.bits);
+        let outcome = decode_reply(&self.bits, expect);
+        push_replied(text, &outcome)
+    }
+
+    /// Adds the reply that is heard in levels, or the place at which none can be.
+    fn answer_heard(
+        &mut self,
+        code: Code,
+        trext: bool,
+        expect: &Expect,
+        levels: &Digits,
+        text: &mut String,
+    ) -> Result<(), OutOfMemory>
+        requires { IsWithinLimits (Request.Heard code trext expect.now levels.now) }
+        ensures { OnOk result (AddsAnswer (Request.Heard code trext expect.now levels.now) (string_bytes text.old) (string_bytes text.new)) }
+    {
+        levels.copy_to(&mut self.levels);
+        let received = receive(&self.levels, code, trext, expect, &mut self.bits);
+        push_received(text, &received)
+    }
+}
+
+/// Adds what a line decoder answered, as a line.
+fn push_outcome(
+    text: &mut String,
+    outcome: Result<(), LineRefusal>,
+    bits: &Bits,
+) -> Result<(), OutOfMemory>
+    ensures { OnOk result (string_bytes text.new ≡ string_bytes text.old ++ answer_line (outcome_answer outcome bits.now.items)) }
+{
+    match outcome {
+        Ok(()) => {
+            text.push_str("bits ")?;
+            push_bits(text, bits)?;
+        }
+        Err(LineRefusal::Invalid(place)) => {
+            text.push_str("invalid ")?;
+            push_number(text, place)?;
+        }
+        Err(LineRefusal::Unfinished(count)) => {
+            text.push_str("unfinished ")?;
+            push_number(text, count)?;
+        }
+    }
+    text.push_str("\n")
+}
+
+/// Adds what the slicer answered, as a line.
+fn push_slicing(
+    text: &mut String,
+    outcome: Result<(), SliceRefusal>,
+    levels: &Levels,
+) -> Result<(), OutOfMemory>
+    ensures { OnOk result (string_bytes text.new ≡ string_bytes text.old ++ answer_line (slicing_answer outcome levels.now.items)) }
+{
+    match outcome {
+        Ok(()) => {
+            text.push_str("levels ")?;
+            push_bits(text, levels)?;
+        }
+        Err(SliceRefusal::Mixed(place)) => {
+            text.push_str("mixed ")?;
+            push_number(text, place)?;
+        }
+        Err(SliceRefusal::Rest(place)) => {
+            text.push_str("rest ")?;
+            push_number(text, place)?;
+        }
+    }
+    text.push_str("\n")
+}
+
+/// Adds what the reply grammar answered, as a line.
+fn push_replied(text: &mut String, outcome: &Result<Reply, ReplyRefusal>) -> Result<(), OutOfMemory>
+    ensures { OnOk result (string_bytes text.new ≡ string_bytes text.old ++ answer_line (replied outcome.now)) }
+{
+    match outcome {
+        Ok(reply) => push_reply(text, reply)?,
+        Err(refusal) => push_refusal(text, *refusal)?,
+    }
+    text.push_str("\n")
+}
+
+/// Adds what was received, as a line.
+fn push_received(text: &mut String, received: &Received) -> Result<(), OutOfMemory>
+    ensures { OnOk result (string_bytes text.new ≡ string_bytes text.old ++ answer_line (heard received.now)) }
+{
+    match received {
+        Received::Whole(reply) => push_reply(text, reply)?,
+        Received::Refused(place) => {
+            text.push_str("refused ")?;
+            push_number(text, *place)?;
+        }
+    }
+    text.push_str("\n")
+}

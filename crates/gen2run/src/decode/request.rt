@@ -1,0 +1,214 @@
+//! A decode line, read.
+ghost use Rattle.std.specs.Prelude.{◌≡◌, ◌≢◌, ℕ, List, ◌∷◌, IfOk, IfErr, IfSome, Some, Ok};
+ghost use Rattle.text_fields.specs.Lines.{fields_of};
+ghost use Rattle.gen2run.specs.Request.{kind_word, Spells, AsksBehind, AreFaulty, IsFaulty};
+
+use bit_strings::Code;
+use line_codes::code_named;
+use reply_grammar::Expect;
+use reply_text::expect_of;
+use text_fields::{Digits, Fields, HexBytes, flag, four_fields, number, three_fields, two_fields};
+
+/// The greatest number of levels in a line.
+pub const MOST_LEVELS: u32 = 132_000;
+
+/// The greatest number of samples in a line.
+pub const MOST_SAMPLES: u32 = 132_000;
+
+/// The greatest number of samples to a level.
+const MOST_PER_LEVEL: u32 = 64;
+
+/// The greatest number of bits in a line.
+pub const MOST_BITS: u32 = 8_240;
+
+/// What a line is, by its first field.
+#[derive(Clone, Copy, Debug, PartialEq, Eq)]
+pub enum Kind {
+    /// Levels of a tag's reply in this code.
+    Stream(Code),
+    /// Samples of a captured wave.
+    Samples,
+    /// Bits of a tag's reply.
+    Reply,
+    /// Levels in which a tag's reply is expected.
+    Heard,
+}
+
+/// What a line asks for.
+#[derive(Drop)]
+pub enum Request<'a> {
+    /// The bits of a stream of levels: `CODE TREXT LEVELS`.
+    Stream {
+        code: Code,
+        trext: bool,
+        levels: Digits<'a>,
+    },
+    /// The levels of samples: `samples THRESHOLD PER HEX`.
+    Samples {
+        threshold: u8,
+        per_level: u32,
+        samples: HexBytes<'a>,
+    },
+    /// The reply that bits are: `reply EXPECT BITS`.
+    Reply {
+        expect: Expect,
+        bits: Digits<'a>,
+    },
+    /// The reply that is heard in levels: `heard CODE TREXT EXPECT LEVELS`.
+    Heard {
+        code: Code,
+        trext: bool,
+        expect: Expect,
+        levels: Digits<'a>,
+    },
+}
+
+/// Why a line is refused, in the order in which the reasons are looked for.
+#[derive(Clone, Copy, Debug, PartialEq, Eq)]
+pub enum Reason {
+    /// The line has no line feed.
+    End,
+    /// The first field is none that a line may begin with.
+    Word,
+    /// The number of fields is wrong, or a field is empty.
+    Shape,
+    /// A field isn't of its form, range or length.
+    Number,
+}
+
+/// The first faulty line of an input.
+#[derive(Clone, Copy, Debug, PartialEq, Eq)]
+pub struct Fault {
+    /// Its number, counted from 1.
+    pub line: u32,
+    /// The first reason that applies to it.
+    pub reason: Reason,
+}
+
+/// What a first field says; none where no line begins with it.
+fn kind_of(word: &[u8]) -> Option<Kind>
+    ensures found { IfSome result (λ kind. word.now ≡ kind_word kind) }
+    ensures only { (kind : Kind) → word.now ≡ kind_word kind → result ≡ Some kind }
+{
+    match word {
+        b"samples" => Some(Kind::Samples),
+        b"reply" => Some(Kind::Reply),
+        b"heard" => Some(Kind::Heard),
+        _ => match code_named(word) {
+            Some(code) => Some(Kind::Stream(code)),
+            None => None,
+        },
+    }
+}
+
+/// What a line asks for, or the first reason for which it asks for nothing. The line is given without
+/// its line feed.
+pub fn request_of(line: &[u8]) -> Result<Request<'_>, Reason>
+    ensures ok { IfOk result (Spells line.now) }
+    ensures refused { IfErr result (IsFaulty (fields_of line.now)) }
+{
+    let mut fields = Fields::new(line);
+    let Some(word) = fields.next() else {
+        return Err(Reason::Word);
+    };
+    match kind_of(word) {
+        Some(Kind::Stream(code)) => stream_of(code, fields),
+        Some(Kind::Samples) => samples_of(fields),
+        Some(Kind::Reply) => reply_of(fields),
+        Some(Kind::Heard) => heard_of(fields),
+        None => Err(Reason::Word),
+    }
+}
+
+/// The request of a line that begins with a code's name, by its other fields.
+fn stream_of<'a>(code: Code, others: Fields<'a>) -> Result<Request<'a>, Reason>
+    ensures ok { IfOk result (AsksBehind (Kind.Stream code) others.entry) }
+    ensures refused { IfErr result (AreFaulty (Kind.Stream code) others.entry) }
+{
+    let Some((trext, levels)) = two_fields(others) else {
+        return Err(Reason::Shape);
+    };
+    let Some(trext) = flag(trext) else {
+        return Err(Reason::Number);
+    };
+    let Some(levels) = Digits::new(levels, MOST_LEVELS) else {
+        return Err(Reason::Number);
+    };
+    Ok(Request::Stream {
+        code,
+        trext,
+        levels,
+    })
+}
+
+/// The request of a line that begins with `samples`, by its other fields.
+fn samples_of<'a>(others: Fields<'a>) -> Result<Request<'a>, Reason>
+    ensures ok { IfOk result (AsksBehind Kind.Samples others.entry) }
+    ensures refused { IfErr result (AreFaulty Kind.Samples others.entry) }
+{
+    let Some((threshold, per_level, samples)) = three_fields(others) else {
+        return Err(Reason::Shape);
+    };
+    let Some(threshold) = number(threshold, 255) else {
+        return Err(Reason::Number);
+    };
+    let Some(per_level) = number(per_level, MOST_PER_LEVEL) else {
+        return Err(Reason::Number);
+    };
+    if per_level == 0 {
+        return Err(Reason::Number);
+    }
+    let Some(samples) = HexBytes::new(samples, MOST_SAMPLES) else {
+        return Err(Reason::Number);
+    };
+    Ok(Request::Samples {
+        threshold: threshold as u8,
+        per_level,
+        samples,
+    })
+}
+
+/// The request of a line that begins with `reply`, by its other fields.
+fn reply_of<'a>(others: Fields<'a>) -> Result<Request<'a>, Reason>
+    ensures ok { IfOk result (AsksBehind Kind.Reply others.entry) }
+    ensures refused { IfErr result (AreFaulty Kind.Reply others.entry) }
+{
+    let Some((expect, bits)) = two_fields(others) else {
+        return Err(Reason::Shape);
+    };
+    let Some(expect) = expect_of(expect) else {
+        return Err(Reason::Number);
+    };
+    let Some(bits) = Digits::new(bits, MOST_BITS) else {
+        return Err(Reason::Number);
+    };
+    Ok(Request::Reply { expect, bits })
+}
+
+/// The request of a line that begins with `heard`, by its other fields.
+fn heard_of<'a>(others: Fields<'a>) -> Result<Request<'a>, Reason>
+    ensures ok { IfOk result (AsksBehind Kind.Heard others.entry) }
+    ensures refused { IfErr result (AreFaulty Kind.Heard others.entry) }
+{
+    let Some((code, trext, expect, levels)) = four_fields(others) else {
+        return Err(Reason::Shape);
+    };
+    let Some(code) = code_named(code) else {
+        return Err(Reason::Number);
+    };
+    let Some(trext) = flag(trext) else {
+        return Err(Reason::Number);
+    };
+    let Some(expect) = expect_of(expect) else {
+        return Err(Reason::Number);
+    };
+    let Some(levels) = Digits::new(levels, MOST_LEVELS) else {
+        return Err(Reason::Number);
+    };
+    Ok(Request::Heard {
+        code,
+        trext,
+        expect,
+        levels,
+    })
+}

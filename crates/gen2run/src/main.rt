@@ -1,0 +1,41 @@
+//! The program of Siulanke: what its words ask for, on standard input and output.
+#![tactic(auto)]
+
+mod decode;
+mod program;
+mod status;
+#[cfg(test)]
+mod tests;
+mod words;
+
+use air_io::{StdSink, StdSource};
+pub use program::gen2run;
+pub use status::Status;
+use std::env;
+use std::io::{self, ErrorKind};
+use std::process::ExitCode;
+
+/// The exit status where memory for the words is refused, as for want of memory later on.
+const OUT_OF_MEMORY: u8 = Status::OutOfMemory as u8;
+
+/// The exit status where the words can't be had for another cause, as where one isn't UTF-8.
+const UNREADABLE_WORDS: u8 = 8;
+
+fn main(rt: HostRuntime) -> ExitCode {
+    let words = match program_words(&rt) {
+        Ok(words) => words,
+        Err(error) if error.kind() == ErrorKind::OutOfMemory => return ExitCode::from(
+            OUT_OF_MEMORY,
+        ),
+        Err(_) => return ExitCode::from(UNREADABLE_WORDS),
+    };
+    let mut input = StdSource::new(rt.stdin());
+    let mut output = StdSink::new(rt.stdout());
+    let status = gen2run(rt.alloc(), &words, &mut input, &mut output);
+    ExitCode::from(status as u8)
+}
+
+/// The words after the program's own name.
+fn program_words(rt: &HostRuntime) -> io::Result<Vec<String>> {
+    Ok(env::args(rt)?.skip(1).collect(rt.alloc())?)
+}

@@ -1,0 +1,28 @@
+//! What the words of the command line ask for.
+ghost use Rattle.std.specs.Prelude.{◌≡◌, ◌↔◌, IsTrue, IfSome, Some};
+ghost use Rattle.gen2run.specs.Form.{texts, words_of};
+
+/// What the program is asked to do, by its words.
+#[derive(Clone, Copy, Debug, PartialEq, Eq)]
+pub enum Form {
+    /// The word `decode`: explain the captures of the input, line by line.
+    Decode,
+}
+
+/// Whether a word is the name.
+fn is_word(word: &str, name: &str) -> bool
+    ensures { IsTrue result ↔ (word.now ≡ name.now) }
+{
+    word == name
+}
+
+/// The form of the words. None comes exactly where they are the spelling of no form.
+pub fn form_of(words: &[String]) -> Option<Form>
+    ensures found { IfSome result (λ form. texts words.now ≡ words_of form) }
+    ensures only { (form : Form) → texts words.now ≡ words_of form → result ≡ Some form }
+{
+    match words {
+        [word] if is_word(word.as_str(), "decode") => Some(Form::Decode),
+        _ => None,
+    }
+}
