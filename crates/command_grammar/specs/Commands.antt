@@ -33,7 +33,7 @@ pub record Part : Type 0 where
   pub name : Option Reason
   pub bits : List Bool
 
--- the bits that a text of the digits 0 and 1 names
+-- the bits that the characters 0 and 1 name
 abbrev pub binary : List ℕ → List Bool
 binary digits = map (λ digit. digit == 49) digits
 
@@ -45,9 +45,11 @@ plain bits = record { name = None; bits = bits } ∷ []
 abbrev pub named : Reason → List Bool → List Part
 named reason bits = record { name = Some reason; bits = bits } ∷ []
 
+-- the bits of all fields, one behind the other
 abbrev pub bits_of : List Part → List Bool
 bits_of parts = flat_map (λ part. part.bits) parts
 
+-- a field of one bit
 abbrev pub digit : Bool → List Bool
 digit bit = bit ∷ []
 
@@ -108,11 +110,12 @@ with_crc5 parts = parts ++ named reasons.Crc5 (crc5_of (bits_of parts))
 abbrev pub with_crc16 : List Part → List Part
 with_crc16 parts = parts ++ named reasons.Crc16 (crc16_of (bits_of parts))
 
--- 6.3.2.11 Table 6.18 and the table of each command: its fields in order. Profile: Truncate is 0, and the three bits
--- of a Kill behind the half are 000.
+-- 6.3.2.11 Table 6.18: the code of a command, written as its digits
 abbrev pub code : List ℕ → List Part
 code digits = named reasons.Code (binary digits)
 
+-- 6.3.2.11 Table 6.18 and the table of each command: its fields in order. Profile: Truncate is 0, and the three bits
+-- of a Kill behind the half are 000.
 abbrev pub parts_of : Command → List Part
 parts_of (QueryRep session) = code (codes "00") ++ plain (field_of session 2)
 parts_of (Ack rn) = code (codes "01") ++ plain (field_of rn 16)

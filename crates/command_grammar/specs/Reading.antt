@@ -60,6 +60,7 @@ pub data Choice (A : Type 0) : Type 0 where
   none : Choice A
   fork : Choice A → Choice A → Choice A
 
+-- In a field where all bits are some value's the reason is never given.
 abbrev pub choice_at : {A : Type 0} → Choice A → Reason → List Bool → Reading A
 choice_at (pick a) reason bits = Ok (a, bits)
 choice_at none reason bits = Err (Bad (length bits + 1) reason)
@@ -132,7 +133,7 @@ words_at (suc count) bits = do
   words ← words_at count word.1
   Ok (word.0 ∷ words.0, words.1)
 
--- 6.3.2.11 and Annex A: a block of an extensible bit vector says whether another follows, and has a digit
+-- Annex A: a block of an extensible bit vector says whether another follows, and has a digit
 unfoldable pub block_at : List Bool → Reading Block
 block_at bits = do
   more ← bit_at bits

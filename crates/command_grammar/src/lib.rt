@@ -21,3 +21,6 @@ pub use laws::spelling_laws;
 pub use refusal::{CommandRefusal, Pushed, Reason};
 pub use spelling::encode_command;
 pub use words::{BlockWords, Mask};
+
+#[cfg(test)]
+mod tests;

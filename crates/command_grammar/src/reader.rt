@@ -53,6 +53,7 @@ fn number_of(bits: &[bool]) -> u32
     value
 }
 
+/// The next bit, and the bits behind it.
 pub(crate) fn bit(bits: &[bool]) -> Result<(bool, &[bool]), Stop>
     ensures { Gives (λ x. (x.0, x.1.now)) result (bit_at bits.now) }
 {
@@ -62,6 +63,7 @@ pub(crate) fn bit(bits: &[bool]) -> Result<(bool, &[bool]), Stop>
     }
 }
 
+/// The next `width` bits, and the bits behind them.
 pub(crate) fn some_bits(bits: &[bool], width: usize) -> Result<(&[bool], &[bool]), Stop>
     ensures bits { Gives (λ x. (x.0.now, x.1.now)) result (bits_at width bits.now) }
     ensures width { IfOk result (λ x. length x.0.now ≡ width) }
@@ -72,6 +74,7 @@ pub(crate) fn some_bits(bits: &[bool], width: usize) -> Result<(&[bool], &[bool]
     Ok(bits.split_at(width))
 }
 
+/// The number that the next `width` bits are, and the bits behind them.
 pub(crate) fn field(bits: &[bool], width: usize) -> Result<(u32, &[bool]), Stop>
     requires { width ≤ 31 }
     ensures number { Gives (λ x. (x.0, x.1.now)) result (field_at width bits.now) }
@@ -84,6 +87,7 @@ pub(crate) fn field(bits: &[bool], width: usize) -> Result<(u32, &[bool]), Stop>
     Ok((number_of(front), rest))
 }
 
+/// A word of 16 bits.
 pub(crate) fn word(bits: &[bool]) -> Result<(u16, &[bool]), Stop>
     ensures { Gives (λ x. (x.0, x.1.now)) result (field_at 16 bits.now) }
 {
@@ -91,6 +95,7 @@ pub(crate) fn word(bits: &[bool]) -> Result<(u16, &[bool]), Stop>
     Ok((number as u16, rest))
 }
 
+/// A number of eight bits.
 pub(crate) fn byte(bits: &[bool]) -> Result<(u8, &[bool]), Stop>
     ensures { Gives (λ x. (x.0, x.1.now)) result (field_at 8 bits.now) }
 {
@@ -159,6 +164,7 @@ pub(crate) fn count(bits: &[bool]) -> Result<(u8, &[bool]), Stop>
     Ok((count, rest))
 }
 
+/// A block, whether another follows it or not.
 #[tactic(auto, unfolding(crate::specs::Reading::block_at))]
 fn any_block(bits: &[bool]) -> Result<(Block, &[bool]), Stop>
     ensures block { Gives (λ x. (x.0, x.1.now)) result (block_at bits.now) }
