@@ -1,0 +1,12 @@
+//! How commands, and why bits are no command, stand in a text.
+#![tactic(auto)]
+
+mod commands;
+mod fields;
+mod names;
+mod refusals;
+#[cfg(test)]
+mod tests;
+
+pub use commands::push_command;
+pub use refusals::push_command_refusal;

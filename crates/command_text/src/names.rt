@@ -1,0 +1,101 @@
+//! The words that stand for the choices in a command, and for the reasons of a refusal.
+ghost use Rattle.std.specs.Prelude.{◌≡◌, [], ◌∷◌};
+ghost use Rattle.text_fields.specs.Binary.{binary_digit};
+ghost use Rattle.command_text.specs.CommandText.{bank_word, flag_word, mask_bank_word, reason_word, sel_word, side_word, updn_word};
+
+use command_grammar::{Bank, FlagName, MaskBank, Reason, Sel, Side, UpDn};
+
+/// The digit of a bit.
+pub(crate) fn bit_name(bit: bool) -> &'static str
+    ensures { result.now ≡ binary_digit bit ∷ [] }
+{
+    if bit { "1" } else { "0" }
+}
+
+/// The two bits of Sel, as they are sent.
+pub(crate) fn sel_name(sel: Sel) -> &'static str
+    ensures { result.now ≡ sel_word sel }
+{
+    match sel {
+        Sel::All00 => "00",
+        Sel::All01 => "01",
+        Sel::NotSl => "10",
+        Sel::Sl => "11",
+    }
+}
+
+/// The name of an inventoried flag's value.
+pub(crate) fn side_name(side: Side) -> &'static str
+    ensures { result.now ≡ side_word side }
+{
+    match side {
+        Side::A => "a",
+        Side::B => "b",
+    }
+}
+
+/// The name of what becomes of Q.
+pub(crate) fn updn_name(updn: UpDn) -> &'static str
+    ensures { result.now ≡ updn_word updn }
+{
+    match updn {
+        UpDn::Up => "up",
+        UpDn::Same => "same",
+        UpDn::Down => "down",
+    }
+}
+
+/// The name of a flag that a Select changes.
+pub(crate) fn flag_name(flag: FlagName) -> &'static str
+    ensures { result.now ≡ flag_word flag }
+{
+    match flag {
+        FlagName::S0 => "s0",
+        FlagName::S1 => "s1",
+        FlagName::S2 => "s2",
+        FlagName::S3 => "s3",
+        FlagName::Sl => "sl",
+    }
+}
+
+/// The name of a bank that a Select compares its mask with.
+pub(crate) fn mask_bank_name(bank: MaskBank) -> &'static str
+    ensures { result.now ≡ mask_bank_word bank }
+{
+    match bank {
+        MaskBank::Epc => "epc",
+        MaskBank::Tid => "tid",
+        MaskBank::User => "user",
+    }
+}
+
+/// The name of a bank.
+pub(crate) fn bank_name(bank: Bank) -> &'static str
+    ensures { result.now ≡ bank_word bank }
+{
+    match bank {
+        Bank::Reserved => "res",
+        Bank::Epc => "epc",
+        Bank::Tid => "tid",
+        Bank::User => "user",
+    }
+}
+
+/// The name of a reason.
+pub(crate) fn reason_name(reason: Reason) -> &'static str
+    ensures { result.now ≡ reason_word reason }
+{
+    match reason {
+        Reason::Code => "code",
+        Reason::UpDn => "updn",
+        Reason::Target => "target",
+        Reason::Bank => "bank",
+        Reason::Ebv => "ebv",
+        Reason::Truncate => "truncate",
+        Reason::KillBits => "killbits",
+        Reason::Count => "count",
+        Reason::Crc5 => "crc5",
+        Reason::Crc16 => "crc16",
+        Reason::Extra => "extra",
+    }
+}

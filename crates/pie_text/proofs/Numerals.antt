@@ -1,0 +1,128 @@
+-- Lists of numbers and their fields.
+use Rattle.std.proofs.Common.{◌≡◌, ◌≢◌, ◌<◌, ◌≤◌, ◌+◌, ◌^◌, ℕ, List, [], ◌∷◌, ◌++◌, length, map, Option, Some, None, IsSome, IfSome, All, ap, arith, refl, sym, ◌∙◌, append_assoc}
+use Rattle.std.specs.Fmt.{decimal}
+use Rattle.std.proofs.lemmas.Fmt.{decimal_is_IsNumeral}
+use Rattle.std.proofs.lemmas.List.{length-append, length-map}
+use Rattle.std.proofs.lemmas.List.Elements.{All-nil, All-cons, All-head, All-tail}
+use Rattle.pie_text.specs.Numbers.{HasShape, Spells}
+use Rattle.pie_text.specs.Spelling.{IsNumber, number_of}
+
+-- the fact of `within`
+abbrev IsWithin : ℕ → ℕ → Type 0
+IsWithin most number = number ≤ most
+
+-- the fact of `filled`
+abbrev IsFilled : List ℕ → Type 0
+IsFilled field = field ≢ []
+
+-- the number of a number's digits
+number_back : (most number : ℕ) → most < 2 ^ 32 → number ≤ most → number_of (decimal number) ≡ number
+number_back most number small within = (decimal_is_IsNumeral number (omega arith)).1
+
+decimal_is_filled : (most number : ℕ) → most < 2 ^ 32 → number ≤ most → decimal number ≢ []
+decimal_is_filled most number small within none =
+    let some : 0 < length (decimal number) = (decimal_is_IsNumeral number (omega arith)).0.0 in
+    let count = ap length none in
+    omega arith
+
+-- a number's digits are a number's spelling
+pub spelling_is_number : (most number : ℕ) (field : List ℕ) → most < 2 ^ 32 → number ≤ most → field ≡ decimal number → IsNumber most field
+spelling_is_number most number field small within spells =
+    let back : number_of field ≡ number = ap number_of spells ∙ number_back most number small within in
+    record { spelling = spells ∙ ap decimal (sym back); within = omega arith }
+
+-- a field of which a number is read spells a number
+pub read_is_number : (most : ℕ) (field : List ℕ) (answer : Option ℕ) → most < 2 ^ 32
+    → IfSome answer (λ number. (field ≡ decimal number) × (number ≤ most)) → IsSome answer → IsNumber most field
+read_is_number most field (Some number) small reads some = spelling_is_number most number field small reads.1 reads.0
+read_is_number most field None small reads some = cc
+
+digits_are_numbers : (most : ℕ) (numbers : List ℕ) → most < 2 ^ 32 → All (IsWithin most) numbers → All (IsNumber most) (map decimal numbers)
+digits_are_numbers most [] small within = All-nil (IsNumber most)
+digits_are_numbers most (number ∷ numbers) small within =
+    All-cons (IsNumber most) (decimal number) (map decimal numbers)
+    (spelling_is_number most number (decimal number) small (All-head (IsWithin most) number numbers within) refl)
+    (digits_are_numbers most numbers small (All-tail (IsWithin most) number numbers within))
+
+digits_are_filled : (most : ℕ) (numbers : List ℕ) → most < 2 ^ 32 → All (IsWithin most) numbers → All IsFilled (map decimal numbers)
+digits_are_filled most [] small within = All-nil IsFilled
+digits_are_filled most (number ∷ numbers) small within =
+    All-cons IsFilled (decimal number) (map decimal numbers)
+    (decimal_is_filled most number small (All-head (IsWithin most) number numbers within))
+    (digits_are_filled most numbers small (All-tail (IsWithin most) number numbers within))
+
+values_back : (most : ℕ) (numbers : List ℕ) → most < 2 ^ 32 → All (IsWithin most) numbers → map number_of (map decimal numbers) ≡ numbers
+values_back most [] small within = refl
+values_back most (number ∷ numbers) small within =
+    rw (
+      number_back most number small (All-head (IsWithin most) number numbers within),
+      values_back most numbers small (All-tail (IsWithin most) number numbers within),
+    ) refl
+
+digits_of_values : (most : ℕ) (fields : List (List ℕ)) → All (IsNumber most) fields → fields ≡ map decimal (map number_of fields)
+digits_of_values most [] are = refl
+digits_of_values most (field ∷ fields) are =
+    let first = (All-head (IsNumber most) field fields are).spelling in
+    let others = digits_of_values most fields (All-tail (IsNumber most) field fields are) in
+    ap (λ (f : List ℕ). f ∷ fields) first ∙ ap (λ (fs : List (List ℕ)). decimal (number_of field) ∷ fs) others
+
+values_within : (most : ℕ) (fields : List (List ℕ)) → All (IsNumber most) fields → All (IsWithin most) (map number_of fields)
+values_within most [] are = All-nil (IsWithin most)
+values_within most (field ∷ fields) are =
+    All-cons (IsWithin most) (number_of field) (map number_of fields) (All-head (IsNumber most) field fields are).within
+    (values_within most fields (All-tail (IsNumber most) field fields are))
+
+-- fields that spell numbers have their shape
+pub spelled_shape : (most_items most : ℕ) (fields : List (List ℕ)) (numbers : List ℕ) → most < 2 ^ 32
+    → Spells most_items most fields numbers → HasShape most_items fields
+spelled_shape most_items most fields numbers small spells =
+    let count : length fields ≡ length numbers = rw (spells.spelling, length-map) refl in
+    let some = spells.some in
+    let room = spells.room in
+    record {
+      some = omega arith;
+      room = omega arith;
+      filled = rw spells.spelling (digits_are_filled most numbers small spells.within);
+    }
+
+-- each of fields that spell numbers spells a number
+pub spelled_numbers : (most : ℕ) (fields : List (List ℕ)) (numbers : List ℕ) → most < 2 ^ 32
+    → All (λ number. number ≤ most) numbers → fields ≡ map decimal numbers → All (IsNumber most) fields
+spelled_numbers most fields numbers small within spells = rw spells (digits_are_numbers most numbers small within)
+
+-- fields spell the numbers of the fields
+pub numbers_spelled : (most_items most : ℕ) (fields : List (List ℕ)) → HasShape most_items fields → All (IsNumber most) fields
+    → Spells most_items most fields (map number_of fields)
+numbers_spelled most_items most fields shape are =
+    let count : length (map number_of fields) ≡ length fields = rw length-map refl in
+    let some = shape.some in
+    let room = shape.room in
+    record {
+      spelling = digits_of_values most fields are;
+      some = omega arith;
+      room = omega arith;
+      within = values_within most fields are;
+    }
+
+-- fields spell no other numbers
+pub one_spelling : (most_items most : ℕ) (fields : List (List ℕ)) (numbers : List ℕ) → most < 2 ^ 32
+    → Spells most_items most fields numbers → map number_of fields ≡ numbers
+one_spelling most_items most fields numbers small spells =
+    ap (λ (fs : List (List ℕ)). map number_of fs) spells.spelling ∙ values_back most numbers small spells.within
+
+-- a list that holds the numbers of the fields before these has room for the next one
+pub has_room : (capacity : ℕ) (all items field : List ℕ) (fields rest : List (List ℕ)) → all ≡ items ++ map number_of fields
+    → fields ≡ field ∷ rest → length all ≤ capacity → length items < capacity
+has_room capacity all items field fields rest so_far next within =
+    let whole : all ≡ items ++ number_of field ∷ map number_of rest = so_far ∙ ap (λ (fs : List (List ℕ)). items ++ map number_of fs) next in
+    let count : length all ≡ length items + length (number_of field ∷ map number_of rest) = rw (whole, length-append) refl in
+    omega arith
+
+-- the list then holds the number of the next field as well
+pub holds_next : (all items items' field : List ℕ) (fields rest : List (List ℕ)) (number : ℕ) → all ≡ items ++ map number_of fields
+    → fields ≡ field ∷ rest → number ≡ number_of field → items' ≡ items ++ number ∷ [] → all ≡ items' ++ map number_of rest
+holds_next all items items' field fields rest number so_far next is pushed =
+    let whole : all ≡ items ++ number_of field ∷ map number_of rest = so_far ∙ ap (λ (fs : List (List ℕ)). items ++ map number_of fs) next in
+    let then : items' ++ map number_of rest ≡ items ++ number_of field ∷ map number_of rest =
+    rw (pushed, is) (append_assoc items (number_of field ∷ []) (map number_of rest)) in
+    whole ∙ sym then

@@ -1,0 +1,11 @@
+//! Lists of intervals as fields of a line, and how frames in pulse-interval encoding and the refusals
+//! of intervals that are none are written (the texts are profile).
+#![tactic(auto)]
+
+mod frames;
+mod numbers;
+#[cfg(test)]
+mod tests;
+
+pub use frames::{push_frame, push_pie_refusal};
+pub use numbers::{NotNumbers, Numbers};

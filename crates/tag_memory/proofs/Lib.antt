@@ -1,0 +1,2 @@
+pub mod AllWords
+pub mod Pushing

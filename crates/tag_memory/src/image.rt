@@ -1,0 +1,41 @@
+//! The memory that a tag is made with.
+ghost use Rattle.std.specs.Prelude.{◌≡◌};
+
+use bit_strings::List;
+use std::alloc::AllocError;
+
+/// What a tag's banks hold when it is made, but for StoredCRC, which is computed.
+#[derive(Drop)]
+pub struct BankImage {
+    /// The kill password, words 0 and 1 of the Reserved bank.
+    pub kill: u32,
+    /// The access password, words 2 and 3 of the Reserved bank.
+    pub access: u32,
+    /// The EPC bank from its word 1 on: PC and what follows, 1 to 32 words.
+    pub epc: List<u16>,
+    /// The TID bank, 2 to 16 words.
+    pub tid: List<u16>,
+    /// The User bank, at most 512 words; a tag whose bank has none has no User bank.
+    pub user: List<u16>,
+}
+
+/// Why a memory can't be made of an image.
+#[derive(Clone, Copy, Debug, PartialEq, Eq)]
+pub enum ImageRefusal {
+    /// A bank has more or fewer words than a tag's bank may have.
+    Size,
+    /// The EPC that PC announces would pass its bank.
+    Pc,
+    /// There was no memory.
+    OutOfMemory,
+}
+
+impl From<AllocError> for ImageRefusal {
+    ghost use Rattle.tag_memory.specs.declared.image.ImageRefusal.TheVariants.{OutOfMemory};
+
+    ghost from_gives = { λ _ refusal. refusal ≡ OutOfMemory };
+
+    fn from(_error: AllocError) -> ImageRefusal {
+        ImageRefusal::OutOfMemory
+    }
+}

@@ -1,0 +1,263 @@
+//! Memories of a few tags, and reads and writes at the edges of their banks.
+ghost use Rattle.std.specs.Prelude.{◌^◌, ◌<◌, length};
+
+use crate::{BankImage, ImageRefusal, Memory};
+use bit_strings::{Count1, List, Pointer};
+use command_grammar::{Bank, BlockWords, MaskBank};
+use lock_rules::{ErrorCode, Level, Locks};
+use reply_grammar::ReadWords;
+use std::alloc::{AllocError, Global};
+use std::test::Fail;
+
+fn list(alloc: Global, words: &[u16]) -> Result<List<u16>, AllocError>
+    requires { length words.now < 2 ^ 32 }
+{
+    Ok(List::new(Vec::from_slice(alloc, words)?))
+}
+
+fn image(alloc: Global, epc: &[u16], tid: &[u16], user: &[u16]) -> Result<BankImage, AllocError>
+    requires epc { length epc.now < 2 ^ 32 }
+    requires tid { length tid.now < 2 ^ 32 }
+    requires user { length user.now < 2 ^ 32 }
+{
+    Ok(BankImage {
+        kill: 0xAABB_CCDD,
+        access: 0x1234_5678,
+        epc: list(alloc, epc)?,
+        tid: list(alloc, tid)?,
+        user: list(alloc, user)?,
+    })
+}
+
+/// The first words of those, as many as there are of so many.
+fn first(alloc: Global, words: &[u16], count: u16) -> Result<List<u16>, AllocError> {
+    match words.get(..usize::from(count)) {
+        Some(front) => list(alloc, front),
+        None => list(alloc, &[]),
+    }
+}
+
+fn pointer(place: u32) -> Result<Pointer, Fail> {
+    Ok(Pointer::new(place).ok_or("a pointer")?)
+}
+
+#[test]
+fn images_are_refused_by_size_then_by_pc(rt: HostRuntime) -> Result<(), Fail> {
+    let alloc = rt.alloc();
+    let zeros = [0u16; 513];
+    // Words from PC on, of TID and of User, with what PC says.
+    let table = [
+        (0u8, 2u8, 0u16, 0u16, Err(ImageRefusal::Size)),
+        (1, 2, 0, 0x0000, Ok(2)),
+        (32, 16, 512, 0xF800, Ok(33)),
+        (33, 2, 0, 0x0000, Err(ImageRefusal::Size)),
+        (1, 1, 0, 0x0000, Err(ImageRefusal::Size)),
+        (1, 17, 0, 0x0000, Err(ImageRefusal::Size)),
+        (1, 2, 513, 0x0000, Err(ImageRefusal::Size)),
+        (1, 1, 0, 0x0800, Err(ImageRefusal::Size)),
+        (1, 2, 0, 0x0800, Err(ImageRefusal::Pc)),
+        (2, 2, 0, 0x0800, Ok(3)),
+        (2, 2, 0, 0x1000, Err(ImageRefusal::Pc)),
+        (31, 2, 0, 0xF800, Err(ImageRefusal::Pc)),
+    ];
+    for (epc, tid, user, pc, want) in table {
+        let mut words = zeros;
+        words[0] = pc;
+        let image = BankImage {
+            kill: 0,
+            access: 0,
+            epc: first(alloc, &words, epc.into())?,
+            tid: first(alloc, &zeros, tid.into())?,
+            user: first(alloc, &zeros, user)?,
+        };
+        let got = Memory::new(alloc, &image);
+        assert!(rt;
+            got.map(|memory| memory.size(Bank::Epc)) == want,
+            "{epc} {tid} {user} {pc}"
+        );
+    }
+    Ok(())
+}
+
+#[test]
+fn stored_crc_is_computed_when_made_and_at_power_on(rt: HostRuntime) -> Result<(), Fail> {
+    let alloc = rt.alloc();
+    let open = Locks::from_bits(0).ok_or("ten bits")?;
+    let image = image(alloc, &[0x0800, 0x1234], &[0xE200, 0x0001], &[])?;
+    let mut memory = Memory::new(alloc, &image)?;
+    assert!(rt; memory.words(MaskBank::Epc) == [0xED3A, 0x0800, 0x1234].as_slice());
+    assert!(rt; memory.words(MaskBank::Tid) == [0xE200, 0x0001].as_slice());
+    assert_eq!(rt; memory.words(MaskBank::User).len(), 0);
+    assert_eq!(rt; memory.kill_word(), 0xAABB_CCDD);
+    assert_eq!(rt; memory.access_word(), 0x1234_5678);
+    assert_eq!(rt; memory.pc(), 0x0800);
+    assert!(rt; memory.epc().as_slice() == [0x1234].as_slice());
+    assert_eq!(rt; memory.get(Bank::Reserved, 1), Some(0xCCDD));
+    assert_eq!(rt; memory.get(Bank::Reserved, 4), None);
+    assert!(rt;
+        memory
+            .write(Bank::Epc, pointer(2)?, 0x5678, Level::Opened, &open)
+            .is_ok()
+    );
+    assert!(rt; memory.words(MaskBank::Epc) == [0xED3A, 0x0800, 0x5678].as_slice());
+    memory.power_on();
+    assert!(rt; memory.words(MaskBank::Epc) == [0xA57A, 0x0800, 0x5678].as_slice());
+    Ok(())
+}
+
+#[test]
+fn reads_at_the_edges(rt: HostRuntime) -> Result<(), Fail> {
+    let alloc = rt.alloc();
+    let image = image(
+        alloc,
+        &[0x0800, 0x1234, 0x5678, 0x9ABC],
+        &[0xE200, 0x0003],
+        &[0x1111, 0x2222],
+    )?;
+    let memory = Memory::new(alloc, &image)?;
+    // The kill password wants the secured state, the access password is never readable.
+    let locks = Locks::from_bits(0b10_11_00_00_00).ok_or("ten bits")?;
+    // A bank, the pointer, the count, the level, and how many words come.
+    let table = [
+        (Bank::Epc, 1u32, 0u8, Level::Opened, Ok(2u32)),
+        (Bank::Epc, 2, 0, Level::Opened, Ok(1)),
+        (Bank::Epc, 3, 0, Level::Opened, Ok(2)),
+        (Bank::Epc, 5, 0, Level::Opened, Err(ErrorCode::Overrun)),
+        (Bank::Epc, 1, 4, Level::Opened, Ok(4)),
+        (Bank::Epc, 4, 2, Level::Opened, Err(ErrorCode::Overrun)),
+        (Bank::Tid, 0, 0, Level::Opened, Ok(2)),
+        (Bank::User, 1, 0, Level::Opened, Ok(1)),
+        (Bank::User, 2, 0, Level::Opened, Err(ErrorCode::Overrun)),
+        (
+            Bank::User,
+            268_435_455,
+            255,
+            Level::Opened,
+            Err(ErrorCode::Overrun),
+        ),
+        (Bank::Reserved, 0, 2, Level::Opened, Err(ErrorCode::Locked)),
+        (Bank::Reserved, 0, 2, Level::Secured, Ok(2)),
+        (Bank::Reserved, 1, 2, Level::Secured, Err(ErrorCode::Locked)),
+        (
+            Bank::Reserved,
+            3,
+            2,
+            Level::Secured,
+            Err(ErrorCode::Overrun),
+        ),
+        (
+            Bank::Reserved,
+            4,
+            0,
+            Level::Secured,
+            Err(ErrorCode::Overrun),
+        ),
+    ];
+    for (bank, place, count, level, want) in table {
+        let mut out = ReadWords::new();
+        let start = pointer(place)?;
+        let got = memory.read(bank, start, count, level, &locks, &mut out);
+        assert!(rt; got.map(|_| out.len()) == want, "{bank:?} {place} {count}");
+        for at in 0..out.len() {
+            assert_eq!(rt;
+                out.get(at),
+                memory.get(bank, start.get() + at),
+                "{bank:?} {place} {count}"
+            );
+        }
+    }
+    Ok(())
+}
+
+#[test]
+fn writes_at_the_edges(rt: HostRuntime) -> Result<(), Fail> {
+    let alloc = rt.alloc();
+    let image = image(
+        alloc,
+        &[0x0800, 0x1234],
+        &[0xE200, 0x0003],
+        &[0x1111, 0x2222],
+    )?;
+    let mut memory = Memory::new(alloc, &image)?;
+    // The EPC bank and the kill password want the secured state, the access password and TID are shut.
+    let locks = Locks::from_bits(0b10_11_10_11_00).ok_or("ten bits")?;
+    let table = [
+        (
+            Bank::Epc,
+            0u32,
+            0u16,
+            Level::Secured,
+            Err(ErrorCode::Locked),
+        ),
+        (Bank::Epc, 3, 0, Level::Secured, Err(ErrorCode::Overrun)),
+        (Bank::Epc, 1, 0x1000, Level::Opened, Err(ErrorCode::Overrun)),
+        (Bank::Epc, 1, 0x07FF, Level::Opened, Err(ErrorCode::Locked)),
+        (Bank::Epc, 1, 0x07FF, Level::Secured, Ok(())),
+        (Bank::Tid, 0, 1, Level::Secured, Err(ErrorCode::Locked)),
+        (Bank::Tid, 2, 1, Level::Secured, Err(ErrorCode::Overrun)),
+        (Bank::Reserved, 1, 1, Level::Opened, Err(ErrorCode::Locked)),
+        (Bank::Reserved, 1, 1, Level::Secured, Ok(())),
+        (Bank::Reserved, 2, 1, Level::Secured, Err(ErrorCode::Locked)),
+    ];
+    for (bank, place, word, level, want) in table {
+        let before = memory.get(bank, place);
+        let got = memory.write(bank, pointer(place)?, word, level, &locks);
+        assert!(rt; got == want, "{bank:?} {place} {word}");
+        let after = if want.is_ok() { Some(word) } else { before };
+        assert_eq!(rt; memory.get(bank, place), after, "{bank:?} {place} {word}");
+    }
+    Ok(())
+}
+
+#[test]
+fn blocks_are_written_whole_or_not_at_all(rt: HostRuntime) -> Result<(), Fail> {
+    let alloc = rt.alloc();
+    let image = image(
+        alloc,
+        &[0x0800, 0x1234],
+        &[0xE200, 0x0003],
+        &[0x1111, 0x2222],
+    )?;
+    let mut memory = Memory::new(alloc, &image)?;
+    let open = Locks::from_bits(0).ok_or("ten bits")?;
+    let mut words = BlockWords::first(0xAAAA);
+    let _ = words.push(0xBBBB);
+    let both = Count1::new(2).ok_or("a count")?;
+    let table = [
+        (Bank::User, 1u32, Err(ErrorCode::Overrun)),
+        (Bank::User, 0, Ok(())),
+        (Bank::Epc, 0, Err(ErrorCode::Overrun)),
+        (Bank::Epc, 1, Err(ErrorCode::Overrun)),
+        (Bank::Reserved, 2, Ok(())),
+    ];
+    for (bank, place, want) in table {
+        let before = (memory.get(bank, place), memory.get(bank, place + 1));
+        let got = memory.block_write(bank, pointer(place)?, &words, Level::Opened, &open);
+        assert!(rt; got == want, "{bank:?} {place}");
+        let after = (memory.get(bank, place), memory.get(bank, place + 1));
+        let wanted = if want.is_ok() {
+            (Some(0xAAAA), Some(0xBBBB))
+        } else {
+            before
+        };
+        assert!(rt; after == wanted, "{bank:?} {place}");
+        let erased = memory.block_erase(bank, pointer(place)?, both, Level::Opened, &open);
+        // A PC of 0000h announces no word of EPC.
+        let code = if bank == Bank::Epc && place == 0 {
+            Err(ErrorCode::Locked)
+        } else {
+            want
+        };
+        let code = if bank == Bank::Epc && place == 1 {
+            Ok(())
+        } else {
+            code
+        };
+        assert!(rt; erased == code, "{bank:?} {place}");
+        if erased.is_ok() {
+            assert_eq!(rt; memory.get(bank, place), Some(0), "{bank:?} {place}");
+            assert_eq!(rt; memory.get(bank, place + 1), Some(0), "{bank:?} {place}");
+        }
+    }
+    Ok(())
+}
