@@ -19,9 +19,9 @@ use Rattle.text_fields.proofs.Visible.{IsFieldText-decimal, IsFieldText-binary}
 use Rattle.gen2run.specs.Request.{kind_word, HasShape, request_kind, AreSpelled, IsWithinLimits, AsksBehind, Spells, AreFaulty, IsFaulty}
 use Rattle.gen2run.specs.DecodeLines.{AsksFor, IsGrammatical, IsFaultyBefore, IsFirstFault}
 use Rattle.gen2run.specs.declared.decode.request.Kind.{Kind}
-use Rattle.gen2run.specs.declared.decode.request.Kind.TheVariants.{Stream as StreamKind, Samples as SamplesKind, Reply as ReplyKind, Heard as HeardKind}
+use Rattle.gen2run.specs.declared.decode.request.Kind.TheVariants.{Stream as StreamKind, Samples as SamplesKind, Reply as ReplyKind, Heard as HeardKind, Pie as PieKind, Command as CommandKind}
 use Rattle.gen2run.specs.declared.decode.request.Request.{Request}
-use Rattle.gen2run.specs.declared.decode.request.Request.TheVariants.{Stream, Samples, Reply, Heard}
+use Rattle.gen2run.specs.declared.decode.request.Request.TheVariants.{Stream, Samples, Reply, Heard, Pie, Command}
 use Rattle.gen2run.specs.declared.decode.request.Reason.{Reason}
 use Rattle.gen2run.specs.declared.decode.request.Reason.TheVariants.{End, Word, Shape, Number}
 use Rattle.gen2run.specs.declared.decode.request.Fault.{Fault}
@@ -36,7 +36,8 @@ kind_read word =
     else (if bytes_eq word (codes "samples") then Some SamplesKind
     else (if bytes_eq word (codes "reply") then Some ReplyKind
     else (if bytes_eq word (codes "heard") then Some HeardKind
-    else None)))))))
+    else (if bytes_eq word (codes "pie") then Some PieKind
+    else (if bytes_eq word (codes "command") then Some CommandKind else None)))))))))
 
 kind_read_word : (kind : Kind) → kind_read (kind_word kind) ≡ Some kind
 unfolding kind_read
@@ -47,6 +48,8 @@ kind_read_word (StreamKind M8) = refl
 kind_read_word SamplesKind = refl
 kind_read_word ReplyKind = refl
 kind_read_word HeardKind = refl
+kind_read_word PieKind = refl
+kind_read_word CommandKind = refl
 
 -- a first field says one kind
 pub kind_word-injective : (a b : Kind) → kind_word a ≡ kind_word b → a ≡ b
@@ -102,6 +105,12 @@ request_shape (Heard code trext expect levels) others spelling limits =
       All-cons Filled (code_word code) ((binary_digit trext ∷ []) ∷ expect_word expect ∷ binary levels ∷ []) (code_filled code)
           (three_filled (binary_digit trext ∷ []) (expect_word expect) (binary levels) digit (expect_word_is_field_text expect limits.0).filled (IsFieldText-binary levels).filled),
     )
+request_shape (Pie intervals) others spelling limits =
+    let some : 1 ≤ length (map decimal intervals) = rw length-map limits.0 in
+    let room : length (map decimal intervals) ≤ 20000 = rw length-map limits.1 in
+    rw spelling ((some, room), numbers_filled intervals limits.2)
+request_shape (Command bits) others spelling limits =
+    rw spelling (refl, All-cons Filled (binary bits) [] (IsFieldText-binary bits).filled (All-nil Filled))
 
 -- fields that ask for something are not faulty
 asked_not_faulty : (request : Request) (kind : Kind) (others : List (List ℕ)) (reason : Reason) → AsksBehind kind others request → AreFaulty kind others reason → ⊥

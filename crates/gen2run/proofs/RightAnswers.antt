@@ -1,5 +1,5 @@
 -- What a decoder answered is the answer to the request whose list it was given.
-use Rattle.std.proofs.Common.{◌≡◌, Bool, List, Result, Ok, Err, subst, sym}
+use Rattle.std.proofs.Common.{◌≡◌, ℕ, Bool, List, Result, Ok, Err, subst, sym}
 use Rattle.std.specs.Prelude.{IfOk, IfErr}
 use Rattle.bit_strings.specs.declared.code.Code.{Code}
 use Rattle.line_codes.specs.Codes.{table_of}
@@ -10,8 +10,15 @@ use Rattle.reply_grammar.specs.declared.expected.Reply.{Reply}
 use Rattle.reply_grammar.specs.declared.expected.ReplyRefusal.{ReplyRefusal}
 use Rattle.reply_grammar.specs.declared.expected.Received.{Received}
 use Rattle.air_channel.specs.Received.{IsReceived}
-use Rattle.gen2run.specs.Answer.{IsAnswer, replied, heard}
-use Rattle.gen2run.specs.declared.decode.request.Request.TheVariants.{Reply as ReplyLine, Heard as HeardLine}
+use Rattle.pie_line.specs.Pie.{IsFrame}
+use Rattle.pie_line.specs.Refusal.{Refuses as RefusesFrame}
+use Rattle.pie_line.specs.declared.frame.FrameKind.{FrameKind}
+use Rattle.pie_line.specs.declared.frame.PieRefusal.{PieRefusal}
+use Rattle.command_grammar.specs.Commands.{Finishes}
+use Rattle.command_grammar.specs.declared.commands.Command.{Command}
+use Rattle.command_grammar.specs.declared.refusal.CommandRefusal.{CommandRefusal}
+use Rattle.gen2run.specs.Answer.{IsAnswer, replied, heard, framing_answer, commanded}
+use Rattle.gen2run.specs.declared.decode.request.Request.TheVariants.{Reply as ReplyLine, Heard as HeardLine, Pie as PieLine, Command as CommandLine}
 
 pub replied_right : (expect : Expect) (bits items : List Bool) (outcome : Result Reply ReplyRefusal) → items ≡ bits → IfOk outcome (λ reply. AnswersExpected reply expect items) → IfErr outcome (λ refusal. Faults refusal expect items) → IsAnswer (ReplyLine expect bits) (replied outcome)
 replied_right expect bits items (Ok reply) same ok refused = subst (AnswersExpected reply expect) same ok
@@ -19,3 +26,10 @@ replied_right expect bits items (Err refusal) same ok refused = subst (Faults re
 
 pub heard_right : (code : Code) (trext : Bool) (expect : Expect) (levels items : List Bool) (received : Received) → items ≡ levels → IsReceived (table_of code) trext expect items received → IsAnswer (HeardLine code trext expect levels) (heard received)
 heard_right code trext expect levels items received same found = subst (λ l. IsReceived (table_of code) trext expect l received) same found
+
+pub framed_right : (intervals items : List ℕ) (bits : List Bool) (outcome : Result FrameKind PieRefusal) → items ≡ intervals → IfOk outcome (λ kind. IsFrame kind bits items) → IfErr outcome (λ refusal. RefusesFrame refusal items) → IsAnswer (PieLine intervals) (framing_answer outcome bits)
+framed_right intervals items bits (Ok kind) same ok refused = subst (IsFrame kind bits) same ok
+framed_right intervals items bits (Err refusal) same ok refused = subst (RefusesFrame refusal) same refused
+
+pub commanded_right : (bits items : List Bool) (outcome : Result Command CommandRefusal) → items ≡ bits → Finishes outcome items → IsAnswer (CommandLine bits) (commanded outcome)
+commanded_right bits items outcome same found = subst (Finishes outcome) same found

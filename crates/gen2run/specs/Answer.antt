@@ -20,8 +20,17 @@ use Rattle.reply_grammar.specs.declared.expected.Received.{Received}
 use Rattle.reply_grammar.specs.declared.expected.Received.TheVariants.{Whole, Refused}
 use Rattle.reply_text.specs.ReplyText.{reply_line, refusal_line}
 use Rattle.air_channel.specs.Received.{IsReceived}
+use Rattle.pie_line.specs.Pie.{IsFrame, Frames}
+use Rattle.pie_line.specs.Refusal.{Refuses as RefusesFrame}
+use Rattle.pie_line.specs.declared.frame.FrameKind.{FrameKind}
+use Rattle.pie_line.specs.declared.frame.PieRefusal.{PieRefusal}
+use Rattle.pie_text.specs.PieText.{frame_line, pie_refusal_line}
+use Rattle.command_grammar.specs.Commands.{Finishes}
+use Rattle.command_grammar.specs.declared.commands.Command.{Command}
+use Rattle.command_grammar.specs.declared.refusal.CommandRefusal.{CommandRefusal}
+use Rattle.command_text.specs.CommandText.{command_line, command_refusal_line}
 use Rattle.gen2run.specs.declared.decode.request.Request.{Request}
-use Rattle.gen2run.specs.declared.decode.request.Request.TheVariants.{Stream, Samples, Reply as ReplyLine, Heard as HeardLine}
+use Rattle.gen2run.specs.declared.decode.request.Request.TheVariants.{Stream, Samples, Reply as ReplyLine, Heard as HeardLine, Pie as PieLine, Command as CommandLine}
 
 pub data Answer : Type 0 where
   -- the levels are the stream of these bits
@@ -40,6 +49,12 @@ pub data Answer : Type 0 where
   replied : Result Reply ReplyRefusal → Answer
   -- what is heard in the levels
   heard : Received → Answer
+  -- the intervals are a frame with these bits
+  framed : FrameKind → List Bool → Answer
+  -- the intervals are no frame
+  unframed : PieRefusal → Answer
+  -- the bits are this command, or are none
+  commanded : Result Command CommandRefusal → Answer
 
 -- the answer is the one to the request
 abbrev pub IsAnswer : Request → Answer → Type 0
@@ -52,6 +67,9 @@ IsAnswer (Samples threshold per_level samples) (rest place) = IsRestAt threshold
 IsAnswer (ReplyLine expect bits) (replied (Ok reply)) = AnswersExpected reply expect bits
 IsAnswer (ReplyLine expect bits) (replied (Err refusal)) = Faults refusal expect bits
 IsAnswer (HeardLine code trext expect levels) (heard received) = IsReceived (table_of code) trext expect levels received
+IsAnswer (PieLine intervals) (framed kind bits) = IsFrame kind bits intervals
+IsAnswer (PieLine intervals) (unframed refusal) = RefusesFrame refusal intervals
+IsAnswer (CommandLine bits) (commanded outcome) = Finishes outcome bits
 IsAnswer request answer = ⊥
 
 -- the answer that a line decoder's outcome and the bits that it left are
@@ -66,6 +84,11 @@ slicing_answer (Ok done) levels = sliced levels
 slicing_answer (Err (Mixed place)) levels = mixed place
 slicing_answer (Err (Rest place)) levels = rest place
 
+-- the answer that an outcome of the decoder of frames and the bits that it left are
+abbrev pub framing_answer : Result FrameKind PieRefusal → List Bool → Answer
+framing_answer (Ok kind) bits = framed kind bits
+framing_answer (Err refusal) bits = unframed refusal
+
 -- an answer as a line, with its line feed
 abbrev pub answer_line : Answer → List ℕ
 answer_line (carries bits) = codes "bits " ++ binary bits ++ line_feed ∷ []
@@ -78,6 +101,10 @@ answer_line (replied (Ok reply)) = reply_line reply ++ line_feed ∷ []
 answer_line (replied (Err refusal)) = refusal_line refusal ++ line_feed ∷ []
 answer_line (heard (Whole reply)) = reply_line reply ++ line_feed ∷ []
 answer_line (heard (Refused place)) = codes "refused " ++ decimal place ++ line_feed ∷ []
+answer_line (framed kind bits) = frame_line kind bits ++ line_feed ∷ []
+answer_line (unframed refusal) = pie_refusal_line refusal ++ line_feed ∷ []
+answer_line (commanded (Ok command)) = command_line command ++ line_feed ∷ []
+answer_line (commanded (Err refusal)) = command_refusal_line refusal ++ line_feed ∷ []
 
 -- the text is the answers to the requests, each on a line of its own, in order
 pub record Answers (requests : List Request) (text : List ℕ) : Type 0 where

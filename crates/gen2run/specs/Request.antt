@@ -8,9 +8,9 @@ use Rattle.text_fields.specs.Binary.{binary, binary_digit}
 use Rattle.line_codes.specs.Names.{code_word}
 use Rattle.reply_text.specs.ReplyText.{expect_word, IsExpect}
 use Rattle.gen2run.specs.declared.decode.request.Kind.{Kind}
-use Rattle.gen2run.specs.declared.decode.request.Kind.TheVariants.{Stream as StreamKind, Samples as SamplesKind, Reply as ReplyKind, Heard as HeardKind}
+use Rattle.gen2run.specs.declared.decode.request.Kind.TheVariants.{Stream as StreamKind, Samples as SamplesKind, Reply as ReplyKind, Heard as HeardKind, Pie as PieKind, Command as CommandKind}
 use Rattle.gen2run.specs.declared.decode.request.Request.{Request}
-use Rattle.gen2run.specs.declared.decode.request.Request.TheVariants.{Stream, Samples, Reply, Heard}
+use Rattle.gen2run.specs.declared.decode.request.Request.TheVariants.{Stream, Samples, Reply, Heard, Pie, Command}
 use Rattle.gen2run.specs.declared.decode.request.Reason.{Reason}
 use Rattle.gen2run.specs.declared.decode.request.Reason.TheVariants.{End, Word, Shape, Number}
 
@@ -20,6 +20,13 @@ kind_word (StreamKind code) = code_word code
 kind_word SamplesKind = codes "samples"
 kind_word ReplyKind = codes "reply"
 kind_word HeardKind = codes "heard"
+kind_word PieKind = codes "pie"
+kind_word CommandKind = codes "command"
+
+-- the first field is no name of a line code
+abbrev pub NamesNoCode : Kind → Type 0
+NamesNoCode (StreamKind code) = ⊥
+NamesNoCode kind = Unit {0}
 
 -- how many fields may stand behind the first
 abbrev pub MayHave : Kind → ℕ → Type 0
@@ -27,6 +34,8 @@ MayHave (StreamKind code) count = count ≡ 2
 MayHave SamplesKind count = count ≡ 3
 MayHave ReplyKind count = count ≡ 2
 MayHave HeardKind count = count ≡ 4
+MayHave PieKind count = (1 ≤ count) × (count ≤ 20000)
+MayHave CommandKind count = count ≡ 1
 
 -- the fields behind the first: their number is right, and none is empty
 abbrev pub HasShape : Kind → List (List ℕ) → Type 0
@@ -38,6 +47,8 @@ request_kind (Stream code trext levels) = StreamKind code
 request_kind (Samples threshold per_level samples) = SamplesKind
 request_kind (Reply expect bits) = ReplyKind
 request_kind (Heard code trext expect levels) = HeardKind
+request_kind (Pie intervals) = PieKind
+request_kind (Command bits) = CommandKind
 
 -- The fields behind the first spell the request. Sample bytes are hexadecimal digits of either case; all else has one
 -- spelling.
@@ -47,6 +58,8 @@ AreSpelled (Samples threshold per_level samples) others =
     (digits : List ℕ) × (others ≡ decimal threshold ∷ decimal per_level ∷ digits ∷ []) × (decode_of digits ≡ Ok samples)
 AreSpelled (Reply expect bits) others = others ≡ expect_word expect ∷ binary bits ∷ []
 AreSpelled (Heard code trext expect levels) others = others ≡ code_word code ∷ (binary_digit trext ∷ []) ∷ expect_word expect ∷ binary levels ∷ []
+AreSpelled (Pie intervals) others = others ≡ map decimal intervals
+AreSpelled (Command bits) others = others ≡ binary bits ∷ []
 
 -- the limits on the numbers and lists of a line
 abbrev pub IsWithinLimits : Request → Type 0
@@ -55,6 +68,8 @@ IsWithinLimits (Samples threshold per_level samples) =
     (threshold ≤ 255) × (1 ≤ per_level) × (per_level ≤ 64) × (1 ≤ length samples) × (length samples ≤ 132000)
 IsWithinLimits (Reply expect bits) = IsExpect expect × (length bits ≤ 8240)
 IsWithinLimits (Heard code trext expect levels) = IsExpect expect × (length levels ≤ 132000)
+IsWithinLimits (Pie intervals) = (1 ≤ length intervals) × (length intervals ≤ 20000) × All (λ interval. interval ≤ 999999) intervals
+IsWithinLimits (Command bits) = length bits ≤ 8240
 
 -- behind a first field of this kind, these fields ask for this
 pub record AsksBehind (kind : Kind) (others : List (List ℕ)) (request : Request) : Type 0 where

@@ -139,6 +139,61 @@ fn replies(rt: HostRuntime) -> Result<(), Fail> {
 }
 
 #[test]
+fn frames(rt: HostRuntime) -> Result<(), Fail> {
+    let cases = [
+        (
+            "pie 12500 6250 6250 25000 6250 6250 6250 6250 6250 6250 6250 6250 6250\n",
+            "sync 12500 31250 0000\n",
+        ),
+        (
+            "pie 12500 6250 6250 25000 6250 9375 6250 118750 6250\n",
+            "sync 12500 31250 11\n",
+        ),
+        (
+            "pie 12500 6250 6250 25000 6250 9375 6250 118751 6250\n",
+            "refused symbol 8\n",
+        ),
+        (
+            "pie 12500 6250 6250 25000 6250 43750 6250 12500 6250\n",
+            "preamble 12500 31250 50000 1\n",
+        ),
+        ("pie 12500 6250\n", "unfinished 2\n"),
+        ("pie 0\n", "refused delimiter\n"),
+        ("pie 12500 25000\n", "refused tari\n"),
+    ];
+    for (input, output) in cases {
+        expect_lines(&rt, input, Status::Done, output)?;
+    }
+    Ok(())
+}
+
+#[test]
+fn commands(rt: HostRuntime) -> Result<(), Fail> {
+    let cases = [
+        ("command 0000\n", "queryrep 0\n"),
+        ("command 100110110\n", "queryadjust 2 up\n"),
+        ("command 100110111\n", "refused 8 updn\n"),
+        (
+            "command 1000000000000000010000\n",
+            "query 0 fm0 0 00 0 a 0\n",
+        ),
+        (
+            "command 1100000110100001101100101000101101110010\n",
+            "req_rn A1B2\n",
+        ),
+        ("command 110000100010000000\n", "refused 17 ebv\n"),
+        ("command 00000\n", "refused 4 extra\n"),
+        ("command 1011\n", "refused 3 code\n"),
+        ("command 10\n", "short 2\n"),
+        ("command -\n", "short 0\n"),
+    ];
+    for (input, output) in cases {
+        expect_lines(&rt, input, Status::Done, output)?;
+    }
+    Ok(())
+}
+
+#[test]
 fn faulty_lines(rt: HostRuntime) -> Result<(), Fail> {
     let cases = [
         ("fm0 0 11", "fault 1 end\n"),
@@ -163,6 +218,13 @@ fn faulty_lines(rt: HostRuntime) -> Result<(), Fail> {
         ("reply rn16\n", "fault 1 shape\n"),
         ("heard fm0 0 rn16\n", "fault 1 shape\n"),
         ("heard fm1 0 rn16 1\n", "fault 1 number\n"),
+        ("fm0 0 1 1\n", "fault 1 shape\n"),
+        ("pie\n", "fault 1 shape\n"),
+        ("pie 12500  6250\n", "fault 1 shape\n"),
+        ("pie 12500 1000000\n", "fault 1 number\n"),
+        ("pie 12500 06250\n", "fault 1 number\n"),
+        ("command 2\n", "fault 1 number\n"),
+        ("command 0 0\n", "fault 1 shape\n"),
         ("samples 256 2 FF\n", "fault 1 number\n"),
         ("samples 128 0 FF\n", "fault 1 number\n"),
         ("samples 128 65 FF\n", "fault 1 number\n"),
@@ -217,6 +279,24 @@ fn long_inputs(rt: HostRuntime) -> Result<(), Fail> {
         let mut source = SureSource::new(bytes);
         let mut sink = SureSink::new();
         assert_eq!(rt; gen2run(alloc, &words, &mut source, &mut sink), status);
+    }
+    Ok(())
+}
+
+/// A `reply` or `command` line has at most 8,240 bits.
+#[test]
+fn many_bits(rt: HostRuntime) -> Result<(), Fail> {
+    let alloc = rt.alloc();
+    for (count, status, output) in [
+        (8_240usize, Status::Done, "refused length\n"),
+        (8_241, Status::BadInput, "fault 1 number\n"),
+    ] {
+        let mut line = String::from_str(alloc, "reply rn16 ")?;
+        for _ in 0..count {
+            line.push('0')?;
+        }
+        line.push('\n')?;
+        expect_lines(&rt, line.as_str(), status, output)?;
     }
     Ok(())
 }

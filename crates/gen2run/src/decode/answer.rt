@@ -1,13 +1,18 @@
 //! The answer to a decode line.
 ghost use Rattle.std.specs.Prelude.{◌≡◌, ◌≤◌, ◌++◌, length, OnOk};
 ghost use Rattle.std.specs.String.{string_bytes};
-ghost use Rattle.gen2run.specs.Answer.{AddsAnswer, answer_line, outcome_answer, slicing_answer, replied, heard};
+ghost use Rattle.gen2run.specs.Answer.{AddsAnswer, answer_line, outcome_answer, slicing_answer, framing_answer, replied, heard, commanded};
 ghost use Rattle.gen2run.specs.Request.{IsWithinLimits};
+ghost use Rattle.command_grammar.specs.Commands.{Finishes};
 
-use crate::decode::request::{MOST_LEVELS, Request};
+use crate::decode::request::{MOST_INTERVALS, MOST_LEVELS, Request};
 use air_channel::receive;
 use bit_strings::{Bits, Code, Levels, OutOfMemory};
+use command_grammar::{Command, CommandRefusal, Framer};
+use command_text::{push_command, push_command_refusal};
 use line_codes::{LineRefusal, decode_levels};
+use pie_line::{FrameKind, Intervals, PieRefusal, decode_frame};
+use pie_text::{Numbers, push_frame, push_pie_refusal};
 use reply_grammar::{Expect, Received, Reply, ReplyRefusal, decode_reply};
 use reply_text::{push_refusal, push_reply};
 use sample_slicer::{SliceRefusal, slice_levels};
@@ -20,8 +25,10 @@ pub struct Workspace {
     alloc: Global,
     levels: Levels,
     bits: Bits,
+    intervals: Intervals,
     ghost levels_room: { levels.capacity ≡ 132000 },
     ghost bits_room: { bits.capacity ≡ 132000 },
+    ghost intervals_room: { intervals.capacity ≡ 20000 },
 }
 
 impl Workspace {
@@ -29,10 +36,12 @@ impl Workspace {
     pub fn new(alloc: Global) -> Result<Workspace, OutOfMemory> {
         let levels = Levels::new(alloc, MOST_LEVELS)?;
         let bits = Bits::new(alloc, MOST_LEVELS)?;
+        let intervals = Intervals::new(alloc, MOST_INTERVALS)?;
         Ok(Workspace {
             alloc,
             levels,
             bits,
+            intervals,
         })
     }
 
@@ -59,6 +68,8 @@ impl Workspace {
                 expect,
                 levels,
             } => self.answer_heard(*code, *trext, expect, levels, text),
+            Request::Pie { intervals } => self.answer_pie(intervals, text),
+            Request::Command { bits } => self.answer_command(bits, text),
         }
     }
 
@@ -124,6 +135,26 @@ impl Workspace {
         levels.copy_to(&mut self.levels);
         let received = receive(&self.levels, code, trext, expect, &mut self.bits);
         push_received(text, &received)
+    }
+
+    /// Adds the frame that intervals are, or why they are none.
+    fn answer_pie(&mut self, intervals: &Numbers, text: &mut String) -> Result<(), OutOfMemory>
+        requires { IsWithinLimits (Request.Pie intervals.now) }
+        ensures { OnOk result (AddsAnswer (Request.Pie intervals.now) (string_bytes text.old) (string_bytes text.new)) }
+    {
+        intervals.copy_to(&mut self.intervals);
+        let outcome = decode_frame(&self.intervals, &mut self.bits);
+        push_framed(text, &outcome, &self.bits)
+    }
+
+    /// Adds the command that bits are, or why they are none.
+    fn answer_command(&mut self, bits: &Digits, text: &mut String) -> Result<(), OutOfMemory>
+        requires { IsWithinLimits (Request.Command bits.now) }
+        ensures { OnOk result (AddsAnswer (Request.Command bits.now) (string_bytes text.old) (string_bytes text.new)) }
+    {
+        bits.copy_to(&mut self.bits);
+        let outcome = command_of(self.bits.as_slice());
+        push_commanded(text, &outcome)
     }
 }
 
@@ -200,4 +231,44 @@ fn push_received(text: &mut String, received: &Received) -> Result<(), OutOfMemo
         }
     }
     text.push_str("\n")
+}
+
+/// Adds what the decoder of frames answered, as a line.
+fn push_framed(
+    text: &mut String,
+    outcome: &Result<FrameKind, PieRefusal>,
+    bits: &Bits,
+) -> Result<(), OutOfMemory>
+    ensures { OnOk result (string_bytes text.new ≡ string_bytes text.old ++ answer_line (framing_answer outcome.now bits.now.items)) }
+{
+    match outcome {
+        Ok(kind) => push_frame(text, kind, bits)?,
+        Err(refusal) => push_pie_refusal(text, *refusal)?,
+    }
+    text.push_str("\n")
+}
+
+/// Adds what the framer answered, as a line.
+fn push_commanded(
+    text: &mut String,
+    outcome: &Result<Command, CommandRefusal>,
+) -> Result<(), OutOfMemory>
+    ensures { OnOk result (string_bytes text.new ≡ string_bytes text.old ++ answer_line (commanded outcome.now)) }
+{
+    match outcome {
+        Ok(command) => push_command(text, command)?,
+        Err(refusal) => push_command_refusal(text, *refusal)?,
+    }
+    text.push_str("\n")
+}
+
+/// The command that bits are, or why they are none.
+fn command_of(bits: &[bool]) -> Result<Command, CommandRefusal>
+    ensures { Finishes result bits.now }
+{
+    let mut framer = Framer::new();
+    for bit in bits {
+        framer.push(*bit);
+    }
+    framer.finish()
 }

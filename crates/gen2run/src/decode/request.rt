@@ -1,13 +1,16 @@
 //! A decode line, read.
-ghost use Rattle.std.specs.Prelude.{◌≡◌, ◌≢◌, ℕ, List, ◌∷◌, IfOk, IfErr, IfSome, Some, Ok};
+ghost use Rattle.std.specs.Prelude.{◌≡◌, ◌≢◌, ℕ, List, ◌∷◌, IfOk, IfErr, IfSome, IfNone};
 ghost use Rattle.text_fields.specs.Lines.{fields_of};
-ghost use Rattle.gen2run.specs.Request.{kind_word, Spells, AsksBehind, AreFaulty, IsFaulty};
+ghost use Rattle.gen2run.specs.Request.{kind_word, NamesNoCode, Spells, AsksBehind, AreFaulty, IsFaulty};
 
 use bit_strings::Code;
 use line_codes::code_named;
+use pie_text::{NotNumbers, Numbers};
 use reply_grammar::Expect;
 use reply_text::expect_of;
-use text_fields::{Digits, Fields, HexBytes, flag, four_fields, number, three_fields, two_fields};
+use text_fields::{
+    Digits, Fields, HexBytes, flag, four_fields, number, one_field, three_fields, two_fields,
+};
 
 /// The greatest number of levels in a line.
 pub const MOST_LEVELS: u32 = 132_000;
@@ -21,6 +24,12 @@ const MOST_PER_LEVEL: u32 = 64;
 /// The greatest number of bits in a line.
 pub const MOST_BITS: u32 = 8_240;
 
+/// The greatest number of intervals in a line.
+pub const MOST_INTERVALS: u32 = 20_000;
+
+/// The greatest interval in a line, in nanoseconds.
+const MOST_NANOSECONDS: u32 = 999_999;
+
 /// What a line is, by its first field.
 #[derive(Clone, Copy, Debug, PartialEq, Eq)]
 pub enum Kind {
@@ -32,6 +41,10 @@ pub enum Kind {
     Reply,
     /// Levels in which a tag's reply is expected.
     Heard,
+    /// Intervals of an interrogator's frame.
+    Pie,
+    /// Bits of an interrogator's command.
+    Command,
 }
 
 /// What a line asks for.
@@ -61,6 +74,14 @@ pub enum Request<'a> {
         expect: Expect,
         levels: Digits<'a>,
     },
+    /// The frame that intervals are: `pie INTERVALS`.
+    Pie {
+        intervals: Numbers<'a>,
+    },
+    /// The command that bits are: `command BITS`.
+    Command {
+        bits: Digits<'a>,
+    },
 }
 
 /// Why a line is refused, in the order in which the reasons are looked for.
@@ -85,19 +106,29 @@ pub struct Fault {
     pub reason: Reason,
 }
 
-/// What a first field says; none where no line begins with it.
+/// What a first field says; none exactly where no line begins with it.
 fn kind_of(word: &[u8]) -> Option<Kind>
     ensures found { IfSome result (λ kind. word.now ≡ kind_word kind) }
-    ensures only { (kind : Kind) → word.now ≡ kind_word kind → result ≡ Some kind }
+    ensures none { IfNone result ((kind : Kind) → word.now ≢ kind_word kind) }
+{
+    match code_named(word) {
+        Some(code) => Some(Kind::Stream(code)),
+        None => other_kind(word),
+    }
+}
+
+/// What a first field says that names no line code.
+fn other_kind(word: &[u8]) -> Option<Kind>
+    ensures found { IfSome result (λ kind. word.now ≡ kind_word kind) }
+    ensures none { IfNone result ((kind : Kind) → NamesNoCode kind → word.now ≢ kind_word kind) }
 {
     match word {
         b"samples" => Some(Kind::Samples),
         b"reply" => Some(Kind::Reply),
         b"heard" => Some(Kind::Heard),
-        _ => match code_named(word) {
-            Some(code) => Some(Kind::Stream(code)),
-            None => None,
-        },
+        b"pie" => Some(Kind::Pie),
+        b"command" => Some(Kind::Command),
+        _ => None,
     }
 }
 
@@ -116,6 +147,8 @@ pub fn request_of(line: &[u8]) -> Result<Request<'_>, Reason>
         Some(Kind::Samples) => samples_of(fields),
         Some(Kind::Reply) => reply_of(fields),
         Some(Kind::Heard) => heard_of(fields),
+        Some(Kind::Pie) => pie_of(fields),
+        Some(Kind::Command) => command_of(fields),
         None => Err(Reason::Word),
     }
 }
@@ -211,4 +244,30 @@ fn heard_of<'a>(others: Fields<'a>) -> Result<Request<'a>, Reason>
         expect,
         levels,
     })
+}
+
+/// The request of a line that begins with `pie`, by its other fields.
+fn pie_of<'a>(others: Fields<'a>) -> Result<Request<'a>, Reason>
+    ensures ok { IfOk result (AsksBehind Kind.Pie others.entry) }
+    ensures refused { IfErr result (AreFaulty Kind.Pie others.entry) }
+{
+    match Numbers::new(others, MOST_INTERVALS, MOST_NANOSECONDS) {
+        Ok(intervals) => Ok(Request::Pie { intervals }),
+        Err(NotNumbers::Shape) => Err(Reason::Shape),
+        Err(NotNumbers::Number) => Err(Reason::Number),
+    }
+}
+
+/// The request of a line that begins with `command`, by its other field.
+fn command_of<'a>(others: Fields<'a>) -> Result<Request<'a>, Reason>
+    ensures ok { IfOk result (AsksBehind Kind.Command others.entry) }
+    ensures refused { IfErr result (AreFaulty Kind.Command others.entry) }
+{
+    let Some(bits) = one_field(others) else {
+        return Err(Reason::Shape);
+    };
+    let Some(bits) = Digits::new(bits, MOST_BITS) else {
+        return Err(Reason::Number);
+    };
+    Ok(Request::Command { bits })
 }
