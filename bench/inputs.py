@@ -1,0 +1,103 @@
+#!/usr/bin/env python3
+"""Writes an input of decode lines of one kind: inputs.py KIND BYTES > FILE.
+
+Each line is as long as a line may be (or a whole reply), and each stream, reply and sample group is a good one, so that
+the decoder goes over all of it. The input has at most BYTES bytes.
+"""
+
+import random
+import sys
+
+PREAMBLE = "110100100011"
+
+
+def fm0(bits):
+    level, levels = True, []
+    for bit in bits + [1]:
+        first = not level
+        level = first if bit else not first
+        levels += [first, level]
+    return PREAMBLE + "".join("1" if x else "0" for x in levels)
+
+
+def miller(m, bits):
+    def half(phase):
+        return "".join("1" if (place % 2 == 0) != phase else "0" for place in range(m))
+
+    def symbol(start, middle):
+        return half(start) + half(middle)
+
+    lead = symbol(False, False) * 4 + "".join(
+        symbol(bool(a), bool(b)) for a, b in [(0, 0), (0, 1), (1, 1), (1, 0), (0, 1), (1, 0)]
+    )
+    before, phase, out = 1, False, [lead]
+    for bit in bits + [1]:
+        start = phase if bit or before else not phase
+        phase = not start if bit else start
+        out.append(symbol(start, phase))
+        before = bit
+    return "".join(out)
+
+
+def crc16(bits):
+    register = 0xFFFF
+    for bit in bits:
+        top = (register >> 15) ^ bit
+        register = (register << 1) & 0xFFFF
+        if top:
+            register ^= 0x1021
+    return register ^ 0xFFFF
+
+
+def field(value, width):
+    return [(value >> place) & 1 for place in reversed(range(width))]
+
+
+def reply(words, handle):
+    bits = [0] + [bit for word in words for bit in field(word, 16)] + field(handle, 16)
+    return bits + field(crc16(bits), 16)
+
+
+def digits(bits):
+    return "".join(map(str, bits))
+
+
+def line(kind, rng):
+    def some_bits(count):
+        return [rng.randrange(2) for _ in range(count)]
+
+    if kind == "fm0":
+        return "fm0 0 " + fm0(some_bits(65_900))
+    if kind in ("m2", "m4", "m8"):
+        m = int(kind[1])
+        return f"{kind} 0 " + miller(m, some_bits(132_000 // (2 * m) - 20))
+    if kind == "samples":
+        groups = ["FFFFFFFF" if bit else "00000000" for bit in some_bits(33_000)]
+        return "samples 128 4 " + "".join(groups)
+    if kind == "reply":
+        return "reply any-A1B2 " + digits(reply([rng.randrange(65_536) for _ in range(512)], 0xA1B2))
+    if kind == "heard":
+        return "heard m4 0 any-A1B2 " + miller(4, reply([rng.randrange(65_536) for _ in range(512)], 0xA1B2))
+    if kind == "pie":
+        return "pie 12500 6250 6250 25000 6250" + "".join(
+            " 12500 6250" if bit else " 6250 6250" for bit in some_bits(9_990)
+        )
+    if kind == "command":
+        return "command " + digits(field(0b11000001, 8) + field(0xA1B2, 16) + field(crc16(field(0b11000001, 8) + field(0xA1B2, 16)), 16))
+    sys.exit(f"no such kind of line: {kind}")
+
+
+def main():
+    kind, size = sys.argv[1], int(sys.argv[2])
+    rng = random.Random(7)
+    lines = [line(kind, rng) + "\n" for _ in range(4)]
+    written = 0
+    while True:
+        for text in lines:
+            if written + len(text) > size:
+                return
+            sys.stdout.write(text)
+            written += len(text)
+
+
+main()
