@@ -1,10 +1,9 @@
 -- At most one answer holds where an extensible bit vector is looked for.
-use Rattle.std.proofs.Common.{◌≡◌, ◌≢◌, ℕ, zero, suc, ◌+◌, ◌-◌, ◌<◌, ◌≤◌, Bool, true, List, [], ◌∷◌, ◌++◌, length, take, drop, refl, sym, ◌∙◌, ap, subst, arith, length-append, length-take, length-drop, append_assoc, append-nil, Some}
+use Rattle.std.proofs.Common.{◌≡◌, ℕ, zero, suc, ◌-◌, ◌≤◌, Bool, true, List, [], ◌∷◌, ◌++◌, length, take, drop, refl, sym, ◌∙◌, ap, subst, arith, length-append, length-take, length-drop, append_assoc, append-nil, Some}
 use Rattle.std.specs.Prelude.{slice_get}
-use Rattle.std.proofs.lemmas.Option.{slice_get_within}
 use Rattle.std.proofs.lemmas.List.{take-append-drop, take-append-le, nil_from_length}
 use Rattle.bit_strings.specs.Numbers.{part_of}
-use Rattle.bit_strings.specs.Ebv.{IsEbv, IsCutEbv, IsTooLong, BeginsWithNothing}
+use Rattle.bit_strings.specs.Ebv.{IsCutEbv, IsTooLong, BeginsWithNothing}
 use Rattle.bit_strings.specs.EbvLaws.{ebv_apart, says-ebv, ends-ebv}
 use Rattle.bit_strings.specs.EbvAnswers.{Answers, StandsAt}
 use Rattle.bit_strings.specs.declared.ebv.Ebv.{Ebv}

@@ -1,5 +1,5 @@
 -- How an extensible bit vector is read block by block.
-use Rattle.std.proofs.Common.{◌≡◌, ◌≢◌, ℕ, zero, suc, ◌+◌, ◌-◌, ◌*◌, ◌/◌, ◌^◌, ◌<◌, ◌≤◌, Bool, true, false, List, [], ◌∷◌, ◌++◌, length, take, drop, replicate, refl, sym, ◌∙◌, ap, subst, inl, inr, arith, length-append, length-take, length-drop, append_assoc, append-nil, add-one}
+use Rattle.std.proofs.Common.{◌≡◌, ◌≢◌, ℕ, zero, suc, ◌+◌, ◌-◌, ◌*◌, ◌^◌, ◌<◌, ◌≤◌, Bool, true, false, List, [], ◌∷◌, ◌++◌, length, take, drop, replicate, refl, sym, ◌∙◌, ap, subst, inl, inr, arith, length-append, length-take, length-drop, append_assoc, append-nil, add-one}
 use Rattle.std.proofs.Math.Nat.{pow-suc, pow-le-pow_right}
 use Rattle.std.proofs.lemmas.Bool.{cases_lt, true≢false, false≢true}
 use Rattle.std.specs.Prelude.{slice_get, Some, None, Option, ◌⊎◌}
@@ -7,9 +7,9 @@ use Rattle.std.specs.Option.{option_eq}
 use mathlib.Core.Bool.{beq}
 use Rattle.std.proofs.lemmas.List.{take_at, drop_at, drop-drop, length-replicate, take-append-drop}
 use Rattle.std.proofs.lemmas.List.Elements.{All-push}
-use Rattle.bit_strings.specs.Numbers.{value_of, field_of, part_of, digit_of}
+use Rattle.bit_strings.specs.Numbers.{value_of, part_of}
 use Rattle.bit_strings.specs.NumberLaws.{value_of-within, value_of-push}
-use Rattle.bit_strings.specs.Ebv.{ebv_of, number_of, blocks_of, IsShortest, IsEbv, IsCutEbv, IsTooLong, BeginsWithNothing}
+use Rattle.bit_strings.specs.Ebv.{number_of, blocks_of, IsShortest, IsEbv, IsCutEbv, IsTooLong, BeginsWithNothing}
 use Rattle.bit_strings.specs.EbvLaws.{AreSevens, seven-head, seven-tail, number_of-below, slice_get-skip, nothing-digit, digit-nothing}
 use Rattle.bit_strings.specs.EbvAnswers.{Begins, BeginsBlock, StandsAt}
 use Rattle.bit_strings.specs.declared.ebv.Block.{Block}

@@ -1,11 +1,11 @@
 -- How an extensible bit vector is written block by block.
-use Rattle.std.proofs.Common.{◌≡◌, ℕ, zero, suc, ◌+◌, ◌*◌, ◌/◌, ◌%◌, ◌^◌, ◌<◌, ◌≤◌, Bool, true, false, List, [], ◌∷◌, ◌++◌, length, sym, ◌∙◌, ap, refl, inl, inr, subst, arith, length-append, append_assoc, append-nil}
+use Rattle.std.proofs.Common.{◌≡◌, ℕ, zero, suc, ◌+◌, ◌*◌, ◌/◌, ◌%◌, ◌^◌, ◌<◌, ◌≤◌, Bool, true, false, List, [], ◌∷◌, ◌++◌, length, sym, ◌∙◌, ap, inl, inr, arith, length-append, append_assoc, append-nil}
 use Rattle.std.specs.Prelude.{nat_lt}
 use Rattle.std.proofs.Math.Nat.{div-one}
 use Rattle.std.proofs.lemmas.Bool.{cases_lt}
 use Rattle.bit_strings.specs.Numbers.{field_of}
 use Rattle.bit_strings.specs.NumberLaws.{length-field_of, field_of-mod}
-use Rattle.bit_strings.specs.Ebv.{ebv_of, blocks_of}
+use Rattle.bit_strings.specs.Ebv.{ebv_of}
 use Rattle.bit_strings.specs.EbvLaws.{ebv_of-one, ebv_of-two, ebv_of-three, ebv_of-four}
 
 -- the last so many blocks of a number

@@ -1,4 +1,4 @@
--- 6.3.2.11 (extensible bit vectors) and Annex A: an extensible bit vector is a list of blocks of eight bits, each an
+-- Annex A: an extensible bit vector is a list of blocks of eight bits, each an
 -- extension bit and seven bits of data. Profile: only the shortest spelling, of at most four blocks, is accepted.
 use Rattle.std.specs.Prelude.{◌≡◌, ◌≢◌, ℕ, ◌+◌, ◌*◌, ◌^◌, ◌/◌, ◌≤◌, Bool, true, false, List, [], ◌∷◌, ◌++◌, length, take, All, Some, slice_get, nat_lt, if◌then◌else◌}
 use Rattle.bit_strings.specs.Numbers.{value_of, field_of}

@@ -1,14 +1,14 @@
 -- The laws of extensible bit vectors.
-use Rattle.std.specs.Prelude.{◌≡◌, ◌≢◌, ℕ, zero, suc, ◌+◌, ◌*◌, ◌/◌, ◌%◌, ◌^◌, ◌<◌, ◌≤◌, Bool, true, false, List, [], ◌∷◌, ◌++◌, length, take, drop, slice_get, Option, Some, All, nat_lt, refl}
-use Rattle.std.proofs.Common.{sym, ◌∙◌, ap, subst, inl, inr, arith, length-append, append_assoc, append-nil, zero-add}
+use Rattle.std.specs.Prelude.{◌≡◌, ℕ, zero, suc, ◌+◌, ◌*◌, ◌/◌, ◌%◌, ◌^◌, ◌<◌, ◌≤◌, Bool, true, false, List, [], ◌∷◌, ◌++◌, length, take, slice_get, Option, Some, All, nat_lt, refl}
+use Rattle.std.proofs.Common.{sym, ◌∙◌, ap, subst, inl, inr, arith, append_assoc, zero-add}
 use Rattle.std.proofs.Math.Nat.{pow-suc, pow-le-pow_right, mul-le-mul_right}
 use Rattle.std.proofs.lemmas.Nat.{mul-add-lt, same_from_place}
 use Rattle.std.proofs.lemmas.List.{take_at}
 use Rattle.std.proofs.lemmas.Bool.{cases_lt, cond-true, cond-false, lt-ltb, le-ltb}
 use Rattle.std.proofs.lemmas.List.Elements.{All-head, All-tail, All-cons, All-nil}
 use Rattle.bit_strings.specs.Numbers.{value_of, field_of}
-use Rattle.bit_strings.specs.NumberLaws.{length-field_of, value_of-below, value_of-within, value_of-field_of, value_of-field, same_from_value}
-use Rattle.bit_strings.specs.Ebv.{IsEbv, number_of, blocks_of, IsShortest, BeginsWithNothing, IsTooLong, IsCutEbv, ebv_of}
+use Rattle.bit_strings.specs.NumberLaws.{length-field_of, value_of-within, value_of-field_of, same_from_value}
+use Rattle.bit_strings.specs.Ebv.{IsEbv, number_of, blocks_of, IsShortest, BeginsWithNothing, ebv_of}
 
 -- each digit has seven bits
 abbrev pub AreSevens : List (List Bool) → Type 0

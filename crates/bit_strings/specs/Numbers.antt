@@ -1,4 +1,4 @@
--- 6.3.2.3 Transmission order: a field of a packet is sent most significant bit first. So a list of bits is a
+-- 6.3.1.4 Transmission order: a field of a packet is sent most significant bit first. So a list of bits is a
 -- number to the base 2, its most significant digit first.
 use Rattle.std.specs.Prelude.{ℕ, zero, suc, ◌+◌, ◌*◌, ◌/◌, ◌%◌, ◌^◌, ◌==◌, Bool, List, [], ◌∷◌, length, take, drop, if◌then◌else◌}
 

@@ -85,7 +85,7 @@ impl QValue {
     }
 }
 
-/// The action of a Select, 0 to 7 (6.3.2.11.1.1 Select, Table 6.20).
+/// The action of a Select, 0 to 7 (6.3.2.11.1.1 Select).
 #[derive(Clone, Copy, Debug, PartialEq, Eq)]
 pub struct Action {
     number: u8,

@@ -1,7 +1,7 @@
 //! The line codes that an interrogator can ask for.
 
 /// The code and the number of subcarrier cycles a bit that the M field of a Query sets for the
-/// backscatter (6.3.2.11.2.1 Query, Table 6.21).
+/// backscatter (6.3.2.11.2.1 Query).
 #[derive(Clone, Copy, Debug, PartialEq, Eq)]
 pub enum Code {
     /// M is 00: FM0 baseband, one cycle a bit.

@@ -1,4 +1,4 @@
-//! Numbers in a list of bits, each most significant bit first (6.3.2.3 Transmission order).
+//! Numbers in a list of bits, each most significant bit first (6.3.1.4 Transmission order).
 ghost use Rattle.std.specs.Prelude.{◌≡◌, ◌+◌, ◌^◌, ◌<◌, ◌≤◌, ◌↔◌, ◌++◌, length, IsErr, IsNone, IfSome, OnErr, bit_xor};
 ghost use Rattle.bit_strings.specs.Numbers.{value_of, field_of, part_of};
 

@@ -1,5 +1,5 @@
 -- Words are read as they are spelled.
-use Rattle.std.proofs.Common.{◌≡◌, ℕ, zero, suc, Bool, List, [], ◌∷◌, ◌++◌, length, Ok, refl, sym, ap, subst, ◌∙◌, arith}
+use Rattle.std.proofs.Common.{◌≡◌, ℕ, zero, suc, ◌^◌, ◌<◌, Bool, List, [], ◌∷◌, ◌++◌, length, Ok, refl, sym, ap, subst, ◌∙◌, get_or, arith}
 use Rattle.std.specs.Prelude.{Option}
 use Rattle.std.specs.List.{AllByRecursion}
 use Rattle.bit_strings.specs.Numbers.{field_of}
@@ -48,3 +48,8 @@ reads_words (suc count) name =
     (λ word front h. reads_map (AreWords count) (Behind count word) name (words_at count) (λ bits. words_at count bits >>= λ words. Ok (word ∷ words.0, words.1)) (λ (words : List ℕ). word ∷ words) (λ bits. refl)
     (λ words bits h. (words, refl, h)) (λ all bits h. (h.0, h.2, sym h.1)) (reads_words count name))
     (λ word front h. let w = some_words count in (word ∷ w.0, w.1, (w.0, refl, w.2))))
+
+-- numbers of 16 bits are words
+pub are_words : (numbers : List ℕ) → ((k : ℕ) → get_or numbers k 0 < 2 ^ 16) → AllByRecursion IsWord numbers
+are_words [] small = tt
+are_words (n ∷ numbers) small = (small 0, are_words numbers (λ k. small (suc k)))

@@ -1,9 +1,10 @@
 //! Commands to bits, most significant bit first (6.3.2.11).
 ghost use Rattle.std.specs.Prelude.{◌≡◌, ◌+◌, ◌*◌, ◌≤◌, ◌^◌, ◌<◌, ◌++◌, ◌∷◌, [], length};
+ghost use Rattle.std.specs.List.{AllByRecursion};
 ghost use Rattle.bit_strings.specs.Numbers.{field_of};
 ghost use Rattle.bit_strings.specs.Ebv.{ebv_of};
 ghost use Rattle.gen2_crc.specs.Crc.{crc5_of, crc16_of};
-ghost use Rattle.command_grammar.specs.Commands.{spelling_of, bits_of_code, bits_of_sel, bits_of_side, bits_of_updn, bits_of_target, bits_of_mask_bank, bits_of_bank, bits_of_words};
+ghost use Rattle.command_grammar.specs.Commands.{IsLegal, IsWord, spelling_of, bits_of_code, bits_of_sel, bits_of_side, bits_of_updn, bits_of_target, bits_of_mask_bank, bits_of_bank, bits_of_words};
 ghost use Rattle.command_grammar.specs.declared.commands.Command.TheVariants.{QueryRep, Ack, Query, QueryAdjust, Select, Nak, ReqRn, Read, Write, Kill, Lock, Access, BlockWrite, BlockErase};
 
 use crate::command::{Bank, FlagName, MaskBank, Sel, Side, UpDn};
@@ -16,7 +17,8 @@ use gen2_crc::{crc5_of_bits, crc16_of_bits};
 /// more than 4,162 bits.
 pub fn encode_command(command: &Command, out: &mut Bits)
     requires { 4170 ≤ out.old.capacity }
-    ensures { out.new ≡ record out.old { items = spelling_of command.now } }
+    ensures spelled { out.new ≡ record out.old { items = spelling_of command.now } }
+    ensures legal { IsLegal command.now }
 {
     out.clear();
     match command {
@@ -101,6 +103,7 @@ fn put_words(out: &mut Bits, words: &[u16])
     ensures items { out.new.items ≡ out.old.items ++ bits_of_words words.now }
     ensures count { length out.new.items ≡ length out.old.items + 16 * length words.now }
     ensures capacity { out.new.capacity ≡ out.old.capacity }
+    ensures words { AllByRecursion IsWord words.now }
 {
     for word in words {
         put(out, u32::from(*word), 16);
@@ -113,6 +116,7 @@ fn put_pointer(out: &mut Bits, pointer: Pointer)
     ensures items { out.new.items ≡ out.old.items ++ ebv_of pointer }
     ensures count { length out.new.items ≤ length out.old.items + 32 }
     ensures capacity { out.new.capacity ≡ out.old.capacity }
+    ensures range { pointer < 2 ^ 28 }
 {
     let _ = out.put_ebv(pointer.get());
 }
@@ -216,6 +220,7 @@ fn put_query_rep(out: &mut Bits, session: Session)
     requires empty { out.old.items ≡ [] }
     requires room { 4170 ≤ out.old.capacity }
     ensures items { out.new.items ≡ spelling_of (QueryRep session) }
+    ensures legal { IsLegal (QueryRep session) }
     ensures capacity { out.new.capacity ≡ out.old.capacity }
 {
     put_bits(out, &[false, false]);
@@ -227,6 +232,7 @@ fn put_ack(out: &mut Bits, rn: u16)
     requires empty { out.old.items ≡ [] }
     requires room { 4170 ≤ out.old.capacity }
     ensures items { out.new.items ≡ spelling_of (Ack rn) }
+    ensures legal { IsLegal (Ack rn) }
     ensures capacity { out.new.capacity ≡ out.old.capacity }
 {
     put_bits(out, &[false, true]);
@@ -247,6 +253,7 @@ fn put_query(
     requires empty { out.old.items ≡ [] }
     requires room { 4170 ≤ out.old.capacity }
     ensures items { out.new.items ≡ spelling_of (Query dr code trext sel session target q) }
+    ensures legal { IsLegal (Query dr code trext sel session target q) }
     ensures capacity { out.new.capacity ≡ out.old.capacity }
 {
     put_bits(out, &[true, false, false, false]);
@@ -265,6 +272,7 @@ fn put_query_adjust(out: &mut Bits, session: Session, updn: UpDn)
     requires empty { out.old.items ≡ [] }
     requires room { 4170 ≤ out.old.capacity }
     ensures items { out.new.items ≡ spelling_of (QueryAdjust session updn) }
+    ensures legal { IsLegal (QueryAdjust session updn) }
     ensures capacity { out.new.capacity ≡ out.old.capacity }
 {
     put_bits(out, &[true, false, false, true]);
@@ -284,6 +292,7 @@ fn put_select(
     requires empty { out.old.items ≡ [] }
     requires room { 4170 ≤ out.old.capacity }
     ensures items { out.new.items ≡ spelling_of (Select target action bank pointer mask.now) }
+    ensures legal { IsLegal (Select target action bank pointer mask.now) }
     ensures capacity { out.new.capacity ≡ out.old.capacity }
 {
     put_bits(out, &[true, false, true, false]);
@@ -302,6 +311,7 @@ fn put_nak(out: &mut Bits)
     requires empty { out.old.items ≡ [] }
     requires room { 4170 ≤ out.old.capacity }
     ensures items { out.new.items ≡ spelling_of (Nak) }
+    ensures legal { IsLegal (Nak) }
     ensures capacity { out.new.capacity ≡ out.old.capacity }
 {
     put_bits(out, &[true, true, false, false, false, false, false, false]);
@@ -312,6 +322,7 @@ fn put_req_rn(out: &mut Bits, rn: u16)
     requires empty { out.old.items ≡ [] }
     requires room { 4170 ≤ out.old.capacity }
     ensures items { out.new.items ≡ spelling_of (ReqRn rn) }
+    ensures legal { IsLegal (ReqRn rn) }
     ensures capacity { out.new.capacity ≡ out.old.capacity }
 {
     put_bits(out, &[true, true, false, false, false, false, false, true]);
@@ -324,6 +335,7 @@ fn put_read(out: &mut Bits, bank: Bank, pointer: Pointer, count: u8, rn: u16)
     requires empty { out.old.items ≡ [] }
     requires room { 4170 ≤ out.old.capacity }
     ensures items { out.new.items ≡ spelling_of (Read bank pointer count rn) }
+    ensures legal { IsLegal (Read bank pointer count rn) }
     ensures capacity { out.new.capacity ≡ out.old.capacity }
 {
     put_bits(out, &[true, true, false, false, false, false, true, false]);
@@ -339,6 +351,7 @@ fn put_write(out: &mut Bits, bank: Bank, pointer: Pointer, covered: u16, rn: u16
     requires empty { out.old.items ≡ [] }
     requires room { 4170 ≤ out.old.capacity }
     ensures items { out.new.items ≡ spelling_of (Write bank pointer covered rn) }
+    ensures legal { IsLegal (Write bank pointer covered rn) }
     ensures capacity { out.new.capacity ≡ out.old.capacity }
 {
     put_bits(out, &[true, true, false, false, false, false, true, true]);
@@ -354,6 +367,7 @@ fn put_kill(out: &mut Bits, covered: u16, rn: u16)
     requires empty { out.old.items ≡ [] }
     requires room { 4170 ≤ out.old.capacity }
     ensures items { out.new.items ≡ spelling_of (Kill covered rn) }
+    ensures legal { IsLegal (Kill covered rn) }
     ensures capacity { out.new.capacity ≡ out.old.capacity }
 {
     put_bits(out, &[true, true, false, false, false, true, false, false]);
@@ -368,6 +382,7 @@ fn put_lock(out: &mut Bits, payload: Payload, rn: u16)
     requires empty { out.old.items ≡ [] }
     requires room { 4170 ≤ out.old.capacity }
     ensures items { out.new.items ≡ spelling_of (Lock payload rn) }
+    ensures legal { IsLegal (Lock payload rn) }
     ensures capacity { out.new.capacity ≡ out.old.capacity }
 {
     put_bits(out, &[true, true, false, false, false, true, false, true]);
@@ -381,6 +396,7 @@ fn put_access(out: &mut Bits, covered: u16, rn: u16)
     requires empty { out.old.items ≡ [] }
     requires room { 4170 ≤ out.old.capacity }
     ensures items { out.new.items ≡ spelling_of (Access covered rn) }
+    ensures legal { IsLegal (Access covered rn) }
     ensures capacity { out.new.capacity ≡ out.old.capacity }
 {
     put_bits(out, &[true, true, false, false, false, true, true, false]);
@@ -394,6 +410,7 @@ fn put_block_write(out: &mut Bits, bank: Bank, pointer: Pointer, words: &BlockWo
     requires empty { out.old.items ≡ [] }
     requires room { 4170 ≤ out.old.capacity }
     ensures items { out.new.items ≡ spelling_of (BlockWrite bank pointer words.now rn) }
+    ensures legal { IsLegal (BlockWrite bank pointer words.now rn) }
     ensures capacity { out.new.capacity ≡ out.old.capacity }
 {
     put_bits(out, &[true, true, false, false, false, true, true, true]);
@@ -410,6 +427,7 @@ fn put_block_erase(out: &mut Bits, bank: Bank, pointer: Pointer, count: Count1, 
     requires empty { out.old.items ≡ [] }
     requires room { 4170 ≤ out.old.capacity }
     ensures items { out.new.items ≡ spelling_of (BlockErase bank pointer count rn) }
+    ensures legal { IsLegal (BlockErase bank pointer count rn) }
     ensures capacity { out.new.capacity ≡ out.old.capacity }
 {
     put_bits(out, &[true, true, false, false, true, false, false, false]);

@@ -1,4 +1,4 @@
--- Annex F (CRC-5) and 6.3.2.1.2 with Annex F (CRC-16): a check number is what long division of the whole message
+-- 6.3.1.5 Cyclic-redundancy check and Annex F: a check number is what long division of the whole message
 -- leaves. Polynomials are lists of coefficients, each 0 or 1, highest power first.
 use Rattle.std.specs.Prelude.{◌≡◌, ℕ, zero, suc, Bool, true, false, not, List, [], ◌∷◌, ◌++◌, length, map, replicate}
 use Rattle.bit_strings.specs.Numbers.{value_of}

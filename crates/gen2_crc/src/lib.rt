@@ -1,5 +1,5 @@
 //! The check numbers of packets: the CRC-5 of a Query and the CRC-16 of all other commands and replies
-//! that have one (6.3.2.1 Protection: CRC-16, CRC-5; Annex F).
+//! that have one (6.3.1.5 Cyclic-redundancy check; Annex F).
 #![tactic(auto)]
 
 ghost use Rattle.std.specs.Prelude.{◌≡◌, ◌+◌, ◌<◌, ◌≤◌, ◌↔◌, List, Bool, [], ◌∷◌, ◌++◌, length, take, IsTrue};

@@ -1,4 +1,4 @@
--- The replies of tags as bits (6.3.2.11 Commands and replies, tables of the replies to each command).
+-- The replies of tags as bits (6.3.2.11 Interrogator commands and Tag replies).
 use Rattle.std.specs.Prelude.{◌≡◌, ℕ, ◌/◌, ◌^◌, ◌<◌, ◌≤◌, Bool, true, false, List, [], ◌∷◌, ◌++◌, length, All}
 use Rattle.bit_strings.specs.Numbers.{field_of}
 use Rattle.gen2_crc.specs.Crc.{crc16_of}

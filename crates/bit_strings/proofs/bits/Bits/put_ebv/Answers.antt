@@ -1,4 +1,4 @@
-use Rattle.std.proofs.Common.{◌≡◌, ◌+◌, ◌-◌, ◌++◌, ap, sym, refl, arith, length-append, List, Bool}
+use Rattle.std.proofs.Common.{◌-◌, ◌++◌, ap, sym, refl, arith, length-append, List, Bool}
 use Rattle.bit_strings.specs.NumberLaws.{length-field_of}
 use Rattle.bit_strings.proofs.Digits.{same_string, bit_and_field}
 use Rattle.bit_strings.proofs.EbvWriting.{ebv_of-blocks, block_more, blocks_all}

@@ -1,5 +1,4 @@
-use Rattle.std.proofs.Common.{◌≡◌, ◌+◌, ◌-◌, ◌++◌, arith, length-append}
-use Rattle.bit_strings.specs.Numbers.{field_of}
+use Rattle.std.proofs.Common.{◌-◌, arith, length-append}
 use Rattle.bit_strings.proofs.Digits.{field_more, field_all, same_string}
 use Rattle.bit_strings.proofs.bits.Bits.put_field.Goals as goal
 

@@ -1,5 +1,5 @@
-use Rattle.std.proofs.Common.{arith, length-take, length-drop, take, drop}
-use Rattle.bit_strings.specs.Numbers.{part_of, value_of}
+use Rattle.std.proofs.Common.{arith, length-take, drop}
+use Rattle.bit_strings.specs.Numbers.{part_of}
 use Rattle.bit_strings.specs.NumberLaws.{value_of-within}
 use Rattle.bit_strings.proofs.bits.Bits.word.Goals as goal
 
