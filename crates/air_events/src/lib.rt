@@ -1,0 +1,42 @@
+//! What befalls a tag or the channel besides commands: events of tags, and what a scenario says of one
+//! exchange. All of it is profile: the standard leaves power, time and the channel to the world.
+#![tactic(auto)]
+
+use bit_strings::List;
+use command_grammar::FlagName;
+
+/// What befalls one tag besides commands.
+#[derive(Clone, Copy, Debug, PartialEq, Eq)]
+pub enum Event {
+    /// The time T2 passes in which a tag waits for its interrogator (6.3.1.6 Link timing).
+    Timeout,
+    /// The tag loses power.
+    Off,
+    /// The tag gets power.
+    On,
+    /// The persistence of a flag ends (6.3.2.2 Sessions and inventoried flags, the table of persistence).
+    Expire(FlagName),
+}
+
+/// What the channel gives of the replies to one command, in place of its default.
+#[derive(Clone, Copy, Debug, PartialEq, Eq)]
+pub enum Choice {
+    /// The stream of the reply with this number, counted from 0 in the order of the tags, or silence
+    /// where there is none.
+    Pick(u32),
+    /// Silence.
+    Silent,
+    /// The first reply's stream with one level inverted: that at this number modulo the stream's length.
+    Break(u32),
+}
+
+/// What a scenario says of one exchange.
+#[derive(Drop)]
+pub struct Entry {
+    /// The events before the command, each with the number of its tag, in order.
+    pub events: List<(Event, u32)>,
+    /// The numbers of the tags that miss the command.
+    pub missed: List<u32>,
+    /// What the channel gives, where it isn't the default.
+    pub choice: Option<Choice>,
+}
