@@ -1,5 +1,5 @@
 -- Profile: a capture is cut into groups of `per` samples, counted from 0, and each group stands for one level.
-use Rattle.std.specs.Prelude.{◌≡◌, ℕ, ◌+◌, ◌*◌, ◌<◌, ◌≤◌, Bool, true, false, List, length, take, drop, Some, slice_get}
+use Rattle.std.specs.Prelude.{◌≡◌, ℕ, ◌+◌, ◌*◌, ◌<◌, ◌≤◌, Bool, true, false, List, length, take, drop, Some, slice_get, Result, Ok, Err}
 use Rattle.std.specs.List.{All}
 use Rattle.sample_slicer.specs.declared.slicer.SliceRefusal.{SliceRefusal}
 use Rattle.sample_slicer.specs.declared.slicer.SliceRefusal.TheVariants.{Mixed, Rest}
@@ -46,3 +46,8 @@ pub record IsRestAt (threshold per : ℕ) (samples : List ℕ) (place : ℕ) : T
 abbrev pub Refuses : ℕ → ℕ → List ℕ → SliceRefusal → Type 0
 Refuses threshold per samples (Mixed place) = IsMixedAt threshold per samples place
 Refuses threshold per samples (Rest place) = IsRestAt threshold per samples place
+
+-- the answer to samples: the levels of their groups, or why they are no whole levels
+abbrev pub IsAnswer : ℕ → ℕ → List ℕ → Result (List Bool) SliceRefusal → Type 0
+IsAnswer threshold per samples (Ok levels) = AreLevels threshold per samples levels
+IsAnswer threshold per samples (Err refusal) = Refuses threshold per samples refusal

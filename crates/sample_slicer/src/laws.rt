@@ -1,0 +1,10 @@
+//! What holds of the levels of all samples.
+ghost use Rattle.std.specs.Prelude.{◌≡◌, ◌≤◌, ℕ, Bool, List, Result};
+ghost use Rattle.sample_slicer.specs.Samples.{IsAnswer};
+ghost use Rattle.sample_slicer.specs.declared.slicer.SliceRefusal.{SliceRefusal};
+
+/// No samples have two answers, at any threshold and any number of samples to a level.
+pub fn one_answer()
+    ensures one { (threshold per : ℕ) (samples : List ℕ) (left right : Result (List Bool) SliceRefusal) → 1 ≤ per
+        → IsAnswer threshold per samples left → IsAnswer threshold per samples right → left ≡ right }
+{}
