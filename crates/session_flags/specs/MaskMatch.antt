@@ -1,12 +1,7 @@
 -- 6.3.2.11.1.1 Select: the mask is compared with the bits of a whole bank, from the place of the pointer on.
 use Rattle.std.specs.Prelude.{◌≡◌, ℕ, nat_le, Bool, true, false, ◌&&◌, List, [], ◌∷◌, ◌++◌, length, drop}
 use Rattle.std.specs.Bool.{beq}
-use Rattle.bit_strings.specs.Numbers.{field_of}
-
--- the bits of words, each word's most significant bit first
-abbrev pub bits_of_words : List ℕ → List Bool
-bits_of_words [] = []
-bits_of_words (word ∷ words) = field_of word 16 ++ bits_of_words words
+use Rattle.command_grammar.specs.Commands.{bits_of_words}
 
 -- the list begins with the mask
 abbrev pub begins_with : List Bool → List Bool → Bool

@@ -1,5 +1,6 @@
 use Rattle.std.proofs.Common.{◌≡◌, ◌+◌, drop}
-use Rattle.session_flags.specs.MaskMatch.{bits_of_words, begins_with}
+use Rattle.command_grammar.specs.Commands.{bits_of_words}
+use Rattle.session_flags.specs.MaskMatch.{begins_with}
 use Rattle.session_flags.proofs.mask.begins_at.Given as goal
 
 abbrev pub invariant-loop-at : goal.invariant-loop-at
