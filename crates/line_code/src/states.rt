@@ -315,7 +315,7 @@ fn still_fits<C: LineCode>(mark: C::Mark, bit: bool, place: u32, fits: bool, lev
     requires { place < C.CHIPS }
     ensures { IsTrue result ↔ (IsTrue fits × (slice_get (C.table.block (C.context_of mark) bit) place ≡ Some level)) }
 {
-    fits && C::level(mark, bit, place) == level
+    fits & (C::level(mark, bit, place) == level)
 }
 
 /// The bit whose block the levels are; none exactly where they are the block of neither bit.
@@ -324,10 +324,13 @@ fn bit_of_block<C: LineCode>(mark: C::Mark, levels: &[bool]) -> Option<bool>
     ensures some { IfSome result (λ bit. levels.now ≡ C.table.block (C.context_of mark) bit) }
     ensures none { IfNone result ((bit : Bool) → levels.now ≢ C.table.block (C.context_of mark) bit) }
 {
-    // Both are looked at before either is asked, so that no jump depends on the bits.
-    let zero = is_block::<C>(mark, false, levels);
-    let one = is_block::<C>(mark, true, levels);
-    if zero || one { Some(one) } else { None }
+    // No jump depends on which of the two bits it is, since that can't be foreseen.
+    let bit = is_block::<C>(mark, true, levels);
+    if is_block::<C>(mark, bit, levels) {
+        Some(bit)
+    } else {
+        None
+    }
 }
 
 /// Whether the levels are the block of a bit.

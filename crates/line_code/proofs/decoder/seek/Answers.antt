@@ -1,6 +1,5 @@
 -- The levels of the lead, one by one.
-use Rattle.std.proofs.Common.{◌≡◌, ◌+◌, ◌++◌, ◌∷◌, [], false, List, Bool, get_or, take, arith, subst}
-use Rattle.line_code.specs.States.{Reads, Seeks}
+use Rattle.std.proofs.Common.{◌+◌, take, arith}
 use Rattle.line_code.proofs.Steps.{one_more}
 use Rattle.line_code.proofs.Whole.{bad_in_front}
 use Rattle.line_code.specs.Stream.{Streams}
