@@ -1,5 +1,5 @@
 //! A list of bits with a capacity.
-ghost use Rattle.std.specs.Prelude.{◌≡◌, ◌<◌, ◌≤◌, ◌↔◌, List, [], ◌∷◌, ◌++◌, length, Bool, not, Some, IsErr, IsTrue, IsNone, IfSome, IfNone, OnErr, IfOk, slice_get, slice_set};
+ghost use Rattle.std.specs.Prelude.{◌≡◌, ◌<◌, ◌≤◌, ◌↔◌, List, [], ◌∷◌, ◌++◌, length, Bool, not, Some, IsErr, IsTrue, IsNone, IfSome, IfNone, OnErr, IfOk, slice_get, slice_set, map, ◌==◌};
 
 use std::alloc::{AllocError, Global};
 use std::marker::Model;
@@ -114,6 +114,24 @@ impl Bits {
         Ok(())
     }
 
+    /// Puts one bit for each byte in place of what the list holds: 1 where the byte is `one`, else 0.
+    /// `Full` comes exactly where there are more bytes than the list has room for, and changes
+    /// nothing.
+    pub fn copy_bytes(&mut self, bytes: &[u8], one: u8) -> Result<(), Full>
+        ensures full { IsErr result ↔ (self.old.capacity < length bytes.now) }
+        ensures room { length bytes.now ≤ self.old.capacity → self.new ≡ record self.old { items = map (λ byte. byte == one) bytes.now } }
+        ensures err { OnErr result (self.new ≡ self.old) }
+    {
+        if bytes.len() > self.room as usize {
+            return Err(Full);
+        }
+        self.bits.clear();
+        // There is room for each bit.
+        let _ = self.bits.resize(bytes.len(), false);
+        write_matches(bytes, one, self.bits.as_mut_slice());
+        Ok(())
+    }
+
     /// Takes the last bit off and answers it; none where the list is empty, and then nothing changes.
     pub fn pop(&mut self) -> Option<bool>
         ensures some { IfSome result (λ bit. self.old ≡ record self.new { items = self.new.items ++ bit ∷ [] }) }
@@ -129,5 +147,15 @@ impl Bits {
         ensures { (bit : Bool) → slice_get self.old.items at ≡ Some bit → self.new ≡ record self.old { items = slice_set self.old.items at (not bit) } }
     {
         self.bits[at as usize] = !self.bits[at as usize];
+    }
+}
+
+/// Writes, for each byte, whether it is `one`.
+fn write_matches(bytes: &[u8], one: u8, bits: &mut [bool])
+    requires { length bytes.now ≡ length bits.old }
+    ensures { bits.new ≡ map (λ byte. byte == one) bytes.now }
+{
+    for (at, byte) in bytes.iter().enumerate() {
+        bits[at] = *byte == one;
     }
 }

@@ -93,6 +93,17 @@ fn bits_change(rt: HostRuntime) -> Result<(), Fail> {
 }
 
 #[test]
+fn bytes_are_copied(rt: HostRuntime) -> Result<(), Fail> {
+    let mut bits = Bits::new(rt.alloc(), 3)?;
+    bits.push(true)?;
+    assert_eq!(rt; bits.copy_bytes(b"1010", b'1'), Err(Full));
+    assert_eq!(rt; bits.as_slice(), [true].as_slice());
+    assert_eq!(rt; bits.copy_bytes(b"101", b'1'), Ok(()));
+    assert_eq!(rt; bits.as_slice(), [true, false, true].as_slice());
+    Ok(())
+}
+
+#[test]
 fn items_are_listed(rt: HostRuntime) -> Result<(), Fail> {
     let items = vec![in rt.alloc(); 7u16, 9]?;
     assert!(rt; items.len() == 2);

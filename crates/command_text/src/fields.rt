@@ -9,7 +9,7 @@ ghost use Rattle.command_text.specs.CommandText.{payload_digits};
 
 use bit_strings::{OutOfMemory, Payload};
 use command_grammar::{BlockWords, Mask};
-use text_fields::{push_number, push_word, push_words};
+use text_fields::{push_hex_digit, push_number, push_word, push_words};
 
 /// Writes a name as the next field.
 pub(crate) fn next_name(text: &mut String, name: &str) -> Result<(), OutOfMemory>
@@ -70,19 +70,6 @@ pub(crate) fn next_payload(text: &mut String, payload: &Payload) -> Result<(), O
 {
     let number = payload.get();
     text.push(' ')?;
-    text.push(digit_of((number / 65536) as u8))?;
+    push_hex_digit(text, (number / 65536) as u8)?;
     push_word(text, (number % 65536) as u16)
-}
-
-/// The upper-case hexadecimal digit of a number below 16.
-fn digit_of(value: u8) -> char
-    requires { value < 16 }
-    ensures { result ≡ hex_digit value }
-{
-    let digit = if value < 10 {
-        b'0' + value
-    } else {
-        b'A' + (value - 10)
-    };
-    char::from(digit)
 }

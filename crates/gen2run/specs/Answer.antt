@@ -20,7 +20,7 @@ use Rattle.reply_grammar.specs.declared.expected.Received.{Received}
 use Rattle.reply_grammar.specs.declared.expected.Received.TheVariants.{Whole, Refused}
 use Rattle.reply_text.specs.ReplyText.{reply_line, refusal_line}
 use Rattle.air_channel.specs.Received.{IsReceived}
-use Rattle.pie_line.specs.Pie.{IsFrame, Frames}
+use Rattle.pie_line.specs.Pie.{IsFrame}
 use Rattle.pie_line.specs.Refusal.{Refuses as RefusesFrame}
 use Rattle.pie_line.specs.declared.frame.FrameKind.{FrameKind}
 use Rattle.pie_line.specs.declared.frame.PieRefusal.{PieRefusal}

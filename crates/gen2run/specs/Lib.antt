@@ -4,3 +4,4 @@ pub mod Answer
 pub mod DecodeLines
 pub mod Decoded
 pub mod Outcome
+pub mod StatusNumber

@@ -15,24 +15,22 @@ use std::env;
 use std::io::{self, ErrorKind};
 use std::process::ExitCode;
 
-/// The exit status where memory for the words is refused, as for want of memory later on.
-const OUT_OF_MEMORY: u8 = Status::OutOfMemory as u8;
-
 /// The exit status where the words can't be had for another cause, as where one isn't UTF-8.
 const UNREADABLE_WORDS: u8 = 8;
 
 fn main(rt: HostRuntime) -> ExitCode {
     let words = match program_words(&rt) {
         Ok(words) => words,
+        // As for want of memory later on.
         Err(error) if error.kind() == ErrorKind::OutOfMemory => return ExitCode::from(
-            OUT_OF_MEMORY,
+            Status::OutOfMemory.number(),
         ),
         Err(_) => return ExitCode::from(UNREADABLE_WORDS),
     };
     let mut input = StdSource::new(rt.stdin());
     let mut output = StdSink::new(rt.stdout());
     let status = gen2run(rt.alloc(), &words, &mut input, &mut output);
-    ExitCode::from(status as u8)
+    ExitCode::from(status.number())
 }
 
 /// The words after the program's own name.

@@ -1,4 +1,6 @@
 //! How a run of the program ended.
+ghost use Rattle.std.specs.Prelude.{◌≡◌};
+ghost use Rattle.gen2run.specs.StatusNumber.{status_number};
 
 /// How a run of the program ended. Its number is the program's exit status.
 #[derive(Clone, Copy, Debug, PartialEq, Eq)]
@@ -19,4 +21,13 @@ pub enum Status {
     /// There was no memory. Nothing was written, or the input was read to its end and a part of the
     /// defined text from its beginning on was written.
     OutOfMemory = 7,
+}
+
+impl Status {
+    /// The exit status of the program.
+    pub fn number(&self) -> u8
+        ensures { result ≡ status_number self.now }
+    {
+        *self as u8
+    }
 }

@@ -305,3 +305,18 @@ fn many_bits(rt: HostRuntime) -> Result<(), Fail> {
 fn long_input(alloc: Global, length: usize) -> Result<Vec<u8>, AllocError> {
     vec![in alloc; b'0'; length]
 }
+
+#[test]
+fn statuses_have_numbers(rt: HostRuntime) {
+    for (status, number) in [
+        (Status::Done, 0),
+        (Status::BadWords, 2),
+        (Status::BadInput, 3),
+        (Status::ReadFault, 4),
+        (Status::WriteFault, 5),
+        (Status::TooLong, 6),
+        (Status::OutOfMemory, 7),
+    ] {
+        assert_eq!(rt; status.number(), number);
+    }
+}

@@ -150,6 +150,39 @@ reads_bit t chips even trext state levels bits level bit r fits at size =
       last_is = (bits, refl);
     }
 
+-- the state after the whole block of a bit
+abbrev pub behind_block : Table → ℕ → InsideValue → Bool → InsideValue
+behind_block t chips state bit =
+    record { context = t.next state.context bit; place = 0; zero_fits = true; one_fits = true; taken = state.taken + chips; put = state.put + 1; last = Some bit }
+
+-- the next levels are the whole block of a bit, of which none was taken
+pub reads_block : (t : Table) (chips : ℕ) → IsEven t chips → (trext : Bool) (state : InsideValue) (levels bits : List Bool) (bit : Bool)
+    → Reads t trext state levels bits → state.place ≡ 0
+    → Reads t trext (behind_block t chips state bit) (levels ++ t.block state.context bit) (bits ++ bit ∷ [])
+reads_block t chips even trext state levels bits bit r fresh =
+    let lead = t.lead trext in
+    let before = blocks t t.start bits in
+    let block = t.block state.context bit in
+    let old = r.place_is in
+    let none : r.part ≡ [] = nil_from_length r.part (omega arith) in
+    let all : before ++ (r.part ++ block) ≡ blocks t t.start (bits ++ bit ∷ []) =
+    ap (λ ls. before ++ ls) (ap (λ ls. ls ++ block) none ∙ sym (append-nil block) ∙ ap (λ c. blocks t c (bit ∷ [])) r.context_is) ∙ sym (blocks-append t bits (bit ∷ []) t.start) in
+    record {
+      part = [];
+      levels_are =
+          ap (λ ls. ls ++ block) r.levels_are ∙ append_assoc lead (before ++ r.part) block
+          ∙ ap (λ ls. lead ++ ls) (append_assoc before r.part block ∙ all ∙ sym (append-nil (blocks t t.start (bits ++ bit ∷ []))));
+      context_is = ap (λ c. t.next c bit) r.context_is ∙ sym (context_after-push t bits bit t.start);
+      place_is = refl;
+      begun = λ b. let least = even.least in let long = even.blocks_even (t.next state.context bit) b in omega arith;
+      fits_is = all_fit t (behind_block t chips state bit) refl refl refl;
+      some_bit = true;
+      some_fits = refl;
+      taken_is = let size = even.blocks_even state.context bit in let more = length-append levels block in let old = r.taken_is in omega arith;
+      put_is = let more = length-append bits (bit ∷ []) in let old = r.put_is in omega arith;
+      last_is = (bits, refl);
+    }
+
 -- behind the lead
 pub reads_none : (t : Table) (chips : ℕ) → IsEven t chips → (trext : Bool) (state : InsideValue) → state.context ≡ t.start → state.place ≡ 0
     → state.zero_fits ≡ true → state.one_fits ≡ true → state.taken ≡ length (t.lead trext) → state.put ≡ 0 → state.last ≡ None

@@ -1,5 +1,5 @@
 -- What holds of each line code, as facts on its table.
-use Rattle.std.specs.Prelude.{◌≡◌, ◌≢◌, ℕ, ◌<◌, ◌≤◌, Bool, true, false, not, List, [], ◌++◌, length, Option, Some, None, slice_get, slice_set}
+use Rattle.std.specs.Prelude.{◌≡◌, ◌≢◌, ℕ, ◌<◌, ◌≤◌, Bool, true, false, not, List, ◌++◌, length, Option, Some, None, slice_get, slice_set}
 use Rattle.line_code.specs.Table.{Context, Table}
 use Rattle.line_code.specs.Stream.{blocks, Streams}
 

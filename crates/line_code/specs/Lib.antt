@@ -9,7 +9,6 @@ pub mod Refusal
 pub mod AfterSeeking
 pub mod AfterInside
 pub mod AfterEnd
-pub mod Decoding
 pub mod Answer
 pub use Rattle.bit_strings.specs.BitString
 pub use Rattle.bit_strings.specs.Family

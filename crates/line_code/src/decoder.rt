@@ -1,10 +1,10 @@
 //! The decoder of a whole list of levels.
-ghost use Rattle.std.specs.Prelude.{◌≡◌, ◌≤◌, ◌<◌, ℕ, List, Bool, [], length, OnOk, IfErr, OnErr, IsOk, IsErr};
+ghost use Rattle.std.specs.Prelude.{◌≡◌, ◌≤◌, ◌<◌, ℕ, List, Bool, [], length, take, IfOk, OnOk, IfErr, OnErr, IsOk, IsErr};
 ghost use Rattle.line_code.specs.Table.{Context};
 ghost use Rattle.line_code.specs.Stream.{IsStream, Streams, blocks};
 ghost use Rattle.line_code.specs.Laws.{flipped};
 ghost use Rattle.line_code.specs.Refusal.{Refuses};
-ghost use Rattle.line_code.specs.Decoding.{Follows, AfterLevel, taken_of};
+ghost use Rattle.line_code.specs.States.{Reads};
 
 use crate::code::LineCode;
 use crate::refusal::LineRefusal;
@@ -34,12 +34,6 @@ pub fn decode<C: LineCode>(trext: bool, levels: &Levels, out: &mut Bits) -> Resu
     read
 }
 
-/// One of the two states before the end of a stream.
-enum Decoding<C: LineCode> {
-    Lead(Seeking<C>),
-    Data(Inside<C>),
-}
-
 /// Reads the levels into an empty buffer.
 fn read<C: LineCode>(trext: bool, levels: &[bool], out: &mut Bits) -> Result<(), LineRefusal>
     requires empty { out.old.items ≡ [] }
@@ -49,48 +43,36 @@ fn read<C: LineCode>(trext: bool, levels: &[bool], out: &mut Bits) -> Result<(),
     ensures refused { IfErr result (Refuses (Streams C.table trext) levels.now) }
     ensures capacity { out.new.capacity ≡ out.old.capacity }
 {
-    let mut decoding = Decoding::<C>::Lead(Seeking::new(trext));
-    for level in levels {
-        decoding = advance(decoding, *level, out)?;
+    let (mut inside, mut at) = seek::<C>(trext, levels)?;
+    while let Some(bit) = inside.next_bit(&levels[at..]) {
+        inside = inside.take_block(bit, out);
+        at += C::CHIPS as usize;
     }
-    finish(decoding, out)
-}
-
-/// Takes one more level.
-fn advance<C: LineCode>(
-    decoding: Decoding<C>,
-    level: bool,
-    out: &mut Bits,
-) -> Result<Decoding<C>, LineRefusal>
-    requires room { length out.old.items < out.old.capacity }
-    requires few { taken_of decoding < 4000000000 }
-    ensures answer { (trext : Bool) (levels : List Bool) → Follows C.table trext levels out.old.items decoding → AfterLevel C.table trext levels level out.new.items result }
-    ensures capacity { out.new.capacity ≡ out.old.capacity }
-{
-    match decoding {
-        Decoding::Lead(seeking) => match seeking.push(level) {
-            Sought::Seeking(seeking) => Ok(Decoding::Lead(seeking)),
-            Sought::Inside(inside) => Ok(Decoding::Data(inside)),
-            Sought::Refused(place) => Err(LineRefusal::Invalid(place)),
-        },
-        Decoding::Data(inside) => match inside.push(level, out) {
-            Within::Inside(inside) => Ok(Decoding::Data(inside)),
-            Within::Refused(place) => Err(LineRefusal::Invalid(place)),
-        },
-    }
-}
-
-/// Ends the levels.
-fn finish<C: LineCode>(decoding: Decoding<C>, out: &mut Bits) -> Result<(), LineRefusal>
-    ensures ok { (trext : Bool) (levels : List Bool) → Follows C.table trext levels out.old.items decoding → OnOk result (IsStream C.table trext out.new.items levels) }
-    ensures refused { (trext : Bool) (levels : List Bool) → Follows C.table trext levels out.old.items decoding → IfErr result (Refuses (Streams C.table trext) levels) }
-    ensures capacity { out.new.capacity ≡ out.old.capacity }
-{
-    match decoding {
-        Decoding::Lead(seeking) => Err(seeking.end()),
-        Decoding::Data(inside) => {
-            inside.end(out)?;
-            Ok(())
+    // The levels from the first one on that belongs to no whole block.
+    for place in at..levels.len() {
+        match inside.push(levels[place], out) {
+            Within::Inside(next) => inside = next,
+            Within::Refused(place) => return Err(LineRefusal::Invalid(place)),
         }
     }
+    inside.end(out)?;
+    Ok(())
+}
+
+/// Takes the levels of the pilot and the preamble, and answers the state behind them and how many
+/// they are.
+fn seek<C: LineCode>(trext: bool, levels: &[bool]) -> Result<(Inside<C>, usize), LineRefusal>
+    requires { length levels.now ≤ 4000000000 }
+    ensures found { IfOk result (λ it. (it.1 ≤ length levels.now) × Reads C.table trext it.0 (take it.1 levels.now) []) }
+    ensures refused { IfErr result (Refuses (Streams C.table trext) levels.now) }
+{
+    let mut seeking = Seeking::<C>::new(trext);
+    for (at, level) in levels.iter().enumerate() {
+        match seeking.push(*level) {
+            Sought::Seeking(next) => seeking = next,
+            Sought::Inside(inside) => return Ok((inside, at + 1)),
+            Sought::Refused(place) => return Err(LineRefusal::Invalid(place)),
+        }
+    }
+    Err(seeking.end())
 }

@@ -1,6 +1,6 @@
 //! The decoder as three typed states, which take one level at a time: [`Seeking`] before the
 //! data, [`Inside`] in the data, and [`Ended`] behind a whole stream. None of them keeps the levels.
-ghost use Rattle.std.specs.Prelude.{◌≡◌, ◌<◌, List, Bool, true, [], ◌∷◌, ◌++◌, length, IfErr, OnErr, IsTrue, ◌↔◌, slice_get};
+ghost use Rattle.std.specs.Prelude.{◌≡◌, ◌≢◌, ◌<◌, ◌≤◌, List, Bool, true, [], ◌∷◌, ◌++◌, length, take, IfErr, OnErr, IfSome, IfNone, IsTrue, ◌↔◌, slice_get};
 ghost use Rattle.line_code.specs.States.{Seeks, Reads, Ends};
 ghost use Rattle.line_code.specs.Stream.{Streams};
 ghost use Rattle.line_code.specs.Refusal.{Refuses};
@@ -238,6 +238,48 @@ impl<C: LineCode> Inside<C> {
         })
     }
 
+    /// The bit whose block the first of these levels are. None where a block is begun already, where
+    /// fewer levels than a block's are there, or where they are the block of neither bit.
+    pub(crate) fn next_bit(&self, levels: &[bool]) -> Option<bool>
+        ensures { IfSome result (λ bit. (self.now.place ≡ 0) × (C.CHIPS ≤ length levels.now) × (take C.CHIPS levels.now ≡ C.table.block self.now.context bit)) }
+    {
+        let chips = C::CHIPS as usize;
+        if self.place > 0 || levels.len() < chips {
+            return None;
+        }
+        bit_of_block::<C>(self.mark, &levels[..chips])
+    }
+
+    /// Takes the whole block of a bit at once, as pushes of its levels would, where none of it was
+    /// taken before. `out` is to be the buffer of what was taken.
+    pub(crate) fn take_block(self, bit: bool, out: &mut Bits) -> Inside<C>
+        requires room { length out.old.items < out.old.capacity }
+        requires few { self.taken < 4000000000 }
+        requires fresh { self.place ≡ 0 }
+        ensures reads { (trext : Bool) (levels : List Bool) → Reads C.table trext self levels out.old.items → Reads C.table trext result (levels ++ C.table.block self.context bit) out.new.items }
+        ensures capacity { out.new.capacity ≡ out.old.capacity }
+    {
+        let Inside {
+            mark,
+            place: _,
+            zero_fits: _,
+            one_fits: _,
+            taken,
+            put,
+            last: _,
+        } = self;
+        let _pushed = out.push(bit);
+        Inside {
+            mark: C::after(mark, bit),
+            place: 0,
+            zero_fits: true,
+            one_fits: true,
+            taken: taken + C::CHIPS,
+            put: put + 1,
+            last: Some(bit),
+        }
+    }
+
     /// Ends the levels, and takes the dummy bit off `out`, which is to be the buffer of the pushes.
     /// `Unfinished`, with the number of levels, comes exactly where they are no whole stream, and
     /// `out` is then as before.
@@ -273,7 +315,34 @@ fn still_fits<C: LineCode>(mark: C::Mark, bit: bool, place: u32, fits: bool, lev
     requires { place < C.CHIPS }
     ensures { IsTrue result ↔ (IsTrue fits × (slice_get (C.table.block (C.context_of mark) bit) place ≡ Some level)) }
 {
-    fits && C::level(mark, bit, place) == level
+    fits & (C::level(mark, bit, place) == level)
+}
+
+/// The bit whose block the levels are; none exactly where they are the block of neither bit.
+fn bit_of_block<C: LineCode>(mark: C::Mark, levels: &[bool]) -> Option<bool>
+    requires { length levels.now ≡ C.CHIPS }
+    ensures some { IfSome result (λ bit. levels.now ≡ C.table.block (C.context_of mark) bit) }
+    ensures none { IfNone result ((bit : Bool) → levels.now ≢ C.table.block (C.context_of mark) bit) }
+{
+    // No jump depends on which of the two bits it is, since that can't be foreseen.
+    let bit = is_block::<C>(mark, true, levels);
+    if is_block::<C>(mark, bit, levels) {
+        Some(bit)
+    } else {
+        None
+    }
+}
+
+/// Whether the levels are the block of a bit.
+fn is_block<C: LineCode>(mark: C::Mark, bit: bool, levels: &[bool]) -> bool
+    requires { length levels.now ≡ C.CHIPS }
+    ensures { IsTrue result ↔ (levels.now ≡ C.table.block (C.context_of mark) bit) }
+{
+    let mut fits = true;
+    for place in 0..C::CHIPS {
+        fits = still_fits::<C>(mark, bit, place, fits, levels[place as usize]);
+    }
+    fits
 }
 
 /// Whether no block is begun, and the last bit is a dummy's.

@@ -3,6 +3,8 @@
 
 mod by_name;
 mod names;
+#[cfg(test)]
+mod tests;
 
 pub use bit_strings::Code;
 pub use by_name::{decode_levels, encode_bits};

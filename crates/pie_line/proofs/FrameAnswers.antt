@@ -17,7 +17,7 @@ use Rattle.pie_line.specs.Edges.{LeadsTo}
 use Rattle.pie_line.specs.FrameAnswer.{HasOneAnswer}
 use Rattle.pie_line.proofs.Completions.{no_symbols, sync}
 use Rattle.pie_line.proofs.Decisions.{moves-or_stops}
-use Rattle.pie_line.proofs.FamilyLaws.{bad-more, bad-last, bad-one, member-not_bad, short-not_bad}
+use Rattle.bit_strings.specs.FamilyLaws.{bad-more, bad-last, bad-one, member-not_bad, short-not_bad}
 use Rattle.pie_line.proofs.Leads.{leads-moves, leads-begins, leads-stops, leads-ends}
 
 -- no header ends before its second pair

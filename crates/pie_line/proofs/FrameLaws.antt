@@ -5,7 +5,7 @@ use Rattle.pie_line.specs.declared.frame.FrameKind.TheVariants.{Preamble, FrameS
 use Rattle.pie_line.specs.declared.frame.PieRefusal.{PieRefusal}
 use Rattle.pie_line.specs.Pie.{IsFrame, Frames, HasSums, pair_sums}
 use Rattle.pie_line.specs.Refusal.{Refuses}
-use Rattle.pie_line.proofs.FamilyLaws.{member-not_bad}
+use Rattle.bit_strings.specs.FamilyLaws.{member-not_bad}
 
 -- the sums tell the header and the bits
 sums-one : (k k' : FrameKind) (b b' : List Bool) (sums : List ℕ) → HasSums k b sums → HasSums k' b' sums → (k ≡ k') × (b ≡ b')

@@ -13,7 +13,7 @@ use Rattle.pie_line.specs.Place.{Completes, Moves, Stops}
 use Rattle.pie_line.specs.Refusal.{refusal_at, IsRefusedAt, Refuses}
 use Rattle.pie_line.specs.Edges.{LeadsTo}
 use Rattle.pie_line.proofs.Completions.{completion}
-use Rattle.pie_line.proofs.FamilyLaws.{bad-last, bad-more}
+use Rattle.bit_strings.specs.FamilyLaws.{bad-last, bad-more}
 
 pub leads-moves : (place next : Place) (bit : Option Bool) (bits : List Bool) (xs : List ℕ) (x : ℕ) → LeadsTo place bits xs → Moves place x next bit →
     LeadsTo next (bits ++ option_to_list bit) (xs ++ x ∷ [])

@@ -2,7 +2,6 @@ pub mod Bounds
 pub mod Completions
 pub mod Decisions
 pub mod Decoding
-pub mod FamilyLaws
 pub mod FrameAnswers
 pub mod FrameLaws
 pub mod Leads

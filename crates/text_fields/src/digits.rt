@@ -1,8 +1,8 @@
 //! Binary digits as fields.
-ghost use Rattle.std.specs.Prelude.{◌≡◌, ◌≢◌, ◌≤◌, ℕ, ◌↔◌, ◌++◌, [], ◌∷◌, length, Bool, List, IsTrue, IfSome, IsSomeAnd, OnOk};
+ghost use Rattle.std.specs.Prelude.{◌≡◌, ◌≢◌, ◌≤◌, ℕ, ◌↔◌, ◌++◌, [], ◌∷◌, length, map, Bool, List, IsTrue, IfSome, IsSomeAnd, OnOk};
 ghost use Rattle.std.specs.List.{AllPass};
 ghost use Rattle.std.specs.String.{string_bytes};
-ghost use Rattle.text_fields.specs.Binary.{binary, hyphen, is_binary_digit, or_hyphen};
+ghost use Rattle.text_fields.specs.Binary.{binary, binary_digit, hyphen, is_binary_digit, or_hyphen};
 
 use bit_strings::{Bits, OutOfMemory};
 use std::marker::Model;
@@ -29,11 +29,23 @@ impl<'a> Model for Digits<'a> {
     ghost invariant = { λ a. AllPass is_binary_digit a.digits.now × (length a.digits.now < 2 ^ 32) };
 }
 
+/// Whether a byte is one of the digits 0 and 1.
+fn is_binary_digit(byte: u8) -> bool
+    ensures { result ≡ is_binary_digit byte }
+{
+    matches!(byte, b'0' | b'1')
+}
+
 /// Whether each byte is one of the digits 0 and 1.
 fn is_binary(digits: &[u8]) -> bool
     ensures { IsTrue result ↔ AllPass is_binary_digit digits.now }
 {
-    digits.iter().all(|digit| matches!(*digit, b'0' | b'1'))
+    // The loop goes on to the end, so that the compiler can look at many digits at once.
+    let mut binary = true;
+    for digit in digits {
+        binary &= is_binary_digit(*digit);
+    }
+    binary
 }
 
 /// What a field spells of a list: nothing where it is a hyphen. None exactly where the field is empty.
@@ -81,13 +93,13 @@ impl<'a> Digits<'a> {
         requires { length self.now ≤ out.old.capacity }
         ensures { out.new ≡ record out.old { items = self.now } }
     {
-        out.clear();
-        for digit in self.digits {
-            // There is room for each bit.
-            let _ = out.push(*digit == b'1');
-        }
+        // There is room for each bit.
+        let _ = out.copy_bytes(self.digits, b'1');
     }
 }
+
+/// How many digits are written at once.
+const PART: usize = 64;
 
 /// Writes bits in binary digits, or a hyphen for none, at the end of the text. After an error the
 /// text may hold a part of them.
@@ -97,8 +109,43 @@ pub fn push_bits(text: &mut String, bits: &Bits) -> Result<(), OutOfMemory>
     if bits.is_empty() {
         return text.push('-');
     }
-    for bit in bits.as_slice() {
-        text.push(if *bit { '1' } else { '0' })?;
+    push_digits(text, bits.as_slice())
+}
+
+/// Writes bits in binary digits at the end of the text.
+fn push_digits(text: &mut String, bits: &[bool]) -> Result<(), OutOfMemory>
+    ensures { OnOk result (string_bytes text.new ≡ string_bytes text.old ++ map binary_digit bits.now) }
+{
+    let mut rest = bits;
+    while !rest.is_empty() {
+        let (part, behind) = rest.split_at(rest.len().min(PART));
+        push_part(text, part)?;
+        rest = behind;
     }
     Ok(())
+}
+
+/// Writes at most [`PART`] bits in binary digits at the end of the text.
+fn push_part(text: &mut String, bits: &[bool]) -> Result<(), OutOfMemory>
+    requires { length bits.now ≤ PART }
+    ensures { OnOk result (string_bytes text.new ≡ string_bytes text.old ++ map binary_digit bits.now) }
+{
+    let mut room = [b'0'; PART];
+    let digits = &mut room[..bits.len()];
+    write_digits(bits, digits);
+    match str::from_utf8(digits) {
+        Ok(digits) => text.push_str(digits),
+        // Digits are ASCII.
+        Err(_) => unreachable!(),
+    }
+}
+
+/// Writes the digit of each bit.
+fn write_digits(bits: &[bool], digits: &mut [u8])
+    requires { length bits.now ≡ length digits.old }
+    ensures { digits.new ≡ map binary_digit bits.now }
+{
+    for (at, bit) in bits.iter().enumerate() {
+        digits[at] = if *bit { b'1' } else { b'0' };
+    }
 }

@@ -28,4 +28,4 @@ pub use laws::{
 };
 pub use lines::{LINE_FEED, split_line};
 pub use numbers::{number, push_number};
-pub use words::{push_byte_hex, push_word, push_words, word};
+pub use words::{push_byte_hex, push_hex_digit, push_word, push_words, word};

@@ -2,6 +2,8 @@
 ghost use Rattle.std.specs.Prelude.{◌≡◌, ◌+◌, ◌<◌, ◌↔◌, length, take, drop, [], ◌∷◌, ◌++◌, IsNone, IfSome, IfNone};
 ghost use Rattle.text_fields.specs.Lines.{line_feed, lines_of, pieces_between, Lacks};
 
+use memchr::memchr;
+
 /// The byte that ends a line.
 pub const LINE_FEED: u8 = b'\n';
 
@@ -12,7 +14,7 @@ fn first_place(text: &[u8], byte: u8) -> Option<usize>
     ensures within { IfSome result (λ place. place < length text.now) }
     ensures none { IsNone result ↔ Lacks byte text.now }
 {
-    text.iter().position(|each| *each == byte)
+    memchr(byte, text)
 }
 
 /// What stands before the first place of the byte, and what stands behind it; none exactly where the

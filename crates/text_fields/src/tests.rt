@@ -56,13 +56,18 @@ fn flags_are_one_digit(rt: HostRuntime) {
 
 #[test]
 fn bits_are_read_and_written(rt: HostRuntime) -> Result<(), Fail> {
-    let mut bits = Bits::new(rt.alloc(), 8)?;
+    let mut bits = Bits::new(rt.alloc(), 70)?;
     for (field, most, wanted) in [
         (b"-".as_slice(), 8, Some("-")),
         (b"-", 0, Some("-")),
         (b"0", 8, Some("0")),
         (b"10010", 8, Some("10010")),
         (b"11110000", 8, Some("11110000")),
+        (
+            b"1011001110001111101100111000111110110011100011111011001110001111010011",
+            70,
+            Some("1011001110001111101100111000111110110011100011111011001110001111010011"),
+        ),
         (b"111100001", 8, None),
         (b"1", 0, None),
         (b"", 8, None),

@@ -53,13 +53,21 @@ fn digit_of(value: u8) -> char
     char::from(digit)
 }
 
+/// Writes a number below 16 as one upper-case hexadecimal digit at the end of the text.
+pub fn push_hex_digit(text: &mut String, value: u8) -> Result<(), OutOfMemory>
+    requires { value < 16 }
+    ensures { OnOk result (string_bytes text.new ≡ string_bytes text.old ++ hex_digit value ∷ []) }
+{
+    text.push(digit_of(value))
+}
+
 /// Writes a byte in two upper-case hexadecimal digits at the end of the text. After an error the text
 /// may hold a part of them.
 pub fn push_byte_hex(text: &mut String, byte: u8) -> Result<(), OutOfMemory>
     ensures { OnOk result (string_bytes text.new ≡ string_bytes text.old ++ hex_byte byte) }
 {
-    text.push(digit_of(byte / 16))?;
-    text.push(digit_of(byte % 16))
+    push_hex_digit(text, byte / 16)?;
+    push_hex_digit(text, byte % 16)
 }
 
 /// Writes a word in four upper-case hexadecimal digits at the end of the text. After an error the text

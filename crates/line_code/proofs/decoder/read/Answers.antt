@@ -1,47 +1,84 @@
-use Rattle.std.proofs.Common.{◌≡◌, [], ◌∷◌, ◌++◌, ◌+◌, take, get_or, false, arith, ◌∙◌}
+-- The levels in the data: whole blocks, then what is left, level by level.
+use Rattle.std.proofs.Common.{◌≡◌, ◌∙◌, ◌+◌, ◌-◌, [], List, Bool, length, take, drop, arith, ap, refl, sym, subst}
 use Rattle.std.proofs.lemmas.Result.{err_from_is_err_and}
-use Rattle.std.proofs.lemmas.List.{length-take-le, take_all}
-use Rattle.line_code.proofs.Steps.{follows_taken, follows_put, one_more, refused_whole}
+use Rattle.std.proofs.lemmas.List.{length-take-le, length-drop, take_all}
+use Rattle.line_code.specs.States.{Reads}
+use Rattle.line_code.specs.Stream.{Streams, stream_of}
+use Rattle.line_code.proofs.Steps.{one_more, block_more}
+use Rattle.line_code.proofs.Whole.{bad_in_front, bits_within}
 use Rattle.line_code.proofs.decoder.read.Goals as goal
 
-pub advance-requires-clause-room : goal.advance-requires-clause-room
-advance-requires-clause-room g c =
-    let front = take c.loop-level.level-index c.args.levels.now in
-    let put = follows_put g.C.LineCode.table g.C.LineCode.CHIPS g.met.C.LineCode.even c.args.trext front c.loop-level.out.items c.loop-level.decoding c.loop-level.invariant.follows in
-    let test = c.loop-level-test.true in
-    let same = c.loop-level.invariant.same in
+pub take_block-inside-requires-clause-room : goal.take_block-inside-requires-clause-room
+take_block-inside-requires-clause-room g c =
+    let front = take c.loop-bit.at c.args.levels.now in
+    let put = bits_within g.C.LineCode.table g.C.LineCode.CHIPS g.met.C.LineCode.even c.args.trext c.loop-bit.inside front c.loop-bit.out.items c.loop-bit.invariant.reads in
+    let within = c.loop-bit.invariant.within in
+    let least = g.met.C.LineCode.even.least in
+    let whole = c.in-Some.ensures.1 in
+    let same = c.loop-bit.invariant.same in
     let room = c.requires.room in
-    let size = length-take-le c.loop-level.level-index c.args.levels.now (omega arith) in
+    let size = length-take-le c.loop-bit.at c.args.levels.now within in
     omega arith
 
-pub advance-requires-clause-few : goal.advance-requires-clause-few
-advance-requires-clause-few g c =
-    let front = take c.loop-level.level-index c.args.levels.now in
-    let taken = follows_taken g.C.LineCode.table c.args.trext front c.loop-level.out.items c.loop-level.decoding c.loop-level.invariant.follows in
-    let test = c.loop-level-test.true in
-    let few = c.requires.few in
-    let size = length-take-le c.loop-level.level-index c.args.levels.now (omega arith) in
-    omega arith
-
-pub returns-in_err-decoding-clause-refused : goal.returns-in_err-decoding-clause-refused
-returns-in_err-decoding-clause-refused g c =
+pub loop-bit-preserved : goal.loop-bit-preserved
+loop-bit-preserved g c =
+    let t = g.C.LineCode.table in
     let levels = c.args.levels.now in
-    let n = c.loop-level.level-index in
-    let p = err_from_is_err_and c.from_residual.result c.from_residual.ensures.1 in
-    rw (p.1, p.2) (refused_whole g.C.LineCode.table c.args.trext levels (take n levels ++ get_or levels n false ∷ []) (n + 1) c.in_err-decoding.field-0.0
-    (one_more levels n c.loop-level-test.true)
-    (c.in_err-decoding.ensures.answer c.args.trext (take n levels) c.loop-level.invariant.follows))
-
-pub loop-level-preserved : goal.loop-level-preserved
-loop-level-preserved g c =
-    let levels = c.args.levels.now in
-    let n = c.loop-level.level-index in
+    let at = c.loop-bit.at in
+    let block = c.in-Some.ensures.2 in
+    let read = c.take_block-inside.ensures.reads c.args.trext (take at levels) c.loop-bit.invariant.reads in
+    let chips = c.CHIPS.ensures in
+    let rest : take (length levels - at) (drop at levels) ≡ drop at levels = take_all (length levels - at) (drop at levels) (omega (arith, length-drop at levels)) in
+    let is : take g.C.LineCode.CHIPS (drop at levels) ≡ t.block c.loop-bit.inside.context c.in-Some.bit = ap (take g.C.LineCode.CHIPS) (sym rest) ∙ block in
     record {
-      follows = rw (← one_more levels n c.loop-level-test.true) (c.in_ok-decoding.ensures.answer c.args.trext (take n levels) c.loop-level.invariant.follows);
-      same = c.advance.ensures.capacity ∙ c.loop-level.invariant.same;
+      within = let whole = c.in-Some.ensures.1 in let within = c.loop-bit.invariant.within in omega (arith, length-drop at levels);
+      reads = rw (chips, ← block_more levels (t.block c.loop-bit.inside.context c.in-Some.bit) at g.C.LineCode.CHIPS is) read;
+      same = c.take_block-inside.ensures.capacity ∙ c.loop-bit.invariant.same;
     }
 
-pub returns-clause-refused : goal.returns-clause-refused
-returns-clause-refused g c =
-    let all : take c.loop-level.level-index c.args.levels.now ≡ c.args.levels.now = take_all c.loop-level.level-index c.args.levels.now (omega arith) in
-    c.finish.ensures.refused c.args.trext c.args.levels.now (rw all at c.loop-level.invariant.follows)
+pub push-requires-clause-room : goal.push-requires-clause-room
+push-requires-clause-room g c =
+    let front = take c.loop-place.place c.args.levels.now in
+    let put = bits_within g.C.LineCode.table g.C.LineCode.CHIPS g.met.C.LineCode.even c.args.trext c.loop-place.inside front c.loop-place.out.items c.loop-place.invariant.reads in
+    let test = c.loop-place-test.true in
+    let same = c.loop-place.invariant.same in
+    let before = c.loop-bit.invariant.same in
+    let room = c.requires.room in
+    let size = length-take-le c.loop-place.place c.args.levels.now (omega arith) in
+    omega arith
+
+pub returns-in-Refused-clause-refused : goal.returns-in-Refused-clause-refused
+returns-in-Refused-clause-refused g c =
+    let levels = c.args.levels.now in
+    let n = c.loop-place.place in
+    let bad = (c.in-Refused.ensures.answer c.args.trext (take n levels) c.loop-place.out.items [] c.loop-place.invariant.reads refl).1 in
+    bad_in_front (Streams g.C.LineCode.table c.args.trext) levels (n + 1) c.in-Refused.place (rw (← one_more levels n c.loop-place-test.true) bad)
+
+pub loop-place-preserved : goal.loop-place-preserved
+loop-place-preserved g c =
+    let t = g.C.LineCode.table in
+    let levels = c.args.levels.now in
+    let n = c.loop-place.place in
+    let read = c.in-Inside.ensures.answer c.args.trext (take n levels) c.loop-place.out.items [] c.loop-place.invariant.reads refl in
+    let P : List Bool → Type 0 = λ bits. Reads t c.args.trext c.in-Inside.next (take (n + 1) levels) bits in
+    record {
+      reads = subst P (sym read.2) (rw (← one_more levels n c.loop-place-test.true) read.1);
+      same = c.push.ensures.capacity ∙ c.loop-place.invariant.same;
+    }
+
+pub returns-in_err-end-clause-refused : goal.returns-in_err-end-clause-refused
+returns-in_err-end-clause-refused g c =
+    let levels = c.args.levels.now in
+    let n = c.loop-place.place in
+    let all : take n levels ≡ levels = take_all n levels (omega arith) in
+    let answer = c.in_err-end.ensures.answer c.args.trext (take n levels) c.loop-place.out.items [] c.loop-place.invariant.reads refl in
+    let p = err_from_is_err_and c.from_residual-in_err-end.result c.from_residual-in_err-end.ensures.1 in
+    rw (p.1, p.2, ← all) answer.0
+
+pub returns-clause-ok : goal.returns-clause-ok
+returns-clause-ok g c =
+    let levels = c.args.levels.now in
+    let n = c.loop-place.place in
+    let all : take n levels ≡ levels = take_all n levels (omega arith) in
+    let end = c.in_ok-end.ensures.answer c.args.trext (take n levels) c.loop-place.out.items [] c.loop-place.invariant.reads refl in
+    sym all ∙ end.1.stream ∙ ap (stream_of g.C.LineCode.table c.args.trext) (sym end.2)

@@ -1,9 +1,19 @@
-use Rattle.std.proofs.Common.{◌≡◌, take}
-use Rattle.line_code.specs.Decoding.{Follows}
+use Rattle.std.proofs.Common.{◌≡◌, ◌≤◌, ◌-◌, length, take}
+use Rattle.line_code.specs.States.{Reads}
 use Rattle.line_code.proofs.decoder.read.Given as goal
 
-abbrev pub invariant-loop-level : goal.invariant-loop-level
-invariant-loop-level g l = record {
-  follows : Follows g.C.LineCode.table l.trext (take l.level-index l.levels) l.out.items l.decoding;
+abbrev pub invariant-loop-bit : goal.invariant-loop-bit
+invariant-loop-bit g l = record {
+  within : l.at ≤ length l.levels;
+  reads : Reads g.C.LineCode.table l.trext l.inside (take l.at l.levels) l.out.items;
+  same : l.out.capacity ≡ l.initial.out.capacity;
+}
+
+abbrev pub decreases-loop-bit : goal.decreases-loop-bit
+decreases-loop-bit g l = length l.levels - l.at
+
+abbrev pub invariant-loop-place : goal.invariant-loop-place
+invariant-loop-place g l = record {
+  reads : Reads g.C.LineCode.table l.trext l.inside (take l.place l.levels) l.out.items;
   same : l.out.capacity ≡ l.initial.out.capacity;
 }

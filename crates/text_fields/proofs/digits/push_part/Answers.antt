@@ -1,0 +1,8 @@
+-- Digits are the bytes of a text.
+use Rattle.std.proofs.lemmas.Str.{IsUtf8-from_ascii}
+use Rattle.text_fields.proofs.BinaryDigits.{IsAscii-digits}
+use Rattle.text_fields.proofs.digits.push_part.Goals as goal
+
+pub unreachable-requires : goal.unreachable-requires
+unreachable-requires c =
+    c.in-Err.ensures.cases.0 (rw c.write_digits.ensures (IsUtf8-from_ascii _ (IsAscii-digits c.args.bits.now)))
