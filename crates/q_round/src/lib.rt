@@ -1,0 +1,13 @@
+//! The rounds of an interrogator: which slot command comes next, by the outcomes of the slots so far
+//! (6.3.2.8 Inventorying Tag populations and Annex D of the EPCglobal Class-1 Generation-2 standard,
+//! version 1.2.0).
+#![tactic(auto)]
+
+mod round_spec;
+
+pub use bit_strings::{Code, QValue, Session};
+pub use command_grammar::{Sel, Side};
+pub use round_spec::RoundSpec;
+
+#[cfg(test)]
+mod tests;
