@@ -1,21 +1,19 @@
 -- The laws of rounds, by what is known at each turn.
-use Rattle.std.proofs.Common.{◌≡◌, ◌≢◌, ℕ, ◌+◌, ◌*◌, ◌^◌, ◌<◌, ◌≤◌, ◌&&◌, Bool, true, false, List, [], ◌∷◌, ◌++◌, length, refl, ap, sym, ◌∙◌, subst, add-one, arith}
+use Rattle.std.proofs.Common.{◌≡◌, ℕ, ◌+◌, ◌^◌, ◌<◌, ◌≤◌, Bool, true, false, List, [], ◌∷◌, ◌++◌, length, refl, ap, sym, ◌∙◌, subst, add-one, arith}
 use Rattle.std.specs.List.{AllByRecursion}
-use Rattle.command_grammar.specs.declared.command.UpDn.{UpDn}
 use Rattle.command_grammar.specs.declared.command.UpDn.TheVariants.{Up, Same, Down}
 use Rattle.command_grammar.specs.declared.commands.Command.TheVariants.{QueryRep}
 use Rattle.pie_line.specs.Link.{LinkValue}
 use Rattle.q_round.specs.declared.frame.Frame.{Frame}
 use Rattle.q_round.specs.declared.frame.Outcome.{Outcome}
 use Rattle.q_round.specs.declared.frame.Outcome.TheVariants.{Silence, Whole, Refused}
-use Rattle.q_round.specs.declared.round.Next.{Next}
-use Rattle.q_round.specs.declared.round.Next.TheVariants.{Send, Quiet, Limit}
+use Rattle.q_round.specs.declared.round.Next.TheVariants.{Send, Quiet}
 use Rattle.q_round.specs.SpecValue.{SpecValue, IsLegalSpec}
-use Rattle.q_round.specs.Rounds.{qfp_of, is_silent, all_silent, Turn, query, adjust, rep, quiet, limit, q_after, frame_after, ends, course_of, turn_of, q_of, frame_of, is_over, answer_of, next_command}
-use Rattle.q_round.specs.Standing.{AreOutcomes, slots_of, IsSound, IsCounted, counted, begun, IsFrameOf}
-use Rattle.q_round.specs.RoundLaws.{MovesQ, IsSilentFrame, IsLegalNext}
+use Rattle.q_round.specs.Rounds.{qfp_of, is_silent, all_silent, Turn, query, adjust, rep, quiet, limit, q_after, frame_after, ends, turn_of, q_of, frame_of, is_over, AreOutcomes, slots_of, answer_of, next_command}
+use Rattle.q_round.specs.Standing.{IsSound, IsCounted, counted, IsFrameOf}
+use Rattle.q_round.specs.RoundLaws.{IsSilentFrame}
 use Rattle.q_round.proofs.Table.{IsTurn, turn-tells, counted-frame, up-sound, down-sound, same-sound, rep-sound, some-slots, both}
-use Rattle.q_round.proofs.Turns.{turn-is, slots-underway, frame-begun, frame-goes_on}
+use Rattle.q_round.proofs.Turns.{turn-is, slots-underway}
 
 -- the frame behind these outcomes
 abbrev pub frame_at : SpecValue → List Outcome → Frame

@@ -4,16 +4,13 @@ use Rattle.std.proofs.lemmas.Bool.{ne_eqb}
 use Rattle.command_grammar.specs.declared.command.UpDn.{UpDn}
 use Rattle.command_grammar.specs.declared.command.UpDn.TheVariants.{Up, Same, Down}
 use Rattle.command_grammar.specs.declared.commands.Command.TheVariants.{QueryAdjust, QueryRep}
-use Rattle.pie_line.specs.Link.{LinkValue}
 use Rattle.q_round.specs.declared.frame.Frame.{Frame}
 use Rattle.q_round.specs.declared.frame.Outcome.{Outcome}
-use Rattle.q_round.specs.declared.round.Next.{Next}
-use Rattle.q_round.specs.declared.round.Next.TheVariants.{Send, Quiet, Limit}
-use Rattle.q_round.specs.declared.round.Stage.{Stage}
+use Rattle.q_round.specs.declared.round.Next.TheVariants.{Send, Limit}
 use Rattle.q_round.specs.declared.round.Stage.TheVariants as stages
 use Rattle.q_round.specs.SpecValue.{SpecValue}
-use Rattle.q_round.specs.Rounds.{qfp_after, qfp_of, rounded, is_silent, all_silent, Turn, query, adjust, rep, quiet, limit, turn_after, adjusted, q_after, frame_after, ends, course_of, turn_of, q_of, frame_of, is_over, answer_of, next_command}
-use Rattle.q_round.specs.Standing.{AreOutcomes, slots_of, RoundValue, counted, change_of, begun, IsFrameOf, IsStageOf, StandsFor, Answers}
+use Rattle.q_round.specs.Rounds.{rounded, Turn, adjust, rep, quiet, limit, turn_after, turn_of, frame_of, is_over, AreOutcomes, slots_of}
+use Rattle.q_round.specs.Standing.{RoundValue, counted, change_of, begun, IsFrameOf, IsStageOf, StandsFor, Answers}
 
 -- the line of the table behind one more outcome, by what the frame knows
 pub turn-is : (spec : SpecValue) (outcomes : List Outcome) (outcome : Outcome) (frame : Frame) → IsFrameOf frame spec outcomes →

@@ -3,7 +3,6 @@ use Rattle.std.specs.Prelude.{◌≡◌, ℕ, ◌+◌, ◌^◌, List, length}
 use Rattle.std.specs.List.{AllByRecursion}
 use Rattle.command_grammar.specs.declared.command.UpDn.{UpDn}
 use Rattle.command_grammar.specs.declared.command.UpDn.TheVariants.{Up, Same, Down}
-use Rattle.command_grammar.specs.declared.commands.Command.{Command}
 use Rattle.command_grammar.specs.declared.commands.Command.TheVariants.{QueryAdjust}
 use Rattle.command_grammar.specs.Commands.{IsLegal}
 use Rattle.q_round.specs.declared.frame.Outcome.{Outcome}

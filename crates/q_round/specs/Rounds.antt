@@ -1,7 +1,7 @@
 -- What an interrogator does after each slot of a round, by the outcomes of its slots so far (6.3.2.8 Inventorying Tag
 -- populations; the rule for Q is the informative one of Annex D, in thousandths, with numbers of this profile).
 -- A list of outcomes stands latest first.
-use Rattle.std.specs.Prelude.{ℕ, ◌+◌, ◌-◌, ◌*◌, ◌/◌, ◌^◌, ◌==◌, nat_lt, min, Bool, true, false, ◌&&◌, List, [], ◌∷◌, length, if◌then◌else◌}
+use Rattle.std.specs.Prelude.{◌≡◌, ℕ, ◌+◌, ◌-◌, ◌*◌, ◌/◌, ◌^◌, ◌==◌, nat_lt, min, Bool, true, false, ◌&&◌, List, [], ◌∷◌, length, if◌then◌else◌}
 use Rattle.command_grammar.specs.declared.command.UpDn.{UpDn}
 use Rattle.command_grammar.specs.declared.command.UpDn.TheVariants.{Up, Same, Down}
 use Rattle.command_grammar.specs.declared.commands.Command.TheVariants.{Query, QueryAdjust, QueryRep}
@@ -122,6 +122,17 @@ ends limit = true
 -- no slot follows these outcomes
 abbrev pub is_over : SpecValue → List Outcome → Bool
 is_over spec outcomes = ends (turn_of spec outcomes)
+
+-- no outcome stands behind the end of the round
+abbrev pub AreOutcomes : SpecValue → List Outcome → Type 0
+AreOutcomes spec [] = Unit {0}
+AreOutcomes spec (outcome ∷ before) = (is_over spec before ≡ false) × AreOutcomes spec before
+
+-- how many slot commands the round has given after these outcomes: its Query, and one after each outcome that didn't
+-- end the round
+abbrev pub slots_of : SpecValue → List Outcome → ℕ
+slots_of spec [] = 1
+slots_of spec (outcome ∷ before) = slots_of spec before + (if is_over spec (outcome ∷ before) then 0 else 1)
 
 abbrev pub is_end : Next → Bool
 is_end (Send command) = false

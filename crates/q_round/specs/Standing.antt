@@ -1,5 +1,5 @@
 -- What a round that keeps no outcomes knows of them (profile).
-use Rattle.std.specs.Prelude.{◌≡◌, ℕ, ◌+◌, ◌*◌, ◌^◌, ◌<◌, ◌≤◌, ◌==◌, ◌&&◌, nat_lt, Bool, true, false, List, [], ◌∷◌, length, Option, Some, None, if◌then◌else◌}
+use Rattle.std.specs.Prelude.{◌≡◌, ℕ, ◌+◌, ◌*◌, ◌^◌, ◌<◌, ◌≤◌, ◌==◌, ◌&&◌, nat_lt, true, false, List, length, Option, Some, None, if◌then◌else◌}
 use Rattle.command_grammar.specs.declared.command.UpDn.{UpDn}
 use Rattle.command_grammar.specs.declared.command.UpDn.TheVariants.{Up, Same, Down}
 use Rattle.q_round.specs.declared.frame.Frame.{Frame}
@@ -9,19 +9,8 @@ use Rattle.q_round.specs.declared.round.Next.{Next}
 use Rattle.q_round.specs.declared.round.Next.TheVariants as nexts
 use Rattle.q_round.specs.declared.round.Stage.{Stage}
 use Rattle.q_round.specs.declared.round.Stage.TheVariants.{Underway, Quiet, Limit}
-use Rattle.q_round.specs.SpecValue.{SpecValue, IsLegalSpec}
-use Rattle.q_round.specs.Rounds.{qfp_after, qfp_of, rounded, is_silent, all_silent, adjusted, quiet, limit, turn_of, q_of, frame_of, is_over, is_end, next_command}
-
--- no outcome stands behind the end of the round
-abbrev pub AreOutcomes : SpecValue → List Outcome → Type 0
-AreOutcomes spec [] = Unit {0}
-AreOutcomes spec (outcome ∷ before) = (is_over spec before ≡ false) × AreOutcomes spec before
-
--- how many slot commands the round has given after these outcomes: its Query, and one after each outcome that didn't
--- end the round
-abbrev pub slots_of : SpecValue → List Outcome → ℕ
-slots_of spec [] = 1
-slots_of spec (outcome ∷ before) = slots_of spec before + (if is_over spec (outcome ∷ before) then 0 else 1)
+use Rattle.q_round.specs.SpecValue.{SpecValue}
+use Rattle.q_round.specs.Rounds.{qfp_after, qfp_of, rounded, is_silent, all_silent, adjusted, quiet, limit, turn_of, q_of, frame_of, is_over, is_end, AreOutcomes, slots_of, next_command}
 
 -- what a contract sees of a round
 pub record RoundValue : Type 0 where

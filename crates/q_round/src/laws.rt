@@ -5,8 +5,7 @@ ghost use Rattle.pie_line.specs.Link.{LinkValue};
 ghost use Rattle.q_round.specs.declared.frame.Outcome.{Outcome};
 ghost use Rattle.q_round.specs.declared.round.Next.TheVariants.{Send, Quiet};
 ghost use Rattle.q_round.specs.SpecValue.{SpecValue, IsLegalSpec};
-ghost use Rattle.q_round.specs.Rounds.{next_command, q_of, frame_of};
-ghost use Rattle.q_round.specs.Standing.{AreOutcomes, slots_of};
+ghost use Rattle.q_round.specs.Rounds.{AreOutcomes, slots_of, next_command, q_of, frame_of};
 ghost use Rattle.q_round.specs.RoundLaws.{MovesQ, IsSilentFrame, IsLegalNext};
 
 /// No round gives more slot commands than its limit. Q is from 0 to 15; each QueryAdjust moves it by

@@ -52,8 +52,8 @@ impl Round {
     ghost use Rattle.q_round.specs.declared.frame.Outcome.{Outcome};
     ghost use Rattle.q_round.specs.declared.round.Next.TheVariants.{Send};
     ghost use Rattle.q_round.specs.SpecValue.{SpecValue};
-    ghost use Rattle.q_round.specs.Rounds.{next_command, is_over};
-    ghost use Rattle.q_round.specs.Standing.{StandsFor, Answers, slots_of, slots_in};
+    ghost use Rattle.q_round.specs.Rounds.{next_command, is_over, slots_of};
+    ghost use Rattle.q_round.specs.Standing.{StandsFor, Answers, slots_in};
 
     /// A round with these parameters, and the Query that begins it, which asks for replies as the link
     /// has them.
