@@ -324,13 +324,26 @@ fn bit_of_block<C: LineCode>(mark: C::Mark, levels: &[bool]) -> Option<bool>
     ensures some { IfSome result (λ bit. levels.now ≡ C.table.block (C.context_of mark) bit) }
     ensures none { IfNone result ((bit : Bool) → levels.now ≢ C.table.block (C.context_of mark) bit) }
 {
-    // No jump depends on which of the two bits it is, since that can't be foreseen.
-    let bit = is_block::<C>(mark, true, levels);
-    if is_block::<C>(mark, bit, levels) {
-        Some(bit)
-    } else {
-        None
+    let likely = likely_bit::<C>(mark, levels);
+    if is_block::<C>(mark, likely, levels) {
+        return Some(likely);
     }
+    let other = !likely;
+    if is_block::<C>(mark, other, levels) {
+        return Some(other);
+    }
+    None
+}
+
+/// The bit whose block the levels are, if they are one, in a code that tells the bit by the first
+/// level of its block or by the one in its middle, as each code of the standard does. It is only a
+/// guess, which saves looking at the blocks of both bits, and jumps that depend on the bit.
+fn likely_bit<C: LineCode>(mark: C::Mark, levels: &[bool]) -> bool
+    requires { length levels.now ≡ C.CHIPS }
+{
+    let middle = C::CHIPS / 2;
+    (C::level(mark, true, 0) == levels[0])
+        & (C::level(mark, true, middle) == levels[middle as usize])
 }
 
 /// Whether the levels are the block of a bit.
