@@ -1,6 +1,6 @@
 //! The decoder as three typed states, which take one level at a time: [`Seeking`] before the
 //! data, [`Inside`] in the data, and [`Ended`] behind a whole stream. None of them keeps the levels.
-ghost use Rattle.std.specs.Prelude.{◌≡◌, ◌≢◌, ◌<◌, ◌≤◌, List, Bool, true, [], ◌∷◌, ◌++◌, length, take, IfErr, OnErr, IfSome, IfNone, IsTrue, ◌↔◌, slice_get};
+ghost use Rattle.std.specs.Prelude.{◌≡◌, ◌≢◌, ◌<◌, ◌≤◌, List, Bool, true, [], ◌∷◌, ◌++◌, length, take, IfErr, OnErr, IfSome, IfNone, IsSome, IsTrue, ◌↔◌, slice_get};
 ghost use Rattle.line_code.specs.States.{Seeks, Reads, Ends};
 ghost use Rattle.line_code.specs.Stream.{Streams};
 ghost use Rattle.line_code.specs.Refusal.{Refuses};
@@ -238,10 +238,11 @@ impl<C: LineCode> Inside<C> {
         })
     }
 
-    /// The bit whose block the first of these levels are. None where a block is begun already, where
-    /// fewer levels than a block's are there, or where they are the block of neither bit.
+    /// The bit whose block the first of these levels are. None exactly where a block is begun already,
+    /// where fewer levels than a block's are there, or where they are the block of neither bit.
     pub(crate) fn next_bit(&self, levels: &[bool]) -> Option<bool>
-        ensures { IfSome result (λ bit. (self.now.place ≡ 0) × (C.CHIPS ≤ length levels.now) × (take C.CHIPS levels.now ≡ C.table.block self.now.context bit)) }
+        ensures some { IfSome result (λ bit. (self.now.place ≡ 0) × (C.CHIPS ≤ length levels.now) × (take C.CHIPS levels.now ≡ C.table.block self.now.context bit)) }
+        ensures only { (bit : Bool) → self.now.place ≡ 0 → C.CHIPS ≤ length levels.now → take C.CHIPS levels.now ≡ C.table.block self.now.context bit → IsSome result }
     {
         let chips = C::CHIPS as usize;
         if self.place > 0 || levels.len() < chips {
