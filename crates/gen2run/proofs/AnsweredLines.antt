@@ -1,11 +1,11 @@
 -- The answers to the lines before a place of the input.
-use Rattle.std.proofs.Common.{◌≡◌, ◌≢◌, ℕ, List, [], ◌∷◌, ◌++◌, refl, sym, ◌∙◌, ap, subst, arith, length}
+use Rattle.std.proofs.Common.{◌≡◌, ℕ, List, [], ◌∷◌, ◌++◌, refl, sym, ◌∙◌, ap, subst, arith, length}
 use Rattle.std.specs.List.{AllZip, flat_map}
 use Rattle.std.proofs.lemmas.List.{append_assoc, append-nil}
-use Rattle.text_fields.specs.Lines.{lines_of, fields_of, line_feed}
+use Rattle.text_fields.specs.Lines.{lines_of, line_feed}
 use Rattle.gen2run.specs.Request.{Spells}
-use Rattle.gen2run.specs.Answer.{Answer, IsAnswer, answer_line, AddsAnswer, Answers}
-use Rattle.gen2run.specs.DecodeLines.{AsksFor, Decodes, AnswersLine, IsAsked, IsGrammatical}
+use Rattle.gen2run.specs.Answer.{Answer, IsAnswer, answer_line}
+use Rattle.gen2run.specs.DecodeLines.{Decodes, AnswersLine, IsAsked, IsGrammatical}
 use Rattle.gen2run.specs.declared.decode.request.Request.{Request}
 use Rattle.gen2run.proofs.CheckedLines.{AsksTo, asks_none, asks_more, asks_all, some_line, zip_push}
 

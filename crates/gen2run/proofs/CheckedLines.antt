@@ -1,15 +1,14 @@
 -- The lines before a place of the input, each of which asks for something.
-use Rattle.std.proofs.Common.{◌≡◌, ◌≢◌, ◌==◌, ℕ, zero, suc, ◌+◌, ◌<◌, ◌≤◌, Bool, true, false, List, [], ◌∷◌, ◌++◌, length, refl, sym, ◌∙◌, ap, arith, length-append}
-use Rattle.std.specs.List.{AllZip, count_by}
+use Rattle.std.proofs.Common.{◌≡◌, ◌≢◌, ◌==◌, ℕ, suc, ◌+◌, ◌≤◌, List, [], ◌∷◌, ◌++◌, length, refl, sym, ◌∙◌, ap, arith, length-append}
+use Rattle.std.specs.List.{AllZip}
 use Rattle.std.proofs.lemmas.List.{append_assoc}
 use Rattle.std.proofs.lemmas.List.Splits.{length-slice_split}
 use Rattle.text_fields.specs.Lines.{lines_of, fields_of, line_feed}
 use Rattle.gen2run.specs.Request.{Spells, IsFaulty}
-use Rattle.gen2run.specs.DecodeLines.{AsksFor, IsGrammatical, IsFaultyBefore, IsFirstFault}
+use Rattle.gen2run.specs.DecodeLines.{AsksFor, IsFaultyBefore, IsFirstFault}
 use Rattle.gen2run.specs.declared.decode.request.Request.{Request}
 use Rattle.gen2run.specs.declared.decode.request.Reason.{Reason}
 use Rattle.gen2run.specs.declared.decode.request.Reason.TheVariants.{End}
-use Rattle.gen2run.specs.declared.decode.request.Fault.{Fault}
 
 -- the lines before what is left ask for these requests
 pub record AsksTo (input rest : List ℕ) (asked : List Request) : Type 0 where

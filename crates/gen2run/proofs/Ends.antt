@@ -1,12 +1,11 @@
 -- How `decode` ends: what a failed write left, and which status a grammatical input has.
-use Rattle.std.proofs.Common.{◌≡◌, ◌⊎◌, ℕ, ◌+◌, ◌≤◌, List, [], ◌∷◌, ◌++◌, length, take, drop, Option, Some, None, String, Global, refl, sym, ◌∙◌, ap, subst, arith, inl, inr, length-append}
+use Rattle.std.proofs.Common.{◌≡◌, ◌⊎◌, ℕ, ◌≤◌, List, ◌++◌, length, take, drop, Option, Some, None, String, Global, refl, sym, ◌∙◌, ap, subst, arith, inl, inr, length-append}
 use Rattle.std.specs.String.{string_bytes}
-use Rattle.std.specs.Option.{option_map, IfSome}
 use Rattle.std.proofs.lemmas.List.{take-append-drop, append-nil}
 use Rattle.air_io.specs.Flow.{Reads, Adds, AtEnd, FaultsRose}
 use Rattle.gen2run.specs.DecodeLines.{Decodes, Refuses, Defines, IsGrammatical}
 use Rattle.gen2run.specs.Decoded.{IsDecoded}
-use Rattle.gen2run.specs.Outcome.{input_limit, ReadsAll, WritesFront, WritesWhole, ReadsTooMuch, Tells}
+use Rattle.gen2run.specs.Outcome.{input_limit, ReadsAll, WritesFront, Tells}
 use Rattle.gen2run.specs.declared.decode.lines.Decoded.{Decoded}
 use Rattle.gen2run.specs.declared.decode.lines.Decoded.TheVariants.{Lines, Fault}
 use Rattle.gen2run.specs.declared.status.Status.{Status}

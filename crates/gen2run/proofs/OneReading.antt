@@ -1,5 +1,5 @@
 -- A line that asks for something is not faulty, and a grammatical input has no faulty line.
-use Rattle.std.proofs.Common.{◌≡◌, ◌≢◌, ℕ, ◌+◌, Bool, true, false, List, [], ◌∷◌, ◌++◌, length, map, Option, Some, None, refl, sym, ◌∙◌, ap, arith, subst, ◌≤◌, ◌^◌, ◌<◌, Ok, Result, if◌then◌else◌}
+use Rattle.std.proofs.Common.{◌≡◌, ◌≢◌, ℕ, List, [], ◌∷◌, ◌++◌, length, map, Option, Some, None, refl, sym, ◌∙◌, ap, arith, subst, ◌≤◌, Ok, if◌then◌else◌}
 use Rattle.std.specs.Prelude.{codes}
 use Rattle.std.specs.Str.{bytes_eq}
 use Rattle.std.proofs.lemmas.List.Elements.{All-nil, All-cons, All-head, All-tail}
@@ -8,7 +8,7 @@ use Rattle.line_codes.specs.Names.{code_word}
 use Rattle.reply_text.specs.ReplyText.{expect_word}
 use Rattle.reply_text.proofs.Fields.{expect_word_is_field_text}
 use Rattle.std.specs.List.{AllZip, All}
-use Rattle.text_fields.specs.Lines.{lines_of, fields_of}
+use Rattle.text_fields.specs.Lines.{fields_of}
 use Rattle.text_fields.specs.Binary.{binary, binary_digit}
 use Rattle.bit_strings.specs.declared.code.Code.{Code}
 use Rattle.bit_strings.specs.declared.code.Code.TheVariants.{Fm0, M2, M4, M8}
@@ -17,7 +17,7 @@ use Rattle.hex.proofs.OnLiterals.{hex_on_literals}
 use Rattle.std.specs.Fmt.{decimal}
 use Rattle.text_fields.proofs.Visible.{IsFieldText-decimal, IsFieldText-binary}
 use Rattle.gen2run.specs.Request.{kind_word, HasShape, request_kind, AreSpelled, IsWithinLimits, AsksBehind, Spells, AreFaulty, IsFaulty}
-use Rattle.gen2run.specs.DecodeLines.{AsksFor, IsGrammatical, IsFaultyBefore, IsFirstFault}
+use Rattle.gen2run.specs.DecodeLines.{IsGrammatical, IsFaultyBefore, IsFirstFault}
 use Rattle.gen2run.specs.declared.decode.request.Kind.{Kind}
 use Rattle.gen2run.specs.declared.decode.request.Kind.TheVariants.{Stream as StreamKind, Samples as SamplesKind, Reply as ReplyKind, Heard as HeardKind, Pie as PieKind, Command as CommandKind}
 use Rattle.gen2run.specs.declared.decode.request.Request.{Request}

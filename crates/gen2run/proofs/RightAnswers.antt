@@ -1,5 +1,5 @@
 -- What a decoder answered is the answer to the request whose list it was given.
-use Rattle.std.proofs.Common.{◌≡◌, ℕ, Bool, List, Result, Ok, Err, subst, sym}
+use Rattle.std.proofs.Common.{◌≡◌, ℕ, Bool, List, Result, Ok, Err, subst}
 use Rattle.std.specs.Prelude.{IfOk, IfErr}
 use Rattle.bit_strings.specs.declared.code.Code.{Code}
 use Rattle.line_codes.specs.Codes.{table_of}

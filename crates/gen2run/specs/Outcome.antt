@@ -1,6 +1,6 @@
 -- Profile: what each status of the program says of the bytes that came in and of those that went out. A source
 -- may tell the bytes that it has left, and a sink those that were written; what is not told is left open.
-use Rattle.std.specs.Prelude.{◌≡◌, ℕ, ◌+◌, ◌≤◌, List, ◌++◌, length, Option, Some, ◌⊎◌}
+use Rattle.std.specs.Prelude.{◌≡◌, ℕ, ◌+◌, ◌≤◌, List, ◌++◌, length, Option, ◌⊎◌}
 use Rattle.air_io.specs.Flow.{Reads, Adds, AtEnd, FaultsRose}
 use Rattle.gen2run.specs.DecodeLines.{Decodes, Refuses, Defines}
 use Rattle.gen2run.specs.declared.status.Status.{Status}

@@ -1,6 +1,6 @@
 //! The decoder as three typed states, which take one level at a time: [`Seeking`] before the
 //! data, [`Inside`] in the data, and [`Ended`] behind a whole stream. None of them keeps the levels.
-ghost use Rattle.std.specs.Prelude.{◌≡◌, ◌≢◌, ◌<◌, ◌≤◌, List, Bool, true, [], ◌∷◌, ◌++◌, length, take, IfErr, OnErr, IfSome, IfNone, IsTrue, ◌↔◌, slice_get};
+ghost use Rattle.std.specs.Prelude.{◌≡◌, ◌≢◌, ◌<◌, ◌≤◌, List, Bool, true, [], ◌∷◌, ◌++◌, length, take, IfErr, OnErr, IfSome, IfNone, IsSome, IsTrue, ◌↔◌, slice_get};
 ghost use Rattle.line_code.specs.States.{Seeks, Reads, Ends};
 ghost use Rattle.line_code.specs.Stream.{Streams};
 ghost use Rattle.line_code.specs.Refusal.{Refuses};
@@ -238,10 +238,11 @@ impl<C: LineCode> Inside<C> {
         })
     }
 
-    /// The bit whose block the first of these levels are. None where a block is begun already, where
-    /// fewer levels than a block's are there, or where they are the block of neither bit.
+    /// The bit whose block the first of these levels are. None exactly where a block is begun already,
+    /// where fewer levels than a block's are there, or where they are the block of neither bit.
     pub(crate) fn next_bit(&self, levels: &[bool]) -> Option<bool>
-        ensures { IfSome result (λ bit. (self.now.place ≡ 0) × (C.CHIPS ≤ length levels.now) × (take C.CHIPS levels.now ≡ C.table.block self.now.context bit)) }
+        ensures some { IfSome result (λ bit. (self.now.place ≡ 0) × (C.CHIPS ≤ length levels.now) × (take C.CHIPS levels.now ≡ C.table.block self.now.context bit)) }
+        ensures only { (bit : Bool) → self.now.place ≡ 0 → C.CHIPS ≤ length levels.now → take C.CHIPS levels.now ≡ C.table.block self.now.context bit → IsSome result }
     {
         let chips = C::CHIPS as usize;
         if self.place > 0 || levels.len() < chips {
@@ -324,13 +325,26 @@ fn bit_of_block<C: LineCode>(mark: C::Mark, levels: &[bool]) -> Option<bool>
     ensures some { IfSome result (λ bit. levels.now ≡ C.table.block (C.context_of mark) bit) }
     ensures none { IfNone result ((bit : Bool) → levels.now ≢ C.table.block (C.context_of mark) bit) }
 {
-    // No jump depends on which of the two bits it is, since that can't be foreseen.
-    let bit = is_block::<C>(mark, true, levels);
-    if is_block::<C>(mark, bit, levels) {
-        Some(bit)
-    } else {
-        None
+    let likely = likely_bit::<C>(mark, levels);
+    if is_block::<C>(mark, likely, levels) {
+        return Some(likely);
     }
+    let other = !likely;
+    if is_block::<C>(mark, other, levels) {
+        return Some(other);
+    }
+    None
+}
+
+/// The bit whose block the levels are, if they are one, in a code that tells the bit by the first
+/// level of its block or by the one in its middle, as each code of the standard does. It is only a
+/// guess, which saves looking at the blocks of both bits, and jumps that depend on the bit.
+fn likely_bit<C: LineCode>(mark: C::Mark, levels: &[bool]) -> bool
+    requires { length levels.now ≡ C.CHIPS }
+{
+    let middle = C::CHIPS / 2;
+    (C::level(mark, true, 0) == levels[0])
+        & (C::level(mark, true, middle) == levels[middle as usize])
 }
 
 /// Whether the levels are the block of a bit.

@@ -1,4 +1,3 @@
-use Rattle.std.proofs.Common.{◌≡◌}
 use Rattle.gen2run.proofs.Ends.{lines_front, fault_front}
 use Rattle.gen2run.proofs.program.decode.Goals as goal
 

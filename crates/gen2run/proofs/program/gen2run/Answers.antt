@@ -1,5 +1,3 @@
-use Rattle.std.proofs.Common.{◌≡◌, Option, List, ℕ, subst}
-use Rattle.gen2run.specs.Outcome.{Tells}
 use Rattle.gen2run.proofs.Ends.{completes}
 use Rattle.gen2run.proofs.program.gen2run.Goals as goal
 

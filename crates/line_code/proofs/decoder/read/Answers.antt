@@ -14,7 +14,7 @@ take_block-inside-requires-clause-room g c =
     let put = bits_within g.C.LineCode.table g.C.LineCode.CHIPS g.met.C.LineCode.even c.args.trext c.loop-bit.inside front c.loop-bit.out.items c.loop-bit.invariant.reads in
     let within = c.loop-bit.invariant.within in
     let least = g.met.C.LineCode.even.least in
-    let whole = c.in-Some.ensures.1 in
+    let whole = c.in-Some.ensures.some.1 in
     let same = c.loop-bit.invariant.same in
     let room = c.requires.room in
     let size = length-take-le c.loop-bit.at c.args.levels.now within in
@@ -25,13 +25,13 @@ loop-bit-preserved g c =
     let t = g.C.LineCode.table in
     let levels = c.args.levels.now in
     let at = c.loop-bit.at in
-    let block = c.in-Some.ensures.2 in
+    let block = c.in-Some.ensures.some.2 in
     let read = c.take_block-inside.ensures.reads c.args.trext (take at levels) c.loop-bit.invariant.reads in
     let chips = c.CHIPS.ensures in
     let rest : take (length levels - at) (drop at levels) ≡ drop at levels = take_all (length levels - at) (drop at levels) (omega (arith, length-drop at levels)) in
     let is : take g.C.LineCode.CHIPS (drop at levels) ≡ t.block c.loop-bit.inside.context c.in-Some.bit = ap (take g.C.LineCode.CHIPS) (sym rest) ∙ block in
     record {
-      within = let whole = c.in-Some.ensures.1 in let within = c.loop-bit.invariant.within in omega (arith, length-drop at levels);
+      within = let whole = c.in-Some.ensures.some.1 in let within = c.loop-bit.invariant.within in omega (arith, length-drop at levels);
       reads = rw (chips, ← block_more levels (t.block c.loop-bit.inside.context c.in-Some.bit) at g.C.LineCode.CHIPS is) read;
       same = c.take_block-inside.ensures.capacity ∙ c.loop-bit.invariant.same;
     }

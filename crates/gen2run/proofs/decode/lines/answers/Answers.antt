@@ -1,5 +1,3 @@
-use Rattle.std.proofs.Common.{◌≡◌, ◌∷◌, []}
-use Rattle.text_fields.specs.Lines.{lines_of}
 use Rattle.gen2run.proofs.AnsweredLines.{next_asked, answers_more}
 use Rattle.gen2run.proofs.decode.lines.answers.Goals as goal
 

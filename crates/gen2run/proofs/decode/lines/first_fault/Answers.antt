@@ -1,4 +1,4 @@
-use Rattle.std.proofs.Common.{◌≡◌, ◌≢◌, ◌+◌, ◌==◌, ℕ, Bool, false, List, [], ◌∷◌, ◌++◌, length, arith, length-append}
+use Rattle.std.proofs.Common.{◌≡◌, ◌≢◌, ◌==◌, ℕ, Bool, false, List, [], ◌∷◌, ◌++◌, length, arith, length-append}
 use Rattle.gen2run.proofs.CheckedLines.{fault_here, fault_last, asks_more, asked_count}
 use Rattle.gen2run.proofs.decode.lines.first_fault.Goals as goal
 

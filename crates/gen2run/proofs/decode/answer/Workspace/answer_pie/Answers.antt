@@ -1,4 +1,4 @@
-use Rattle.std.proofs.Common.{◌≡◌, ap}
+use Rattle.std.proofs.Common.{ap}
 use Rattle.std.proofs.lemmas.Result.{on_ok_weaker}
 use Rattle.pie_line.specs.IntervalList.{IntervalList}
 use Rattle.gen2run.specs.Answer.{framing_answer}
