@@ -1,3 +1,7 @@
 pub mod Leading
 pub mod Settled
 pub mod Spoken
+pub mod Taken
+pub mod Texts
+pub mod Reader
+pub mod Whole
