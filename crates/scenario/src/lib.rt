@@ -8,6 +8,7 @@
 mod draft;
 mod fault;
 mod laws;
+mod printing;
 mod reading;
 #[cfg(test)]
 mod tests;
@@ -16,6 +17,7 @@ mod values;
 pub use access_ops::{Op, OpList};
 pub use air_events::{Choice, Entry, Event};
 pub use fault::{Fault, ScenarioFault};
+pub use printing::print_scenario;
 pub use q_round::RoundSpec;
 pub use reading::read_scenario;
 pub use scenario_lines::TagSpec;
