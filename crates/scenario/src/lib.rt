@@ -10,6 +10,7 @@ mod fault;
 mod laws;
 mod printing;
 mod reading;
+mod round_trip;
 #[cfg(test)]
 mod tests;
 mod values;
@@ -20,5 +21,6 @@ pub use fault::{Fault, ScenarioFault};
 pub use printing::print_scenario;
 pub use q_round::RoundSpec;
 pub use reading::read_scenario;
+pub use round_trip::{print_and_read, read_and_print};
 pub use scenario_lines::TagSpec;
 pub use values::{Scenario, Step};

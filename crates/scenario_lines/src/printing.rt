@@ -9,6 +9,8 @@ mod air;
 mod link;
 mod round;
 mod tag;
+#[cfg(test)]
+mod tests;
 
 pub use air::{push_air, push_event};
 use bit_strings::OutOfMemory;
