@@ -30,7 +30,7 @@ pub record DraftValue : Type 0 where
   pub closed : List (ℕ × Entry)
   -- the number of the last exchange, and what is said of it
   pub exchange : ℕ
-  pub open : Entry
+  pub latest : Entry
   pub steps : List Step
 
 -- a draft of these parts
@@ -41,7 +41,7 @@ draft_of link tags airs closed exchange events missed choice steps = record {
   airs = airs;
   closed = closed;
   exchange = exchange;
-  open = record { events = events; missed = missed; choice = choice };
+  latest = record { events = events; missed = missed; choice = choice };
   steps = steps;
 }
 
@@ -61,7 +61,7 @@ abbrev pub nothing_said : Entry
 nothing_said = record { events = []; missed = []; choice = None }
 
 abbrev pub new_draft : LinkValue → DraftValue
-new_draft link = record { link = link; tags = []; airs = 0; closed = []; exchange = 0; open = nothing_said; steps = [] }
+new_draft link = record { link = link; tags = []; airs = 0; closed = []; exchange = 0; latest = nothing_said; steps = [] }
 
 -- what is said of one exchange, with one thing more
 abbrev pub with_happening : Entry → Happening → Entry
@@ -71,20 +71,20 @@ with_happening entry (happenings.Choice choice) = record entry { choice = Some c
 
 -- what is said of the last exchange, where there is one
 abbrev pub last_entry : ℕ → Entry → List (ℕ × Entry)
-last_entry zero open = []
-last_entry (suc before) open = (suc before, open) ∷ []
+last_entry zero latest = []
+last_entry (suc before) latest = (suc before, latest) ∷ []
 
 -- what is said of all exchanges
 abbrev pub entries_of : DraftValue → List (ℕ × Entry)
-entries_of draft = draft.closed ++ last_entry draft.exchange draft.open
+entries_of draft = draft.closed ++ last_entry draft.exchange draft.latest
 
 -- nothing in a draft is more than the limits allow
 pub record IsSmall (draft : DraftValue) : Type 0 where
   pub tags : length draft.tags ≤ most_tags
   pub airs : draft.airs ≤ most_air_lines
   pub entries : length (entries_of draft) ≤ draft.airs
-  pub events : length draft.open.events ≤ draft.airs
-  pub missed : length draft.open.missed ≤ draft.airs
+  pub events : length draft.latest.events ≤ draft.airs
+  pub missed : length draft.latest.missed ≤ draft.airs
   pub steps : length draft.steps ≤ most_steps
 
 -- the scenario that is said
@@ -129,12 +129,12 @@ MayFollow entry (happenings.Choice choice) = Unit {0}
 
 -- the number of an air line's exchange doesn't fall, and what it says of the same exchange comes in order
 abbrev pub KeepsOrder : DraftValue → Line → Type 0
-KeepsOrder draft (lines.Air exchange happening) = (draft.exchange ≤ exchange) × (exchange ≡ draft.exchange → MayFollow draft.open happening)
+KeepsOrder draft (lines.Air exchange happening) = (draft.exchange ≤ exchange) × (exchange ≡ draft.exchange → MayFollow draft.latest happening)
 KeepsOrder draft line = Unit {0}
 
 -- it is no second choice for its exchange
 abbrev pub ChoosesOnce : DraftValue → Line → Type 0
-ChoosesOnce draft (lines.Air exchange (happenings.Choice choice)) = exchange ≡ draft.exchange → draft.open.choice ≡ None
+ChoosesOnce draft (lines.Air exchange (happenings.Choice choice)) = exchange ≡ draft.exchange → draft.latest.choice ≡ None
 ChoosesOnce draft line = Unit {0}
 
 -- what the line says agrees with the lines before it
@@ -156,11 +156,11 @@ pub record Follows (standing : Standing) (line : Line) : Type 0 where
 
 -- the draft with another exchange as the last one, of which nothing is said yet
 abbrev pub turned : DraftValue → ℕ → DraftValue
-turned draft exchange = record draft { closed = entries_of draft; exchange = exchange; open = nothing_said }
+turned draft exchange = record draft { closed = entries_of draft; exchange = exchange; latest = nothing_said }
 
 -- the draft in which one thing more is said of the last exchange
 abbrev pub with_said : DraftValue → Happening → DraftValue
-with_said draft happening = record draft { open = with_happening draft.open happening }
+with_said draft happening = record draft { latest = with_happening draft.latest happening }
 
 -- the draft after an air line
 abbrev pub with_air : DraftValue → ℕ → Happening → DraftValue

@@ -7,8 +7,8 @@ ghost use Rattle.scenario_lines.specs.Spelling.{word_of_line};
 ghost use Rattle.scenario.specs.Limits.{most_air_lines, most_steps, most_tags, no_operations};
 ghost use Rattle.scenario.specs.Taking.{Takes};
 
-use crate::values::{Scenario, Step};
 use crate::Fault;
+use crate::values::{Scenario, Step};
 use access_ops::OpList;
 use air_events::{Choice, Entry, Event};
 use bit_strings::{List, OutOfMemory};
@@ -140,7 +140,7 @@ impl Draft {
 
     /// Whether what is said of the last exchange may be followed by this.
     fn may_follow(&self, happening: Happening) -> bool
-        ensures { IsTrue result ↔ MayFollow self.now.open happening }
+        ensures { IsTrue result ↔ MayFollow self.now.latest happening }
     {
         match happening {
             Happening::Event { .. } => self.missed.is_empty() && self.choice.is_none(),
@@ -226,18 +226,16 @@ impl Draft {
 
     /// Adds to what is said of the last exchange.
     fn say(&mut self, happening: Happening) -> Result<(), OutOfMemory>
-        requires events { length self.old.open.events < self.old.airs }
-        requires missed { length self.old.open.missed < self.old.airs }
-        ensures { OnOk result (self.new ≡ record self.old { open = with_happening self.old.open happening }) }
+        requires events { length self.old.latest.events < self.old.airs }
+        requires missed { length self.old.latest.missed < self.old.airs }
+        ensures { OnOk result (self.new ≡ record self.old { latest = with_happening self.old.latest happening }) }
     {
         match happening {
-            Happening::Event { event, tag } => self.events.push((event, tag)),
-            Happening::Miss(tag) => self.missed.push(tag),
-            Happening::Choice(choice) => {
-                self.choice = Some(choice);
-                Ok(())
-            }
+            Happening::Event { event, tag } => self.events.push((event, tag))?,
+            Happening::Miss(tag) => self.missed.push(tag)?,
+            Happening::Choice(choice) => self.choice = Some(choice),
         }
+        Ok(())
     }
 
     /// Adds what an air line says.
@@ -263,7 +261,8 @@ impl Draft {
         requires { length self.old.steps < most_steps }
         ensures { OnOk result (self.new ≡ with_step self.old step.entry) }
     {
-        self.steps.push(step)
+        self.steps.push(step)?;
+        Ok(())
     }
 
     /// Adds a tag.
@@ -272,7 +271,8 @@ impl Draft {
         ensures { OnOk result (self.new ≡ record self.old { tags = self.old.tags ++ tag.now ∷ [] }) }
     {
         let tag = tag.to_spec(alloc)?;
-        self.tags.push(tag)
+        self.tags.push(tag)?;
+        Ok(())
     }
 
     /// Adds what a line says that may follow. The version, the link and the end add nothing.

@@ -48,6 +48,7 @@ pub enum ScenarioFault {
 }
 
 impl From<AllocError> for ScenarioFault {
+    ghost use Rattle.std.specs.Prelude.{◌≡◌};
     ghost use Rattle.scenario.specs.declared.fault.ScenarioFault.TheVariants.{OutOfMemory};
 
     ghost from_gives = { λ _ fault. fault ≡ OutOfMemory };

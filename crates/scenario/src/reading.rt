@@ -21,7 +21,7 @@ use text_fields::split_line;
 fn is_version(line: &[u8]) -> bool
     ensures { IsTrue result ↔ (fields_of line.now ≡ line_fields Line.Version) }
 {
-    line == b"gen2 1"
+    line == b"gen2 1".as_slice()
 }
 
 /// The link that the second line spells.

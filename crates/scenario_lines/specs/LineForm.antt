@@ -1,6 +1,5 @@
 -- Profile: what a line of a scenario may say.
 use Rattle.std.specs.Prelude.{◌≡◌, ◌≢◌, ℕ, ◌≤◌, true, length}
-use Rattle.command_grammar.specs.declared.command.FlagName.{FlagName}
 use Rattle.command_grammar.specs.declared.command.FlagName.TheVariants.{S0}
 use Rattle.command_grammar.specs.declared.command.Sel.TheVariants.{All01}
 use Rattle.air_events.specs.declared.Event.{Event}

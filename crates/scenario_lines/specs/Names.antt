@@ -1,11 +1,9 @@
 -- Profile: the words of a scenario. Those for flags, banks and sides are the ones that commands have in a text.
 use Rattle.std.specs.Prelude.{ℕ, List, [], codes}
-use Rattle.command_grammar.specs.declared.command.FlagName.{FlagName}
 use Rattle.command_grammar.specs.declared.command.Sel.{Sel}
 use Rattle.command_grammar.specs.declared.command.Sel.TheVariants as sels
 use Rattle.air_events.specs.declared.Event.{Event}
 use Rattle.air_events.specs.declared.Event.TheVariants as events
-use Rattle.air_events.specs.declared.Choice.{Choice}
 use Rattle.air_events.specs.declared.Choice.TheVariants as choices
 use Rattle.scenario_lines.specs.declared.words.Word.{Word}
 use Rattle.scenario_lines.specs.declared.words.Word.TheVariants as words

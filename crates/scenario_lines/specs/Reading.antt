@@ -3,11 +3,14 @@ use Rattle.std.specs.Prelude.{◌≡◌, ◌≢◌, ◌≤◌, ℕ, List, [], �
 use Rattle.std.specs.Fmt.{decimal}
 use Rattle.air_events.specs.declared.Event.{Event}
 use Rattle.pie_line.specs.Link.{LinkValue}
+use Rattle.pie_line.specs.declared.link.LinkRefusal.{LinkRefusal}
 use Rattle.pie_line.specs.declared.link.LinkRefusal.TheVariants as refusals
+use Rattle.scenario_lines.specs.declared.reading.link.Parameters.{Parameters}
+use Rattle.scenario_lines.specs.declared.reading.tag.Parts.{Parts}
 use Rattle.scenario_lines.specs.declared.fault.LineFault.{LineFault}
 use Rattle.scenario_lines.specs.declared.fault.LineFault.TheVariants.{Word as WordFault, Shape, Number, Tari, RtCal, TrCal, Pw, Pc}
 use Rattle.scenario_lines.specs.declared.tag.TagSpec.{TagSpec}
-use Rattle.scenario_lines.specs.TagForm.{IsTagForm}
+use Rattle.scenario_lines.specs.TagForm.{IsTagForm, tag_of}
 use Rattle.scenario_lines.specs.LineForm.{IsLinkForm, IsEvent, IsHappening, IsExchange}
 use Rattle.scenario_lines.specs.Spelling.{link_fields, tag_fields, event_fields, happening_fields}
 use Rattle.scenario_lines.specs.Names.{event_kind, event_word, event_field_count, air_kind, air_word, air_field_count}
@@ -22,6 +25,29 @@ abbrev pub Misreads : {V : Type 0} → (List (List ℕ) → Type 0) → (V → L
 Misreads HasShape fields_of_value IsInRange others Shape = ¬ HasShape others
 Misreads HasShape fields_of_value IsInRange others Number = HasShape others × ((value : _) → IsInRange value → others ≢ fields_of_value value)
 Misreads HasShape fields_of_value IsInRange others fault = ⊥
+
+-- the link of these parameters
+abbrev pub link_value : Parameters → LinkValue
+link_value of = record {
+  tari = of.tari;
+  rtcal = of.rtcal;
+  trcal = of.trcal;
+  pw = of.pw;
+  dr = of.dr;
+  code = of.code;
+  trext = of.trext;
+}
+
+-- the tag of these parts
+abbrev pub tag_value : Parts → TagSpec
+tag_value of = tag_of of.kill of.access of.locks of.lists.epc of.lists.tid of.lists.user of.lists.words
+
+-- the fault of a line whose link is refused so
+abbrev pub link_fault : LinkRefusal → LineFault
+link_fault refusals.Tari = Tari
+link_fault refusals.RtCal = RtCal
+link_fault refusals.TrCal = TrCal
+link_fault refusals.Pw = Pw
 
 -- the first reason for which fields are no link
 abbrev pub MisreadsLink : List (List ℕ) → LineFault → Type 0

@@ -7,6 +7,7 @@ ghost use Rattle.scenario_lines.specs.LineForm.{IsLine};
 ghost use Rattle.scenario_lines.specs.Spelling.{line_fields};
 
 /// Each field of a line may stand as a field.
+#[tactic(auto, using(crate::proofs::LineTexts::line_texts))]
 pub fn lines_are_field_texts()
     ensures { (line : Line) → IsLine line → All IsFieldText (line_fields line) }
 {}

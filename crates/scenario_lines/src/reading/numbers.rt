@@ -1,5 +1,5 @@
 //! The numbers and lists in a line, read.
-ghost use Rattle.std.specs.Prelude.{◌≡◌, ◌≢◌, ◌≤◌, ◌<◌, ◌^◌, ℕ, Bool, List, length, map, IfSome, IsSomeAnd, [], ◌∷◌};
+ghost use Rattle.std.specs.Prelude.{◌≡◌, ◌≢◌, ◌≤◌, ◌<◌, ◌^◌, ℕ, Bool, List, length, map, IfSome, IfNone, IsSomeAnd, [], ◌∷◌};
 ghost use Rattle.std.specs.Fmt.{decimal};
 ghost use Rattle.text_fields.specs.Binary.{binary, binary_digit};
 ghost use Rattle.text_fields.specs.Hexadecimal.{hex_words};
@@ -136,17 +136,31 @@ pub(crate) fn mask_of(field: &[u8]) -> Option<Mask>
     mask_of_digits(list_digits(field)?)
 }
 
+/// The bit of the first digit, and what stands behind it; none exactly where no binary digit stands
+/// first.
+fn split_bit(digits: &[u8]) -> Option<(bool, &[u8])>
+    ensures value { IfSome result (λ it. digits.now ≡ binary_digit it.0 ∷ it.1.now) }
+    ensures none { IfNone result ((bit : Bool) (behind : List ℕ) → digits.now ≢ binary_digit bit ∷ behind) }
+{
+    match digits {
+        [b'0', behind @ ..] => Some((false, behind)),
+        [b'1', behind @ ..] => Some((true, behind)),
+        _ => None,
+    }
+}
+
 /// The mask of these digits; none exactly where a byte is no digit, or there are more than 255.
 fn mask_of_digits(digits: &[u8]) -> Option<Mask>
-    ensures value { IfSome result (λ mask. digits.now ≡ map binary_digit mask) }
+    ensures value { IfSome result (λ mask. (digits.now ≡ map binary_digit mask) × (length mask ≤ 255)) }
     ensures only { (bits : List Bool) → length bits ≤ 255 → digits.now ≡ map binary_digit bits → IsSomeAnd result (λ mask. mask ≡ bits) }
 {
     let mut mask = Mask::new();
-    for digit in digits {
-        let bit = bit_of(*digit)?;
+    let mut rest = digits;
+    while let Some((bit, behind)) = split_bit(rest) {
         if mask.push(bit).is_err() {
             return None;
         }
+        rest = behind;
     }
-    Some(mask)
+    if rest.is_empty() { Some(mask) } else { None }
 }
