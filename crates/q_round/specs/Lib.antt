@@ -1,1 +1,4 @@
+pub mod RoundLaws
+pub mod Rounds
 pub mod SpecValue
+pub mod Standing

@@ -3,10 +3,17 @@
 //! version 1.2.0).
 #![tactic(auto)]
 
+mod frame;
+mod laws;
+mod round;
 mod round_spec;
 
 pub use bit_strings::{Code, QValue, Session};
-pub use command_grammar::{Sel, Side};
+pub use command_grammar::{Command, Sel, Side, UpDn};
+pub use frame::Outcome;
+pub use laws::round_laws;
+pub use pie_line::Link;
+pub use round::{Next, Round};
 pub use round_spec::RoundSpec;
 
 #[cfg(test)]

@@ -1,3 +1,4 @@
+pub mod PrintedLines
 pub mod Leading
 pub mod Settled
 pub mod Spoken

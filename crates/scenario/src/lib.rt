@@ -8,7 +8,9 @@
 mod draft;
 mod fault;
 mod laws;
+mod printing;
 mod reading;
+mod round_trip;
 #[cfg(test)]
 mod tests;
 mod values;
@@ -16,7 +18,9 @@ mod values;
 pub use access_ops::{Op, OpList};
 pub use air_events::{Choice, Entry, Event};
 pub use fault::{Fault, ScenarioFault};
+pub use printing::print_scenario;
 pub use q_round::RoundSpec;
 pub use reading::read_scenario;
+pub use round_trip::{print_and_read, read_and_print};
 pub use scenario_lines::TagSpec;
 pub use values::{Scenario, Step};

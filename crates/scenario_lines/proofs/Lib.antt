@@ -1,3 +1,4 @@
+pub mod LinePieces
 pub mod Filled
 pub mod Counted
 pub mod Passwords

@@ -14,6 +14,9 @@ mod words;
 
 pub use fault::LineFault;
 pub use line::{Happening, Line, Selection};
+pub use printing::{
+    push_air, push_end, push_event, push_link, push_nak, push_round, push_tag, push_version,
+};
 pub use reading::{read_line, word_of};
 pub use tag::{TagSpec, TagText};
 pub use words::{AirKind, EventKind, Word};

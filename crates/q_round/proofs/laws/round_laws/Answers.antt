@@ -1,0 +1,17 @@
+use Rattle.q_round.proofs.Courses.{slots-within, q-in-range, quiet-frame, rep-frame, frame-front}
+use Rattle.q_round.proofs.laws.round_laws.Goals as goal
+
+pub returns-clause-limit : goal.returns-clause-limit
+returns-clause-limit c = slots-within
+
+pub returns-clause-range : goal.returns-clause-range
+returns-clause-range c = q-in-range
+
+pub returns-clause-quiet : goal.returns-clause-quiet
+returns-clause-quiet c = λ spec link outcome before legal are. quiet-frame spec link outcome before are
+
+pub returns-clause-rep : goal.returns-clause-rep
+returns-clause-rep c = rep-frame
+
+pub returns-clause-frame : goal.returns-clause-frame
+returns-clause-frame c = frame-front

@@ -1,0 +1,140 @@
+-- What an interrogator does after each slot of a round, by the outcomes of its slots so far (6.3.2.8 Inventorying Tag
+-- populations; the rule for Q is the informative one of Annex D, in thousandths, with numbers of this profile).
+-- A list of outcomes stands latest first.
+use Rattle.std.specs.Prelude.{◌≡◌, ℕ, ◌+◌, ◌-◌, ◌*◌, ◌/◌, ◌^◌, ◌==◌, nat_lt, min, Bool, true, false, ◌&&◌, List, [], ◌∷◌, length, if◌then◌else◌}
+use Rattle.command_grammar.specs.declared.command.UpDn.{UpDn}
+use Rattle.command_grammar.specs.declared.command.UpDn.TheVariants.{Up, Same, Down}
+use Rattle.command_grammar.specs.declared.commands.Command.TheVariants.{Query, QueryAdjust, QueryRep}
+use Rattle.pie_line.specs.Link.{LinkValue}
+use Rattle.q_round.specs.declared.round.Next.{Next}
+use Rattle.q_round.specs.declared.round.Next.TheVariants.{Send, Quiet, Limit}
+use Rattle.q_round.specs.declared.frame.Outcome.{Outcome}
+use Rattle.q_round.specs.declared.frame.Outcome.TheVariants.{Silence, Whole, Refused}
+use Rattle.q_round.specs.SpecValue.{SpecValue}
+
+-- Annex D: a slot without a reply lowers Qfp, one with a collision raises it, and one with a single reply leaves it.
+-- What is no RN16 counts as a collision, and Qfp is kept from 0 to 15 (profile).
+abbrev pub qfp_after : ℕ → Outcome → ℕ → ℕ
+qfp_after c Silence qfp = qfp - c
+qfp_after c Whole qfp = qfp
+qfp_after c Refused qfp = min (qfp + c) 15000
+
+-- Qfp in thousandths: at first Q, and then moved by each outcome
+abbrev pub qfp_of : SpecValue → List Outcome → ℕ
+qfp_of spec [] = 1000 * spec.q
+qfp_of spec (outcome ∷ before) = qfp_after spec.c outcome (qfp_of spec before)
+
+-- Annex D: what Q is to be, Qfp rounded to a whole number
+abbrev pub rounded : ℕ → ℕ
+rounded qfp = (qfp + 500) / 1000
+
+abbrev pub is_silent : Outcome → Bool
+is_silent Silence = true
+is_silent Whole = false
+is_silent Refused = false
+
+abbrev pub all_silent : List Outcome → Bool
+all_silent [] = true
+all_silent (outcome ∷ before) = is_silent outcome && all_silent before
+
+-- what comes next in a round: the Query, a QueryAdjust, a QueryRep, or one of the two ends
+pub data Turn : Type 0 where
+  query : Turn
+  adjust : UpDn → Turn
+  rep : Turn
+  quiet : Turn
+  limit : Turn
+
+-- The table: the first line that applies after so many slots of the round, with the Qfp after them, the Q of the
+-- frame, the number of its slots and whether all of them were silent. 6.3.2.11.2.1: a frame has 2 ^ Q slots.
+abbrev pub turn_after : (most sent qfp q slots : ℕ) → Bool → Turn
+turn_after most sent qfp q slots silent =
+    if slots == 2 ^ q && silent then quiet else
+    if sent == most then limit else
+    if nat_lt q (rounded qfp) then adjust Up else
+    if nat_lt (rounded qfp) q then adjust Down else
+    if slots == 2 ^ q then adjust Same else rep
+
+-- 6.3.2.11.2.2 QueryAdjust: it moves Q by one, or leaves it
+abbrev pub adjusted : UpDn → ℕ → ℕ
+adjusted Up q = q + 1
+adjusted Same q = q
+adjusted Down q = q - 1
+
+abbrev pub q_after : Turn → ℕ → ℕ
+q_after (adjust updn) q = adjusted updn q
+q_after query q = q
+q_after rep q = q
+q_after quiet q = q
+q_after limit q = q
+
+-- a QueryAdjust begins a frame
+abbrev pub frame_after : Turn → List Outcome → List Outcome
+frame_after (adjust updn) frame = []
+frame_after query frame = frame
+frame_after rep frame = frame
+frame_after quiet frame = frame
+frame_after limit frame = frame
+
+-- where a round stands: what comes next, the Q of what comes next, and the outcomes since the last Query or QueryAdjust
+pub record Course : Type 0 where
+  pub turn : Turn
+  pub q : ℕ
+  pub frame : List Outcome
+
+abbrev pub turned : Turn → ℕ → List Outcome → Course
+turned turn q frame = record { turn = turn; q = q_after turn q; frame = frame_after turn frame }
+
+abbrev pub course_of : SpecValue → List Outcome → Course
+course_of spec [] = turned query spec.q []
+course_of spec (outcome ∷ before) =
+    let course = course_of spec before in
+    let frame = outcome ∷ course.frame in
+    turned (turn_after spec.limit (length before + 1) (qfp_of spec (outcome ∷ before)) course.q (length frame) (all_silent frame)) course.q frame
+
+abbrev pub turn_of : SpecValue → List Outcome → Turn
+turn_of spec outcomes = (course_of spec outcomes).turn
+
+abbrev pub q_of : SpecValue → List Outcome → ℕ
+q_of spec outcomes = (course_of spec outcomes).q
+
+abbrev pub frame_of : SpecValue → List Outcome → List Outcome
+frame_of spec outcomes = (course_of spec outcomes).frame
+
+abbrev pub answer_of : SpecValue → LinkValue → Turn → Next
+answer_of spec link query = Send (Query link.dr link.code link.trext spec.sel spec.session spec.target spec.q)
+answer_of spec link (adjust updn) = Send (QueryAdjust spec.session updn)
+answer_of spec link rep = Send (QueryRep spec.session)
+answer_of spec link quiet = Quiet
+answer_of spec link limit = Limit
+
+-- the next slot command of a round, or its end
+abbrev pub next_command : SpecValue → LinkValue → List Outcome → Next
+next_command spec link outcomes = answer_of spec link (turn_of spec outcomes)
+
+abbrev pub ends : Turn → Bool
+ends query = false
+ends (adjust updn) = false
+ends rep = false
+ends quiet = true
+ends limit = true
+
+-- no slot follows these outcomes
+abbrev pub is_over : SpecValue → List Outcome → Bool
+is_over spec outcomes = ends (turn_of spec outcomes)
+
+-- no outcome stands behind the end of the round
+abbrev pub AreOutcomes : SpecValue → List Outcome → Type 0
+AreOutcomes spec [] = Unit {0}
+AreOutcomes spec (outcome ∷ before) = (is_over spec before ≡ false) × AreOutcomes spec before
+
+-- how many slot commands the round has given after these outcomes: its Query, and one after each outcome that didn't
+-- end the round
+abbrev pub slots_of : SpecValue → List Outcome → ℕ
+slots_of spec [] = 1
+slots_of spec (outcome ∷ before) = slots_of spec before + (if is_over spec (outcome ∷ before) then 0 else 1)
+
+abbrev pub is_end : Next → Bool
+is_end (Send command) = false
+is_end Quiet = true
+is_end Limit = true

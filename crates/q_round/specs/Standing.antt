@@ -1,0 +1,95 @@
+-- What a round that keeps no outcomes knows of them (profile).
+use Rattle.std.specs.Prelude.{◌≡◌, ℕ, ◌+◌, ◌*◌, ◌^◌, ◌<◌, ◌≤◌, ◌==◌, ◌&&◌, nat_lt, true, false, List, length, Option, Some, None, if◌then◌else◌}
+use Rattle.command_grammar.specs.declared.command.UpDn.{UpDn}
+use Rattle.command_grammar.specs.declared.command.UpDn.TheVariants.{Up, Same, Down}
+use Rattle.q_round.specs.declared.frame.Frame.{Frame}
+use Rattle.q_round.specs.declared.frame.Outcome.{Outcome}
+use Rattle.pie_line.specs.Link.{LinkValue}
+use Rattle.q_round.specs.declared.round.Next.{Next}
+use Rattle.q_round.specs.declared.round.Next.TheVariants as nexts
+use Rattle.q_round.specs.declared.round.Stage.{Stage}
+use Rattle.q_round.specs.declared.round.Stage.TheVariants.{Underway, Quiet, Limit}
+use Rattle.q_round.specs.SpecValue.{SpecValue}
+use Rattle.q_round.specs.Rounds.{qfp_after, qfp_of, rounded, is_silent, all_silent, adjusted, quiet, limit, turn_of, q_of, frame_of, is_over, is_end, AreOutcomes, slots_of, next_command}
+
+-- what a contract sees of a round
+pub record RoundValue : Type 0 where
+  pub spec : SpecValue
+  pub stage : Stage
+  pub slots_sent : ℕ
+
+-- before the outcome of a slot: Q is the rounded Qfp, and the frame has a slot left
+pub record IsSound (frame : Frame) : Type 0 where
+  pub q : frame.q ≤ 15
+  pub qfp : frame.qfp ≤ 15000
+  pub low : 1000 * frame.q ≤ frame.qfp + 500
+  pub high : frame.qfp + 500 < 1000 * frame.q + 1000
+  pub slots : frame.slots < 2 ^ frame.q
+
+-- behind it: Qfp has moved by at most 500
+pub record IsCounted (frame : Frame) : Type 0 where
+  pub q : frame.q ≤ 15
+  pub qfp : frame.qfp ≤ 15000
+  pub low : 1000 * frame.q ≤ frame.qfp + 1000
+  pub high : frame.qfp < 1000 * frame.q + 1000
+  pub slots : frame.slots ≤ 2 ^ frame.q
+
+abbrev pub counted : ℕ → Outcome → Frame → Frame
+counted c outcome frame = record {
+  q = frame.q;
+  qfp = qfp_after c outcome frame.qfp;
+  slots = frame.slots + 1;
+  silent = is_silent outcome && frame.silent;
+}
+
+-- how Q changes behind a slot that doesn't end the round; none where the frame goes on
+abbrev pub change_of : Frame → Option UpDn
+change_of frame =
+    if nat_lt frame.q (rounded frame.qfp) then Some Up else
+    if nat_lt (rounded frame.qfp) frame.q then Some Down else
+    if frame.slots == 2 ^ frame.q then Some Same else None
+
+abbrev pub begun : UpDn → Frame → Frame
+begun updn frame = record { q = adjusted updn frame.q; qfp = frame.qfp; slots = 0; silent = true }
+
+abbrev pub IsSoundStage : Stage → Type 0
+IsSoundStage (Underway frame) = IsSound frame
+IsSoundStage Quiet = Unit {0}
+IsSoundStage Limit = Unit {0}
+
+-- what holds of every round
+pub record IsSoundRound (round : RoundValue) : Type 0 where
+  pub sent : round.slots_sent ≤ round.spec.limit
+  pub stage : IsSoundStage round.stage
+
+-- the frame is the one behind these outcomes
+pub record IsFrameOf (frame : Frame) (spec : SpecValue) (outcomes : List Outcome) : Type 0 where
+  pub goes_on : is_over spec outcomes ≡ false
+  pub q : frame.q ≡ q_of spec outcomes
+  pub qfp : frame.qfp ≡ qfp_of spec outcomes
+  pub slots : frame.slots ≡ length (frame_of spec outcomes)
+  pub silent : frame.silent ≡ all_silent (frame_of spec outcomes)
+
+abbrev pub IsStageOf : Stage → SpecValue → List Outcome → Type 0
+IsStageOf (Underway frame) spec outcomes = IsFrameOf frame spec outcomes
+IsStageOf Quiet spec outcomes = turn_of spec outcomes ≡ quiet
+IsStageOf Limit spec outcomes = turn_of spec outcomes ≡ limit
+
+-- the round has these parameters, and was given these outcomes
+pub record StandsFor (round : RoundValue) (spec : SpecValue) (outcomes : List Outcome) : Type 0 where
+  pub spec_is : round.spec ≡ spec
+  pub outcomes_are : AreOutcomes spec outcomes
+  pub stage : IsStageOf round.stage spec outcomes
+  pub sent : round.slots_sent ≡ slots_of spec outcomes
+
+-- the round stands for these outcomes, and this is what follows them
+pub record Answers (answer : Next) (round : RoundValue) (spec : SpecValue) (outcomes : List Outcome) : Type 0 where
+  pub stands : StandsFor round spec outcomes
+  pub next : (link : LinkValue) → answer ≡ next_command spec link outcomes
+  pub over : is_over spec outcomes ≡ is_end answer
+
+-- how many slot commands an answer is
+abbrev pub slots_in : Next → ℕ
+slots_in (nexts.Send command) = 1
+slots_in nexts.Quiet = 0
+slots_in nexts.Limit = 0

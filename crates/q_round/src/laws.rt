@@ -1,0 +1,30 @@
+//! Laws of rounds, over all parameters within their ranges and all outcomes that a round has.
+ghost use Rattle.std.specs.Prelude.{◌≡◌, ℕ, ◌^◌, ◌<◌, ◌≤◌, List, ◌∷◌, ◌++◌, length};
+ghost use Rattle.command_grammar.specs.declared.commands.Command.TheVariants.{QueryRep};
+ghost use Rattle.pie_line.specs.Link.{LinkValue};
+ghost use Rattle.q_round.specs.declared.frame.Outcome.{Outcome};
+ghost use Rattle.q_round.specs.declared.round.Next.TheVariants.{Send, Quiet};
+ghost use Rattle.q_round.specs.SpecValue.{SpecValue, IsLegalSpec};
+ghost use Rattle.q_round.specs.Rounds.{AreOutcomes, slots_of, next_command, q_of, frame_of};
+ghost use Rattle.q_round.specs.RoundLaws.{MovesQ, IsSilentFrame, IsLegalNext};
+
+/// No round gives more slot commands than its limit. Q is from 0 to 15; each QueryAdjust moves it by
+/// what it says, and nothing else does. The round ends quiet only after a whole frame of silent slots,
+/// and a QueryRep comes only where the frame has slots left. The frame is the last of the outcomes.
+/// Each command is within its fields.
+pub fn round_laws()
+    ensures limit { (spec : SpecValue) (outcomes : List Outcome) → IsLegalSpec spec → AreOutcomes spec outcomes →
+        slots_of spec outcomes ≤ spec.limit }
+    ensures range { (spec : SpecValue) (outcomes : List Outcome) → IsLegalSpec spec → AreOutcomes spec outcomes →
+        q_of spec outcomes ≤ 15 }
+    ensures moves { (spec : SpecValue) (link : LinkValue) (outcome : Outcome) (before : List Outcome) → IsLegalSpec spec → AreOutcomes spec (outcome ∷ before) →
+        MovesQ (next_command spec link (outcome ∷ before)) (q_of spec before) (q_of spec (outcome ∷ before)) }
+    ensures quiet { (spec : SpecValue) (link : LinkValue) (outcome : Outcome) (before : List Outcome) → IsLegalSpec spec → AreOutcomes spec (outcome ∷ before) →
+        next_command spec link (outcome ∷ before) ≡ Quiet → IsSilentFrame (q_of spec before) (outcome ∷ frame_of spec before) }
+    ensures rep { (spec : SpecValue) (link : LinkValue) (session : ℕ) (outcomes : List Outcome) → IsLegalSpec spec → AreOutcomes spec outcomes →
+        next_command spec link outcomes ≡ Send (QueryRep session) → length (frame_of spec outcomes) < 2 ^ q_of spec outcomes }
+    ensures frame { (spec : SpecValue) (outcomes : List Outcome) →
+        (earlier : List Outcome) × (outcomes ≡ frame_of spec outcomes ++ earlier) }
+    ensures legal { (spec : SpecValue) (link : LinkValue) (outcomes : List Outcome) → IsLegalSpec spec →
+        IsLegalNext (next_command spec link outcomes) }
+{}

@@ -1,0 +1,126 @@
+//! A round, which takes the outcome of one slot at a time.
+ghost use Rattle.std.specs.Prelude.{◌≡◌, ◌+◌, ◌≤◌, Bool, true, false, List, [], ◌∷◌};
+
+use crate::frame::Frame;
+use crate::{Outcome, RoundSpec};
+use command_grammar::Command;
+use pie_line::Link;
+use std::marker::Model;
+
+/// What an interrogator does after a slot.
+#[derive(Debug, PartialEq, Eq, Drop)]
+pub enum Next {
+    /// It sends this slot command.
+    Send(Command),
+    /// It ends the round after a whole frame of silent slots.
+    Quiet,
+    /// It ends the round, which has as many slots as its limit.
+    Limit,
+}
+
+/// How far a round is.
+#[derive(Clone, Copy)]
+pub(crate) enum Stage {
+    Underway(Frame),
+    Quiet,
+    Limit,
+}
+
+/// A round, which takes the outcomes of its slots one at a time and keeps none of them. After its end it
+/// answers the same end.
+///
+/// A contract sees it as a record of its parameters, how far it is and how many slot commands it gave.
+#[derive(Drop)]
+pub struct Round {
+    spec: RoundSpec,
+    stage: Stage,
+    slots_sent: u32,
+}
+
+impl Model for Round {
+    ghost use Rattle.q_round.specs.Standing.{RoundValue, IsSoundRound};
+
+    ghost Value = { RoundValue };
+
+    ghost view = { λ a. record { spec = a.spec; stage = a.stage; slots_sent = a.slots_sent } };
+
+    ghost invariant = { λ a. IsSoundRound (record { spec = a.spec; stage = a.stage; slots_sent = a.slots_sent }) };
+}
+
+impl Round {
+    ghost use Rattle.pie_line.specs.Link.{LinkValue};
+    ghost use Rattle.q_round.specs.declared.frame.Outcome.{Outcome};
+    ghost use Rattle.q_round.specs.declared.round.Next.TheVariants.{Send};
+    ghost use Rattle.q_round.specs.SpecValue.{SpecValue};
+    ghost use Rattle.q_round.specs.Rounds.{next_command, is_over, slots_of};
+    ghost use Rattle.q_round.specs.Standing.{StandsFor, Answers, slots_in};
+
+    /// A round with these parameters, and the Query that begins it, which asks for replies as the link
+    /// has them.
+    pub fn start(spec: &RoundSpec, link: &Link) -> (Round, Command)
+        ensures stands { StandsFor result.0 spec.now [] }
+        ensures query { Send result.1 ≡ next_command spec.now link.now [] }
+    {
+        let query = Command::Query {
+            dr: link.dr(),
+            code: link.code(),
+            trext: link.trext(),
+            sel: spec.sel(),
+            session: spec.session(),
+            target: spec.target(),
+            q: spec.q(),
+        };
+        let round = Round {
+            spec: *spec,
+            stage: Stage::Underway(Frame::new(spec.q())),
+            slots_sent: 1,
+        };
+        (round, query)
+    }
+
+    /// What follows the outcome of the slot that the last command began: the next slot command, or the
+    /// end of the round (Annex D, in whole numbers of this profile). After the end it is the same end,
+    /// whatever the outcome.
+    pub fn next(&mut self, outcome: Outcome) -> Next
+        // The round stands for the list of outcomes that it was given, the latest first.
+        ensures answer { (spec : SpecValue) (outcomes : List Outcome) → StandsFor self.old spec outcomes → is_over spec outcomes ≡ false →
+            Answers result self.new spec (outcome ∷ outcomes) }
+        ensures again { (spec : SpecValue) (outcomes : List Outcome) → StandsFor self.old spec outcomes → is_over spec outcomes ≡ true →
+            (self.new ≡ self.old) × Answers result self.new spec outcomes }
+        ensures spec { self.new.spec ≡ self.old.spec }
+        ensures sent { self.new.slots_sent ≡ self.old.slots_sent + slots_in result }
+        ensures limit { self.new.slots_sent ≤ self.new.spec.limit }
+    {
+        let frame = match self.stage {
+            Stage::Underway(frame) => frame,
+            Stage::Quiet => return Next::Quiet,
+            Stage::Limit => return Next::Limit,
+        };
+        let frame = frame.counting(outcome, self.spec.c());
+        if frame.is_whole_and_silent() {
+            self.stage = Stage::Quiet;
+            return Next::Quiet;
+        }
+        if self.slots_sent == self.spec.limit() {
+            self.stage = Stage::Limit;
+            return Next::Limit;
+        }
+        self.slots_sent += 1;
+        let session = self.spec.session();
+        if let Some(updn) = frame.change() {
+            self.stage = Stage::Underway(frame.begin(updn));
+            return Next::Send(Command::QueryAdjust { session, updn });
+        }
+        self.stage = Stage::Underway(frame);
+        Next::Send(Command::QueryRep { session })
+    }
+
+    /// How many slot commands the round has given so far, its Query among them.
+    pub fn slots_sent(&self) -> u32
+        ensures value { result ≡ self.now.slots_sent }
+        ensures stands { (spec : SpecValue) (outcomes : List Outcome) → StandsFor self.now spec outcomes → result ≡ slots_of spec outcomes }
+        ensures limit { result ≤ self.now.spec.limit }
+    {
+        self.slots_sent
+    }
+}
