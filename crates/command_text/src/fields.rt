@@ -12,7 +12,7 @@ use command_grammar::{BlockWords, Mask};
 use text_fields::{push_hex_digit, push_number, push_word, push_words};
 
 /// Writes a name as the next field.
-pub(crate) fn next_name(text: &mut String, name: &str) -> Result<(), OutOfMemory>
+pub fn next_name(text: &mut String, name: &str) -> Result<(), OutOfMemory>
     ensures { OnOk result (string_bytes text.new ≡ string_bytes text.old ++ space ∷ name.now) }
 {
     text.push(' ')?;
@@ -20,7 +20,7 @@ pub(crate) fn next_name(text: &mut String, name: &str) -> Result<(), OutOfMemory
 }
 
 /// Writes a number as the next field, in decimal digits.
-pub(crate) fn next_number(text: &mut String, number: u32) -> Result<(), OutOfMemory>
+pub fn next_number(text: &mut String, number: u32) -> Result<(), OutOfMemory>
     ensures { OnOk result (string_bytes text.new ≡ string_bytes text.old ++ space ∷ decimal number) }
 {
     text.push(' ')?;

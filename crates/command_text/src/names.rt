@@ -6,7 +6,7 @@ ghost use Rattle.command_text.specs.CommandText.{bank_word, flag_word, mask_bank
 use command_grammar::{Bank, FlagName, MaskBank, Reason, Sel, Side, UpDn};
 
 /// The digit of a bit.
-pub(crate) fn bit_name(bit: bool) -> &'static str
+pub fn bit_name(bit: bool) -> &'static str
     ensures { result.now ≡ binary_digit bit ∷ [] }
 {
     if bit { "1" } else { "0" }
@@ -25,7 +25,7 @@ pub(crate) fn sel_name(sel: Sel) -> &'static str
 }
 
 /// The name of an inventoried flag's value.
-pub(crate) fn side_name(side: Side) -> &'static str
+pub fn side_name(side: Side) -> &'static str
     ensures { result.now ≡ side_word side }
 {
     match side {
@@ -46,7 +46,7 @@ pub(crate) fn updn_name(updn: UpDn) -> &'static str
 }
 
 /// The name of a flag that a Select changes.
-pub(crate) fn flag_name(flag: FlagName) -> &'static str
+pub fn flag_name(flag: FlagName) -> &'static str
     ensures { result.now ≡ flag_word flag }
 {
     match flag {

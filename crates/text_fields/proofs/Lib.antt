@@ -4,3 +4,4 @@ pub mod BinaryDigits
 pub mod HexText
 pub mod Visible
 pub mod Told
+pub mod WordDigits

@@ -5,6 +5,7 @@
 //! `String`, which is all that takes memory.
 #![tactic(auto)]
 
+mod digit_lists;
 mod digits;
 mod exact;
 mod fields;
@@ -12,11 +13,14 @@ mod flags;
 mod hex_bytes;
 mod laws;
 mod lines;
+mod more_fields;
 mod numbers;
 #[cfg(test)]
 mod tests;
+mod word_lists;
 mod words;
 
+pub use digit_lists::list_digits;
 pub use digits::{Digits, HYPHEN, push_bits};
 pub use exact::{four_fields, is_at_end, next_filled, one_field, three_fields, two_fields};
 pub use fields::{Fields, SPACE};
@@ -27,5 +31,7 @@ pub use laws::{
     spellings_are_field_texts, word_lists_are_told_apart, words_are_told_apart,
 };
 pub use lines::{LINE_FEED, split_line};
+pub use more_fields::{five_fields, seven_fields, six_fields};
 pub use numbers::{number, push_number};
+pub use word_lists::Words;
 pub use words::{push_byte_hex, push_hex_digit, push_word, push_words, word};

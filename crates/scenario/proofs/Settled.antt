@@ -1,0 +1,476 @@
+-- What lines that follow one another have settled: they are the lines of what stands, and this keeps the limits.
+use Rattle.std.proofs.Common.{◌≡◌, ◌≢◌, ℕ, zero, suc, ◌+◌, ◌<◌, ◌≤◌, ◌==◌, eqb, Bool, true, false, List, [], ◌∷◌, ◌++◌, length, map, Option, Some, None, ◌⊎◌, inl, inr, refl, sym, ◌∙◌, ap, subst, arith, append_assoc, if◌then◌else◌}
+use Rattle.std.specs.Prelude.{All, IfSome}
+use Rattle.std.specs.List.{flat_map}
+use Rattle.std.proofs.lemmas.Bool.Decides.{eqb_tells}
+use Rattle.std.proofs.lemmas.List.{length-append, append-nil}
+use Rattle.std.proofs.lemmas.List.Concat.{flat_map-append}
+use Rattle.std.proofs.lemmas.List.Elements.{All-append, All-nil, All-push, All-weaker}
+use Rattle.air_events.specs.declared.Event.{Event}
+use Rattle.air_events.specs.declared.Choice.{Choice}
+use Rattle.air_events.specs.declared.Entry.{Entry}
+use Rattle.command_grammar.specs.declared.commands.Command.TheVariants as commands
+use Rattle.pie_line.specs.Link.{LinkValue, IsLegal}
+use Rattle.scenario_lines.specs.declared.tag.TagSpec.{TagSpec}
+use Rattle.scenario_lines.specs.declared.line.Selection.{Selection}
+use Rattle.scenario_lines.specs.declared.line.Happening.{Happening}
+use Rattle.scenario_lines.specs.declared.line.Happening.TheVariants as happenings
+use Rattle.scenario_lines.specs.declared.line.Line.{Line}
+use Rattle.scenario_lines.specs.declared.line.Line.TheVariants as lines
+use Rattle.scenario_lines.specs.TagForm.{IsTag}
+use Rattle.scenario_lines.specs.LineForm.{IsChoice, IsEvent, IsExchange, IsHappening, IsLine, IsPlace}
+use Rattle.scenario_lines.specs.Spelling.{word_of_line}
+use Rattle.scenario.specs.declared.values.Step.{Step}
+use Rattle.scenario.specs.declared.values.Step.TheVariants as steps
+use Rattle.scenario.specs.declared.values.Scenario.{Scenario}
+use Rattle.scenario.specs.ScenarioText.{air_lines, choice_lines, entry_lines, scenario_lines, step_line}
+use Rattle.scenario.specs.Limits.{IsEntry, IsScenario, IsStep, Rises, SaysSomething, most_air_lines, most_steps, most_tags, no_operations}
+use Rattle.scenario.specs.Standing.{Agrees, ChoosesOnce, DraftValue, Follows, HasRoom, KeepsOrder, Leads, MayFollow, MayStand, NamesTag, Standing, after, begun, ended, entries_of, grown, last_entry, new_draft, nothing_said, scenario_of, start, turned, with_air, with_happening, with_said, with_step, within}
+
+-- the lines of a draft, without the end
+abbrev pub draft_lines : DraftValue → List Line
+draft_lines draft =
+    lines.Version ∷ lines.Link draft.link ∷ map lines.Tag draft.tags ++ air_lines (entries_of draft) ++ map step_line draft.steps
+
+-- the lines of what stands
+abbrev pub standing_lines : Standing → List Line
+standing_lines start = []
+standing_lines begun = lines.Version ∷ []
+standing_lines (within draft) = draft_lines draft
+standing_lines (ended draft) = draft_lines draft ++ lines.End ∷ []
+
+-- what is said of the last exchange keeps the rules, where there is one
+abbrev pub IsLast : ℕ → ℕ → Entry → Type 0
+IsLast tags zero latest = Unit {0}
+IsLast tags (suc before) latest = IsEntry tags (suc before, latest)
+
+abbrev pub IsBelow : ℕ → ℕ × Entry → Type 0
+IsBelow exchange entry = entry.0 < exchange
+
+-- a draft that keeps the limits
+pub record Keeps (draft : DraftValue) : Type 0 where
+  pub link : IsLegal draft.link
+  pub tags : All IsTag draft.tags
+  pub closed : All (IsEntry (length draft.tags)) draft.closed
+  pub last : IsLast (length draft.tags) draft.exchange draft.latest
+  pub rising : Rises 0 draft.closed
+  pub below : All (IsBelow draft.exchange) draft.closed
+  pub steps : All (IsStep (length draft.tags)) draft.steps
+  pub few_tags : length draft.tags ≤ most_tags
+  pub few_airs : draft.airs ≤ most_air_lines
+  pub few_steps : length draft.steps ≤ most_steps
+  pub count : length (air_lines (entries_of draft)) ≡ draft.airs
+  pub none : draft.airs ≡ 0 → entries_of draft ≡ []
+
+abbrev pub StandingKeeps : Standing → Type 0
+StandingKeeps start = Unit {0}
+StandingKeeps begun = Unit {0}
+StandingKeeps (within draft) = Keeps draft
+StandingKeeps (ended draft) = Keeps draft
+
+map-append : {A B : Type 0} (f : A → B) (xs ys : List A) → map f (xs ++ ys) ≡ map f xs ++ map f ys
+map-append f [] ys = refl
+map-append f (x ∷ xs) ys = ap (λ (list : List _). f x ∷ list) (map-append f xs ys)
+
+-- the numbers of entries rise past one more that is above them all
+Rises-push : (before : ℕ) (entries : List (ℕ × Entry)) (entry : ℕ × Entry) → Rises before entries → before < entry.0 → All (IsBelow entry.0) entries
+    → Rises before (entries ++ entry ∷ [])
+Rises-push before [] entry rising above below = (above, tt)
+Rises-push before (first ∷ entries) entry rising above below =
+    let head : first.0 < entry.0 = below 0 first (omega arith) in
+    (rising.0, Rises-push first.0 entries entry rising.1 head (λ k d within_list. below (suc k) d (omega arith)))
+
+no_entries : (closed : List (ℕ × Entry)) (exchange : ℕ) (latest : Entry) → closed ++ last_entry exchange latest ≡ [] → (closed ≡ []) × (exchange ≡ 0)
+no_entries [] zero latest none = (refl, refl)
+no_entries [] (suc before) latest none = cc
+no_entries (entry ∷ closed) exchange latest none = cc
+
+last_none : (tags exchange : ℕ) (latest : Entry) → exchange ≡ 0 → IsLast tags exchange latest
+last_none tags zero latest none = tt
+last_none tags (suc before) latest none = absurd (omega arith)
+
+last_all : (tags exchange : ℕ) (latest : Entry) → IsLast tags exchange latest → All (IsEntry tags) (last_entry exchange latest)
+last_all tags zero latest last = All-nil (IsEntry tags)
+last_all tags (suc before) latest last = All-push (IsEntry tags) [] (suc before, latest) (All-nil (IsEntry tags)) last
+
+last_rises : (closed : List (ℕ × Entry)) (exchange : ℕ) (latest : Entry) → Rises 0 closed → All (IsBelow exchange) closed
+    → Rises 0 (closed ++ last_entry exchange latest)
+last_rises closed zero latest rising below = rw append-nil rising
+last_rises closed (suc before) latest rising below = Rises-push 0 closed (suc before, latest) rising (omega arith) below
+
+last_below : (closed : List (ℕ × Entry)) (exchange above : ℕ) (latest : Entry) → exchange < above → All (IsBelow exchange) closed
+    → All (IsBelow above) (closed ++ last_entry exchange latest)
+last_below closed zero above latest less below =
+    rw append-nil (All-weaker (IsBelow zero) (IsBelow above) (λ entry small. omega arith) closed below)
+last_below closed (suc before) above latest less below =
+    All-push (IsBelow above) closed (suc before, latest)
+    (All-weaker (IsBelow (suc before)) (IsBelow above) (λ entry small. omega arith) closed below) less
+
+-- the entries of a draft that keeps the limits
+pub entries_keep : (draft : DraftValue) → Keeps draft → All (IsEntry (length draft.tags)) (entries_of draft) × Rises 0 (entries_of draft)
+entries_keep draft keeps = (
+  All-append (IsEntry (length draft.tags)) draft.closed (last_entry draft.exchange draft.latest) keeps.closed
+      (last_all (length draft.tags) draft.exchange draft.latest keeps.last),
+  last_rises draft.closed draft.exchange draft.latest keeps.rising keeps.below,
+)
+
+-- a choice stands alone
+abbrev MayChoose : Entry → Happening → Type 0
+MayChoose entry (happenings.Choice choice) = entry.choice ≡ None
+MayChoose entry happening = Unit {0}
+
+abbrev NamesTagOf : ℕ → Happening → Type 0
+NamesTagOf tags (happenings.Event event tag) = tag < tags
+NamesTagOf tags (happenings.Miss tag) = tag < tags
+NamesTagOf tags (happenings.Choice choice) = Unit {0}
+
+-- what is said of an exchange has one line more
+entry_more : (exchange : ℕ) (entry : Entry) (happening : Happening) → MayFollow entry happening → MayChoose entry happening
+    → entry_lines (exchange, with_happening entry happening) ≡ entry_lines (exchange, entry) ++ lines.Air exchange happening ∷ []
+entry_more exchange entry (happenings.Event event tag) follows alone =
+    rw (follows.0, follows.1) (simp (append-nil, map-append) refl)
+entry_more exchange entry (happenings.Miss tag) follows alone =
+    rw follows (simp (append-nil, map-append, append_assoc) refl)
+entry_more exchange entry (happenings.Choice choice) follows alone =
+    rw alone (simp append-nil refl)
+
+entry_first : (exchange : ℕ) (happening : Happening) → entry_lines (exchange, with_happening nothing_said happening) ≡ lines.Air exchange happening ∷ []
+entry_first exchange (happenings.Event event tag) = refl
+entry_first exchange (happenings.Miss tag) = refl
+entry_first exchange (happenings.Choice choice) = refl
+
+not_empty : {A : Type 0} (xs : List A) (x : A) → xs ++ x ∷ [] ≢ []
+not_empty [] x none = cc
+not_empty (y ∷ xs) x none = cc
+
+-- what is said of an exchange keeps the rules with one thing more
+happening_keeps : (tags exchange : ℕ) (entry : Entry) (happening : Happening) → IsExchange exchange → IsHappening happening → NamesTagOf tags happening
+    → All (λ (event : Event × ℕ). IsEvent event.0 event.1 × (event.1 < tags)) entry.events → All (λ tag. IsPlace tag × (tag < tags)) entry.missed
+    → IfSome entry.choice IsChoice → IsEntry tags (exchange, with_happening entry happening)
+happening_keeps tags exchange entry (happenings.Event event tag) number is names events missed choice = record {
+  exchange = number;
+  events = All-push (λ (event : Event × ℕ). IsEvent event.0 event.1 × (event.1 < tags)) entry.events (event, tag) events (is, names);
+  missed = missed;
+  choice = choice;
+  something = inl (not_empty entry.events (event, tag));
+}
+happening_keeps tags exchange entry (happenings.Miss tag) number is names events missed choice = record {
+  exchange = number;
+  events = events;
+  missed = All-push (λ tag. IsPlace tag × (tag < tags)) entry.missed tag missed (is, names);
+  choice = choice;
+  something = inr (inl (not_empty entry.missed tag));
+}
+happening_keeps tags exchange entry (happenings.Choice choice) number is names events missed before = record {
+  exchange = number;
+  events = events;
+  missed = missed;
+  choice = is;
+  something = inr (inr (λ none. cc));
+}
+
+new_draft_keeps : (link : LinkValue) → IsLegal link → Keeps (new_draft link)
+new_draft_keeps link legal = record {
+  link = legal;
+  tags = All-nil IsTag;
+  closed = All-nil (IsEntry 0);
+  last = tt;
+  rising = tt;
+  below = All-nil (IsBelow 0);
+  steps = All-nil (IsStep 0);
+  few_tags = omega arith;
+  few_airs = omega arith;
+  few_steps = omega arith;
+  count = refl;
+  none = λ zero. refl;
+}
+
+tag_keeps : (draft : DraftValue) (tag : TagSpec) → Keeps draft → IsTag tag → draft.airs ≡ 0 → draft.steps ≡ [] → length draft.tags < most_tags
+    → Keeps (record draft { tags = draft.tags ++ tag ∷ [] })
+tag_keeps draft tag keeps is no_airs no_steps room =
+    let none = no_entries draft.closed draft.exchange draft.latest (keeps.none no_airs) in
+    let tags = length (draft.tags ++ tag ∷ []) in
+    record {
+      link = keeps.link;
+      tags = All-push IsTag draft.tags tag keeps.tags is;
+      closed = rw none.0 (All-nil (IsEntry tags));
+      last = last_none tags draft.exchange draft.latest none.1;
+      rising = keeps.rising;
+      below = keeps.below;
+      steps = rw no_steps (All-nil (IsStep tags));
+      few_tags = omega (arith, length-append draft.tags (tag ∷ []));
+      few_airs = keeps.few_airs;
+      few_steps = keeps.few_steps;
+      count = keeps.count;
+      none = keeps.none;
+    }
+
+-- lists with nothing behind them
+tag_shape : (tags tags' : List Line) (line : Line) → tags' ≡ tags ++ line ∷ [] → tags' ++ [] ++ [] ≡ tags ++ [] ++ [] ++ line ∷ []
+tag_shape tags tags' line more = simp append-nil more
+
+air_shape : (tags airs airs' : List Line) (line : Line) → airs' ≡ airs ++ line ∷ [] → tags ++ airs' ++ [] ≡ tags ++ airs ++ [] ++ line ∷ []
+air_shape tags airs airs' line more =
+    simp append-nil (ap (λ (list : List Line). tags ++ list) more ∙ sym (append_assoc tags airs (line ∷ [])))
+
+tag_lines : (draft : DraftValue) (tag : TagSpec) → entries_of draft ≡ [] → draft.steps ≡ []
+    → draft_lines (record draft { tags = draft.tags ++ tag ∷ [] }) ≡ draft_lines draft ++ lines.Tag tag ∷ []
+tag_lines draft tag no_entries no_steps =
+    rw (no_entries, no_steps)
+    (ap (λ (list : List Line). lines.Version ∷ lines.Link draft.link ∷ list)
+    (tag_shape (map lines.Tag draft.tags) (map lines.Tag (draft.tags ++ tag ∷ [])) (lines.Tag tag) (map-append lines.Tag draft.tags (tag ∷ []))))
+
+step_keeps : (draft : DraftValue) (step : Step) → Keeps draft → IsStep (length draft.tags) step → length draft.steps < most_steps → Keeps (with_step draft step)
+step_keeps draft step keeps is room = record {
+  link = keeps.link;
+  tags = keeps.tags;
+  closed = keeps.closed;
+  last = keeps.last;
+  rising = keeps.rising;
+  below = keeps.below;
+  steps = All-push (IsStep (length draft.tags)) draft.steps step keeps.steps is;
+  few_tags = keeps.few_tags;
+  few_airs = keeps.few_airs;
+  few_steps = omega (arith, length-append draft.steps (step ∷ []));
+  count = keeps.count;
+  none = keeps.none;
+}
+
+step_lines : (draft : DraftValue) (step : Step) → draft_lines (with_step draft step) ≡ draft_lines draft ++ step_line step ∷ []
+step_lines draft step =
+    let front = lines.Version ∷ lines.Link draft.link ∷ map lines.Tag draft.tags ++ air_lines (entries_of draft) in
+    ap (λ (list : List Line). front ++ list) (map-append step_line draft.steps (step ∷ []))
+    ∙ sym (append_assoc front (map step_line draft.steps) (step_line step ∷ []))
+
+-- the rules that an air line keeps where it may follow
+record AirFollows (draft : DraftValue) (number : ℕ) (happening : Happening) : Type 0 where
+  no_steps : draft.steps ≡ []
+  room : draft.airs < most_air_lines
+  is_exchange : IsExchange number
+  is : IsHappening happening
+  names : NamesTagOf (length draft.tags) happening
+  order : draft.exchange ≤ number
+  follows : number ≡ draft.exchange → MayFollow draft.latest happening
+  alone : number ≡ draft.exchange → MayChoose draft.latest happening
+
+-- what is said of the last exchange, in a draft that keeps the limits
+last_said : (tags exchange : ℕ) (latest : Entry) → 0 < exchange → IsLast tags exchange latest → IsEntry tags (exchange, latest)
+last_said tags zero latest some last = absurd (omega arith)
+last_said tags (suc before) latest some last = last
+
+last_is_said : (tags exchange : ℕ) (latest : Entry) → IsEntry tags (exchange, latest) → IsLast tags exchange latest
+last_is_said tags zero latest last = tt
+last_is_said tags (suc before) latest last = last
+
+last_one : (exchange : ℕ) (latest : Entry) → 0 < exchange → last_entry exchange latest ≡ (exchange, latest) ∷ []
+last_one zero latest some = absurd (omega arith)
+last_one (suc before) latest some = refl
+
+air_lines_one : (entries : List (ℕ × Entry)) (entry : ℕ × Entry) → air_lines (entries ++ entry ∷ []) ≡ air_lines entries ++ entry_lines entry
+air_lines_one entries entry =
+    flat_map-append entry_lines entries (entry ∷ []) ∙ ap (λ (list : List Line). air_lines entries ++ list) (append-nil (entry_lines entry))
+
+-- one thing more is said of the last exchange
+abbrev said_more : DraftValue → Happening → DraftValue
+said_more draft happening = with_said (record draft { airs = draft.airs + 1 }) happening
+
+more_air_lines : (draft : DraftValue) (happening : Happening) → 0 < draft.exchange → MayFollow draft.latest happening → MayChoose draft.latest happening
+    → air_lines (entries_of (said_more draft happening)) ≡ air_lines (entries_of draft) ++ lines.Air draft.exchange happening ∷ []
+more_air_lines draft happening some follows alone =
+    let exchange = draft.exchange in
+    let closed = draft.closed in
+    ap (λ (last : List (ℕ × Entry)). air_lines (closed ++ last)) (last_one exchange (with_happening draft.latest happening) some)
+    ∙ air_lines_one closed (exchange, with_happening draft.latest happening)
+    ∙ ap (λ (list : List Line). air_lines closed ++ list) (entry_more exchange draft.latest happening follows alone)
+    ∙ sym (append_assoc (air_lines closed) (entry_lines (exchange, draft.latest)) (lines.Air exchange happening ∷ []))
+    ∙ ap (λ (list : List Line). list ++ lines.Air exchange happening ∷ []) (sym (air_lines_one closed (exchange, draft.latest)))
+    ∙ ap (λ (last : List (ℕ × Entry)). air_lines (closed ++ last) ++ lines.Air exchange happening ∷ []) (sym (last_one exchange draft.latest some))
+
+-- the first thing is said of another exchange
+abbrev said_first : DraftValue → ℕ → Happening → DraftValue
+said_first draft number happening = with_said (turned (record draft { airs = draft.airs + 1 }) number) happening
+
+first_air_lines : (draft : DraftValue) (number : ℕ) (happening : Happening) → 0 < number
+    → air_lines (entries_of (said_first draft number happening)) ≡ air_lines (entries_of draft) ++ lines.Air number happening ∷ []
+first_air_lines draft number happening some =
+    ap (λ (last : List (ℕ × Entry)). air_lines (entries_of draft ++ last)) (last_one number (with_happening nothing_said happening) some)
+    ∙ air_lines_one (entries_of draft) (number, with_happening nothing_said happening)
+    ∙ ap (λ (list : List Line). air_lines (entries_of draft) ++ list) (entry_first number happening)
+
+not_none : {A : Type 0} (n : ℕ) → n + 1 ≡ 0 → A
+not_none n none = absurd (omega arith)
+
+more_keeps : (draft : DraftValue) (happening : Happening) → Keeps draft → AirFollows draft draft.exchange happening → Keeps (said_more draft happening)
+more_keeps draft happening keeps air =
+    let some : 0 < draft.exchange = omega (arith, air.is_exchange) in
+    let tags = length draft.tags in
+    let last = last_said tags draft.exchange draft.latest some keeps.last in
+    record {
+      link = keeps.link;
+      tags = keeps.tags;
+      closed = keeps.closed;
+      last = last_is_said tags draft.exchange (with_happening draft.latest happening)
+          (happening_keeps tags draft.exchange draft.latest happening air.is_exchange air.is air.names last.events last.missed last.choice);
+      rising = keeps.rising;
+      below = keeps.below;
+      steps = keeps.steps;
+      few_tags = keeps.few_tags;
+      few_airs = omega (arith, air.room);
+      few_steps = keeps.few_steps;
+      count = ap length (more_air_lines draft happening some (air.follows refl) (air.alone refl))
+          ∙ length-append (air_lines (entries_of draft)) (lines.Air draft.exchange happening ∷ []) ∙ ap (λ n. n + 1) keeps.count;
+      none = λ zero. not_none draft.airs zero;
+    }
+
+first_keeps : (draft : DraftValue) (number : ℕ) (happening : Happening) → Keeps draft → draft.exchange < number → AirFollows draft number happening
+    → Keeps (said_first draft number happening)
+first_keeps draft number happening keeps above air =
+    let some : 0 < number = omega arith in
+    let tags = length draft.tags in
+    let entries = entries_keep draft keeps in
+    let nothing : IsEntry tags (number, with_happening nothing_said happening) =
+    happening_keeps tags number nothing_said happening air.is_exchange air.is air.names (All-nil (λ (event : Event × ℕ). IsEvent event.0 event.1 × (event.1 < tags)))
+    (All-nil (λ tag. IsPlace tag × (tag < tags))) tt in
+    record {
+      link = keeps.link;
+      tags = keeps.tags;
+      closed = entries.0;
+      last = last_is_said tags number (with_happening nothing_said happening) nothing;
+      rising = entries.1;
+      below = last_below draft.closed draft.exchange number draft.latest above keeps.below;
+      steps = keeps.steps;
+      few_tags = keeps.few_tags;
+      few_airs = omega (arith, air.room);
+      few_steps = keeps.few_steps;
+      count = ap length (first_air_lines draft number happening some)
+          ∙ length-append (air_lines (entries_of draft)) (lines.Air number happening ∷ []) ∙ ap (λ n. n + 1) keeps.count;
+      none = λ zero. not_none draft.airs zero;
+    }
+
+-- the lines of a draft without steps, with one air line more
+lines_with_air : (draft : DraftValue) (entries : List (ℕ × Entry)) (line : Line) → draft.steps ≡ [] → air_lines entries ≡ air_lines (entries_of draft) ++ line ∷ []
+    → lines.Version ∷ lines.Link draft.link ∷ map lines.Tag draft.tags ++ air_lines entries ++ map step_line draft.steps ≡ draft_lines draft ++ line ∷ []
+lines_with_air draft entries line no_steps more =
+    rw no_steps
+    (ap (λ (list : List Line). lines.Version ∷ lines.Link draft.link ∷ list)
+    (air_shape (map lines.Tag draft.tags) (air_lines (entries_of draft)) (air_lines entries) line more))
+
+-- what an air line does to a draft that it may follow
+air_settles : (draft : DraftValue) (number : ℕ) (happening : Happening) → Keeps draft → AirFollows draft number happening
+    → (draft_lines (with_air draft number happening) ≡ draft_lines draft ++ lines.Air number happening ∷ []) × Keeps (with_air draft number happening)
+air_settles draft number happening keeps air =
+    elim (eqb_tells number draft.exchange) [
+      | inl same ↦
+          let is : number ≡ draft.exchange = same.1 in
+          let air' : AirFollows draft draft.exchange happening = subst (λ (n : ℕ). AirFollows draft n happening) is air in
+          let some : 0 < draft.exchange = omega (arith, air'.is_exchange) in
+          let more : draft_lines (said_more draft happening) ≡ draft_lines draft ++ lines.Air number happening ∷ [] =
+          rw is (lines_with_air draft (entries_of (said_more draft happening)) (lines.Air draft.exchange happening) air.no_steps
+          (more_air_lines draft happening some (air'.follows refl) (air'.alone refl))) in
+          rw same.0 (more, more_keeps draft happening keeps air')
+      | inr other ↦
+          let order = air.order in
+          let differs : number ≢ draft.exchange = other.1 in
+          let above : draft.exchange < number = omega arith in
+          let some : 0 < number = omega arith in
+          rw other.0 (
+            lines_with_air draft (entries_of (said_first draft number happening)) (lines.Air number happening) air.no_steps (first_air_lines draft number happening some),
+            first_keeps draft number happening keeps above air,
+          )
+    ]
+
+names_tag_of : (tags number : ℕ) (happening : Happening) → NamesTag tags (lines.Air number happening) → NamesTagOf tags happening
+names_tag_of tags number (happenings.Event event tag) names = names
+names_tag_of tags number (happenings.Miss tag) names = names
+names_tag_of tags number (happenings.Choice choice) names = tt
+
+chooses_once : (draft : DraftValue) (number : ℕ) (happening : Happening) → ChoosesOnce draft (lines.Air number happening) → number ≡ draft.exchange
+    → MayChoose draft.latest happening
+chooses_once draft number (happenings.Event event tag) once is = tt
+chooses_once draft number (happenings.Miss tag) once is = tt
+chooses_once draft number (happenings.Choice choice) once is = once is
+
+air_follows : (draft : DraftValue) (number : ℕ) (happening : Happening) → Follows (within draft) (lines.Air number happening) → AirFollows draft number happening
+air_follows draft number happening follows = record {
+  no_steps = follows.stands;
+  room = follows.room;
+  is_exchange = follows.is.form.0;
+  is = follows.is.form.1;
+  names = names_tag_of (length draft.tags) number happening follows.agrees.names;
+  order = follows.agrees.order.0;
+  follows = follows.agrees.order.1;
+  alone = chooses_once draft number happening follows.agrees.once;
+}
+
+-- what one line settles
+settles_one : (from : Standing) (line : Line) → StandingKeeps from → Follows from line
+    → (standing_lines (after from line) ≡ standing_lines from ++ line ∷ []) × StandingKeeps (after from line)
+settles_one start lines.Version keeps follows = (refl, tt)
+settles_one start (lines.Link link) keeps follows = absurd follows.stands
+settles_one start (lines.Tag tag) keeps follows = absurd follows.stands
+settles_one start (lines.Air number happening) keeps follows = absurd follows.stands
+settles_one start (lines.Select selection) keeps follows = absurd follows.stands
+settles_one start lines.Nak keeps follows = absurd follows.stands
+settles_one start (lines.Event event tag) keeps follows = absurd follows.stands
+settles_one start (lines.Round spec) keeps follows = absurd follows.stands
+settles_one start lines.End keeps follows = absurd follows.stands
+settles_one begun lines.Version keeps follows = absurd follows.stands
+settles_one begun (lines.Link link) keeps follows = (refl, new_draft_keeps link follows.is.coherent)
+settles_one begun (lines.Tag tag) keeps follows = absurd follows.stands
+settles_one begun (lines.Air number happening) keeps follows = absurd follows.stands
+settles_one begun (lines.Select selection) keeps follows = absurd follows.stands
+settles_one begun lines.Nak keeps follows = absurd follows.stands
+settles_one begun (lines.Event event tag) keeps follows = absurd follows.stands
+settles_one begun (lines.Round spec) keeps follows = absurd follows.stands
+settles_one begun lines.End keeps follows = absurd follows.stands
+settles_one (within draft) lines.Version keeps follows = absurd follows.stands
+settles_one (within draft) (lines.Link link) keeps follows = absurd follows.stands
+settles_one (within draft) (lines.Tag tag) keeps follows = (
+  tag_lines draft tag (keeps.none follows.stands.0) follows.stands.1,
+  tag_keeps draft tag keeps (record { form = follows.is.form; pc = follows.is.coherent }) follows.stands.0 follows.stands.1 follows.room,
+)
+settles_one (within draft) (lines.Air number happening) keeps follows = air_settles draft number happening keeps (air_follows draft number happening follows)
+settles_one (within draft) (lines.Select selection) keeps follows =
+    let step = steps.Select (commands.Select selection.target selection.action selection.bank selection.pointer selection.mask) in
+    (step_lines draft step, step_keeps draft step keeps follows.is.form follows.room)
+settles_one (within draft) lines.Nak keeps follows = (step_lines draft steps.Nak, step_keeps draft steps.Nak keeps tt follows.room)
+settles_one (within draft) (lines.Event event tag) keeps follows =
+    (step_lines draft (steps.Event event tag), step_keeps draft (steps.Event event tag) keeps (follows.is.form, follows.agrees.names) follows.room)
+settles_one (within draft) (lines.Round spec) keeps follows =
+    let step = steps.Round spec no_operations in
+    (step_lines draft step, step_keeps draft step keeps (follows.is.form, refl) follows.room)
+settles_one (within draft) lines.End keeps follows = (refl, keeps)
+settles_one (ended draft) line keeps follows = absurd follows.stands
+
+-- what lines settle that follow one another
+pub settle : (from to : Standing) (said : List Line) → StandingKeeps from → Leads from said to
+    → (standing_lines to ≡ standing_lines from ++ said) × StandingKeeps to
+settle from to [] keeps leads =
+    (ap standing_lines (sym leads) ∙ sym (append-nil (standing_lines from)), subst StandingKeeps leads keeps)
+settle from to (line ∷ said) keeps leads =
+    let one = settles_one from line keeps leads.0 in
+    let others = settle (after from line) to said one.1 leads.1 in
+    (others.0 ∙ ap (λ (list : List Line). list ++ said) one.0 ∙ append_assoc (standing_lines from) (line ∷ []) said, others.1)
+
+draft_is_scenario : (draft : DraftValue) → Keeps draft → IsScenario (scenario_of draft)
+draft_is_scenario draft keeps =
+    let entries = entries_keep draft keeps in
+    let count = keeps.count in
+    let few = keeps.few_airs in
+    record {
+      link = keeps.link;
+      tags = keeps.tags;
+      entries = entries.0;
+      rising = entries.1;
+      steps = keeps.steps;
+      few_tags = keeps.few_tags;
+      few_air_lines = omega arith;
+      few_steps = keeps.few_steps;
+    }
+
+-- lines that lead from the start to the end are those of a scenario that keeps the limits
+pub said_scenario : (draft : DraftValue) (said : List Line) → Leads start said (ended draft)
+    → (said ≡ scenario_lines (scenario_of draft)) × IsScenario (scenario_of draft)
+said_scenario draft said leads =
+    let both = settle start (ended draft) said tt leads in
+    (sym both.0, draft_is_scenario draft both.1)

@@ -1,0 +1,322 @@
+-- The lines of a scenario that keeps the limits follow one another from the start to the end, and say it.
+use Rattle.std.proofs.Common.{◌≡◌, ◌≢◌, ℕ, zero, suc, ◌+◌, ◌<◌, ◌≤◌, ◌==◌, Bool, true, false, List, [], ◌∷◌, ◌++◌, length, map, Option, Some, None, ◌⊎◌, inl, inr, refl, sym, ◌∙◌, ap, subst, arith, append_assoc, add-zero}
+use Rattle.std.specs.Prelude.{All, IfSome}
+use Rattle.std.proofs.lemmas.Bool.{eq-eqb, ne_eqb}
+use Rattle.std.proofs.lemmas.List.{length-append, length-map, append-nil}
+use Rattle.std.proofs.lemmas.List.Elements.{All-head, All-tail}
+use Rattle.air_events.specs.declared.Event.{Event}
+use Rattle.air_events.specs.declared.Choice.{Choice}
+use Rattle.air_events.specs.declared.Entry.{Entry}
+use Rattle.command_grammar.specs.declared.commands.Command.{Command}
+use Rattle.command_grammar.specs.declared.commands.Command.TheVariants as commands
+use Rattle.pie_line.specs.Link.{LinkValue, IsLegal}
+use Rattle.scenario_lines.specs.declared.tag.TagSpec.{TagSpec}
+use Rattle.scenario_lines.specs.declared.line.Happening.{Happening}
+use Rattle.scenario_lines.specs.declared.line.Happening.TheVariants as happenings
+use Rattle.scenario_lines.specs.declared.line.Line.{Line}
+use Rattle.scenario_lines.specs.declared.line.Line.TheVariants as lines
+use Rattle.scenario_lines.specs.TagForm.{IsTag}
+use Rattle.scenario_lines.specs.LineForm.{IsChoice, IsEvent, IsExchange, IsHappening, IsLine, IsLinkForm, IsPlace}
+use Rattle.access_ops.specs.declared.OpList.{OpList}
+use Rattle.scenario.specs.declared.values.Step.{Step}
+use Rattle.scenario.specs.declared.values.Step.TheVariants as steps
+use Rattle.scenario.specs.declared.values.Scenario.{Scenario}
+use Rattle.scenario.specs.ScenarioText.{air_lines, choice_lines, entry_lines, scenario_lines, step_line}
+use Rattle.scenario.specs.Limits.{IsEntry, IsScenario, IsStep, Rises, SaysSomething, most_air_lines, most_steps, most_tags, no_operations}
+use Rattle.scenario.specs.Standing.{Agrees, ChoosesOnce, DraftValue, Follows, Leads, MayFollow, Standing, after, begun, draft_of, ended, entries_of, last_entry, new_draft, nothing_said, scenario_of, start, turned, with_air, with_said, with_step, within}
+use Rattle.scenario.proofs.Leading.{leads_on}
+
+-- a link that keeps its ranges has the form of a line's
+legal_form : (link : LinkValue) → IsLegal link → IsLinkForm link
+legal_form link legal =
+    let tari = legal.tari_range in
+    let rtcal = legal.rtcal_range in
+    let trcal = legal.trcal_range in
+    let pw = legal.pw_range in
+    record { tari = omega arith; rtcal = omega arith; trcal = omega arith; pw = omega arith }
+
+-- a draft with these tags alone
+abbrev tags_draft : LinkValue → List TagSpec → DraftValue
+tags_draft link tags = draft_of link tags 0 [] 0 [] [] None []
+
+speak_tags : (link : LinkValue) (before todo : List TagSpec) → All IsTag todo → length before + length todo ≤ most_tags
+    → Leads (within (tags_draft link before)) (map lines.Tag todo) (within (tags_draft link (before ++ todo)))
+speak_tags link before [] are few = ap (λ (tags : List TagSpec). within (tags_draft link tags)) (sym (append-nil before))
+speak_tags link before (tag ∷ todo) are few =
+    let is = All-head IsTag tag todo are in
+    let follows : Follows (within (tags_draft link before)) (lines.Tag tag) = record {
+      is = record { form = is.form; coherent = is.pc };
+      stands = (refl, refl);
+      room = omega arith;
+      agrees = record { names = tt; order = tt; once = tt };
+    } in
+    let others = speak_tags link (before ++ tag ∷ []) todo (All-tail IsTag tag todo are) (omega (arith, length-append before (tag ∷ []))) in (
+      follows,
+      subst (λ (tags : List TagSpec). Leads (within (tags_draft link (before ++ tag ∷ []))) (map lines.Tag todo) (within (tags_draft link tags)))
+          (append_assoc before (tag ∷ []) todo) others,
+    )
+
+-- a draft to which so many lines on another exchange were added
+abbrev on_exchange : DraftValue → ℕ → List (Event × ℕ) → List ℕ → Option Choice → ℕ → DraftValue
+on_exchange draft number events missed choice added =
+    draft_of draft.link draft.tags (draft.airs + added) (entries_of draft) number events missed choice draft.steps
+
+same_exchange : (number : ℕ) → (number == number) ≡ true
+same_exchange number = eq-eqb number number refl
+
+-- one line more on the exchange
+air_again : (draft : DraftValue) (number : ℕ) (events : List (Event × ℕ)) (missed : List ℕ) (choice : Option Choice) (added : ℕ) (happening : Happening)
+    → after (within (on_exchange draft number events missed choice added)) (lines.Air number happening)
+    ≡ within (with_said (on_exchange draft number events missed choice (added + 1)) happening)
+air_again draft number events missed choice added happening =
+    let count : draft.airs + added + 1 ≡ draft.airs + (added + 1) = omega arith in
+    rw (same_exchange number)
+    (ap (λ (airs : ℕ). within (with_said (draft_of draft.link draft.tags airs (entries_of draft) number events missed choice draft.steps) happening)) count)
+
+-- where lines lead, by another name
+leads_to : (from to to' : Standing) (said : List Line) → to ≡ to' → Leads from said to → Leads from said to'
+leads_to from to to' said same leads = subst (λ (s : Standing). Leads from said s) same leads
+
+-- one line on the exchange, and then others
+air_then : (draft : DraftValue) (number : ℕ) (events : List (Event × ℕ)) (missed : List ℕ) (choice : Option Choice) (added : ℕ) (happening : Happening)
+    (said : List Line) (to : Standing) → Follows (within (on_exchange draft number events missed choice added)) (lines.Air number happening)
+    → Leads (within (with_said (on_exchange draft number events missed choice (added + 1)) happening)) said to
+    → Leads (within (on_exchange draft number events missed choice added)) (lines.Air number happening ∷ said) to
+air_then draft number events missed choice added happening said to follows leads =
+    (follows, subst (λ (s : Standing). Leads s said to) (sym (air_again draft number events missed choice added happening)) leads)
+
+speak_events : (draft : DraftValue) (number : ℕ) (before todo : List (Event × ℕ)) (added : ℕ) → draft.steps ≡ [] → IsExchange number
+    → All (λ (event : Event × ℕ). IsEvent event.0 event.1 × (event.1 < length draft.tags)) todo → draft.airs + added + length todo ≤ most_air_lines
+    → Leads (within (on_exchange draft number before [] None added)) (map (λ (event : Event × ℕ). lines.Air number (happenings.Event event.0 event.1)) todo)
+    (within (on_exchange draft number (before ++ todo) [] None (added + length todo)))
+speak_events draft number before [] added no_steps is are few = rw (append-nil, add-zero) refl
+speak_events draft number before (event ∷ todo) added no_steps is are few =
+    let IsIt : Event × ℕ → Type 0 = λ event. IsEvent event.0 event.1 × (event.1 < length draft.tags) in
+    let head = All-head IsIt event todo are in
+    let follows : Follows (within (on_exchange draft number before [] None added)) (lines.Air number (happenings.Event event.0 event.1)) = record {
+      is = record { form = (is, head.0); coherent = tt };
+      stands = no_steps;
+      room = omega arith;
+      agrees = record { names = head.1; order = (omega arith, λ same. (refl, refl)); once = tt };
+    } in
+    let others = speak_events draft number (before ++ event ∷ []) todo (added + 1) no_steps is (All-tail IsIt event todo are) (omega arith) in
+    let count : added + 1 + length todo ≡ added + length (event ∷ todo) = omega arith in
+    let same : within (on_exchange draft number (before ++ event ∷ [] ++ todo) [] None (added + 1 + length todo))
+    ≡ within (on_exchange draft number (before ++ event ∷ todo) [] None (added + length (event ∷ todo))) =
+    rw (append_assoc before (event ∷ []) todo, count) refl in
+    air_then draft number before [] None added (happenings.Event event.0 event.1) _ _ follows (leads_to _ _ _ _ same others)
+
+speak_misses : (draft : DraftValue) (number : ℕ) (events : List (Event × ℕ)) (before todo : List ℕ) (added : ℕ) → draft.steps ≡ [] → IsExchange number
+    → All (λ tag. IsPlace tag × (tag < length draft.tags)) todo → draft.airs + added + length todo ≤ most_air_lines
+    → Leads (within (on_exchange draft number events before None added)) (map (λ tag. lines.Air number (happenings.Miss tag)) todo)
+    (within (on_exchange draft number events (before ++ todo) None (added + length todo)))
+speak_misses draft number events before [] added no_steps is are few = rw (append-nil, add-zero) refl
+speak_misses draft number events before (tag ∷ todo) added no_steps is are few =
+    let IsIt : ℕ → Type 0 = λ tag. IsPlace tag × (tag < length draft.tags) in
+    let head = All-head IsIt tag todo are in
+    let follows : Follows (within (on_exchange draft number events before None added)) (lines.Air number (happenings.Miss tag)) = record {
+      is = record { form = (is, head.0); coherent = tt };
+      stands = no_steps;
+      room = omega arith;
+      agrees = record { names = head.1; order = (omega arith, λ same. refl); once = tt };
+    } in
+    let others = speak_misses draft number events (before ++ tag ∷ []) todo (added + 1) no_steps is (All-tail IsIt tag todo are) (omega arith) in
+    let count : added + 1 + length todo ≡ added + length (tag ∷ todo) = omega arith in
+    let same : within (on_exchange draft number events (before ++ tag ∷ [] ++ todo) None (added + 1 + length todo))
+    ≡ within (on_exchange draft number events (before ++ tag ∷ todo) None (added + length (tag ∷ todo))) =
+    rw (append_assoc before (tag ∷ []) todo, count) refl in
+    air_then draft number events before None added (happenings.Miss tag) _ _ follows (leads_to _ _ _ _ same others)
+
+speak_choice : (draft : DraftValue) (number : ℕ) (events : List (Event × ℕ)) (missed : List ℕ) (choice : Option Choice) (added : ℕ) → draft.steps ≡ []
+    → IsExchange number → IfSome choice IsChoice → draft.airs + added + length (choice_lines number choice) ≤ most_air_lines
+    → Leads (within (on_exchange draft number events missed None added)) (choice_lines number choice)
+    (within (on_exchange draft number events missed choice (added + length (choice_lines number choice))))
+speak_choice draft number events missed None added no_steps is chosen few = rw add-zero refl
+speak_choice draft number events missed (Some choice) added no_steps is chosen few =
+    let follows : Follows (within (on_exchange draft number events missed None added)) (lines.Air number (happenings.Choice choice)) = record {
+      is = record { form = (is, chosen); coherent = tt };
+      stands = no_steps;
+      room = omega arith;
+      agrees = record { names = tt; order = (omega arith, λ same. tt); once = λ same. refl };
+    } in
+    air_then draft number events missed None added (happenings.Choice choice) [] _ follows refl
+
+-- what is said of one exchange
+speak_on_exchange : (draft : DraftValue) (entry : ℕ × Entry) → draft.steps ≡ [] → IsEntry (length draft.tags) entry
+    → draft.airs + length (entry_lines entry) ≤ most_air_lines
+    → Leads (within (on_exchange draft entry.0 [] [] None 0)) (entry_lines entry)
+    (within (on_exchange draft entry.0 entry.1.events entry.1.missed entry.1.choice (length (entry_lines entry))))
+speak_on_exchange draft entry no_steps is few =
+    let events = entry.1.events in
+    let missed = entry.1.missed in
+    let choice = entry.1.choice in
+    let event_lines = map (λ (event : Event × ℕ). lines.Air entry.0 (happenings.Event event.0 event.1)) events in
+    let miss_lines = map (λ tag. lines.Air entry.0 (happenings.Miss tag)) missed in
+    let all : length (entry_lines entry) ≡ length events + length missed + length (choice_lines entry.0 choice) =
+    length-append (event_lines ++ miss_lines) (choice_lines entry.0 choice)
+    ∙ ap (λ n. n + length (choice_lines entry.0 choice))
+    (length-append event_lines miss_lines ∙ rw (length-map events, length-map missed) refl) in
+    let first = speak_events draft entry.0 [] events 0 no_steps is.exchange is.events (omega arith) in
+    let second = speak_misses draft entry.0 events [] missed (0 + length events) no_steps is.exchange is.missed (omega arith) in
+    let third = speak_choice draft entry.0 events missed choice (0 + length events + length missed) no_steps is.exchange is.choice (omega arith) in
+    let count : 0 + length events + length missed + length (choice_lines entry.0 choice) ≡ length (entry_lines entry) = omega arith in
+    leads_to _ _ _ _ (ap (λ n. within (on_exchange draft entry.0 events missed choice n)) count)
+    (leads_on _ _ _ (event_lines ++ miss_lines) (choice_lines entry.0 choice) (leads_on _ _ _ event_lines miss_lines first second) third)
+
+chooses_other : (draft : DraftValue) (number : ℕ) (happening : Happening) → number ≢ draft.exchange → ChoosesOnce draft (lines.Air number happening)
+chooses_other draft number (happenings.Event event tag) differs = tt
+chooses_other draft number (happenings.Miss tag) differs = tt
+chooses_other draft number (happenings.Choice choice) differs = λ same. absurd (differs same)
+
+-- the first line on another exchange than the last one
+air_turns : (draft : DraftValue) (number : ℕ) (happening : Happening) (said : List Line) (to : Standing) → draft.exchange < number
+    → Leads (within (on_exchange draft number [] [] None 0)) (lines.Air number happening ∷ said) to → Leads (within draft) (lines.Air number happening ∷ said) to
+air_turns draft number happening said to above leads =
+    let old = leads.0 in
+    let differs : number ≢ draft.exchange = λ same. omega (arith, same) in
+    let other : (number == draft.exchange) ≡ false = ne_eqb number draft.exchange differs in
+    let follows : Follows (within draft) (lines.Air number happening) = record {
+      is = old.is;
+      stands = old.stands;
+      room = omega (arith, old.room);
+      agrees = record { names = old.agrees.names; order = (omega arith, λ same. absurd (differs same)); once = chooses_other draft number happening differs };
+    } in
+    let counted : draft.airs + 1 ≡ draft.airs + (0 + 1) = omega arith in
+    let same : after (within draft) (lines.Air number happening) ≡ after (within (on_exchange draft number [] [] None 0)) (lines.Air number happening) =
+    rw other (ap (λ (airs : ℕ). within (with_said (draft_of draft.link draft.tags airs (entries_of draft) number [] [] None draft.steps) happening)) counted)
+    ∙ sym (air_again draft number [] [] None 0 happening) in
+    (follows, subst (λ (s : Standing). Leads s said to) (sym same) leads.1)
+
+-- what is said of an exchange begins with some line on it
+first_line : (number : ℕ) (events : List (Event × ℕ)) (missed : List ℕ) (choice : Option Choice)
+    → SaysSomething (record { events = events; missed = missed; choice = choice })
+    → (happening : Happening) × (rest : List Line)
+    × (entry_lines (number, record { events = events; missed = missed; choice = choice }) ≡ lines.Air number happening ∷ rest)
+first_line number (event ∷ events) missed choice something = (happenings.Event event.0 event.1, _, refl)
+first_line number [] (tag ∷ missed) choice something = (happenings.Miss tag, _, refl)
+first_line number [] [] (Some choice) something = (happenings.Choice choice, [], refl)
+first_line number [] [] None (inl some) = absurd (some refl)
+first_line number [] [] None (inr (inl some)) = absurd (some refl)
+first_line number [] [] None (inr (inr some)) = absurd (some refl)
+
+speak_entry : (draft : DraftValue) (entry : ℕ × Entry) → draft.steps ≡ [] → IsEntry (length draft.tags) entry → draft.exchange < entry.0
+    → draft.airs + length (entry_lines entry) ≤ most_air_lines
+    → Leads (within draft) (entry_lines entry)
+    (within (on_exchange draft entry.0 entry.1.events entry.1.missed entry.1.choice (length (entry_lines entry))))
+speak_entry draft entry no_steps is above few =
+    let to = within (on_exchange draft entry.0 entry.1.events entry.1.missed entry.1.choice (length (entry_lines entry))) in
+    let first = first_line entry.0 entry.1.events entry.1.missed entry.1.choice is.something in
+    let leads : Leads (within (on_exchange draft entry.0 [] [] None 0)) (lines.Air entry.0 first.0 ∷ first.1) to =
+    subst (λ (said : List Line). Leads (within (on_exchange draft entry.0 [] [] None 0)) said to) first.2
+    (speak_on_exchange draft entry no_steps is few) in
+    subst (λ (said : List Line). Leads (within draft) said to) (sym first.2) (air_turns draft entry.0 first.0 first.1 to above leads)
+
+last_entry_one : (number : ℕ) (entry : Entry) → 0 < number → last_entry number entry ≡ (number, entry) ∷ []
+last_entry_one zero entry some = absurd (omega arith)
+last_entry_one (suc before) entry some = refl
+
+-- a draft to which these entries were added
+record SpokenEntries (draft : DraftValue) (todo : List (ℕ × Entry)) : Type 0 where
+  to : DraftValue
+  leads : Leads (within draft) (air_lines todo) (within to)
+  link : to.link ≡ draft.link
+  tags : to.tags ≡ draft.tags
+  no_steps : to.steps ≡ []
+  entries : entries_of to ≡ entries_of draft ++ todo
+
+speak_entries : (draft : DraftValue) (todo : List (ℕ × Entry)) → draft.steps ≡ [] → All (IsEntry (length draft.tags)) todo → Rises draft.exchange todo
+    → draft.airs + length (air_lines todo) ≤ most_air_lines → SpokenEntries draft todo
+speak_entries draft [] no_steps are rising few = record {
+  to = draft;
+  leads = refl;
+  link = refl;
+  tags = refl;
+  no_steps = no_steps;
+  entries = sym (append-nil (entries_of draft));
+}
+speak_entries draft (entry ∷ todo) no_steps are rising few =
+    let IsIt : ℕ × Entry → Type 0 = IsEntry (length draft.tags) in
+    let is = All-head IsIt entry todo are in
+    let all = length-append (entry_lines entry) (air_lines todo) in
+    let one = on_exchange draft entry.0 entry.1.events entry.1.missed entry.1.choice (length (entry_lines entry)) in
+    let some : 0 < entry.0 = omega (arith, is.exchange.0) in
+    let first = speak_entry draft entry no_steps is rising.0 (omega arith) in
+    let others = speak_entries one todo no_steps (All-tail IsIt entry todo are) rising.1 (omega arith) in
+    let added : entries_of one ≡ entries_of draft ++ entry ∷ [] = ap (λ (last : List (ℕ × Entry)). entries_of draft ++ last) (last_entry_one entry.0 entry.1 some) in
+    record {
+      to = others.to;
+      leads = leads_on _ _ _ (entry_lines entry) (air_lines todo) first others.leads;
+      link = others.link;
+      tags = others.tags;
+      no_steps = others.no_steps;
+      entries = others.entries ∙ ap (λ (list : List (ℕ × Entry)). list ++ todo) added ∙ append_assoc (entries_of draft) (entry ∷ []) todo;
+    }
+
+-- one step
+step_follows : (draft : DraftValue) (step : Step) → IsStep (length draft.tags) step → length draft.steps < most_steps
+    → Follows (within draft) (step_line step) × (after (within draft) (step_line step) ≡ within (with_step draft step))
+step_follows draft (steps.Select (commands.Select target action bank pointer mask)) is room =
+    (record { is = record { form = is; coherent = tt }; stands = tt; room = room; agrees = record { names = tt; order = tt; once = tt } }, refl)
+step_follows draft (steps.Select (commands.QueryRep session)) is room = absurd is
+step_follows draft (steps.Select (commands.Ack rn)) is room = absurd is
+step_follows draft (steps.Select (commands.Query dr code trext sel session target q)) is room = absurd is
+step_follows draft (steps.Select (commands.QueryAdjust session updn)) is room = absurd is
+step_follows draft (steps.Select commands.Nak) is room = absurd is
+step_follows draft (steps.Select (commands.ReqRn rn)) is room = absurd is
+step_follows draft (steps.Select (commands.Read bank pointer count rn)) is room = absurd is
+step_follows draft (steps.Select (commands.Write bank pointer covered rn)) is room = absurd is
+step_follows draft (steps.Select (commands.Kill covered rn)) is room = absurd is
+step_follows draft (steps.Select (commands.Lock payload rn)) is room = absurd is
+step_follows draft (steps.Select (commands.Access covered rn)) is room = absurd is
+step_follows draft (steps.Select (commands.BlockWrite bank pointer words rn)) is room = absurd is
+step_follows draft (steps.Select (commands.BlockErase bank pointer count rn)) is room = absurd is
+step_follows draft steps.Nak is room =
+    (record { is = record { form = tt; coherent = tt }; stands = tt; room = room; agrees = record { names = tt; order = tt; once = tt } }, refl)
+step_follows draft (steps.Event event tag) is room =
+    (record { is = record { form = is.0; coherent = tt }; stands = tt; room = room; agrees = record { names = is.1; order = tt; once = tt } }, refl)
+step_follows draft (steps.Round spec operations) is room = (
+  record { is = record { form = is.0; coherent = tt }; stands = tt; room = room; agrees = record { names = tt; order = tt; once = tt } },
+  ap (λ (list : OpList). within (with_step draft (steps.Round spec list))) (sym is.1),
+)
+
+speak_steps : (draft : DraftValue) (todo : List Step) → All (IsStep (length draft.tags)) todo → length draft.steps + length todo ≤ most_steps
+    → Leads (within draft) (map step_line todo) (within (record draft { steps = draft.steps ++ todo }))
+speak_steps draft [] are few = ap (λ (list : List Step). within (record draft { steps = list })) (sym (append-nil draft.steps))
+speak_steps draft (step ∷ todo) are few =
+    let IsIt : Step → Type 0 = IsStep (length draft.tags) in
+    let one = step_follows draft step (All-head IsIt step todo are) (omega arith) in
+    let others = speak_steps (with_step draft step) todo (All-tail IsIt step todo are) (omega (arith, length-append draft.steps (step ∷ []))) in
+    let same = ap (λ (list : List Step). within (record draft { steps = list })) (append_assoc draft.steps (step ∷ []) todo) in
+    (one.0, subst (λ (s : Standing). Leads s (map step_line todo) (within (record draft { steps = draft.steps ++ step ∷ todo }))) (sym one.1) (leads_to _ _ _ _ same others))
+
+-- a scenario is said by its lines
+pub record IsSaid (scenario : Scenario) (said : List Line) : Type 0 where
+  pub draft : DraftValue
+  pub leads : Leads start said (ended draft)
+  pub says : scenario_of draft ≡ scenario
+
+pub scenario_is_said : (scenario : Scenario) → IsScenario scenario → IsSaid scenario (scenario_lines scenario)
+scenario_is_said scenario is =
+    let link = scenario.link in
+    let tags = scenario.tags in
+    let version : Follows start lines.Version =
+    record { is = record { form = tt; coherent = tt }; stands = tt; room = tt; agrees = tt } in
+    let linked : Follows begun (lines.Link link) =
+    record { is = record { form = legal_form link is.link; coherent = is.link }; stands = tt; room = tt; agrees = tt } in
+    let head : Leads start (lines.Version ∷ lines.Link link ∷ []) (within (tags_draft link [])) = (version, (linked, refl)) in
+    let first = speak_tags link [] tags is.tags (omega (arith, is.few_tags)) in
+    let second = speak_entries (tags_draft link tags) scenario.entries refl is.entries is.rising (omega (arith, is.few_air_lines)) in
+    let kept : All (IsStep (length second.to.tags)) scenario.steps = rw second.tags is.steps in
+    let third = speak_steps second.to scenario.steps kept (omega (arith, is.few_steps, ap length second.no_steps)) in
+    let draft = record second.to { steps = second.to.steps ++ scenario.steps } in
+    let last : Follows (within draft) lines.End =
+    record { is = record { form = tt; coherent = tt }; stands = tt; room = tt; agrees = record { names = tt; order = tt; once = tt } } in
+    let body = leads_on _ _ _ (lines.Version ∷ lines.Link link ∷ map lines.Tag tags) (air_lines scenario.entries)
+    (leads_on _ _ _ (lines.Version ∷ lines.Link link ∷ []) (map lines.Tag tags) head first) second.leads in
+    let all = leads_on _ _ _ (lines.Version ∷ lines.Link link ∷ map lines.Tag tags ++ air_lines scenario.entries) (map step_line scenario.steps) body third in
+    record {
+      draft = draft;
+      leads = leads_on _ _ _ (lines.Version ∷ lines.Link link ∷ map lines.Tag tags ++ air_lines scenario.entries ++ map step_line scenario.steps)
+          (lines.End ∷ []) all (last, refl);
+      says = rw (second.link, second.tags, second.no_steps, second.entries) refl;
+    }

@@ -1,0 +1,111 @@
+-- Profile: the first faulty line of a text that is no scenario.
+use Rattle.std.specs.Prelude.{◌≡◌, ◌≢◌, ℕ, ◌+◌, List, [], ◌∷◌, ◌++◌, length, map}
+use Rattle.text_fields.specs.Lines.{fields_of, lines_of}
+use Rattle.scenario_lines.specs.declared.words.Word.{Word}
+use Rattle.scenario_lines.specs.declared.line.Line.{Line}
+use Rattle.scenario_lines.specs.declared.line.Line.TheVariants as lines
+use Rattle.scenario_lines.specs.declared.fault.LineFault.{LineFault}
+use Rattle.scenario_lines.specs.declared.fault.LineFault.TheVariants as line_faults
+use Rattle.scenario_lines.specs.Spelling.{line_text, word_of_line}
+use Rattle.scenario_lines.specs.LineFaults.{BeginsWith, IsFaulty, Spells}
+use Rattle.scenario.specs.declared.fault.Fault.{Fault}
+use Rattle.scenario.specs.declared.fault.Fault.TheVariants.{Extra, End, Version, Word as WordFault, Limit, Shape, Number, Tari, RtCal, TrCal, Pw, Pc, Tag, Order, Twice}
+use Rattle.scenario.specs.declared.fault.ScenarioFault.{ScenarioFault}
+use Rattle.scenario.specs.declared.fault.ScenarioFault.TheVariants as faults
+use Rattle.scenario.specs.Standing.{DraftValue, Standing, start, begun, within, ended, MayStand, HasRoom, NamesTag, KeepsOrder, ChoosesOnce, Leads}
+
+-- the reason for a line that says nothing, whatever the lines before it say
+abbrev pub fault_of_line : LineFault → Fault
+fault_of_line line_faults.Word = WordFault
+fault_of_line line_faults.Shape = Shape
+fault_of_line line_faults.Number = Number
+fault_of_line line_faults.Tari = Tari
+fault_of_line line_faults.RtCal = RtCal
+fault_of_line line_faults.TrCal = TrCal
+fault_of_line line_faults.Pw = Pw
+fault_of_line line_faults.Pc = Pc
+
+-- the line begins with a word that may stand here, and is not one too many
+pub record HasPlace (standing : Standing) (fields : List (List ℕ)) : Type 0 where
+  pub word : Word
+  pub begins : BeginsWith fields word
+  pub stands : MayStand standing word
+  pub room : HasRoom standing word
+
+-- the line begins with a word that may stand here, and is one too many
+pub record IsTooMuch (standing : Standing) (fields : List (List ℕ)) : Type 0 where
+  pub word : Word
+  pub begins : BeginsWith fields word
+  pub stands : MayStand standing word
+  pub no_room : ¬ HasRoom standing word
+
+-- the line has its place, and says nothing
+pub record SaysNothing (standing : Standing) (fields : List (List ℕ)) (fault : LineFault) : Type 0 where
+  pub place : HasPlace standing fields
+  pub faulty : IsFaulty fields fault
+
+-- the first reason for which a line that may stand here doesn't agree with the lines before it
+abbrev pub IsAtOddsBy : DraftValue → Line → Fault → Type 0
+IsAtOddsBy draft line Tag = ¬ NamesTag (length draft.tags) line
+IsAtOddsBy draft line Order = NamesTag (length draft.tags) line × (¬ KeepsOrder draft line)
+IsAtOddsBy draft line Twice = NamesTag (length draft.tags) line × KeepsOrder draft line × (¬ ChoosesOnce draft line)
+IsAtOddsBy draft line fault = ⊥
+
+-- the line has its place and says something, which doesn't agree with the lines before it
+pub record IsAtOdds (standing : Standing) (fields : List (List ℕ)) (fault : Fault) : Type 0 where
+  pub draft : DraftValue
+  pub here : standing ≡ within draft
+  pub line : Line
+  pub spells : Spells fields line
+  pub stands : MayStand standing (word_of_line line)
+  pub room : HasRoom standing (word_of_line line)
+  pub odds : IsAtOddsBy draft line fault
+
+-- the first reason for which a line with its line feed is faulty, where another than the first is needed
+abbrev pub IsFaultyAt : Standing → List (List ℕ) → Fault → Type 0
+IsFaultyAt standing fields WordFault = (word : Word) → BeginsWith fields word → ¬ MayStand standing word
+IsFaultyAt standing fields Limit = IsTooMuch standing fields
+IsFaultyAt standing fields Shape = SaysNothing standing fields line_faults.Shape
+IsFaultyAt standing fields Number = SaysNothing standing fields line_faults.Number
+IsFaultyAt standing fields Tari = SaysNothing standing fields line_faults.Tari
+IsFaultyAt standing fields RtCal = SaysNothing standing fields line_faults.RtCal
+IsFaultyAt standing fields TrCal = SaysNothing standing fields line_faults.TrCal
+IsFaultyAt standing fields Pw = SaysNothing standing fields line_faults.Pw
+IsFaultyAt standing fields Pc = SaysNothing standing fields line_faults.Pc
+IsFaultyAt standing fields Tag = IsAtOdds standing fields Tag
+IsFaultyAt standing fields Order = IsAtOdds standing fields Order
+IsFaultyAt standing fields Twice = IsAtOdds standing fields Twice
+IsFaultyAt standing fields fault = ⊥
+
+-- The first reason for which a line is faulty, by the lines behind it: a line with none behind it has no line feed, and is
+-- missing where it is empty.
+abbrev pub IsFaultyBefore : List (List ℕ) → Standing → List ℕ → Fault → Type 0
+-- behind the end nothing may stand
+IsFaultyBefore behind (ended draft) line fault = (fault ≡ Extra) × (line ∷ behind ≢ [] ∷ [])
+-- a line is needed, and isn't there or has no line feed
+IsFaultyBefore [] standing line fault = fault ≡ End
+-- the first line is the version
+IsFaultyBefore (next ∷ more) start line fault = (fault ≡ Version) × (line ≢ line_text lines.Version)
+IsFaultyBefore (next ∷ more) standing line fault = IsFaultyAt standing (fields_of line) fault
+
+-- the lines are the spellings of lines that follow one another from the start, and lead there
+pub record Settles (before : List (List ℕ)) (standing : Standing) : Type 0 where
+  pub said : List Line
+  pub spelling : before ≡ map line_text said
+  pub leads : Leads start said standing
+
+-- the first faulty line of the bytes, counted from 1, with its first reason
+pub record IsFirstFault (bytes : List ℕ) (number : ℕ) (fault : Fault) : Type 0 where
+  pub before : List (List ℕ)
+  pub line : List ℕ
+  pub behind : List (List ℕ)
+  pub standing : Standing
+  pub cut : lines_of bytes ≡ before ++ line ∷ behind
+  pub settles : Settles before standing
+  pub place : number ≡ length before + 1
+  pub faulty : IsFaultyBefore behind standing line fault
+
+-- why no scenario was read from the bytes
+abbrev pub IsRefused : List ℕ → ScenarioFault → Type 0
+IsRefused bytes (faults.Line number fault) = IsFirstFault bytes number fault
+IsRefused bytes faults.OutOfMemory = Unit {0}

@@ -1,0 +1,9 @@
+pub mod ScenarioText
+pub mod Limits
+pub mod Standing
+pub mod Faults
+pub mod Taking
+pub mod Rest
+pub use Rattle.scenario_lines.specs.Spelling
+pub use Rattle.scenario_lines.specs.LineForm
+pub use Rattle.scenario_lines.specs.LineFaults

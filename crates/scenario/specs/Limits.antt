@@ -1,0 +1,65 @@
+-- Profile: which scenarios have a text.
+use Rattle.std.specs.Prelude.{◌≡◌, ◌≢◌, ℕ, ◌<◌, ◌≤◌, List, [], ◌∷◌, length, All, Option, Some, None, IfSome, ◌⊎◌}
+use Rattle.air_events.specs.declared.Event.{Event}
+use Rattle.air_events.specs.declared.Entry.{Entry}
+use Rattle.access_ops.specs.declared.OpList.{OpList}
+use Rattle.command_grammar.specs.declared.commands.Command.{Command}
+use Rattle.command_grammar.specs.declared.commands.Command.TheVariants as commands
+use Rattle.pie_line.specs.Link.{IsLegal}
+use Rattle.scenario_lines.specs.TagForm.{IsTag}
+use Rattle.scenario_lines.specs.LineForm.{IsEvent, IsPlace, IsChoice, IsExchange, IsRound, IsSelection}
+use Rattle.scenario.specs.declared.values.Step.{Step}
+use Rattle.scenario.specs.declared.values.Step.TheVariants as steps
+use Rattle.scenario.specs.declared.values.Scenario.{Scenario}
+use Rattle.scenario.specs.ScenarioText.{air_lines}
+
+-- the limits on the numbers of tags, air lines and steps
+abbrev pub most_tags : ℕ
+most_tags = 256
+
+abbrev pub most_air_lines : ℕ
+most_air_lines = 4096
+
+abbrev pub most_steps : ℕ
+most_steps = 1024
+
+-- no operation and no EPC that is named
+abbrev pub no_operations : OpList
+no_operations = record { only = None; ops = [] }
+
+-- what is said of one exchange says something
+abbrev pub SaysSomething : Entry → Type 0
+SaysSomething entry = (entry.events ≢ []) ⊎ (entry.missed ≢ []) ⊎ (entry.choice ≢ None)
+
+-- what is said of one exchange, where there are so many tags
+pub record IsEntry (tags : ℕ) (entry : ℕ × Entry) : Type 0 where
+  pub exchange : IsExchange entry.0
+  pub events : All (λ event. IsEvent event.0 event.1 × (event.1 < tags)) entry.1.events
+  pub missed : All (λ tag. IsPlace tag × (tag < tags)) entry.1.missed
+  pub choice : IfSome entry.1.choice IsChoice
+  pub something : SaysSomething entry.1
+
+-- the numbers of the exchanges rise, from above the number before
+abbrev pub Rises : ℕ → List (ℕ × Entry) → Type 0
+Rises before [] = Unit {0}
+Rises before (entry ∷ entries) = (before < entry.0) × Rises entry.0 entries
+
+-- a step, where there are so many tags
+abbrev pub IsStep : ℕ → Step → Type 0
+IsStep tags (steps.Select (commands.Select target action bank pointer mask)) =
+    IsSelection (record { target = target; action = action; bank = bank; pointer = pointer; mask = mask })
+IsStep tags (steps.Select command) = ⊥
+IsStep tags steps.Nak = Unit {0}
+IsStep tags (steps.Event event tag) = IsEvent event tag × (tag < tags)
+IsStep tags (steps.Round spec operations) = IsRound spec × (operations ≡ no_operations)
+
+-- the scenario keeps the limits, and so has a text
+pub record IsScenario (scenario : Scenario) : Type 0 where
+  pub link : IsLegal scenario.link
+  pub tags : All IsTag scenario.tags
+  pub entries : All (IsEntry (length scenario.tags)) scenario.entries
+  pub rising : Rises 0 scenario.entries
+  pub steps : All (IsStep (length scenario.tags)) scenario.steps
+  pub few_tags : length scenario.tags ≤ most_tags
+  pub few_air_lines : length (air_lines scenario.entries) ≤ most_air_lines
+  pub few_steps : length scenario.steps ≤ most_steps

@@ -1,0 +1,378 @@
+//! A scenario, line by line.
+ghost use Rattle.std.specs.Prelude.{◌≡◌, ◌<◌, ◌≤◌, ◌+◌, ◌↔◌, ◌++◌, [], ◌∷◌, length, IsTrue, IfOk, IfErr, OnOk};
+ghost use Rattle.text_fields.specs.Lines.{fields_of};
+ghost use Rattle.scenario.specs.Standing.{Agrees, ChoosesOnce, Follows, HasRoom, KeepsOrder, MayFollow, MayStand, NamesTag, after, entries_of, grown, new_draft, scenario_of, size, turned, with_air, with_happening, with_step, within};
+ghost use Rattle.scenario.specs.Faults.{IsAtOddsBy, fault_of_line};
+ghost use Rattle.scenario_lines.specs.declared.line.Line.{Line};
+ghost use Rattle.scenario_lines.specs.LineFaults.{Spells};
+ghost use Rattle.scenario_lines.specs.Spelling.{word_of_line};
+ghost use Rattle.scenario.specs.Limits.{most_air_lines, most_steps, most_tags, no_operations};
+ghost use Rattle.scenario.specs.Taking.{LeadsTo, Takes};
+
+use crate::Fault;
+use crate::values::{Scenario, Step};
+use access_ops::OpList;
+use air_events::{Choice, Entry, Event};
+use bit_strings::{List, OutOfMemory};
+use pie_line::Link;
+use scenario_lines::{Happening, Line, LineFault, TagSpec, TagText, Word, read_line, word_of};
+use std::alloc::Global;
+use std::marker::Model;
+use std::mem;
+
+/// How many tags a scenario may have.
+const MOST_TAGS: usize = 256;
+
+/// How many air lines a scenario may have.
+const MOST_AIR_LINES: u32 = 4096;
+
+/// How many steps a scenario may have.
+const MOST_STEPS: usize = 1024;
+
+/// What the lines of a scenario have said so far, from the link on.
+#[derive(Drop)]
+pub(crate) struct Draft {
+    link: Link,
+    tags: Vec<TagSpec>,
+    /// How many air lines there are.
+    airs: u32,
+    /// What is said of the exchanges before the last one.
+    closed: Vec<(u64, Entry)>,
+    /// The number of the last exchange that an air line names, and 0 before the first.
+    exchange: u64,
+    /// What is said of it.
+    events: Vec<(Event, u32)>,
+    missed: Vec<u32>,
+    choice: Option<Choice>,
+    steps: Vec<Step>,
+}
+
+impl Model for Draft {
+    ghost use Rattle.scenario.specs.Standing.{DraftValue, IsSmall, draft_of};
+
+    ghost Value = { DraftValue };
+
+    ghost view = { λ a. draft_of a.link a.tags.items a.airs a.closed.items a.exchange a.events.items a.missed.items a.choice a.steps.items };
+
+    ghost invariant = { λ a. IsSmall (draft_of a.link a.tags.items a.airs a.closed.items a.exchange a.events.items a.missed.items a.choice a.steps.items) };
+}
+
+/// What a line did to a draft.
+#[derive(Clone, Copy, Debug, PartialEq, Eq)]
+pub(crate) enum Taken {
+    /// The draft holds what the line says.
+    More,
+    /// The line is the end, and the draft is whole.
+    End,
+    /// The line is faulty, for this reason.
+    Faulty(Fault),
+}
+
+/// The reason for a line that says nothing, whatever the lines before it say.
+pub(crate) fn fault_of(fault: LineFault) -> Fault
+    ensures { result ≡ fault_of_line fault }
+{
+    match fault {
+        LineFault::Word => Fault::Word,
+        LineFault::Shape => Fault::Shape,
+        LineFault::Number => Fault::Number,
+        LineFault::Tari => Fault::Tari,
+        LineFault::RtCal => Fault::RtCal,
+        LineFault::TrCal => Fault::TrCal,
+        LineFault::Pw => Fault::Pw,
+        LineFault::Pc => Fault::Pc,
+    }
+}
+
+impl Draft {
+    /// A link, of which nothing more is said yet.
+    pub(crate) fn new(alloc: Global, link: Link) -> Draft
+        ensures { result ≡ new_draft link }
+    {
+        Draft {
+            link,
+            tags: Vec::new(alloc),
+            airs: 0,
+            closed: Vec::new(alloc),
+            exchange: 0,
+            events: Vec::new(alloc),
+            missed: Vec::new(alloc),
+            choice: None,
+            steps: Vec::new(alloc),
+        }
+    }
+
+    /// The number of the next line, counted from 1: behind the version and the link stands one line for
+    /// each tag, air line and step.
+    pub(crate) fn next_line(&self) -> u32
+        ensures number { result ≡ 3 + size self.now }
+        ensures small { result ≤ 5379 }
+    {
+        3 + self.tags.len() as u32 + self.airs + self.steps.len() as u32
+    }
+
+    /// Whether a line that begins with this word may follow.
+    fn may_stand(&self, word: Word) -> bool
+        ensures { IsTrue result ↔ MayStand (within self.now) word }
+    {
+        match word {
+            Word::Version | Word::Link => false,
+            Word::Tag => self.airs == 0 && self.steps.is_empty(),
+            Word::Air => self.steps.is_empty(),
+            Word::Select | Word::Nak | Word::Event | Word::Round | Word::End => true,
+        }
+    }
+
+    /// Whether a line that begins with this word is not one too many.
+    fn has_room(&self, word: Word) -> bool
+        ensures { IsTrue result ↔ HasRoom (within self.now) word }
+    {
+        match word {
+            Word::Tag => self.tags.len() < MOST_TAGS,
+            Word::Air => self.airs < MOST_AIR_LINES,
+            Word::Select | Word::Nak | Word::Event | Word::Round => self.steps.len() < MOST_STEPS,
+            Word::Version | Word::Link | Word::End => true,
+        }
+    }
+
+    /// Whether the tag that a line names, where it names one, is there.
+    fn names_tag(&self, line: &Line) -> bool
+        ensures { IsTrue result ↔ NamesTag (length self.now.tags) line.now }
+    {
+        match line {
+            Line::Air {
+                happening: Happening::Event { tag, .. } | Happening::Miss(tag),
+                ..
+            }
+            | Line::Event { tag, .. } => (*tag as usize) < self.tags.len(),
+            _ => true,
+        }
+    }
+
+    /// Whether what is said of the last exchange may be followed by this.
+    fn may_follow(&self, happening: Happening) -> bool
+        ensures { IsTrue result ↔ MayFollow self.now.latest happening }
+    {
+        match happening {
+            Happening::Event { .. } => self.missed.is_empty() && self.choice.is_none(),
+            Happening::Miss(_) => self.choice.is_none(),
+            Happening::Choice(_) => true,
+        }
+    }
+
+    /// Whether the number of a line's exchange, where it has one, doesn't fall, and what it says of the
+    /// same exchange comes in order.
+    fn keeps_order(&self, line: &Line) -> bool
+        ensures { IsTrue result ↔ KeepsOrder self.now line.now }
+    {
+        match line {
+            Line::Air {
+                exchange,
+                happening,
+            } => {
+                let exchange = u64::from(*exchange);
+                if exchange == self.exchange {
+                    self.may_follow(*happening)
+                } else {
+                    exchange > self.exchange
+                }
+            }
+            _ => true,
+        }
+    }
+
+    /// Whether a line is no second choice for its exchange.
+    fn chooses_once(&self, line: &Line) -> bool
+        ensures { IsTrue result ↔ ChoosesOnce self.now line.now }
+    {
+        match line {
+            Line::Air {
+                exchange,
+                happening: Happening::Choice(_),
+            } => u64::from(*exchange) != self.exchange || self.choice.is_none(),
+            _ => true,
+        }
+    }
+
+    /// Whether what a line says agrees with the lines before it.
+    ///
+    /// # Errors
+    ///
+    /// The first reason for which it doesn't: `Tag`, `Order` or `Twice`.
+    fn agree(&self, line: &Line) -> Result<(), Fault>
+        ensures ok { OnOk result (Agrees self.now line.now) }
+        ensures odds { IfErr result (IsAtOddsBy self.now line.now) }
+    {
+        if !self.names_tag(line) {
+            return Err(Fault::Tag);
+        }
+        if !self.keeps_order(line) {
+            return Err(Fault::Order);
+        }
+        if !self.chooses_once(line) {
+            return Err(Fault::Twice);
+        }
+        Ok(())
+    }
+
+    /// Turns from the exchange of the last air line to another.
+    fn turn_to(&mut self, alloc: Global, exchange: u64) -> Result<(), OutOfMemory>
+        requires { length (entries_of self.old) < self.old.airs }
+        ensures { OnOk result (self.new ≡ turned self.old exchange) }
+    {
+        let events = mem::replace(&mut self.events, Vec::new(alloc));
+        let missed = mem::replace(&mut self.missed, Vec::new(alloc));
+        let choice = self.choice.take();
+        if self.exchange > 0 {
+            let entry = Entry {
+                events: List::new(events),
+                missed: List::new(missed),
+                choice,
+            };
+            self.closed.push((self.exchange, entry))?;
+        }
+        self.exchange = exchange;
+        Ok(())
+    }
+
+    /// Adds to what is said of the last exchange.
+    fn say(&mut self, happening: Happening) -> Result<(), OutOfMemory>
+        requires events { length self.old.latest.events < self.old.airs }
+        requires missed { length self.old.latest.missed < self.old.airs }
+        ensures { OnOk result (self.new ≡ record self.old { latest = with_happening self.old.latest happening }) }
+    {
+        match happening {
+            Happening::Event { event, tag } => self.events.push((event, tag))?,
+            Happening::Miss(tag) => self.missed.push(tag)?,
+            Happening::Choice(choice) => self.choice = Some(choice),
+        }
+        Ok(())
+    }
+
+    /// Adds what an air line says.
+    fn add_air(
+        &mut self,
+        alloc: Global,
+        exchange: u32,
+        happening: Happening,
+    ) -> Result<(), OutOfMemory>
+        requires { self.old.airs < most_air_lines }
+        ensures { OnOk result (self.new ≡ with_air self.old exchange happening) }
+    {
+        let exchange = u64::from(exchange);
+        self.airs += 1;
+        if exchange != self.exchange {
+            self.turn_to(alloc, exchange)?;
+        }
+        self.say(happening)
+    }
+
+    /// Adds a step.
+    fn add_step(&mut self, step: Step) -> Result<(), OutOfMemory>
+        requires { length self.old.steps < most_steps }
+        ensures { OnOk result (self.new ≡ with_step self.old step) }
+    {
+        self.steps.push(step)?;
+        Ok(())
+    }
+
+    /// Adds a tag.
+    fn add_tag(&mut self, alloc: Global, tag: &TagText) -> Result<(), OutOfMemory>
+        requires { length self.old.tags < most_tags }
+        ensures { OnOk result (self.new ≡ record self.old { tags = self.old.tags ++ tag.now ∷ [] }) }
+    {
+        let tag = tag.to_spec(alloc)?;
+        self.tags.push(tag)?;
+        Ok(())
+    }
+
+    /// Adds what a line says that may follow. The version, the link and the end add nothing.
+    fn add(&mut self, alloc: Global, line: Line) -> Result<(), OutOfMemory>
+        requires { HasRoom (within self.old) (word_of_line line) }
+        ensures { OnOk result (self.new ≡ grown self.old line.entry) }
+    {
+        match line {
+            Line::Tag(tag) => self.add_tag(alloc, &tag),
+            Line::Air {
+                exchange,
+                happening,
+            } => self.add_air(alloc, exchange, happening),
+            Line::Select(selection) => self.add_step(Step::Select(selection.into_command())),
+            Line::Nak => self.add_step(Step::Nak),
+            Line::Event { event, tag } => self.add_step(Step::Event(event, tag)),
+            Line::Round(spec) => self.add_step(Step::Round(spec, no_operations(alloc))),
+            Line::Version | Line::Link(_) | Line::End => Ok(()),
+        }
+    }
+
+    /// Takes the next line, which is given without its line feed. After an error the draft may hold a
+    /// part of what the line says.
+    pub(crate) fn take(&mut self, alloc: Global, line: &[u8]) -> Result<Taken, OutOfMemory>
+        ensures taken { IfOk result (Takes self.old (fields_of line.now) self.new) }
+        ensures only { (said : Line) → Spells (fields_of line.now) said → Follows (within self.old) said
+            → IfOk result (LeadsTo (after (within self.old) said) self.new) }
+    {
+        let Some(word) = word_of(line) else {
+            return Ok(Taken::Faulty(Fault::Word));
+        };
+        if !self.may_stand(word) {
+            return Ok(Taken::Faulty(Fault::Word));
+        }
+        if !self.has_room(word) {
+            return Ok(Taken::Faulty(Fault::Limit));
+        }
+        let said = match read_line(line) {
+            Ok(said) => said,
+            Err(fault) => return Ok(Taken::Faulty(fault_of(fault))),
+        };
+        if let Err(fault) = self.agree(&said) {
+            return Ok(Taken::Faulty(fault));
+        }
+        if word == Word::End {
+            return Ok(Taken::End);
+        }
+        self.add(alloc, said)?;
+        Ok(Taken::More)
+    }
+
+    /// The scenario that the lines said.
+    pub(crate) fn finish(self) -> Result<Scenario, OutOfMemory>
+        ensures { IfOk result (λ scenario. scenario ≡ scenario_of self) }
+    {
+        let Draft {
+            link,
+            tags,
+            airs: _,
+            mut closed,
+            exchange,
+            events,
+            missed,
+            choice,
+            steps,
+        } = self;
+        if exchange > 0 {
+            let entry = Entry {
+                events: List::new(events),
+                missed: List::new(missed),
+                choice,
+            };
+            closed.push((exchange, entry))?;
+        }
+        Ok(Scenario {
+            link,
+            tags: List::new(tags),
+            entries: List::new(closed),
+            steps: List::new(steps),
+        })
+    }
+}
+
+/// No operation, and no EPC that is named.
+fn no_operations(alloc: Global) -> OpList
+    ensures { result ≡ no_operations }
+{
+    OpList {
+        only: None,
+        ops: List::new(Vec::new(alloc)),
+    }
+}

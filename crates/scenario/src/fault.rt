@@ -1,0 +1,59 @@
+//! Why a text is no scenario.
+
+use std::alloc::AllocError;
+
+/// The reasons for which a line is faulty, in the order in which they are looked for.
+#[derive(Clone, Copy, Debug, PartialEq, Eq)]
+pub enum Fault {
+    /// Bytes stand behind the `end` line.
+    Extra,
+    /// A line is needed and there is none, or the line has no line feed.
+    End,
+    /// Line 1 isn't `gen2 1`.
+    Version,
+    /// The first field may not stand here, or a kind is there and is none of its kinds.
+    Word,
+    /// It is one tag, air line or step too many.
+    Limit,
+    /// The number of fields is wrong, or a field is empty.
+    Shape,
+    /// A field isn't of its form or range.
+    Number,
+    /// The Tari of the link is out of its range.
+    Tari,
+    /// The RTcal of the link is out of its range.
+    RtCal,
+    /// The TRcal of the link is out of its range.
+    TrCal,
+    /// The PW of the link is out of its range.
+    Pw,
+    /// The EPC that the PC of a tag announces passes its bank.
+    Pc,
+    /// There is no tag of the number that is named.
+    Tag,
+    /// The number of the exchange falls, or an event, a miss or a choice stands behind what it must
+    /// stand before.
+    Order,
+    /// It is a second choice for its exchange.
+    Twice,
+}
+
+/// Why no scenario is read from a text.
+#[derive(Clone, Copy, Debug, PartialEq, Eq)]
+pub enum ScenarioFault {
+    /// The number of the first faulty line, counted from 1, and the first reason that applies to it.
+    Line(u32, Fault),
+    /// There was no memory.
+    OutOfMemory,
+}
+
+impl From<AllocError> for ScenarioFault {
+    ghost use Rattle.std.specs.Prelude.{◌≡◌};
+    ghost use Rattle.scenario.specs.declared.fault.ScenarioFault.TheVariants.{OutOfMemory};
+
+    ghost from_gives = { λ _ fault. fault ≡ OutOfMemory };
+
+    fn from(_error: AllocError) -> ScenarioFault {
+        ScenarioFault::OutOfMemory
+    }
+}

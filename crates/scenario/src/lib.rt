@@ -1,0 +1,26 @@
+//! Scenarios as text: what a run is made of, how it is read from its text, and how it is written.
+//! All of it is profile.
+//!
+//! A scenario has one spelling. The reader goes over the lines once, and refuses the first line that no
+//! scenario can have there, with the first reason that applies.
+#![tactic(auto)]
+
+mod draft;
+mod fault;
+mod laws;
+mod printing;
+mod reading;
+mod round_trip;
+#[cfg(test)]
+mod tests;
+mod values;
+
+pub use access_ops::{Op, OpList};
+pub use air_events::{Choice, Entry, Event};
+pub use fault::{Fault, ScenarioFault};
+pub use printing::print_scenario;
+pub use q_round::RoundSpec;
+pub use reading::read_scenario;
+pub use round_trip::{print_and_read, read_and_print};
+pub use scenario_lines::TagSpec;
+pub use values::{Scenario, Step};

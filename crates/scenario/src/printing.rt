@@ -1,0 +1,139 @@
+//! A scenario, written as its text.
+ghost use Rattle.std.specs.Prelude.{◌≡◌, ◌++◌, ℕ, [], ◌∷◌, map, All, Option, OnOk, IfOk};
+ghost use Rattle.std.specs.List.{flat_map};
+ghost use Rattle.std.specs.String.{string_bytes};
+ghost use Rattle.text_fields.specs.Lines.{line_feed, text_with};
+ghost use Rattle.scenario_lines.specs.declared.line.Happening.TheVariants as happenings;
+ghost use Rattle.scenario_lines.specs.declared.line.Line.TheVariants as lines;
+ghost use Rattle.scenario_lines.specs.Spelling.{line_text};
+ghost use Rattle.scenario.specs.declared.values.Step.TheVariants as steps;
+ghost use Rattle.scenario.specs.Limits.{IsEntry, IsScenario, IsStep};
+ghost use Rattle.scenario.specs.ScenarioText.{air_lines, choice_lines, entry_lines, scenario_text, step_line};
+
+use crate::{Choice, Entry, Event, Scenario, Step, TagSpec};
+use air_io::Bytes;
+use bit_strings::OutOfMemory;
+use command_grammar::Command;
+use command_text::push_command;
+use scenario_lines::{
+    Happening, push_air, push_end, push_event, push_link, push_nak, push_round, push_tag,
+    push_version,
+};
+use std::alloc::Global;
+
+#[cfg(test)]
+mod tests;
+
+/// Writes the lines of tags.
+fn push_tags(text: &mut String, tags: &[TagSpec]) -> Result<(), OutOfMemory>
+    ensures { OnOk result (string_bytes text.new ≡ string_bytes text.old ++ text_with (map line_text (map lines.Tag tags.now))) }
+{
+    for tag in tags {
+        push_tag(text, tag)?;
+    }
+    Ok(())
+}
+
+/// Writes the air lines of the events of one exchange.
+fn push_events(text: &mut String, exchange: u32, events: &[(Event, u32)]) -> Result<(), OutOfMemory>
+    ensures { OnOk result (string_bytes text.new ≡ string_bytes text.old
+        ++ text_with (map line_text (map (λ event. lines.Air exchange (happenings.Event event.0 event.1)) events.now))) }
+{
+    for (event, tag) in events {
+        let happening = Happening::Event {
+            event: *event,
+            tag: *tag,
+        };
+        push_air(text, exchange, happening)?;
+    }
+    Ok(())
+}
+
+/// Writes the air lines of the tags that miss one command.
+fn push_missed(text: &mut String, exchange: u32, missed: &[u32]) -> Result<(), OutOfMemory>
+    ensures { OnOk result (string_bytes text.new ≡ string_bytes text.old
+        ++ text_with (map line_text (map (λ tag. lines.Air exchange (happenings.Miss tag)) missed.now))) }
+{
+    for tag in missed {
+        push_air(text, exchange, Happening::Miss(*tag))?;
+    }
+    Ok(())
+}
+
+/// Writes the air line of what the channel gives in one exchange, where that is said.
+fn push_choice(text: &mut String, exchange: u32, choice: Option<Choice>) -> Result<(), OutOfMemory>
+    ensures { OnOk result (string_bytes text.new ≡ string_bytes text.old ++ text_with (map line_text (choice_lines exchange choice))) }
+{
+    match choice {
+        Some(choice) => push_air(text, exchange, Happening::Choice(choice)),
+        None => Ok(()),
+    }
+}
+
+/// Writes the air lines of one exchange: the events, the misses, and the choice.
+fn push_entry(text: &mut String, exchange: u32, entry: &Entry) -> Result<(), OutOfMemory>
+    ensures { OnOk result (string_bytes text.new ≡ string_bytes text.old ++ text_with (map line_text (entry_lines (exchange, entry.now)))) }
+{
+    push_events(text, exchange, entry.events.as_slice())?;
+    push_missed(text, exchange, entry.missed.as_slice())?;
+    push_choice(text, exchange, entry.choice)
+}
+
+/// Writes the air lines.
+fn push_entries(text: &mut String, entries: &[(u64, Entry)]) -> Result<(), OutOfMemory>
+    requires { (tags : ℕ) × All (IsEntry tags) entries.now }
+    ensures { OnOk result (string_bytes text.new ≡ string_bytes text.old ++ text_with (map line_text (air_lines entries.now))) }
+{
+    for (exchange, entry) in entries {
+        push_entry(text, *exchange as u32, entry)?;
+    }
+    Ok(())
+}
+
+/// Writes the line of a Select step.
+fn push_select(text: &mut String, command: &Command) -> Result<(), OutOfMemory>
+    requires { (tags : ℕ) × IsStep tags (steps.Select command.now) }
+    ensures { OnOk result (string_bytes text.new ≡ string_bytes text.old ++ (line_text (step_line (steps.Select command.now)) ++ line_feed ∷ [])) }
+{
+    push_command(text, command)?;
+    text.push('\n')
+}
+
+/// Writes the line of a step.
+fn push_step(text: &mut String, step: &Step) -> Result<(), OutOfMemory>
+    requires { (tags : ℕ) × IsStep tags step.now }
+    ensures { OnOk result (string_bytes text.new ≡ string_bytes text.old ++ (line_text (step_line step.now) ++ line_feed ∷ [])) }
+{
+    match step {
+        Step::Select(command) => push_select(text, command),
+        Step::Nak => push_nak(text),
+        Step::Event(event, tag) => push_event(text, *event, *tag),
+        Step::Round(spec, _) => push_round(text, spec),
+    }
+}
+
+/// Writes the lines of the steps.
+fn push_steps(text: &mut String, steps: &[Step]) -> Result<(), OutOfMemory>
+    requires { (tags : ℕ) × All (IsStep tags) steps.now }
+    ensures { OnOk result (string_bytes text.new ≡ string_bytes text.old ++ text_with (map line_text (map step_line steps.now))) }
+{
+    for step in steps {
+        push_step(text, step)?;
+    }
+    Ok(())
+}
+
+/// The text of a scenario, of which there is one.
+pub fn print_scenario(alloc: Global, scenario: &Scenario) -> Result<Bytes, OutOfMemory>
+    requires { IsScenario scenario.now }
+    ensures { IfOk result (λ bytes. bytes ≡ scenario_text scenario.now) }
+{
+    let mut text = String::new(alloc);
+    push_version(&mut text)?;
+    push_link(&mut text, &scenario.link)?;
+    push_tags(&mut text, scenario.tags.as_slice())?;
+    push_entries(&mut text, scenario.entries.as_slice())?;
+    push_steps(&mut text, scenario.steps.as_slice())?;
+    push_end(&mut text)?;
+    Ok(Bytes::new(text.into_bytes()))
+}

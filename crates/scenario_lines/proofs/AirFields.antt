@@ -1,0 +1,68 @@
+-- The fields of an air line.
+use Rattle.std.proofs.Common.{◌≡◌, ◌≢◌, ◌<◌, ◌^◌, ◌==◌, ℕ, Bool, true, false, List, [], ◌∷◌, length, Some, None, arith, refl, sym, ◌∙◌}
+use Rattle.std.specs.Fmt.{decimal}
+use Rattle.std.proofs.lemmas.Bool.{eqb-true}
+use Rattle.air_events.specs.declared.Event.{Event}
+use Rattle.air_events.specs.declared.Event.TheVariants as events
+use Rattle.air_events.specs.declared.Choice.TheVariants as choices
+use Rattle.command_text.specs.CommandText.{flag_word}
+use Rattle.scenario_lines.specs.declared.words.Word.TheVariants as words
+use Rattle.scenario_lines.specs.declared.words.AirKind.{AirKind}
+use Rattle.scenario_lines.specs.declared.line.Happening.{Happening}
+use Rattle.scenario_lines.specs.declared.line.Happening.TheVariants as happenings
+use Rattle.scenario_lines.specs.Names.{air_field_count, air_kind, air_word, event_field_count, event_kind}
+use Rattle.scenario_lines.specs.LineForm.{IsEvent, IsExchange, IsHappening}
+use Rattle.scenario_lines.specs.Spelling.{event_fields, happening_fields}
+use Rattle.scenario_lines.specs.LineFaults.{AreFilled, HasShape}
+use Rattle.scenario_lines.specs.Reading.{IsHappeningText}
+use Rattle.scenario_lines.proofs.Counted.{none_filled, one_more}
+use Rattle.scenario_lines.proofs.Filled.{flag_word_is, number_text}
+
+one_number_filled : (n : ℕ) → n < 2 ^ 32 → AreFilled 1 (decimal n ∷ [])
+one_number_filled n small = one_more 0 (decimal n) [] (number_text n small).filled none_filled
+
+pub event_filled : (event : Event) (tag : ℕ) → IsEvent event tag → AreFilled (event_field_count (event_kind event)) (event_fields event tag)
+event_filled events.Timeout tag is = one_number_filled tag (omega (arith, is.place))
+event_filled events.Off tag is = one_number_filled tag (omega (arith, is.place))
+event_filled events.On tag is = one_number_filled tag (omega (arith, is.place))
+event_filled (events.Expire flag) tag is =
+    one_more 1 (flag_word flag) (decimal tag ∷ []) (flag_word_is flag).filled (one_number_filled tag (omega (arith, is.place)))
+
+-- what is said of an exchange has its fields
+pub happening_filled : (happening : Happening) → IsHappening happening → AreFilled (air_field_count (air_kind happening)) (happening_fields happening)
+happening_filled (happenings.Event event tag) is = event_filled event tag is
+happening_filled (happenings.Miss tag) is = one_number_filled tag (omega (arith, is))
+happening_filled (happenings.Choice (choices.Pick reply)) is = one_number_filled reply (omega (arith, is))
+happening_filled (happenings.Choice choices.Silent) is = none_filled
+happening_filled (happenings.Choice (choices.Break place)) is = one_number_filled place (omega (arith, is))
+
+-- the number of an exchange is the first field
+pub no_exchange : (others : List (List ℕ)) (field : List ℕ) (rest rest' : List (List ℕ)) (exchange : ℕ) → others ≡ field ∷ rest
+    → others ≡ decimal exchange ∷ rest' → field ≡ decimal exchange
+no_exchange others field rest rest' exchange first spells = let same = sym first ∙ spells in cc
+
+-- ... and not empty
+pub empty_exchange : (others : List (List ℕ)) (field : List ℕ) (rest rest' : List (List ℕ)) (exchange : ℕ) → others ≡ field ∷ rest → field ≡ []
+    → IsExchange exchange → others ≡ decimal exchange ∷ rest' → ⊥
+empty_exchange others field rest rest' exchange first empty is spells =
+    (number_text exchange (omega (arith, is.1))).filled (sym (no_exchange others field rest rest' exchange first spells) ∙ empty)
+
+-- an air line whose fields are read behind its kind has its shape
+pub air_shape : (others : List (List ℕ)) (field kind : List ℕ) (rest : List (List ℕ)) (known : AirKind) (happening : Happening)
+    → others ≡ field ∷ kind ∷ rest → field ≢ [] → kind ≡ air_word known → IsHappeningText known rest happening → HasShape words.Air others
+air_shape others field kind rest known happening whole filled is text =
+    let count = rw (← text.spelling, text.same_kind) at (happening_filled happening text.is) in
+    rw whole (filled, known, is, count)
+
+pub is_nothing : (text : List ℕ) (test : Bool) → test ≡ (length text == 0) → test ≡ true → text ≡ []
+is_nothing [] test is true_test = refl
+is_nothing (byte ∷ text) test is true_test =
+    let zero_long : length (byte ∷ text) ≡ 0 = eqb-true (length (byte ∷ text)) 0 (sym is ∙ true_test) in
+    absurd (omega arith)
+
+pub is_something : (text : List ℕ) (test : Bool) → test ≡ (length text == 0) → test ≡ false → text ≢ []
+is_something [] test is false_test none = cc
+is_something (byte ∷ text) test is false_test none = cc
+
+pub not_found : {A : Type 0} {x : A} → None ≡ Some x → ⊥
+not_found found = cc

@@ -1,0 +1,14 @@
+-- Events of one kind.
+use Rattle.std.proofs.Common.{◌≡◌, refl}
+use Rattle.command_grammar.specs.declared.command.FlagName.{FlagName}
+use Rattle.air_events.specs.declared.Event.{Event}
+use Rattle.air_events.specs.declared.Event.TheVariants as events
+use Rattle.scenario_lines.specs.declared.words.EventKind.TheVariants.{Expire}
+use Rattle.scenario_lines.specs.Names.{event_kind}
+
+-- an expiry has a flag
+pub expiry_has_flag : (event : Event) → event_kind event ≡ Expire → (flag : FlagName) × (event ≡ events.Expire flag)
+expiry_has_flag events.Timeout same = cc
+expiry_has_flag events.Off same = cc
+expiry_has_flag events.On same = cc
+expiry_has_flag (events.Expire flag) same = (flag, refl)

@@ -1,0 +1,140 @@
+-- The pieces of a line are not empty, and may stand as fields.
+use Rattle.std.proofs.Common.{◌≢◌, ◌<◌, ◌^◌, ◌/◌, ◌%◌, ℕ, Bool, true, false, List, [], ◌∷◌, ◌++◌, arith, refl}
+use Rattle.std.specs.Fmt.{decimal}
+use Rattle.std.proofs.lemmas.List.Elements.{All-append, All-cons, All-nil}
+use Rattle.bit_strings.specs.declared.code.Code.{Code}
+use Rattle.bit_strings.specs.declared.code.Code.TheVariants as line_codes
+use Rattle.text_fields.specs.Lines.{IsFieldText, line_feed, space}
+use Rattle.text_fields.specs.Binary.{binary, binary_digit}
+use Rattle.text_fields.specs.Hexadecimal.{hex_word, hex_words}
+use Rattle.text_fields.proofs.Visible.{IsFieldText-binary, IsFieldText-decimal, IsFieldText-hex_word, IsFieldText-hex_words}
+use Rattle.line_codes.specs.Names.{code_word}
+use Rattle.command_text.specs.CommandText.{flag_word, mask_bank_word, side_word}
+use Rattle.command_grammar.specs.declared.command.FlagName.{FlagName}
+use Rattle.command_grammar.specs.declared.command.FlagName.TheVariants as flags
+use Rattle.command_grammar.specs.declared.command.MaskBank.{MaskBank}
+use Rattle.command_grammar.specs.declared.command.MaskBank.TheVariants as banks
+use Rattle.command_grammar.specs.declared.command.Sel.{Sel}
+use Rattle.command_grammar.specs.declared.command.Sel.TheVariants as sels
+use Rattle.command_grammar.specs.declared.command.Side.{Side}
+use Rattle.command_grammar.specs.declared.command.Side.TheVariants as sides
+use Rattle.lock_rules.specs.declared.locks.Locks.{Locks}
+use Rattle.scenario_lines.specs.declared.words.Word.{Word}
+use Rattle.scenario_lines.specs.declared.words.Word.TheVariants as words
+use Rattle.scenario_lines.specs.declared.words.EventKind.{EventKind}
+use Rattle.scenario_lines.specs.declared.words.EventKind.TheVariants as events
+use Rattle.scenario_lines.specs.declared.words.AirKind.{AirKind}
+use Rattle.scenario_lines.specs.declared.words.AirKind.TheVariants as airs
+use Rattle.scenario_lines.specs.Names.{air_word, event_word, sel_text, word_text}
+use Rattle.scenario_lines.specs.Spelling.{flag_text, locks_text, pair_text, password_text}
+
+-- one visible byte
+IsFieldText-one : (byte : ℕ) → space < byte → IsFieldText (byte ∷ [])
+IsFieldText-one byte above = record {
+  filled = λ empty. cc;
+  no_space = All-cons (λ each. each ≢ space) byte [] (λ is. omega arith) (All-nil (λ each. each ≢ space));
+  no_line_feed = All-cons (λ each. each ≢ line_feed) byte [] (λ is. omega arith) (All-nil (λ each. each ≢ line_feed));
+}
+
+-- two pieces one behind the other
+joined : (front back : List ℕ) → IsFieldText front → IsFieldText back → IsFieldText (front ++ back)
+joined [] back whole whole' = whole'
+joined (byte ∷ bytes) back whole whole' = record {
+  filled = λ empty. cc;
+  no_space = All-append (λ each. each ≢ space) (byte ∷ bytes) back whole.no_space whole'.no_space;
+  no_line_feed = All-append (λ each. each ≢ line_feed) (byte ∷ bytes) back whole.no_line_feed whole'.no_line_feed;
+}
+
+-- a visible byte before a field
+before : (byte : ℕ) (text : List ℕ) → space < byte → IsFieldText text → IsFieldText (byte ∷ text)
+before byte text above whole = joined (byte ∷ []) text (IsFieldText-one byte above) whole
+
+pub number_text : (n : ℕ) → n < 2 ^ 32 → IsFieldText (decimal n)
+number_text n small = IsFieldText-decimal n small
+
+pub flag_text_is : (bit : Bool) → IsFieldText (flag_text bit)
+flag_text_is false = IsFieldText-one 48 (omega arith)
+flag_text_is true = IsFieldText-one 49 (omega arith)
+
+pub code_text_is : (code : Code) → IsFieldText (code_word code)
+code_text_is line_codes.Fm0 = search (arith, before, IsFieldText-one) depth 12
+code_text_is line_codes.M2 = search (arith, before, IsFieldText-one) depth 12
+code_text_is line_codes.M4 = search (arith, before, IsFieldText-one) depth 12
+code_text_is line_codes.M8 = search (arith, before, IsFieldText-one) depth 12
+
+pub flag_word_is : (flag : FlagName) → IsFieldText (flag_word flag)
+flag_word_is flags.S0 = search (arith, before, IsFieldText-one) depth 12
+flag_word_is flags.S1 = search (arith, before, IsFieldText-one) depth 12
+flag_word_is flags.S2 = search (arith, before, IsFieldText-one) depth 12
+flag_word_is flags.S3 = search (arith, before, IsFieldText-one) depth 12
+flag_word_is flags.Sl = search (arith, before, IsFieldText-one) depth 12
+
+pub bank_text_is : (bank : MaskBank) → IsFieldText (mask_bank_word bank)
+bank_text_is banks.Epc = search (arith, before, IsFieldText-one) depth 12
+bank_text_is banks.Tid = search (arith, before, IsFieldText-one) depth 12
+bank_text_is banks.User = search (arith, before, IsFieldText-one) depth 12
+
+pub side_text_is : (side : Side) → IsFieldText (side_word side)
+side_text_is sides.A = IsFieldText-one 97 (omega arith)
+side_text_is sides.B = IsFieldText-one 98 (omega arith)
+
+pub sel_text_is : (sel : Sel) → sel ≢ sels.All01 → IsFieldText (sel_text sel)
+sel_text_is sels.All00 named = search (arith, before, IsFieldText-one) depth 12
+sel_text_is sels.All01 named = absurd (named refl)
+sel_text_is sels.NotSl named = search (arith, before, IsFieldText-one) depth 12
+sel_text_is sels.Sl named = search (arith, before, IsFieldText-one) depth 12
+
+pub word_text_is : (word : Word) → IsFieldText (word_text word)
+word_text_is words.Version = search (arith, before, IsFieldText-one) depth 12
+word_text_is words.Link = search (arith, before, IsFieldText-one) depth 12
+word_text_is words.Tag = search (arith, before, IsFieldText-one) depth 12
+word_text_is words.Air = search (arith, before, IsFieldText-one) depth 12
+word_text_is words.Select = search (arith, before, IsFieldText-one) depth 12
+word_text_is words.Nak = search (arith, before, IsFieldText-one) depth 12
+word_text_is words.Event = search (arith, before, IsFieldText-one) depth 12
+word_text_is words.Round = search (arith, before, IsFieldText-one) depth 12
+word_text_is words.End = search (arith, before, IsFieldText-one) depth 12
+
+pub event_word_is : (kind : EventKind) → IsFieldText (event_word kind)
+event_word_is events.Timeout = search (arith, before, IsFieldText-one) depth 12
+event_word_is events.Off = search (arith, before, IsFieldText-one) depth 12
+event_word_is events.On = search (arith, before, IsFieldText-one) depth 12
+event_word_is events.Expire = search (arith, before, IsFieldText-one) depth 12
+
+pub air_word_is : (kind : AirKind) → IsFieldText (air_word kind)
+air_word_is (airs.Event kind) = event_word_is kind
+air_word_is airs.Miss = search (arith, before, IsFieldText-one) depth 12
+air_word_is airs.Pick = search (arith, before, IsFieldText-one) depth 12
+air_word_is airs.Silent = search (arith, before, IsFieldText-one) depth 12
+air_word_is airs.Break = search (arith, before, IsFieldText-one) depth 12
+
+pub password_is : (password : ℕ) → IsFieldText (password_text password)
+password_is password =
+    joined (hex_word (password / 2 ^ 16)) (hex_word (password % 2 ^ 16)) (IsFieldText-hex_word (password / 2 ^ 16)) (IsFieldText-hex_word (password % 2 ^ 16))
+
+digit_visible : (bit : Bool) → space < binary_digit bit
+digit_visible false = omega arith
+digit_visible true = omega arith
+
+pair_is : (first second : Bool) → IsFieldText (binary_digit first ∷ binary_digit second ∷ [])
+pair_is first second =
+    before (binary_digit first) (binary_digit second ∷ []) (digit_visible first) (IsFieldText-one (binary_digit second) (digit_visible second))
+
+pub locks_is : (locks : Locks) → IsFieldText (locks_text locks)
+locks_is locks =
+    let kill = locks.kill_word in
+    let access = locks.access_word in
+    let epc = locks.epc in
+    let tid = locks.tid in
+    let user = locks.user in
+    joined (pair_text kill ++ pair_text access ++ pair_text epc ++ pair_text tid) (pair_text user)
+    (joined (pair_text kill ++ pair_text access ++ pair_text epc) (pair_text tid)
+    (joined (pair_text kill ++ pair_text access) (pair_text epc)
+    (joined (pair_text kill) (pair_text access) (pair_is kill.write_bit kill.permalock) (pair_is access.write_bit access.permalock))
+    (pair_is epc.write_bit epc.permalock)) (pair_is tid.write_bit tid.permalock)) (pair_is user.write_bit user.permalock)
+
+pub words_is : (words : List ℕ) → IsFieldText (hex_words words)
+words_is words = IsFieldText-hex_words words
+
+pub mask_is : (bits : List Bool) → IsFieldText (binary bits)
+mask_is bits = IsFieldText-binary bits

@@ -1,0 +1,81 @@
+-- Each field of a line may stand as a field.
+use Rattle.std.proofs.Common.{ℕ, true, List, [], ◌∷◌, arith}
+use Rattle.std.specs.Prelude.{All, codes}
+use Rattle.std.proofs.lemmas.List.Elements.{All-cons, All-nil}
+use Rattle.air_events.specs.declared.Event.{Event}
+use Rattle.air_events.specs.declared.Event.TheVariants as events
+use Rattle.air_events.specs.declared.Choice.TheVariants as choices
+use Rattle.text_fields.specs.Lines.{IsFieldText}
+use Rattle.pie_line.specs.Link.{LinkValue}
+use Rattle.q_round.specs.SpecValue.{SpecValue}
+use Rattle.scenario_lines.specs.declared.tag.TagSpec.{TagSpec}
+use Rattle.scenario_lines.specs.declared.line.Selection.{Selection}
+use Rattle.scenario_lines.specs.declared.line.Happening.{Happening}
+use Rattle.scenario_lines.specs.declared.line.Happening.TheVariants as happenings
+use Rattle.scenario_lines.specs.declared.line.Line.{Line}
+use Rattle.scenario_lines.specs.declared.line.Line.TheVariants as lines
+use Rattle.scenario_lines.specs.Names.{air_kind, event_kind}
+use Rattle.scenario_lines.specs.LineForm.{HasForm, IsEvent, IsHappening, IsLine, IsLinkForm, IsRound, IsSelection}
+use Rattle.scenario_lines.specs.Spelling.{event_fields, happening_fields, line_fields, link_fields, other_fields, round_fields, select_fields, tag_fields, word_of_line}
+use Rattle.scenario_lines.proofs.Filled.{air_word_is, bank_text_is, code_text_is, event_word_is, flag_text_is, flag_word_is, locks_is, mask_is, number_text, password_is, sel_text_is, side_text_is, word_text_is, words_is}
+
+record Texts (fields : List (List ℕ)) : Type 0 where
+  are : All IsFieldText fields
+
+no_more : Texts []
+no_more = record { are = All-nil IsFieldText }
+
+with : (field : List ℕ) (fields : List (List ℕ)) → IsFieldText field → Texts fields → Texts (field ∷ fields)
+with field fields is texts = record { are = All-cons IsFieldText field fields is texts.are }
+
+only : (field : List ℕ) → IsFieldText field → Texts (field ∷ [])
+only field is = with field [] is no_more
+
+link_texts : (link : LinkValue) → IsLinkForm link → Texts (link_fields link)
+link_texts link form =
+    with _ _ (number_text link.tari (omega arith)) (with _ _ (number_text link.rtcal (omega arith)) (with _ _ (number_text link.trcal (omega arith))
+    (with _ _ (number_text link.pw (omega arith)) (with _ _ (flag_text_is link.dr) (with _ _ (code_text_is link.code) (only _ (flag_text_is link.trext)))))))
+
+tag_texts : (tag : TagSpec) → Texts (tag_fields tag)
+tag_texts tag =
+    with _ _ (password_is tag.image.kill) (with _ _ (password_is tag.image.access) (with _ _ (locks_is tag.locks) (with _ _ (words_is tag.image.epc)
+    (with _ _ (words_is tag.image.tid) (with _ _ (words_is tag.image.user) (only _ (words_is tag.words)))))))
+
+event_texts : (event : Event) (tag : ℕ) → IsEvent event tag → Texts (event_fields event tag)
+event_texts events.Timeout tag is = only _ (number_text tag (omega (arith, is.place)))
+event_texts events.Off tag is = only _ (number_text tag (omega (arith, is.place)))
+event_texts events.On tag is = only _ (number_text tag (omega (arith, is.place)))
+event_texts (events.Expire flag) tag is = with _ _ (flag_word_is flag) (only _ (number_text tag (omega (arith, is.place))))
+
+happening_texts : (happening : Happening) → IsHappening happening → Texts (happening_fields happening)
+happening_texts (happenings.Event event tag) is = event_texts event tag is
+happening_texts (happenings.Miss tag) is = only _ (number_text tag (omega (arith, is)))
+happening_texts (happenings.Choice (choices.Pick reply)) is = only _ (number_text reply (omega (arith, is)))
+happening_texts (happenings.Choice choices.Silent) is = no_more
+happening_texts (happenings.Choice (choices.Break place)) is = only _ (number_text place (omega (arith, is)))
+
+select_texts : (selection : Selection) → IsSelection selection → Texts (select_fields selection)
+select_texts selection is =
+    with _ _ (flag_word_is selection.target) (with _ _ (number_text selection.action (omega (arith, is.action))) (with _ _ (bank_text_is selection.bank)
+    (with _ _ (number_text selection.pointer (omega (arith, is.pointer))) (only _ (mask_is selection.mask)))))
+
+round_texts : (spec : SpecValue) → IsRound spec → Texts (round_fields spec)
+round_texts spec is =
+    with _ _ (sel_text_is spec.sel is.named) (with _ _ (number_text spec.session (omega (arith, is.legal.session))) (with _ _ (side_text_is spec.target)
+    (with _ _ (number_text spec.q (omega (arith, is.legal.q))) (with _ _ (number_text spec.c (omega (arith, is.legal.step)))
+    (only _ (number_text spec.limit (omega (arith, is.legal.limit))))))))
+
+other_texts : (line : Line) → HasForm line → Texts (other_fields line)
+other_texts lines.Version form = only (codes "1") (flag_text_is true)
+other_texts (lines.Link link) form = link_texts link form
+other_texts (lines.Tag tag) form = tag_texts tag
+other_texts (lines.Air exchange happening) form =
+    with _ _ (number_text exchange (omega (arith, form.0.1))) (with _ _ (air_word_is (air_kind happening)) (happening_texts happening form.1))
+other_texts (lines.Select selection) form = select_texts selection form
+other_texts lines.Nak form = no_more
+other_texts (lines.Event event tag) form = with _ _ (event_word_is (event_kind event)) (event_texts event tag form)
+other_texts (lines.Round spec) form = round_texts spec form
+other_texts lines.End form = no_more
+
+pub line_texts : (line : Line) → IsLine line → All IsFieldText (line_fields line)
+line_texts line is = All-cons IsFieldText _ (other_fields line) (word_text_is (word_of_line line)) (other_texts line is.form).are

@@ -1,0 +1,23 @@
+-- The fields of an air line.
+use Rattle.std.proofs.Common.{◌≡◌, ◌∷◌, ◌∙◌, List, ℕ, ap, rules}
+use Rattle.scenario_lines.proofs.AirFields.{air_shape, empty_exchange, is_nothing, is_something, no_exchange, not_found}
+use Rattle.scenario_lines.proofs.reading.air.read_air.Goals as goal
+
+pub returns-then-is_empty-clause-only : goal.returns-then-is_empty-clause-only
+returns-then-is_empty-clause-only c = λ exchange happening is is' spells.
+    let next : c.args.others ≡ c.in-Some.exchange.now ∷ c.next.new.self = search rules in
+    let empty = is_nothing c.in-Some.exchange.now _ c.is_empty.ensures c.if-is_empty.true in
+    empty_exchange c.args.others c.in-Some.exchange.now c.next.new.self _ exchange next empty is spells
+
+pub returns-in-None-clause-refused : goal.returns-in-None-clause-refused
+returns-in-None-clause-refused c =
+    let first : c.args.others ≡ c.in-Some.exchange.now ∷ c.next.new.self = search rules in
+    let second : c.next.new.self ≡ c.in-Some-next.kind.now ∷ c.next-2.new.self = search rules in
+    let filled = is_something c.in-Some.exchange.now _ c.is_empty.ensures c.if-is_empty.false in
+    let whole : c.args.others ≡ c.in-Some.exchange.now ∷ c.in-Some-next.kind.now ∷ c.next-2.new.self =
+    first ∙ ap (λ (rest : List (List ℕ)). c.in-Some.exchange.now ∷ rest) second in (
+      air_shape c.args.others c.in-Some.exchange.now c.in-Some-next.kind.now c.next-2.new.self c.in-Some-air_kind_named.kind c.in_ok-happening.happening
+          whole filled c.in-Some-air_kind_named.ensures.value c.in_ok-happening.ensures.ok,
+      λ exchange happening is is' spells.
+          not_found (c.in-None.ensures.only exchange is.0 is.1 (no_exchange c.args.others c.in-Some.exchange.now c.next.new.self _ exchange first spells)),
+    )

@@ -1,0 +1,85 @@
+-- Profile: what a line of a scenario may say.
+use Rattle.std.specs.Prelude.{◌≡◌, ◌≢◌, ℕ, ◌≤◌, true, length}
+use Rattle.command_grammar.specs.declared.command.FlagName.TheVariants.{S0}
+use Rattle.command_grammar.specs.declared.command.Sel.TheVariants.{All01}
+use Rattle.air_events.specs.declared.Event.{Event}
+use Rattle.air_events.specs.declared.Event.TheVariants.{Expire}
+use Rattle.air_events.specs.declared.Choice.{Choice}
+use Rattle.air_events.specs.declared.Choice.TheVariants.{Pick, Silent, Break}
+use Rattle.tag_memory.specs.Image.{pc_fits}
+use Rattle.pie_line.specs.Link.{LinkValue, IsLegal}
+use Rattle.q_round.specs.SpecValue.{SpecValue, IsLegalSpec}
+use Rattle.scenario_lines.specs.TagForm.{IsTagForm}
+use Rattle.scenario_lines.specs.declared.line.Happening.{Happening}
+use Rattle.scenario_lines.specs.declared.line.Happening.TheVariants as happenings
+use Rattle.scenario_lines.specs.declared.line.Selection.{Selection}
+use Rattle.scenario_lines.specs.declared.line.Line.{Line}
+use Rattle.scenario_lines.specs.declared.line.Line.TheVariants as lines
+
+-- the greatest length of time in a line, in nanoseconds
+abbrev pub most_nanoseconds : ℕ
+most_nanoseconds = 999999
+
+-- each length of a link is in the range of its field
+pub record IsLinkForm (link : LinkValue) : Type 0 where
+  pub tari : link.tari ≤ most_nanoseconds
+  pub rtcal : link.rtcal ≤ most_nanoseconds
+  pub trcal : link.trcal ≤ most_nanoseconds
+  pub pw : link.pw ≤ most_nanoseconds
+
+-- the number of a tag, and that of a reply
+abbrev pub IsPlace : ℕ → Type 0
+IsPlace place = place ≤ 4095
+
+-- an event names a tag, and no expiry of S0, which has none
+pub record IsEvent (event : Event) (tag : ℕ) : Type 0 where
+  pub expires : event ≢ Expire S0
+  pub place : IsPlace tag
+
+abbrev pub IsChoice : Choice → Type 0
+IsChoice (Pick reply) = IsPlace reply
+IsChoice Silent = Unit {0}
+IsChoice (Break place) = place ≤ 999999
+
+abbrev pub IsHappening : Happening → Type 0
+IsHappening (happenings.Event event tag) = IsEvent event tag
+IsHappening (happenings.Miss tag) = IsPlace tag
+IsHappening (happenings.Choice choice) = IsChoice choice
+
+-- the number of an exchange in an air line
+abbrev pub IsExchange : ℕ → Type 0
+IsExchange exchange = (1 ≤ exchange) × (exchange ≤ 1000000)
+
+-- a round's parameters are in their ranges, and its Sel has a word
+pub record IsRound (spec : SpecValue) : Type 0 where
+  pub legal : IsLegalSpec spec
+  pub named : spec.sel ≢ All01
+
+-- the numbers that the Select of a step carries are in their ranges
+pub record IsSelection (selection : Selection) : Type 0 where
+  pub action : selection.action ≤ 7
+  pub pointer : selection.pointer ≤ 268435455
+  pub mask : length selection.mask ≤ 255
+
+-- each field of the line is of its form and in its range
+abbrev pub HasForm : Line → Type 0
+HasForm lines.Version = Unit {0}
+HasForm (lines.Link link) = IsLinkForm link
+HasForm (lines.Tag tag) = IsTagForm tag
+HasForm (lines.Air exchange happening) = IsExchange exchange × IsHappening happening
+HasForm (lines.Select selection) = IsSelection selection
+HasForm lines.Nak = Unit {0}
+HasForm (lines.Event event tag) = IsEvent event tag
+HasForm (lines.Round spec) = IsRound spec
+HasForm lines.End = Unit {0}
+
+-- the fields of the line agree with one another
+abbrev pub IsCoherent : Line → Type 0
+IsCoherent (lines.Link link) = IsLegal link
+IsCoherent (lines.Tag tag) = pc_fits tag.image ≡ true
+IsCoherent line = Unit {0}
+
+-- the line may stand in a scenario
+pub record IsLine (line : Line) : Type 0 where
+  pub form : HasForm line
+  pub coherent : IsCoherent line

@@ -1,0 +1,80 @@
+-- Profile: the words of a scenario. Those for flags, banks and sides are the ones that commands have in a text.
+use Rattle.std.specs.Prelude.{ℕ, List, [], codes}
+use Rattle.command_grammar.specs.declared.command.Sel.{Sel}
+use Rattle.command_grammar.specs.declared.command.Sel.TheVariants as sels
+use Rattle.air_events.specs.declared.Event.{Event}
+use Rattle.air_events.specs.declared.Event.TheVariants as events
+use Rattle.air_events.specs.declared.Choice.TheVariants as choices
+use Rattle.scenario_lines.specs.declared.words.Word.{Word}
+use Rattle.scenario_lines.specs.declared.words.Word.TheVariants as words
+use Rattle.scenario_lines.specs.declared.words.EventKind.{EventKind}
+use Rattle.scenario_lines.specs.declared.words.EventKind.TheVariants.{Timeout, Off, On, Expire}
+use Rattle.scenario_lines.specs.declared.words.AirKind.{AirKind}
+use Rattle.scenario_lines.specs.declared.words.AirKind.TheVariants as airs
+use Rattle.scenario_lines.specs.declared.line.Happening.{Happening}
+use Rattle.scenario_lines.specs.declared.line.Happening.TheVariants as happenings
+
+-- the first field of a line
+abbrev pub word_text : Word → List ℕ
+word_text words.Version = codes "gen2"
+word_text words.Link = codes "link"
+word_text words.Tag = codes "tag"
+word_text words.Air = codes "air"
+word_text words.Select = codes "select"
+word_text words.Nak = codes "nak"
+word_text words.Event = codes "event"
+word_text words.Round = codes "round"
+word_text words.End = codes "end"
+
+-- the kind of an event
+abbrev pub event_word : EventKind → List ℕ
+event_word Timeout = codes "timeout"
+event_word Off = codes "off"
+event_word On = codes "on"
+event_word Expire = codes "expire"
+
+-- the kind of an air line
+abbrev pub air_word : AirKind → List ℕ
+air_word (airs.Event kind) = event_word kind
+air_word airs.Miss = codes "miss"
+air_word airs.Pick = codes "pick"
+air_word airs.Silent = codes "silent"
+air_word airs.Break = codes "break"
+
+-- how many fields stand behind the kind of an event
+abbrev pub event_field_count : EventKind → ℕ
+event_field_count Timeout = 1
+event_field_count Off = 1
+event_field_count On = 1
+event_field_count Expire = 2
+
+-- how many fields stand behind the kind of an air line
+abbrev pub air_field_count : AirKind → ℕ
+air_field_count (airs.Event kind) = event_field_count kind
+air_field_count airs.Miss = 1
+air_field_count airs.Pick = 1
+air_field_count airs.Silent = 0
+air_field_count airs.Break = 1
+
+-- which kind an event is of
+abbrev pub event_kind : Event → EventKind
+event_kind events.Timeout = Timeout
+event_kind events.Off = Off
+event_kind events.On = On
+event_kind (events.Expire flag) = Expire
+
+-- which kind of air line says this
+abbrev pub air_kind : Happening → AirKind
+air_kind (happenings.Event event tag) = airs.Event (event_kind event)
+air_kind (happenings.Miss tag) = airs.Miss
+air_kind (happenings.Choice (choices.Pick reply)) = airs.Pick
+air_kind (happenings.Choice choices.Silent) = airs.Silent
+air_kind (happenings.Choice (choices.Break place)) = airs.Break
+
+-- the tags that a round speaks to: all (the code 00), those with SL deasserted, those with SL asserted. The code 01,
+-- which means all as well, has no word.
+abbrev pub sel_text : Sel → List ℕ
+sel_text sels.All00 = codes "all"
+sel_text sels.All01 = []
+sel_text sels.NotSl = codes "nsl"
+sel_text sels.Sl = codes "sl"

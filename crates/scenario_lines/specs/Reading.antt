@@ -1,0 +1,112 @@
+-- What the readers of the fields behind a line's first field answer where they refuse.
+use Rattle.std.specs.Prelude.{◌≡◌, ◌≢◌, ◌≤◌, ℕ, List, [], ◌∷◌}
+use Rattle.std.specs.Fmt.{decimal}
+use Rattle.air_events.specs.declared.Event.{Event}
+use Rattle.pie_line.specs.Link.{LinkValue}
+use Rattle.pie_line.specs.declared.link.LinkRefusal.{LinkRefusal}
+use Rattle.pie_line.specs.declared.link.LinkRefusal.TheVariants as refusals
+use Rattle.scenario_lines.specs.declared.reading.link.Parameters.{Parameters}
+use Rattle.scenario_lines.specs.declared.reading.tag.Parts.{Parts}
+use Rattle.scenario_lines.specs.declared.fault.LineFault.{LineFault}
+use Rattle.scenario_lines.specs.declared.fault.LineFault.TheVariants.{Word as WordFault, Shape, Number, Tari, RtCal, TrCal, Pw, Pc}
+use Rattle.scenario_lines.specs.declared.tag.TagSpec.{TagSpec}
+use Rattle.scenario_lines.specs.TagForm.{IsTagForm, tag_of}
+use Rattle.scenario_lines.specs.LineForm.{IsLinkForm, IsEvent, IsHappening, IsExchange}
+use Rattle.scenario_lines.specs.Spelling.{link_fields, tag_fields, event_fields, happening_fields}
+use Rattle.scenario_lines.specs.Names.{event_kind, event_word, event_field_count, air_kind, air_word, air_field_count}
+use Rattle.scenario_lines.specs.LineFaults.{AreFilled, HasKnownKind, HasShape, BreaksLink, BreaksPc}
+use Rattle.scenario_lines.specs.declared.words.Word.TheVariants as words
+use Rattle.scenario_lines.specs.declared.words.EventKind.{EventKind}
+use Rattle.scenario_lines.specs.declared.words.AirKind.{AirKind}
+use Rattle.scenario_lines.specs.declared.line.Happening.{Happening}
+
+-- The fields have not the shape that is wanted; or they have it, and spell no value in its ranges.
+abbrev pub Misreads : {V : Type 0} → (List (List ℕ) → Type 0) → (V → List (List ℕ)) → (V → Type 0) → List (List ℕ) → LineFault → Type 0
+Misreads HasShape fields_of_value IsInRange others Shape = ¬ HasShape others
+Misreads HasShape fields_of_value IsInRange others Number = HasShape others × ((value : _) → IsInRange value → others ≢ fields_of_value value)
+Misreads HasShape fields_of_value IsInRange others fault = ⊥
+
+-- the link of these parameters
+abbrev pub link_value : Parameters → LinkValue
+link_value of = record {
+  tari = of.tari;
+  rtcal = of.rtcal;
+  trcal = of.trcal;
+  pw = of.pw;
+  dr = of.dr;
+  code = of.code;
+  trext = of.trext;
+}
+
+-- the tag of these parts
+abbrev pub tag_value : Parts → TagSpec
+tag_value of = tag_of of.kill of.access of.locks of.lists.epc of.lists.tid of.lists.user of.lists.words
+
+-- the fault of a line whose link is refused so
+abbrev pub link_fault : LinkRefusal → LineFault
+link_fault refusals.Tari = Tari
+link_fault refusals.RtCal = RtCal
+link_fault refusals.TrCal = TrCal
+link_fault refusals.Pw = Pw
+
+-- the first reason for which fields are no link
+abbrev pub MisreadsLink : List (List ℕ) → LineFault → Type 0
+MisreadsLink others Tari = BreaksLink refusals.Tari others
+MisreadsLink others RtCal = BreaksLink refusals.RtCal others
+MisreadsLink others TrCal = BreaksLink refusals.TrCal others
+MisreadsLink others Pw = BreaksLink refusals.Pw others
+MisreadsLink others fault = Misreads (AreFilled 7) link_fields IsLinkForm others fault
+
+-- the first reason for which fields are no tag
+abbrev pub MisreadsTag : List (List ℕ) → LineFault → Type 0
+MisreadsTag others Pc = BreaksPc others
+MisreadsTag others fault = Misreads (AreFilled 7) tag_fields IsTagForm others fault
+
+-- the first reason for which fields are not one number up to most
+abbrev pub MisreadsNumber : ℕ → List (List ℕ) → LineFault → Type 0
+MisreadsNumber most fields fault = Misreads (AreFilled 1) (λ (n : ℕ). decimal n ∷ []) (λ n. n ≤ most) fields fault
+
+-- behind the kind, these fields spell an event of it and the number of its tag
+pub record IsEventText (kind : EventKind) (fields : List (List ℕ)) (event : Event) (tag : ℕ) : Type 0 where
+  pub same_kind : event_kind event ≡ kind
+  pub spelling : fields ≡ event_fields event tag
+  pub is : IsEvent event tag
+
+-- the first reason for which fields behind the kind of an event spell none
+abbrev pub MisreadsEvent : EventKind → List (List ℕ) → LineFault → Type 0
+MisreadsEvent kind fields Shape = ¬ AreFilled (event_field_count kind) fields
+MisreadsEvent kind fields Number =
+    AreFilled (event_field_count kind) fields × ((event : Event) (tag : ℕ) → ¬ IsEventText kind fields event tag)
+MisreadsEvent kind fields fault = ⊥
+
+-- behind the kind of an air line, these fields spell what it says
+pub record IsHappeningText (kind : AirKind) (fields : List (List ℕ)) (happening : Happening) : Type 0 where
+  pub same_kind : air_kind happening ≡ kind
+  pub spelling : fields ≡ happening_fields happening
+  pub is : IsHappening happening
+
+-- the first reason for which fields behind the kind of an air line say nothing
+abbrev pub MisreadsHappening : AirKind → List (List ℕ) → LineFault → Type 0
+MisreadsHappening kind fields Shape = ¬ AreFilled (air_field_count kind) fields
+MisreadsHappening kind fields Number =
+    AreFilled (air_field_count kind) fields × ((happening : Happening) → ¬ IsHappeningText kind fields happening)
+MisreadsHappening kind fields fault = ⊥
+
+-- the first reason for which fields behind `event` say nothing
+abbrev pub MisreadsEventLine : List (List ℕ) → LineFault → Type 0
+MisreadsEventLine others WordFault = ¬ HasKnownKind words.Event others
+MisreadsEventLine others Shape = HasKnownKind words.Event others × (¬ HasShape words.Event others)
+MisreadsEventLine others Number =
+    HasShape words.Event others
+    × ((event : Event) (tag : ℕ) → IsEvent event tag → others ≢ event_word (event_kind event) ∷ event_fields event tag)
+MisreadsEventLine others fault = ⊥
+
+-- the first reason for which fields behind `air` say nothing
+abbrev pub MisreadsAirLine : List (List ℕ) → LineFault → Type 0
+MisreadsAirLine others WordFault = ¬ HasKnownKind words.Air others
+MisreadsAirLine others Shape = HasKnownKind words.Air others × (¬ HasShape words.Air others)
+MisreadsAirLine others Number =
+    HasShape words.Air others
+    × ((exchange : ℕ) (happening : Happening) → IsExchange exchange → IsHappening happening
+    → others ≢ decimal exchange ∷ air_word (air_kind happening) ∷ happening_fields happening)
+MisreadsAirLine others fault = ⊥

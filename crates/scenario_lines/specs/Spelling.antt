@@ -1,0 +1,105 @@
+-- Profile: the one spelling of each line of a scenario, as the list of its fields.
+use Rattle.std.specs.Prelude.{ℕ, ◌/◌, ◌%◌, ◌^◌, Bool, List, [], ◌∷◌, ◌++◌, codes}
+use Rattle.std.specs.Fmt.{decimal}
+use Rattle.text_fields.specs.Lines.{line_with}
+use Rattle.text_fields.specs.Binary.{binary, binary_digit}
+use Rattle.text_fields.specs.Hexadecimal.{hex_word, hex_words}
+use Rattle.line_codes.specs.Names.{code_word}
+use Rattle.command_text.specs.CommandText.{flag_word, mask_bank_word, side_word}
+use Rattle.air_events.specs.declared.Event.{Event}
+use Rattle.air_events.specs.declared.Event.TheVariants as events
+use Rattle.air_events.specs.declared.Choice.TheVariants as choices
+use Rattle.lock_rules.specs.declared.locks.Pair.{Pair}
+use Rattle.lock_rules.specs.declared.locks.Locks.{Locks}
+use Rattle.pie_line.specs.Link.{LinkValue}
+use Rattle.q_round.specs.SpecValue.{SpecValue}
+use Rattle.scenario_lines.specs.declared.tag.TagSpec.{TagSpec}
+use Rattle.scenario_lines.specs.declared.words.Word.{Word}
+use Rattle.scenario_lines.specs.declared.words.Word.TheVariants as words
+use Rattle.scenario_lines.specs.declared.line.Happening.{Happening}
+use Rattle.scenario_lines.specs.declared.line.Happening.TheVariants as happenings
+use Rattle.scenario_lines.specs.declared.line.Selection.{Selection}
+use Rattle.scenario_lines.specs.declared.line.Line.{Line}
+use Rattle.scenario_lines.specs.declared.line.Line.TheVariants as lines
+use Rattle.scenario_lines.specs.Names.{word_text, event_word, event_kind, air_word, air_kind, sel_text}
+
+-- a flag, as one binary digit
+abbrev pub flag_text : Bool → List ℕ
+flag_text bit = binary_digit bit ∷ []
+
+-- a password, as its two words
+abbrev pub password_text : ℕ → List ℕ
+password_text password = hex_word (password / 2 ^ 16) ++ hex_word (password % 2 ^ 16)
+
+-- the two bits of a pair, the write bit first
+abbrev pub pair_text : Pair → List ℕ
+pair_text pair = binary_digit pair.write_bit ∷ binary_digit pair.permalock ∷ []
+
+-- the ten lock bits, in the order of a Lock's payload (6.3.2.11.3.5)
+abbrev pub locks_text : Locks → List ℕ
+locks_text locks =
+    pair_text locks.kill_word ++ pair_text locks.access_word ++ pair_text locks.epc ++ pair_text locks.tid ++ pair_text locks.user
+
+abbrev pub link_fields : LinkValue → List (List ℕ)
+link_fields link =
+    decimal link.tari ∷ decimal link.rtcal ∷ decimal link.trcal ∷ decimal link.pw ∷ flag_text link.dr ∷ code_word link.code
+    ∷ flag_text link.trext ∷ []
+
+abbrev pub tag_fields : TagSpec → List (List ℕ)
+tag_fields tag =
+    password_text tag.image.kill ∷ password_text tag.image.access ∷ locks_text tag.locks ∷ hex_words tag.image.epc
+    ∷ hex_words tag.image.tid ∷ hex_words tag.image.user ∷ hex_words tag.words ∷ []
+
+-- the fields behind the kind of an event
+abbrev pub event_fields : Event → ℕ → List (List ℕ)
+event_fields (events.Expire flag) tag = flag_word flag ∷ decimal tag ∷ []
+event_fields event tag = decimal tag ∷ []
+
+-- the fields behind the kind of an air line
+abbrev pub happening_fields : Happening → List (List ℕ)
+happening_fields (happenings.Event event tag) = event_fields event tag
+happening_fields (happenings.Miss tag) = decimal tag ∷ []
+happening_fields (happenings.Choice (choices.Pick reply)) = decimal reply ∷ []
+happening_fields (happenings.Choice choices.Silent) = []
+happening_fields (happenings.Choice (choices.Break place)) = decimal place ∷ []
+
+abbrev pub select_fields : Selection → List (List ℕ)
+select_fields selection =
+    flag_word selection.target ∷ decimal selection.action ∷ mask_bank_word selection.bank ∷ decimal selection.pointer
+    ∷ binary selection.mask ∷ []
+
+abbrev pub round_fields : SpecValue → List (List ℕ)
+round_fields spec =
+    sel_text spec.sel ∷ decimal spec.session ∷ side_word spec.target ∷ decimal spec.q ∷ decimal spec.c ∷ decimal spec.limit ∷ []
+
+-- the first field of a line
+abbrev pub word_of_line : Line → Word
+word_of_line lines.Version = words.Version
+word_of_line (lines.Link link) = words.Link
+word_of_line (lines.Tag tag) = words.Tag
+word_of_line (lines.Air exchange happening) = words.Air
+word_of_line (lines.Select selection) = words.Select
+word_of_line lines.Nak = words.Nak
+word_of_line (lines.Event event tag) = words.Event
+word_of_line (lines.Round spec) = words.Round
+word_of_line lines.End = words.End
+
+-- the fields behind the first
+abbrev pub other_fields : Line → List (List ℕ)
+other_fields lines.Version = codes "1" ∷ []
+other_fields (lines.Link link) = link_fields link
+other_fields (lines.Tag tag) = tag_fields tag
+other_fields (lines.Air exchange happening) = decimal exchange ∷ air_word (air_kind happening) ∷ happening_fields happening
+other_fields (lines.Select selection) = select_fields selection
+other_fields lines.Nak = []
+other_fields (lines.Event event tag) = event_word (event_kind event) ∷ event_fields event tag
+other_fields (lines.Round spec) = round_fields spec
+other_fields lines.End = []
+
+-- all fields of a line
+abbrev pub line_fields : Line → List (List ℕ)
+line_fields line = word_text (word_of_line line) ∷ other_fields line
+
+-- a line, without its line feed
+abbrev pub line_text : Line → List ℕ
+line_text line = line_with (line_fields line)

@@ -1,0 +1,23 @@
+//! Why a line says nothing, whatever the lines before it say.
+
+/// The reasons for which a line says nothing, in the order in which they are looked for.
+#[derive(Clone, Copy, Debug, PartialEq, Eq)]
+pub enum LineFault {
+    /// The first field is no word of a scenario, or the kind of an air or event line is there and is
+    /// none of its kinds.
+    Word,
+    /// The number of fields is wrong, or a field is empty.
+    Shape,
+    /// A field isn't of its form or range.
+    Number,
+    /// The Tari of the link is out of its range (6.3.1.2.4 of the standard).
+    Tari,
+    /// The RTcal of the link is out of its range (6.3.1.2.8).
+    RtCal,
+    /// The TRcal of the link is out of its range (6.3.1.2.8).
+    TrCal,
+    /// The PW of the link is out of its range (Table 6.5).
+    Pw,
+    /// The EPC that the PC of a tag announces passes its bank (6.3.2.1.2.2).
+    Pc,
+}

@@ -1,0 +1,48 @@
+//! Round lines, written.
+ghost use Rattle.std.specs.Prelude.{◌≡◌, ◌++◌, [], ◌∷◌, codes, OnOk};
+ghost use Rattle.std.specs.String.{string_bytes};
+ghost use Rattle.std.specs.Fmt.{decimal};
+ghost use Rattle.text_fields.specs.Lines.{line_feed, line_with};
+ghost use Rattle.command_text.specs.CommandText.{side_word};
+ghost use Rattle.scenario_lines.specs.Names.{sel_text};
+ghost use Rattle.scenario_lines.specs.Spelling.{line_text};
+ghost use Rattle.scenario_lines.specs.declared.line.Line.TheVariants as lines;
+
+use bit_strings::OutOfMemory;
+use command_grammar::Sel;
+use command_text::{next_name, next_number, side_name};
+use q_round::RoundSpec;
+
+/// The word for the tags that a round speaks to. The code 01, which means all as well, has none.
+fn sel_name(sel: Sel) -> &'static str
+    ensures { result.now ≡ sel_text sel }
+{
+    match sel {
+        Sel::All00 => "all",
+        Sel::All01 => "",
+        Sel::NotSl => "nsl",
+        Sel::Sl => "sl",
+    }
+}
+
+/// Writes `round` and the tags that a round speaks to.
+fn push_tags(text: &mut String, spec: &RoundSpec) -> Result<(), OutOfMemory>
+    ensures { OnOk result (string_bytes text.new ≡ string_bytes text.old
+        ++ line_with (codes "round" ∷ sel_text spec.now.sel ∷ decimal spec.now.session ∷ side_word spec.now.target ∷ [])) }
+{
+    text.push_str("round")?;
+    next_name(text, sel_name(spec.sel()))?;
+    next_number(text, u32::from(spec.session().get()))?;
+    next_name(text, side_name(spec.target()))
+}
+
+/// Writes `round SEL SESSION TARGET Q C LIMIT`.
+pub fn push_round(text: &mut String, spec: &RoundSpec) -> Result<(), OutOfMemory>
+    ensures { OnOk result (string_bytes text.new ≡ string_bytes text.old ++ (line_text (lines.Round spec.now) ++ line_feed ∷ [])) }
+{
+    push_tags(text, spec)?;
+    next_number(text, u32::from(spec.q().get()))?;
+    next_number(text, spec.c())?;
+    next_number(text, spec.limit())?;
+    text.push('\n')
+}

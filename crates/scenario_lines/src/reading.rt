@@ -1,0 +1,161 @@
+//! Lines, read. Nothing here takes memory: what a line says borrows from its text.
+ghost use Rattle.std.specs.Prelude.{◌≡◌, ◌↔◌, [], IfOk, IfErr, IfSome, IfNone, IsOk, IsOkAnd, IsTrue, OnOk};
+ghost use Rattle.text_fields.specs.Lines.{fields_of};
+ghost use Rattle.scenario_lines.specs.Spelling.{line_fields, other_fields};
+ghost use Rattle.scenario_lines.specs.declared.line.Line.{Line};
+ghost use Rattle.scenario_lines.specs.declared.words.Word.{Word};
+ghost use Rattle.scenario_lines.specs.Reading.{Misreads};
+ghost use Rattle.scenario_lines.specs.LineFaults.{AreFilled, BeginsWith, HasKnownKind, IsFaulty, IsFaultyBehind, Spells, SpellsBehind};
+
+mod air;
+mod event;
+mod link;
+mod names;
+mod numbers;
+mod round;
+mod select;
+mod tag;
+
+use crate::{Line, LineFault, Word};
+use air::read_air;
+use event::read_event;
+use link::read_link;
+use names::{air_kind_named, event_kind_named, word_named};
+use round::read_round;
+use select::read_select;
+use tag::read_tag;
+use text_fields::{Fields, is_at_end, one_field};
+
+/// Whether the kind of an air line, where it is there, is one of its kinds.
+fn has_air_kind(mut others: Fields) -> bool
+    ensures { IsTrue result ↔ HasKnownKind Word.Air others.entry }
+{
+    if others.next().is_none() {
+        return true;
+    }
+    match others.next() {
+        Some(kind) => air_kind_named(kind).is_some(),
+        None => true,
+    }
+}
+
+/// Whether the kind of an event line, where it is there, is one of its kinds.
+fn has_event_kind(mut others: Fields) -> bool
+    ensures { IsTrue result ↔ HasKnownKind Word.Event others.entry }
+{
+    match others.next() {
+        Some(kind) => event_kind_named(kind).is_some(),
+        None => true,
+    }
+}
+
+/// Whether a kind that stands behind the first field is one of its kinds.
+fn has_known_kind(word: Word, others: Fields) -> bool
+    ensures { IsTrue result ↔ HasKnownKind word others.entry }
+{
+    match word {
+        Word::Air => has_air_kind(others),
+        Word::Event => has_event_kind(others),
+        _ => true,
+    }
+}
+
+/// The word that a line begins with. None exactly where the first field is no word of a scenario, or
+/// the kind of an air or event line is there and is none of its kinds.
+pub fn word_of(line: &[u8]) -> Option<Word>
+    ensures value { IfSome result (BeginsWith (fields_of line.now)) }
+    ensures only { (word : Word) → BeginsWith (fields_of line.now) word → result ≡ Some word }
+    ensures none { IfNone result (IsFaulty (fields_of line.now) LineFault.Word) }
+{
+    let mut fields = Fields::new(line);
+    let word = word_named(fields.next()?)?;
+    if has_known_kind(word, fields) {
+        Some(word)
+    } else {
+        None
+    }
+}
+
+/// Whether the fields behind `gen2` spell the version 1.
+fn read_version(others: Fields) -> Result<(), LineFault>
+    ensures ok { OnOk result (others.entry ≡ other_fields Line.Version) }
+    ensures only { others.entry ≡ other_fields Line.Version → IsOk result }
+    ensures refused { IfErr result (Misreads (AreFilled 1) (λ _. other_fields Line.Version) (λ (_ : Unit {0}). Unit {0}) others.entry) }
+{
+    match one_field(others) {
+        Some(b"1") => Ok(()),
+        Some(_) => Err(LineFault::Number),
+        None => Err(LineFault::Shape),
+    }
+}
+
+/// Whether no field stands behind the first.
+fn read_bare(others: Fields) -> Result<(), LineFault>
+    ensures ok { IsOk result ↔ (others.entry ≡ []) }
+    ensures refused { IfErr result (λ fault. fault ≡ LineFault.Shape) }
+{
+    if is_at_end(others) {
+        Ok(())
+    } else {
+        Err(LineFault::Shape)
+    }
+}
+
+/// What a line with this word says, by its other fields.
+fn read_behind<'a>(word: Word, others: Fields<'a>) -> Result<Line<'a>, LineFault>
+    ensures ok { IfOk result (SpellsBehind word others.entry) }
+    ensures only { (said : Line) → SpellsBehind word others.entry said → IsOkAnd result (λ it. it ≡ said) }
+    ensures refused { IfErr result (IsFaultyBehind word others.entry) }
+{
+    match word {
+        Word::Version => {
+            read_version(others)?;
+            Ok(Line::Version)
+        }
+        Word::Link => Ok(Line::Link(read_link(others)?)),
+        Word::Tag => Ok(Line::Tag(read_tag(others)?)),
+        Word::Air => {
+            let (exchange, happening) = read_air(others)?;
+            Ok(Line::Air {
+                exchange,
+                happening,
+            })
+        }
+        Word::Select => Ok(Line::Select(read_select(others)?)),
+        Word::Nak => {
+            read_bare(others)?;
+            Ok(Line::Nak)
+        }
+        Word::Event => {
+            let (event, tag) = read_event(others)?;
+            Ok(Line::Event { event, tag })
+        }
+        Word::Round => Ok(Line::Round(read_round(others)?)),
+        Word::End => {
+            read_bare(others)?;
+            Ok(Line::End)
+        }
+    }
+}
+
+/// What a line says, which is given without its line feed.
+///
+/// # Errors
+///
+/// The first reason for which the line says nothing, whatever the lines before it say.
+pub fn read_line(line: &[u8]) -> Result<Line<'_>, LineFault>
+    // What is read is spelled so.
+    ensures ok { IfOk result (Spells (fields_of line.now)) }
+    // What is spelled so is read.
+    ensures only { (said : Line) → Spells (fields_of line.now) said → IsOkAnd result (λ it. it ≡ said) }
+    ensures refused { IfErr result (IsFaulty (fields_of line.now)) }
+{
+    let mut fields = Fields::new(line);
+    let Some(first) = fields.next() else {
+        return Err(LineFault::Word);
+    };
+    let Some(word) = word_named(first) else {
+        return Err(LineFault::Word);
+    };
+    read_behind(word, fields)
+}

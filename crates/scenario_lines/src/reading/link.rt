@@ -1,0 +1,94 @@
+//! Link lines, read.
+ghost use Rattle.std.specs.Prelude.{◌≡◌, IfOk, IfErr, IsOkAnd};
+ghost use Rattle.pie_line.specs.Link.{LinkValue, IsLegal};
+ghost use Rattle.scenario_lines.specs.LineForm.{IsLinkForm};
+ghost use Rattle.scenario_lines.specs.Spelling.{link_fields};
+ghost use Rattle.scenario_lines.specs.LineFaults.{AreFilled};
+ghost use Rattle.scenario_lines.specs.Reading.{Misreads, MisreadsLink, link_fault, link_value};
+
+use crate::LineFault;
+use bit_strings::Code;
+use line_codes::code_named;
+use pie_line::{Link, LinkRefusal};
+use text_fields::{Fields, flag, number, seven_fields};
+
+/// The greatest length of time in a line, in nanoseconds.
+const MOST_NANOSECONDS: u32 = 999_999;
+
+/// The parameters of a link, each in the range of its field.
+#[derive(Clone, Copy, Debug, PartialEq, Eq)]
+pub(crate) struct Parameters {
+    tari: u32,
+    rtcal: u32,
+    trcal: u32,
+    pw: u32,
+    dr: bool,
+    code: Code,
+    trext: bool,
+}
+
+/// The parameters that the fields behind `link` spell.
+fn read_parameters(others: Fields) -> Result<Parameters, LineFault>
+    ensures ok { IfOk result (λ it. (others.entry ≡ link_fields (link_value it)) × IsLinkForm (link_value it)) }
+    ensures only { (link : LinkValue) → IsLinkForm link → others.entry ≡ link_fields link → IsOkAnd result (λ it. link_value it ≡ link) }
+    ensures refused { IfErr result (Misreads (AreFilled 7) link_fields IsLinkForm others.entry) }
+{
+    let Some((tari, rtcal, trcal, pw, dr, code, trext)) = seven_fields(others) else {
+        return Err(LineFault::Shape);
+    };
+    let Some(tari) = number(tari, MOST_NANOSECONDS) else {
+        return Err(LineFault::Number);
+    };
+    let Some(rtcal) = number(rtcal, MOST_NANOSECONDS) else {
+        return Err(LineFault::Number);
+    };
+    let Some(trcal) = number(trcal, MOST_NANOSECONDS) else {
+        return Err(LineFault::Number);
+    };
+    let Some(pw) = number(pw, MOST_NANOSECONDS) else {
+        return Err(LineFault::Number);
+    };
+    let Some(dr) = flag(dr) else {
+        return Err(LineFault::Number);
+    };
+    let Some(code) = code_named(code) else {
+        return Err(LineFault::Number);
+    };
+    let Some(trext) = flag(trext) else {
+        return Err(LineFault::Number);
+    };
+    Ok(Parameters {
+        tari,
+        rtcal,
+        trcal,
+        pw,
+        dr,
+        code,
+        trext,
+    })
+}
+
+/// The fault of a line whose link is refused.
+fn fault_of(refusal: LinkRefusal) -> LineFault
+    ensures { result ≡ link_fault refusal }
+{
+    match refusal {
+        LinkRefusal::Tari => LineFault::Tari,
+        LinkRefusal::RtCal => LineFault::RtCal,
+        LinkRefusal::TrCal => LineFault::TrCal,
+        LinkRefusal::Pw => LineFault::Pw,
+    }
+}
+
+/// The link that the fields behind `link` spell.
+pub(crate) fn read_link(others: Fields) -> Result<Link, LineFault>
+    ensures ok { IfOk result (λ link. (others.entry ≡ link_fields link) × IsLinkForm link × IsLegal link) }
+    ensures only { (link : LinkValue) → IsLinkForm link → IsLegal link → others.entry ≡ link_fields link → IsOkAnd result (λ it. it ≡ link) }
+    ensures refused { IfErr result (MisreadsLink others.entry) }
+{
+    let of = read_parameters(others)?;
+    match Link::new(of.tari, of.rtcal, of.trcal, of.pw, of.dr, of.code, of.trext) {
+        Ok(link) => Ok(link),
+        Err(refusal) => Err(fault_of(refusal)),
+    }
+}

@@ -1,0 +1,46 @@
+//! Select lines, read.
+ghost use Rattle.std.specs.Prelude.{◌≡◌, IfOk, IfErr, IsOkAnd};
+ghost use Rattle.scenario_lines.specs.declared.line.Selection.{Selection};
+ghost use Rattle.scenario_lines.specs.LineForm.{IsSelection};
+ghost use Rattle.scenario_lines.specs.Spelling.{select_fields};
+ghost use Rattle.scenario_lines.specs.LineFaults.{AreFilled};
+ghost use Rattle.scenario_lines.specs.Reading.{Misreads};
+
+use super::names::{flag_named, mask_bank_named};
+use super::numbers::{action_of, mask_of, pointer_of};
+use crate::{LineFault, Selection};
+use text_fields::{Fields, five_fields};
+
+/// What the fields behind `select` name.
+pub(crate) fn read_select(others: Fields) -> Result<Selection, LineFault>
+    ensures ok { IfOk result (λ it. (others.entry ≡ select_fields it) × IsSelection it) }
+    ensures only { (selection : Selection) → IsSelection selection → others.entry ≡ select_fields selection
+        → IsOkAnd result (λ it. it ≡ selection) }
+    ensures refused { IfErr result (Misreads (AreFilled 5) select_fields IsSelection others.entry) }
+{
+    let Some((target, action, bank, pointer, mask)) = five_fields(others) else {
+        return Err(LineFault::Shape);
+    };
+    let Some(target) = flag_named(target) else {
+        return Err(LineFault::Number);
+    };
+    let Some(action) = action_of(action) else {
+        return Err(LineFault::Number);
+    };
+    let Some(bank) = mask_bank_named(bank) else {
+        return Err(LineFault::Number);
+    };
+    let Some(pointer) = pointer_of(pointer) else {
+        return Err(LineFault::Number);
+    };
+    let Some(mask) = mask_of(mask) else {
+        return Err(LineFault::Number);
+    };
+    Ok(Selection {
+        target,
+        action,
+        bank,
+        pointer,
+        mask,
+    })
+}

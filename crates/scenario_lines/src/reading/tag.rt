@@ -1,0 +1,104 @@
+//! Tag lines, read.
+ghost use Rattle.std.specs.Prelude.{◌≡◌, ℕ, List, IfOk, IfErr, IfSome, IsOkAnd, IsSomeAnd};
+ghost use Rattle.text_fields.specs.Hexadecimal.{hex_words};
+ghost use Rattle.scenario_lines.specs.declared.tag.TagSpec.{TagSpec};
+ghost use Rattle.scenario_lines.specs.TagForm.{IsTag, IsTagForm, IsWordList};
+ghost use Rattle.scenario_lines.specs.Spelling.{tag_fields};
+ghost use Rattle.scenario_lines.specs.LineFaults.{AreFilled};
+ghost use Rattle.scenario_lines.specs.Reading.{Misreads, MisreadsTag, tag_value};
+
+use super::numbers::{locks_of, password_of, words_from};
+use crate::{LineFault, TagText};
+use lock_rules::Locks;
+use text_fields::{Fields, Words, seven_fields};
+
+/// The lists of words of a tag.
+#[derive(Drop)]
+pub(crate) struct Lists<'a> {
+    epc: Words<'a>,
+    tid: Words<'a>,
+    user: Words<'a>,
+    words: Words<'a>,
+}
+
+/// The parts of a tag, each in the range of its field.
+#[derive(Drop)]
+pub(crate) struct Parts<'a> {
+    kill: u32,
+    access: u32,
+    locks: Locks,
+    lists: Lists<'a>,
+}
+
+/// The lists that four fields spell.
+fn lists_of<'a>(epc: &'a [u8], tid: &'a [u8], user: &'a [u8], words: &'a [u8]) -> Option<Lists<'a>>
+    ensures value { IfSome result (λ it. (epc.now ≡ hex_words it.epc) × IsWordList 1 32 it.epc × (tid.now ≡ hex_words it.tid) × IsWordList 2 16 it.tid
+        × (user.now ≡ hex_words it.user) × IsWordList 0 512 it.user × (words.now ≡ hex_words it.words) × IsWordList 1 256 it.words) }
+    ensures only { (e t u w : List ℕ) → IsWordList 1 32 e → IsWordList 2 16 t → IsWordList 0 512 u → IsWordList 1 256 w
+        → epc.now ≡ hex_words e → tid.now ≡ hex_words t → user.now ≡ hex_words u → words.now ≡ hex_words w
+        → IsSomeAnd result (λ it. (it.epc ≡ e) × (it.tid ≡ t) × (it.user ≡ u) × (it.words ≡ w)) }
+{
+    let epc = words_from(epc, 1, 32)?;
+    let tid = words_from(tid, 2, 16)?;
+    let user = words_from(user, 0, 512)?;
+    let words = words_from(words, 1, 256)?;
+    Some(Lists {
+        epc,
+        tid,
+        user,
+        words,
+    })
+}
+
+/// The parts that the fields behind `tag` spell.
+fn read_parts<'a>(others: Fields<'a>) -> Result<Parts<'a>, LineFault>
+    ensures ok { IfOk result (λ it. (others.entry ≡ tag_fields (tag_value it)) × IsTagForm (tag_value it)) }
+    ensures only { (tag : TagSpec) → IsTagForm tag → others.entry ≡ tag_fields tag → IsOkAnd result (λ it. tag_value it ≡ tag) }
+    ensures refused { IfErr result (Misreads (AreFilled 7) tag_fields IsTagForm others.entry) }
+{
+    let Some((kill, access, locks, epc, tid, user, words)) = seven_fields(others) else {
+        return Err(LineFault::Shape);
+    };
+    let Some(kill) = password_of(kill) else {
+        return Err(LineFault::Number);
+    };
+    let Some(access) = password_of(access) else {
+        return Err(LineFault::Number);
+    };
+    let Some(locks) = locks_of(locks) else {
+        return Err(LineFault::Number);
+    };
+    let Some(lists) = lists_of(epc, tid, user, words) else {
+        return Err(LineFault::Number);
+    };
+    Ok(Parts {
+        kill,
+        access,
+        locks,
+        lists,
+    })
+}
+
+/// The tag that the fields behind `tag` spell.
+pub(crate) fn read_tag<'a>(others: Fields<'a>) -> Result<TagText<'a>, LineFault>
+    ensures ok { IfOk result (λ tag. (others.entry ≡ tag_fields tag) × IsTag tag) }
+    ensures only { (tag : TagSpec) → IsTag tag → others.entry ≡ tag_fields tag → IsOkAnd result (λ it. it ≡ tag) }
+    ensures refused { IfErr result (MisreadsTag others.entry) }
+{
+    let Parts {
+        kill,
+        access,
+        locks,
+        lists,
+    } = read_parts(others)?;
+    let Lists {
+        epc,
+        tid,
+        user,
+        words,
+    } = lists;
+    match TagText::new(kill, access, locks, epc, tid, user, words) {
+        Some(tag) => Ok(tag),
+        None => Err(LineFault::Pc),
+    }
+}

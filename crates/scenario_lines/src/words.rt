@@ -1,0 +1,48 @@
+//! The words of a scenario: the first fields of its lines, and the kinds of its air and event lines.
+
+/// The first field of a line, which says what the line is about.
+#[derive(Clone, Copy, Debug, PartialEq, Eq)]
+pub enum Word {
+    /// `gen2`: the version of the text.
+    Version,
+    /// `link`: the parameters of the link.
+    Link,
+    /// `tag`: one tag.
+    Tag,
+    /// `air`: what befalls the tags or the channel in one exchange.
+    Air,
+    /// `select`: a step in which a Select is sent.
+    Select,
+    /// `nak`: a step in which a NAK is sent.
+    Nak,
+    /// `event`: a step in which something befalls a tag between exchanges.
+    Event,
+    /// `round`: a step in which a round is run.
+    Round,
+    /// `end`: the end of the scenario.
+    End,
+}
+
+/// The kind of an event of a tag.
+#[derive(Clone, Copy, Debug, PartialEq, Eq)]
+pub enum EventKind {
+    Timeout,
+    Off,
+    On,
+    Expire,
+}
+
+/// The kind of an air line.
+#[derive(Clone, Copy, Debug, PartialEq, Eq)]
+pub enum AirKind {
+    /// An event of a tag before the command.
+    Event(EventKind),
+    /// A tag misses the command.
+    Miss,
+    /// The channel gives the reply of this number.
+    Pick,
+    /// The channel gives silence.
+    Silent,
+    /// The channel breaks the first reply.
+    Break,
+}

@@ -1,0 +1,116 @@
+-- Lists of words and their digits.
+use Rattle.std.proofs.Common.{◌≡◌, ◌≢◌, ◌<◌, ◌≤◌, ◌^◌, ◌/◌, ◌%◌, ◌+◌, ◌*◌, ℕ, Bool, true, false, List, [], ◌∷◌, ◌++◌, length, arith, ap, sym, ◌∙◌, refl}
+use Rattle.std.specs.Prelude.{All}
+use Rattle.std.specs.List.{AllPass, flat_map}
+use Rattle.std.proofs.lemmas.Bool.Decides.{nat_tests}
+use Rattle.std.proofs.lemmas.List.Elements.{All-head, All-tail, All-cons, All-nil}
+use Rattle.text_fields.specs.Binary.{hyphen}
+use Rattle.text_fields.specs.Hexadecimal.{hex_digit, hex_word}
+use Rattle.text_fields.specs.WordLists.{digit_number, is_upper_hex_digit, word_number, words_of_digits}
+
+-- the fact of `AllPass is_upper_hex_digit`
+abbrev IsDigit : ℕ → Type 0
+IsDigit digit = is_upper_hex_digit digit ≡ true
+
+abbrev IsSmall : ℕ → Type 0
+IsSmall word = word < 2 ^ 16
+
+-- the digit of a digit's number
+digit_back : (digit : ℕ) → IsDigit digit → hex_digit (digit_number digit) ≡ digit
+digit_back digit is = grind (arith, nat_tests)
+
+number_small : (digit : ℕ) → digit_number digit < 16
+number_small digit = grind (arith, nat_tests)
+
+-- the number of a number's digit
+number_back : (n : ℕ) → n < 16 → digit_number (hex_digit n) ≡ n
+number_back n small = grind (arith, nat_tests)
+
+hex_digit_is_digit : (n : ℕ) → n < 16 → IsDigit (hex_digit n)
+hex_digit_is_digit n small = grind (arith, nat_tests)
+
+-- the four digits of four numbers below 16
+four_back : (a b c d : ℕ) → a < 16 → b < 16 → c < 16 → d < 16
+    → hex_word (((a * 16 + b) * 16 + c) * 16 + d) ≡ hex_digit a ∷ hex_digit b ∷ hex_digit c ∷ hex_digit d ∷ []
+four_back a b c d a_small b_small c_small d_small =
+    let n = ((a * 16 + b) * 16 + c) * 16 + d in
+    let first : n / 256 / 16 ≡ a = omega arith in
+    let second : n / 256 % 16 ≡ b = omega arith in
+    let third : n % 256 / 16 ≡ c = omega arith in
+    let fourth : n % 256 % 16 ≡ d = omega arith in
+    rw (first, second, third, fourth) refl
+
+-- four digits are the digits of their word
+word_spelled : (a b c d : ℕ) → IsDigit a → IsDigit b → IsDigit c → IsDigit d → hex_word (word_number a b c d) ≡ a ∷ b ∷ c ∷ d ∷ []
+word_spelled a b c d a_is b_is c_is d_is =
+    four_back (digit_number a) (digit_number b) (digit_number c) (digit_number d) (number_small a) (number_small b) (number_small c) (number_small d)
+    ∙ rw (digit_back a a_is, digit_back b b_is, digit_back c c_is, digit_back d d_is) refl
+
+word_small : (a b c d : ℕ) → IsSmall (word_number a b c d)
+word_small a b c d = omega (arith, number_small a, number_small b, number_small c, number_small d)
+
+-- a word's digits have its number
+word_back : (word : ℕ) → IsSmall word
+    → word_number (hex_digit (word / 256 / 16)) (hex_digit (word / 256 % 16)) (hex_digit (word % 256 / 16)) (hex_digit (word % 256 % 16)) ≡ word
+word_back word small =
+    let first = number_back (word / 256 / 16) (omega arith) in
+    let second = number_back (word / 256 % 16) (omega arith) in
+    let third = number_back (word % 256 / 16) (omega arith) in
+    let fourth = number_back (word % 256 % 16) (omega arith) in
+    rw (first, second, third, fourth) (omega arith)
+
+pub words_spelled : (digits : List ℕ) → AllPass is_upper_hex_digit digits → length digits % 4 ≡ 0 → digits ≡ flat_map hex_word (words_of_digits digits)
+words_spelled [] are four = refl
+words_spelled (a ∷ []) are four = absurd (omega arith)
+words_spelled (a ∷ b ∷ []) are four = absurd (omega arith)
+words_spelled (a ∷ b ∷ c ∷ []) are four = absurd (omega arith)
+words_spelled (a ∷ b ∷ c ∷ d ∷ digits) are four =
+    let bs = All-tail IsDigit a (b ∷ c ∷ d ∷ digits) are in
+    let cs = All-tail IsDigit b (c ∷ d ∷ digits) bs in
+    let ds = All-tail IsDigit c (d ∷ digits) cs in
+    let rest = words_spelled digits (All-tail IsDigit d digits ds) (omega arith) in
+    ap (λ (list : List ℕ). a ∷ b ∷ c ∷ d ∷ list) rest
+    ∙ ap (λ (list : List ℕ). list ++ flat_map hex_word (words_of_digits digits))
+    (sym (word_spelled a b c d (All-head IsDigit a (b ∷ c ∷ d ∷ digits) are) (All-head IsDigit b (c ∷ d ∷ digits) bs) (All-head IsDigit c (d ∷ digits) cs) (All-head IsDigit d digits ds)))
+
+pub words_small : (digits : List ℕ) → All (λ word. word < 2 ^ 16) (words_of_digits digits)
+words_small [] = All-nil IsSmall
+words_small (a ∷ []) = All-nil IsSmall
+words_small (a ∷ b ∷ []) = All-nil IsSmall
+words_small (a ∷ b ∷ c ∷ []) = All-nil IsSmall
+words_small (a ∷ b ∷ c ∷ d ∷ digits) = All-cons IsSmall (word_number a b c d) (words_of_digits digits) (word_small a b c d) (words_small digits)
+
+pub words_length : (digits : List ℕ) → length (words_of_digits digits) ≡ length digits / 4
+words_length [] = refl
+words_length (a ∷ []) = refl
+words_length (a ∷ b ∷ []) = refl
+words_length (a ∷ b ∷ c ∷ []) = refl
+words_length (a ∷ b ∷ c ∷ d ∷ digits) = omega (arith, words_length digits)
+
+pub words_back : (words : List ℕ) → All (λ word. word < 2 ^ 16) words → words_of_digits (flat_map hex_word words) ≡ words
+words_back [] small = refl
+words_back (word ∷ words) small =
+    rw (word_back word (All-head IsSmall word words small), words_back words (All-tail IsSmall word words small)) refl
+
+pub digits_length : (words : List ℕ) → length (flat_map hex_word words) ≡ 4 * length words
+digits_length [] = refl
+digits_length (word ∷ words) = omega (arith, digits_length words)
+
+pub digits_pass : (words : List ℕ) → All (λ word. word < 2 ^ 16) words → AllPass is_upper_hex_digit (flat_map hex_word words)
+digits_pass [] small = All-nil IsDigit
+digits_pass (word ∷ words) small =
+    let fits = All-head IsSmall word words small in
+    let rest = digits_pass words (All-tail IsSmall word words small) in
+    let digits = flat_map hex_word words in
+    let d = hex_digit (word % 256 % 16) in
+    let c = hex_digit (word % 256 / 16) in
+    let b = hex_digit (word / 256 % 16) in
+    let a = hex_digit (word / 256 / 16) in
+    All-cons IsDigit a (b ∷ c ∷ d ∷ digits) (hex_digit_is_digit (word / 256 / 16) (omega arith))
+    (All-cons IsDigit b (c ∷ d ∷ digits) (hex_digit_is_digit (word / 256 % 16) (omega arith))
+    (All-cons IsDigit c (d ∷ digits) (hex_digit_is_digit (word % 256 / 16) (omega arith))
+    (All-cons IsDigit d digits (hex_digit_is_digit (word % 256 % 16) (omega arith)) rest)))
+
+-- the digits of words are not the hyphen
+pub digits_no_hyphen : (words : List ℕ) → flat_map hex_word words ≢ hyphen ∷ []
+digits_no_hyphen words same = omega (arith, digits_length words, ap length same)
