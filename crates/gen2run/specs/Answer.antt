@@ -1,15 +1,15 @@
 -- Profile: what is answered to a decode line.
 use Rattle.std.specs.Prelude.{◌≡◌, ℕ, Bool, List, [], ◌∷◌, ◌++◌, codes, Result, Ok, Err}
 use Rattle.std.specs.List.{AllZip, flat_map}
-use Rattle.bit_strings.specs.Family.{IsBadAt, IsShortAt}
 use Rattle.line_code.specs.declared.refusal.LineRefusal.{LineRefusal}
 use Rattle.line_code.specs.declared.refusal.LineRefusal.TheVariants.{Invalid, Unfinished}
 use Rattle.line_code.specs.Stream.{IsStream, Streams}
+use Rattle.line_code.specs.Refusal.{Refuses}
 use Rattle.text_fields.specs.Lines.{line_feed}
 use Rattle.std.specs.Fmt.{decimal}
 use Rattle.text_fields.specs.Binary.{binary}
 use Rattle.line_codes.specs.Codes.{table_of}
-use Rattle.sample_slicer.specs.Samples.{AreLevels, IsMixedAt, IsRestAt}
+use Rattle.sample_slicer.specs.Samples.{AreLevels, Refuses as RefusesSamples}
 use Rattle.sample_slicer.specs.declared.slicer.SliceRefusal.{SliceRefusal}
 use Rattle.sample_slicer.specs.declared.slicer.SliceRefusal.TheVariants.{Mixed, Rest}
 use Rattle.reply_grammar.specs.Table.{Answers as AnswersExpected}
@@ -33,76 +33,52 @@ use Rattle.gen2run.specs.declared.decode.request.Request.{Request}
 use Rattle.gen2run.specs.declared.decode.request.Request.TheVariants.{Stream, Samples, Reply as ReplyLine, Heard as HeardLine, Pie as PieLine, Command as CommandLine}
 
 pub data Answer : Type 0 where
-  -- the levels are the stream of these bits
-  carries : List Bool → Answer
-  -- no stream begins with the levels up to and with this place
-  invalid : ℕ → Answer
-  -- the levels begin a stream and are none, and there are so many
-  unfinished : ℕ → Answer
-  -- the samples stand for these levels
-  sliced : List Bool → Answer
-  -- the first group of samples on both sides of the threshold begins at this place
-  mixed : ℕ → Answer
-  -- each whole group is on one side, and a short group begins at this place
-  rest : ℕ → Answer
+  -- the levels are the stream of these bits, or are none
+  streamed : Result (List Bool) LineRefusal → Answer
+  -- the samples stand for these levels, or for none
+  sliced : Result (List Bool) SliceRefusal → Answer
   -- the bits are this reply, or are none that is expected
   replied : Result Reply ReplyRefusal → Answer
   -- what is heard in the levels
   heard : Received → Answer
-  -- the intervals are a frame with these bits
-  framed : FrameKind → List Bool → Answer
-  -- the intervals are no frame
-  unframed : PieRefusal → Answer
+  -- the intervals are such a frame with these bits, or are none
+  framed : Result (FrameKind × List Bool) PieRefusal → Answer
   -- the bits are this command, or are none
   commanded : Result Command CommandRefusal → Answer
 
 -- the answer is the one to the request
 abbrev pub IsAnswer : Request → Answer → Type 0
-IsAnswer (Stream code trext levels) (carries bits) = IsStream (table_of code) trext bits levels
-IsAnswer (Stream code trext levels) (invalid place) = IsBadAt (Streams (table_of code) trext) levels place
-IsAnswer (Stream code trext levels) (unfinished count) = IsShortAt (Streams (table_of code) trext) levels count
-IsAnswer (Samples threshold per_level samples) (sliced levels) = AreLevels threshold per_level samples levels
-IsAnswer (Samples threshold per_level samples) (mixed place) = IsMixedAt threshold per_level samples place
-IsAnswer (Samples threshold per_level samples) (rest place) = IsRestAt threshold per_level samples place
+IsAnswer (Stream code trext levels) (streamed (Ok bits)) = IsStream (table_of code) trext bits levels
+IsAnswer (Stream code trext levels) (streamed (Err refusal)) = Refuses (Streams (table_of code) trext) levels refusal
+IsAnswer (Samples threshold per_level samples) (sliced (Ok levels)) = AreLevels threshold per_level samples levels
+IsAnswer (Samples threshold per_level samples) (sliced (Err refusal)) = RefusesSamples threshold per_level samples refusal
 IsAnswer (ReplyLine expect bits) (replied (Ok reply)) = AnswersExpected reply expect bits
 IsAnswer (ReplyLine expect bits) (replied (Err refusal)) = Faults refusal expect bits
 IsAnswer (HeardLine code trext expect levels) (heard received) = IsReceived (table_of code) trext expect levels received
-IsAnswer (PieLine intervals) (framed kind bits) = IsFrame kind bits intervals
-IsAnswer (PieLine intervals) (unframed refusal) = RefusesFrame refusal intervals
+IsAnswer (PieLine intervals) (framed (Ok frame)) = IsFrame frame.0 frame.1 intervals
+IsAnswer (PieLine intervals) (framed (Err refusal)) = RefusesFrame refusal intervals
 IsAnswer (CommandLine bits) (commanded outcome) = Finishes outcome bits
 IsAnswer request answer = ⊥
 
--- the answer that a line decoder's outcome and the bits that it left are
-abbrev pub outcome_answer : Result (Unit {0}) LineRefusal → List Bool → Answer
-outcome_answer (Ok done) bits = carries bits
-outcome_answer (Err (Invalid place)) bits = invalid place
-outcome_answer (Err (Unfinished count)) bits = unfinished count
-
--- the answer that a slicer's outcome and the levels that it left are
-abbrev pub slicing_answer : Result (Unit {0}) SliceRefusal → List Bool → Answer
-slicing_answer (Ok done) levels = sliced levels
-slicing_answer (Err (Mixed place)) levels = mixed place
-slicing_answer (Err (Rest place)) levels = rest place
-
--- the answer that an outcome of the decoder of frames and the bits that it left are
-abbrev pub framing_answer : Result FrameKind PieRefusal → List Bool → Answer
-framing_answer (Ok kind) bits = framed kind bits
-framing_answer (Err refusal) bits = unframed refusal
+-- an outcome with what its call left, where that was no refusal
+abbrev pub with_left : {A B E : Type 0} → (A → B) → Result A E → Result B E
+with_left left (Ok done) = Ok (left done)
+with_left left (Err refusal) = Err refusal
 
 -- an answer as a line, with its line feed
 abbrev pub answer_line : Answer → List ℕ
-answer_line (carries bits) = codes "bits " ++ binary bits ++ line_feed ∷ []
-answer_line (invalid place) = codes "invalid " ++ decimal place ++ line_feed ∷ []
-answer_line (unfinished count) = codes "unfinished " ++ decimal count ++ line_feed ∷ []
-answer_line (sliced levels) = codes "levels " ++ binary levels ++ line_feed ∷ []
-answer_line (mixed place) = codes "mixed " ++ decimal place ++ line_feed ∷ []
-answer_line (rest place) = codes "rest " ++ decimal place ++ line_feed ∷ []
+answer_line (streamed (Ok bits)) = codes "bits " ++ binary bits ++ line_feed ∷ []
+answer_line (streamed (Err (Invalid place))) = codes "invalid " ++ decimal place ++ line_feed ∷ []
+answer_line (streamed (Err (Unfinished count))) = codes "unfinished " ++ decimal count ++ line_feed ∷ []
+answer_line (sliced (Ok levels)) = codes "levels " ++ binary levels ++ line_feed ∷ []
+answer_line (sliced (Err (Mixed place))) = codes "mixed " ++ decimal place ++ line_feed ∷ []
+answer_line (sliced (Err (Rest place))) = codes "rest " ++ decimal place ++ line_feed ∷ []
 answer_line (replied (Ok reply)) = reply_line reply ++ line_feed ∷ []
 answer_line (replied (Err refusal)) = refusal_line refusal ++ line_feed ∷ []
 answer_line (heard (Whole reply)) = reply_line reply ++ line_feed ∷ []
 answer_line (heard (Refused place)) = codes "refused " ++ decimal place ++ line_feed ∷ []
-answer_line (framed kind bits) = frame_line kind bits ++ line_feed ∷ []
-answer_line (unframed refusal) = pie_refusal_line refusal ++ line_feed ∷ []
+answer_line (framed (Ok frame)) = frame_line frame.0 frame.1 ++ line_feed ∷ []
+answer_line (framed (Err refusal)) = pie_refusal_line refusal ++ line_feed ∷ []
 answer_line (commanded (Ok command)) = command_line command ++ line_feed ∷ []
 answer_line (commanded (Err refusal)) = command_refusal_line refusal ++ line_feed ∷ []
 

@@ -1,7 +1,7 @@
 //! The answer to a decode line.
 ghost use Rattle.std.specs.Prelude.{◌≡◌, ◌≤◌, ◌++◌, length, OnOk};
 ghost use Rattle.std.specs.String.{string_bytes};
-ghost use Rattle.gen2run.specs.Answer.{AddsAnswer, answer_line, outcome_answer, slicing_answer, framing_answer, replied, heard, commanded};
+ghost use Rattle.gen2run.specs.Answer.{AddsAnswer, answer_line, streamed, sliced, replied, heard, framed, commanded, with_left};
 ghost use Rattle.gen2run.specs.Request.{IsWithinLimits};
 ghost use Rattle.command_grammar.specs.Commands.{Finishes};
 
@@ -164,7 +164,7 @@ fn push_outcome(
     outcome: Result<(), LineRefusal>,
     bits: &Bits,
 ) -> Result<(), OutOfMemory>
-    ensures { OnOk result (string_bytes text.new ≡ string_bytes text.old ++ answer_line (outcome_answer outcome bits.now.items)) }
+    ensures { OnOk result (string_bytes text.new ≡ string_bytes text.old ++ answer_line (streamed (with_left (λ done. bits.now.items) outcome))) }
 {
     match outcome {
         Ok(()) => {
@@ -189,7 +189,7 @@ fn push_slicing(
     outcome: Result<(), SliceRefusal>,
     levels: &Levels,
 ) -> Result<(), OutOfMemory>
-    ensures { OnOk result (string_bytes text.new ≡ string_bytes text.old ++ answer_line (slicing_answer outcome levels.now.items)) }
+    ensures { OnOk result (string_bytes text.new ≡ string_bytes text.old ++ answer_line (sliced (with_left (λ done. levels.now.items) outcome))) }
 {
     match outcome {
         Ok(()) => {
@@ -239,7 +239,7 @@ fn push_framed(
     outcome: &Result<FrameKind, PieRefusal>,
     bits: &Bits,
 ) -> Result<(), OutOfMemory>
-    ensures { OnOk result (string_bytes text.new ≡ string_bytes text.old ++ answer_line (framing_answer outcome.now bits.now.items)) }
+    ensures { OnOk result (string_bytes text.new ≡ string_bytes text.old ++ answer_line (framed (with_left (λ kind. (kind, bits.now.items)) outcome.now))) }
 {
     match outcome {
         Ok(kind) => push_frame(text, kind, bits)?,

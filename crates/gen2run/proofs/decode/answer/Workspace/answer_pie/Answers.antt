@@ -1,7 +1,7 @@
 use Rattle.std.proofs.Common.{ap}
 use Rattle.std.proofs.lemmas.Result.{on_ok_weaker}
 use Rattle.pie_line.specs.IntervalList.{IntervalList}
-use Rattle.gen2run.specs.Answer.{framing_answer}
+use Rattle.gen2run.specs.Answer.{framed, with_left}
 use Rattle.gen2run.proofs.RightAnswers.{framed_right}
 use Rattle.gen2run.proofs.decode.answer.Workspace.answer_pie.Goals as goal
 
@@ -9,4 +9,4 @@ pub returns : goal.returns
 returns c =
     let same = ap (λ (b : IntervalList). b.items) c.copy_to.ensures in
     let right = framed_right c.args.intervals.now _ c.decode_frame-outcome.new.out.items c.decode_frame-outcome.result same c.decode_frame-outcome.ensures.ok c.decode_frame-outcome.ensures.refused in
-    on_ok_weaker c.push_framed.result (λ line. record { answer = framing_answer c.decode_frame-outcome.result c.decode_frame-outcome.new.out.items; right = right; line = line }) c.push_framed.ensures
+    on_ok_weaker c.push_framed.result (λ line. record { answer = framed (with_left (λ kind. (kind, c.decode_frame-outcome.new.out.items)) c.decode_frame-outcome.result); right = right; line = line }) c.push_framed.ensures
