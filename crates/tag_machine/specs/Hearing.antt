@@ -1,0 +1,44 @@
+-- What a contract sees of the tags that stand in one of the states, and of what a tag gives when it heard a command.
+use Rattle.std.specs.Prelude.{◌≡◌, Bool, true, false, List, Option, Some, None, if◌then◌else◌}
+use Rattle.bit_strings.specs.BitString.{BitString}
+use Rattle.tag_machine.specs.declared.any_tag.AnyTag.{AnyTag}
+use Rattle.tag_machine.specs.declared.any_tag.AnyTag.TheVariants as tags
+use Rattle.tag_machine.specs.declared.any_tag.Answered.{Answered}
+use Rattle.tag_machine.specs.declared.any_tag.Answered.TheVariants.{Silent, Plain, Extended}
+use Rattle.tag_machine.specs.declared.any_tag.Heard.{Heard}
+use Rattle.tag_machine.specs.declared.any_tag.StateName.{StateName}
+use Rattle.tag_machine.specs.declared.any_tag.StateName.TheVariants as names
+use Rattle.tag_machine.specs.TagValue.{StateValue, ReadyState, ArbitrateState, ReplyState, AcknowledgedState, OpenState, SecuredState, KilledState, UnpoweredState, TagValue}
+use Rattle.tag_machine.specs.Answers.{Sent, Outcome, bits_sent, IsSent}
+
+abbrev pub value_of : AnyTag → TagValue
+value_of (tags.Ready tag) = tag
+value_of (tags.Arbitrate tag) = tag
+value_of (tags.InReply tag) = tag
+value_of (tags.Acknowledged tag) = tag
+value_of (tags.Opened tag) = tag
+value_of (tags.Secured tag) = tag
+value_of (tags.Killed tag) = tag
+value_of (tags.Unpowered tag) = tag
+
+abbrev pub name_of : StateValue → StateName
+name_of ReadyState = names.Ready
+name_of (ArbitrateState session q slot) = names.Arbitrate
+name_of (ReplyState session q rn) = names.InReply
+name_of (AcknowledgedState session q rn) = names.Acknowledged
+name_of (OpenState held) = names.Opened
+name_of (SecuredState held) = names.Secured
+name_of KilledState = names.Killed
+name_of UnpoweredState = names.Unpowered
+
+-- the mark of an answer
+abbrev pub mark_of : Option Sent → Answered
+mark_of None = Silent
+mark_of (Some sent) = (if sent.extended then Extended else Plain)
+
+-- a tag that heard a command, and a buffer before and after it, are what an outcome says
+pub record Gives (outcome : Outcome) (heard : Heard) (old new : BitString) : Type 0 where
+  pub tag : value_of heard.tag ≡ outcome.tag
+  pub answered : heard.answered ≡ mark_of outcome.answer
+  pub bits : new ≡ record old { items = bits_sent outcome.answer }
+  pub in_range : IsSent outcome.answer

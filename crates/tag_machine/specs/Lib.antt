@@ -1,0 +1,10 @@
+pub mod TagValue
+pub mod Answers
+pub mod Draws
+pub mod Inventory
+pub mod Access
+pub mod Step
+pub mod Events
+pub mod Isolation
+pub mod States
+pub mod Hearing

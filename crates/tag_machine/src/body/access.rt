@@ -1,0 +1,1 @@
+//! What the access commands do with a tag's memory and locks.

@@ -1,0 +1,20 @@
+//! A tag whose state is known.
+
+use crate::body::Body;
+use crate::states::State;
+use std::marker::Model;
+
+/// A tag in the state `S`. A contract sees the state with its numbers, and what a tag holds in every state.
+#[derive(Drop)]
+pub struct Tag<S: State> {
+    pub(crate) state: S,
+    pub(crate) body: Body,
+}
+
+impl<S: State> Model for Tag<S> {
+    ghost use Rattle.tag_machine.specs.TagValue.{TagValue};
+
+    ghost Value = { TagValue };
+
+    ghost view = { λ tag. record { state = S.value tag.state; body = tag.body } };
+}
