@@ -1,1 +1,3 @@
+pub mod FlagsAfter
 pub mod InRange
+pub mod Isolated
