@@ -1,1 +1,2 @@
+pub mod HandleRules
 pub mod InRange
