@@ -6,9 +6,7 @@ use Rattle.tag_machine.specs.declared.any_tag.AnyTag.TheVariants as tags
 use Rattle.tag_machine.specs.declared.any_tag.Answered.{Answered}
 use Rattle.tag_machine.specs.declared.any_tag.Answered.TheVariants.{Silent, Plain, Extended}
 use Rattle.tag_machine.specs.declared.any_tag.Heard.{Heard}
-use Rattle.tag_machine.specs.declared.any_tag.StateName.{StateName}
-use Rattle.tag_machine.specs.declared.any_tag.StateName.TheVariants as names
-use Rattle.tag_machine.specs.TagValue.{StateValue, ReadyState, ArbitrateState, ReplyState, AcknowledgedState, OpenState, SecuredState, KilledState, UnpoweredState, TagValue}
+use Rattle.tag_machine.specs.TagValue.{TagValue}
 use Rattle.tag_machine.specs.Answers.{Sent, Outcome, bits_sent, IsSent}
 
 abbrev pub value_of : AnyTag → TagValue
@@ -20,16 +18,6 @@ value_of (tags.Opened tag) = tag
 value_of (tags.Secured tag) = tag
 value_of (tags.Killed tag) = tag
 value_of (tags.Unpowered tag) = tag
-
-abbrev pub name_of : StateValue → StateName
-name_of ReadyState = names.Ready
-name_of (ArbitrateState session q slot) = names.Arbitrate
-name_of (ReplyState session q rn) = names.InReply
-name_of (AcknowledgedState session q rn) = names.Acknowledged
-name_of (OpenState held) = names.Opened
-name_of (SecuredState held) = names.Secured
-name_of KilledState = names.Killed
-name_of UnpoweredState = names.Unpowered
 
 -- the mark of an answer
 abbrev pub mark_of : Option Sent → Answered

@@ -7,4 +7,5 @@ pub mod Step
 pub mod Events
 pub mod Isolation
 pub mod States
+pub mod Names
 pub mod Hearing

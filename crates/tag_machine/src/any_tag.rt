@@ -1,7 +1,18 @@
 //! A tag in any state, and what it gives when it heard a command.
+ghost use Rattle.std.specs.Prelude.{◌≡◌};
+ghost use Rattle.tag_machine.specs.TagValue.{is_present, IsLegalTag};
+ghost use Rattle.tag_machine.specs.Events.{new_tag};
+ghost use Rattle.tag_machine.specs.Names.{name_of};
+ghost use Rattle.tag_machine.specs.Hearing.{value_of};
 
-use crate::states::{Acknowledged, Arbitrate, InReply, Killed, Opened, Ready, Secured, Unpowered};
+use crate::body::Body;
+use crate::states::{
+    Acknowledged, Arbitrate, InReply, Killed, Opened, Ready, Secured, StateName, Unpowered,
+};
 use crate::tag::Tag;
+use lock_rules::Locks;
+use session_flags::{DrawWords, Flags};
+use tag_memory::Memory;
 
 /// A tag in any state.
 #[derive(Drop)]
@@ -14,19 +25,6 @@ pub enum AnyTag {
     Secured(Tag<Secured>),
     Killed(Tag<Killed>),
     Unpowered(Tag<Unpowered>),
-}
-
-/// The name of a state (6.3.2.4 Tag states and slot counter).
-#[derive(Clone, Copy, Debug, PartialEq, Eq)]
-pub enum StateName {
-    Ready,
-    Arbitrate,
-    InReply,
-    Acknowledged,
-    Opened,
-    Secured,
-    Killed,
-    Unpowered,
 }
 
 /// Whether a tag answered a command.
@@ -47,4 +45,92 @@ pub struct Heard {
     pub tag: AnyTag,
     /// Whether it answered.
     pub answered: Answered,
+}
+
+impl AnyTag {
+    /// A new tag: powered, in ready, with the flags of a new tag and no draw made.
+    pub fn new(memory: Memory, locks: Locks, words: DrawWords) -> AnyTag
+        ensures { value_of result ≡ new_tag memory locks words }
+    {
+        AnyTag::Ready(Tag {
+            state: Ready,
+            body: Body::new(memory, locks, words),
+        })
+    }
+
+    /// The name of the tag's state.
+    pub fn state(&self) -> StateName
+        ensures { result ≡ name_of (value_of self.now).state }
+    {
+        match self {
+            AnyTag::Ready(tag) => tag.name(),
+            AnyTag::Arbitrate(tag) => tag.name(),
+            AnyTag::InReply(tag) => tag.name(),
+            AnyTag::Acknowledged(tag) => tag.name(),
+            AnyTag::Opened(tag) => tag.name(),
+            AnyTag::Secured(tag) => tag.name(),
+            AnyTag::Killed(tag) => tag.name(),
+            AnyTag::Unpowered(tag) => tag.name(),
+        }
+    }
+
+    /// Whether the tag has power and isn't killed.
+    pub fn present(&self) -> bool
+        ensures { result ≡ is_present (value_of self.now).state }
+    {
+        !matches!(self.state(), StateName::Killed | StateName::Unpowered)
+    }
+
+    /// Changes nothing: each tag is legal.
+    pub fn audit(&self)
+        ensures { IsLegalTag (value_of self.now) }
+    {
+        match self {
+            AnyTag::Ready(tag) => tag.audit(),
+            AnyTag::Arbitrate(tag) => tag.audit(),
+            AnyTag::InReply(tag) => tag.audit(),
+            AnyTag::Acknowledged(tag) => tag.audit(),
+            AnyTag::Opened(tag) => tag.audit(),
+            AnyTag::Secured(tag) => tag.audit(),
+            AnyTag::Killed(tag) => tag.audit(),
+            AnyTag::Unpowered(tag) => tag.audit(),
+        }
+    }
+
+    /// What the tag holds in every state.
+    fn body(&self) -> &Body
+        ensures { result.now ≡ (value_of self.now).body }
+    {
+        match self {
+            AnyTag::Ready(tag) => tag.body(),
+            AnyTag::Arbitrate(tag) => tag.body(),
+            AnyTag::InReply(tag) => tag.body(),
+            AnyTag::Acknowledged(tag) => tag.body(),
+            AnyTag::Opened(tag) => tag.body(),
+            AnyTag::Secured(tag) => tag.body(),
+            AnyTag::Killed(tag) => tag.body(),
+            AnyTag::Unpowered(tag) => tag.body(),
+        }
+    }
+
+    /// The inventoried flags and the selected flag.
+    pub fn flags(&self) -> &Flags
+        ensures { result.now ≡ (value_of self.now).body.flags }
+    {
+        self.body().flags()
+    }
+
+    /// The pairs of lock bits.
+    pub fn locks(&self) -> &Locks
+        ensures { result.now ≡ (value_of self.now).body.locks }
+    {
+        self.body().locks()
+    }
+
+    /// The memory.
+    pub fn memory(&self) -> &Memory
+        ensures { result.now ≡ (value_of self.now).body.memory }
+    {
+        self.body().memory()
+    }
 }

@@ -1,10 +1,12 @@
 //! What a tag holds in every state.
 ghost use Rattle.std.specs.Prelude.{◌≡◌, ◌+◌, ◌==◌, ◌<◌, length, if◌then◌else◌};
 ghost use Rattle.reply_grammar.specs.Table.{CanBeSent};
-ghost use Rattle.session_flags.specs.Flags.{new_flags, matches};
+ghost use Rattle.session_flags.specs.Flags.{new_flags, matches, without_power};
+ghost use Rattle.tag_memory.specs.Memory.{with_stored_crc};
 ghost use Rattle.tag_machine.specs.TagValue.{IsLegalBody};
 ghost use Rattle.tag_machine.specs.Draws.{drawn, after_draw, inverted_body};
 ghost use Rattle.tag_machine.specs.Inventory.{epc_reply, selected_body};
+ghost use Rattle.tag_machine.specs.Events.{with_expired};
 
 mod access;
 
@@ -126,6 +128,27 @@ impl Body {
     {
         let matching = mask_matches(self.memory.words(bank), pointer, mask);
         self.flags.select(target, action, matching);
+    }
+
+    /// Sets the inventoried flag of S0 to A, as a loss of power does.
+    pub fn lose_power(&mut self)
+        ensures { self.new ≡ record self.old { flags = without_power self.old.flags } }
+    {
+        self.flags.lose_power();
+    }
+
+    /// Computes StoredCRC again, as power-on does.
+    pub fn power_on(&mut self)
+        ensures { self.new ≡ record self.old { memory = with_stored_crc self.old.memory } }
+    {
+        self.memory.power_on();
+    }
+
+    /// Ends the persistence of a flag.
+    pub fn expire(&mut self, flag: FlagName, powered: bool, takes_part: bool)
+        ensures { self.new ≡ with_expired flag powered takes_part self.old }
+    {
+        self.flags.expire(flag, powered, takes_part);
     }
 
     /// The answer to an ACK.

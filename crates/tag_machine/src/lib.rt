@@ -6,6 +6,7 @@
 mod access;
 mod any_tag;
 mod body;
+mod event;
 mod inventory;
 mod moves;
 mod states;
@@ -13,10 +14,10 @@ mod steps;
 mod tag;
 
 pub use air_events::{Choice, Entry, Event};
-pub use any_tag::{Answered, AnyTag, Heard, StateName};
+pub use any_tag::{Answered, AnyTag, Heard};
 pub use session_flags::DrawWords;
 pub use states::{
-    Acknowledged, Arbitrate, InReply, Killed, Opened, Ready, Secured, State, Unpowered,
+    Acknowledged, Arbitrate, InReply, Killed, Opened, Ready, Secured, State, StateName, Unpowered,
 };
 pub use steps::Steps;
 pub use tag::Tag;

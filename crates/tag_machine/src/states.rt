@@ -1,14 +1,37 @@
 //! The states of a tag, each with the numbers that it holds (6.3.2.4 Tag states and slot counter).
 ghost use Rattle.std.specs.Prelude.{◌≡◌, ◌<◌, ◌^◌};
+ghost use Rattle.tag_machine.specs.TagValue.{IsWordOrNone, IsHalfOrNone, IsLegalHeld};
 
 use bit_strings::{QValue, Session};
 use std::marker::Model;
 
+/// The name of a state (6.3.2.4 Tag states and slot counter).
+#[derive(Clone, Copy, Debug, PartialEq, Eq)]
+pub enum StateName {
+    Ready,
+    Arbitrate,
+    InReply,
+    Acknowledged,
+    Opened,
+    Secured,
+    Killed,
+    Unpowered,
+}
+
 /// A state of a tag.
 pub trait State: Copy {
-    ghost use Rattle.tag_machine.specs.TagValue.{StateValue};
+    ghost use Rattle.tag_machine.specs.TagValue.{StateValue, IsLegalState};
+    ghost use Rattle.tag_machine.specs.Names.{name_of};
 
     ghost value: { Self → StateValue };
+
+    /// The name of the state.
+    fn name(&self) -> StateName
+        ensures { result ≡ name_of (value self.now) };
+
+    /// Changes nothing: each number is in its range.
+    fn audit(&self)
+        ensures { IsLegalState (value self.now) };
 }
 
 /// Powered, and in no round (6.3.2.4.1 Ready state).
@@ -125,50 +148,149 @@ impl Slot {
     }
 }
 
+/// Changes nothing: a word is a number of 16 bits.
+fn audit_word(word: Option<u16>)
+    ensures { IsWordOrNone word }
+{
+    match word {
+        Some(_word) => {}
+        None => {}
+    }
+}
+
+/// Changes nothing: a half is a number of 16 bits.
+fn audit_half(half: Option<Half>)
+    ensures { IsHalfOrNone half }
+{
+    match half {
+        Some(half) => {
+            let _value = half.value;
+        }
+        None => {}
+    }
+}
+
+impl Held {
+    /// Changes nothing: each number is in its range.
+    fn audit(&self)
+        ensures { IsLegalHeld self.now }
+    {
+        let _ = self.session.get();
+        let _ = self.q.get();
+        let _handle = self.handle;
+        audit_word(self.cover);
+        audit_half(self.half);
+    }
+}
+
 impl State for Ready {
     ghost use Rattle.tag_machine.specs.States.{ready_state};
 
     ghost value = { ready_state };
+
+    fn name(&self) -> StateName {
+        StateName::Ready
+    }
+
+    fn audit(&self) {}
 }
 
 impl State for Arbitrate {
     ghost use Rattle.tag_machine.specs.States.{arbitrate_state};
 
     ghost value = { arbitrate_state };
+
+    fn name(&self) -> StateName {
+        StateName::Arbitrate
+    }
+
+    fn audit(&self) {
+        let _ = self.session.get();
+        let _ = self.q.get();
+        let _ = self.slot.get();
+    }
 }
 
 impl State for InReply {
     ghost use Rattle.tag_machine.specs.States.{reply_state};
 
     ghost value = { reply_state };
+
+    fn name(&self) -> StateName {
+        StateName::InReply
+    }
+
+    fn audit(&self) {
+        let _ = self.session.get();
+        let _ = self.q.get();
+        let _rn = self.rn;
+    }
 }
 
 impl State for Acknowledged {
     ghost use Rattle.tag_machine.specs.States.{acknowledged_state};
 
     ghost value = { acknowledged_state };
+
+    fn name(&self) -> StateName {
+        StateName::Acknowledged
+    }
+
+    fn audit(&self) {
+        let _ = self.session.get();
+        let _ = self.q.get();
+        let _rn = self.rn;
+    }
 }
 
 impl State for Opened {
     ghost use Rattle.tag_machine.specs.States.{open_state};
 
     ghost value = { open_state };
+
+    fn name(&self) -> StateName {
+        StateName::Opened
+    }
+
+    fn audit(&self) {
+        self.held.audit();
+    }
 }
 
 impl State for Secured {
     ghost use Rattle.tag_machine.specs.States.{secured_state};
 
     ghost value = { secured_state };
+
+    fn name(&self) -> StateName {
+        StateName::Secured
+    }
+
+    fn audit(&self) {
+        self.held.audit();
+    }
 }
 
 impl State for Killed {
     ghost use Rattle.tag_machine.specs.States.{killed_state};
 
     ghost value = { killed_state };
+
+    fn name(&self) -> StateName {
+        StateName::Killed
+    }
+
+    fn audit(&self) {}
 }
 
 impl State for Unpowered {
     ghost use Rattle.tag_machine.specs.States.{unpowered_state};
 
     ghost value = { unpowered_state };
+
+    fn name(&self) -> StateName {
+        StateName::Unpowered
+    }
+
+    fn audit(&self) {}
 }

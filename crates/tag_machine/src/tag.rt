@@ -1,7 +1,10 @@
 //! A tag whose state is known.
+ghost use Rattle.std.specs.Prelude.{◌≡◌};
+ghost use Rattle.tag_machine.specs.TagValue.{IsLegalTag};
+ghost use Rattle.tag_machine.specs.Names.{name_of};
 
 use crate::body::Body;
-use crate::states::State;
+use crate::states::{State, StateName};
 use std::marker::Model;
 
 /// A tag in the state `S`. A contract sees the state with its numbers, and what a tag holds in every state.
@@ -17,4 +20,28 @@ impl<S: State> Model for Tag<S> {
     ghost Value = { TagValue };
 
     ghost view = { λ tag. record { state = S.value tag.state; body = tag.body } };
+}
+
+impl<S: State> Tag<S> {
+    /// The name of the tag's state.
+    pub(crate) fn name(&self) -> StateName
+        ensures { result ≡ name_of self.now.state }
+    {
+        self.state.name()
+    }
+
+    /// What the tag holds in every state.
+    pub(crate) fn body(&self) -> &Body
+        ensures { result.now ≡ self.now.body }
+    {
+        &self.body
+    }
+
+    /// Changes nothing: each tag is legal.
+    pub(crate) fn audit(&self)
+        ensures { IsLegalTag self.now }
+    {
+        self.state.audit();
+        self.body.audit();
+    }
 }
