@@ -1,7 +1,7 @@
 //! What befalls a tag besides commands.
 ghost use Rattle.std.specs.Prelude.{◌≡◌};
 ghost use Rattle.tag_machine.specs.Events.{happens, after_timeout, after_off, after_on, after_expiry, powered_off};
-ghost use Rattle.tag_machine.specs.TagValue.{UnpoweredState};
+ghost use Rattle.tag_machine.specs.TagValue.{UnpoweredState, IsLegalTag};
 ghost use Rattle.tag_machine.specs.Events.{with_expired};
 ghost use Rattle.tag_machine.specs.Hearing.{value_of};
 
@@ -134,6 +134,17 @@ impl AnyTag {
         }
     }
 
+    fn befall(self, event: Event) -> AnyTag
+        ensures { value_of result ≡ happens event (value_of self).state (value_of self).body }
+    {
+        match event {
+            Event::Timeout => self.time_out(),
+            Event::Off => self.lose_power(),
+            Event::On => self.get_power(),
+            Event::Expire(flag) => self.expire(flag),
+        }
+    }
+
     /// What an event does to the tag:
     ///
     /// - `Timeout` takes a tag in reply or acknowledged back to arbitrate (6.3.1.6 Link timing, T2).
@@ -145,12 +156,10 @@ impl AnyTag {
     /// A killed tag stays as it is, and an event changes nothing besides.
     pub fn event(self, event: Event) -> AnyTag
         ensures step { value_of result ≡ happens event (value_of self).state (value_of self).body }
+        ensures legal { IsLegalTag (value_of result) }
     {
-        match event {
-            Event::Timeout => self.time_out(),
-            Event::Off => self.lose_power(),
-            Event::On => self.get_power(),
-            Event::Expire(flag) => self.expire(flag),
-        }
+        let tag = self.befall(event);
+        tag.audit();
+        tag
     }
 }

@@ -7,6 +7,7 @@ mod access;
 mod any_tag;
 mod body;
 mod event;
+mod hear;
 mod inventory;
 mod moves;
 mod states;
