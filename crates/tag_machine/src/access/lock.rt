@@ -1,12 +1,13 @@
 //! Lock (6.3.2.11.3.5), which a tag heeds in secured alone.
-ghost use Rattle.std.specs.Prelude.{◌≡◌, ◌+◌, ◌≤◌};
+ghost use Rattle.std.specs.Prelude.{◌≡◌, ◌+◌, ◌≤◌, ℕ};
 ghost use Rattle.tag_machine.specs.TagValue.{SecuredState};
 ghost use Rattle.tag_machine.specs.Access.{lock};
 ghost use Rattle.tag_machine.specs.Hearing.{Gives};
 
 use super::tag_with_handle::TagWithHandle;
-use crate::any_tag::Heard;
-use crate::states::Secured;
+use crate::any_tag::{AnyTag, Heard};
+use crate::moves::unanswered;
+use crate::states::{Opened, Secured};
 use crate::steps::Steps;
 use crate::tag::Tag;
 use bit_strings::{Bits, Payload};
@@ -48,5 +49,26 @@ impl Tag<Secured> {
     {
         steps.tick();
         TagWithHandle::from(self).lock(payload, rn, out)
+    }
+}
+
+impl Tag<Opened> {
+    /// No Lock is heeded in open. With the handle after a first half the tag goes back to arbitrate, as at each command of
+    /// another kind; else nothing changes.
+    pub(crate) fn ignore_lock<L: Ledger>(
+        self,
+        rn: u16,
+        out: &mut Bits,
+        steps: &mut Steps<L>,
+    ) -> Heard
+        ensures step { (payload : ℕ) → Gives (lock payload rn self.state self.body) result out.old out.new }
+        ensures counted { steps.new ≡ steps.old + 1 }
+    {
+        if self.state.held.handle == rn && self.state.held.half.is_some() {
+            let tag = self.back(steps);
+            return unanswered(AnyTag::Arbitrate(tag), out);
+        }
+        steps.tick();
+        unanswered(AnyTag::Opened(self), out)
     }
 }
