@@ -1,3 +1,4 @@
 pub mod FlagsAfter
+pub mod HandleRules
 pub mod InRange
 pub mod Isolated

@@ -23,20 +23,3 @@ step (commands.Lock payload rn) state body = lock payload rn state body
 step (commands.Access covered rn) state body = access covered rn state body
 step (commands.BlockWrite bank pointer words rn) state body = block_write bank pointer words rn state body
 step (commands.BlockErase bank pointer count rn) state body = block_erase bank pointer count rn state body
-
--- the commands that every state hears already
-abbrev pub IsInventory : Command → Type 0
-IsInventory (commands.QueryRep session) = Unit {0}
-IsInventory (commands.Ack rn) = Unit {0}
-IsInventory (commands.Query dr line_code trext sel session target q) = Unit {0}
-IsInventory (commands.QueryAdjust session updn) = Unit {0}
-IsInventory (commands.Select target action bank pointer mask) = Unit {0}
-IsInventory commands.Nak = Unit {0}
-IsInventory (commands.ReqRn rn) = ⊥
-IsInventory (commands.Read bank pointer count rn) = ⊥
-IsInventory (commands.Write bank pointer covered rn) = ⊥
-IsInventory (commands.Kill covered rn) = ⊥
-IsInventory (commands.Lock payload rn) = ⊥
-IsInventory (commands.Access covered rn) = ⊥
-IsInventory (commands.BlockWrite bank pointer words rn) = ⊥
-IsInventory (commands.BlockErase bank pointer count rn) = ⊥

@@ -2,7 +2,7 @@
 ghost use Rattle.std.specs.Prelude.{◌≡◌, ◌+◌, ◌≤◌};
 ghost use Rattle.tag_machine.specs.TagValue.{IsLegalTag};
 ghost use Rattle.tag_machine.specs.Hearing.{Gives, value_of};
-ghost use Rattle.tag_machine.specs.Step.{step, IsInventory};
+ghost use Rattle.tag_machine.specs.Step.{step};
 ghost use Rattle.tag_machine.specs.Isolation.{IsIsolated};
 
 use crate::any_tag::{AnyTag, Heard};
@@ -89,7 +89,6 @@ impl Tag<InReply> {
     /// A tag in reply goes back to arbitrate at each access command.
     fn hear<L: Ledger>(self, command: &Command, out: &mut Bits, steps: &mut Steps<L>) -> Heard
         requires room { 8240 ≤ out.old.capacity }
-        requires inventory { IsInventory command.now }
         ensures step { Gives (step command.now self.state self.body) result out.old out.new }
         ensures counted { steps.new ≡ steps.old + 1 }
     {
@@ -116,6 +115,7 @@ impl Tag<InReply> {
             ),
             Command::Ack { rn } => self.ack(*rn, out, steps),
             Command::Nak => self.nak(out, steps),
+            Command::ReqRn { rn } => self.req_rn(*rn, out, steps),
             Command::Read { .. }
             | Command::Write { .. }
             | Command::Kill { .. }
@@ -126,7 +126,6 @@ impl Tag<InReply> {
                 let tag = self.back(steps);
                 unanswered(AnyTag::Arbitrate(tag), out)
             }
-            Command::ReqRn { .. } => unreachable!(),
         }
     }
 }
@@ -135,7 +134,6 @@ impl Tag<Acknowledged> {
     /// A tag in acknowledged goes back to arbitrate at each access command but Req_RN.
     fn hear<L: Ledger>(self, command: &Command, out: &mut Bits, steps: &mut Steps<L>) -> Heard
         requires room { 8240 ≤ out.old.capacity }
-        requires inventory { IsInventory command.now }
         ensures step { Gives (step command.now self.state self.body) result out.old out.new }
         ensures counted { steps.new ≡ steps.old + 1 }
     {
@@ -162,6 +160,7 @@ impl Tag<Acknowledged> {
             ),
             Command::Ack { rn } => self.ack(*rn, out, steps),
             Command::Nak => self.nak(out, steps),
+            Command::ReqRn { rn } => self.req_rn(*rn, out, steps),
             Command::Read { .. }
             | Command::Write { .. }
             | Command::Kill { .. }
@@ -172,16 +171,14 @@ impl Tag<Acknowledged> {
                 let tag = self.back(steps);
                 unanswered(AnyTag::Arbitrate(tag), out)
             }
-            Command::ReqRn { .. } => unreachable!(),
         }
     }
 }
 
 impl Tag<Opened> {
-    /// A tag in open hears every command, but acts on no Lock.
+    /// A tag in open hears every command, but heeds no Lock.
     fn hear<L: Ledger>(self, command: &Command, out: &mut Bits, steps: &mut Steps<L>) -> Heard
         requires room { 8240 ≤ out.old.capacity }
-        requires inventory { IsInventory command.now }
         ensures step { Gives (step command.now self.state self.body) result out.old out.new }
         ensures counted { steps.new ≡ steps.old + 1 }
     {
@@ -208,7 +205,34 @@ impl Tag<Opened> {
             ),
             Command::Ack { rn } => self.ack(*rn, out, steps),
             Command::Nak => self.nak(out, steps),
-            _ => unreachable!(),
+            Command::ReqRn { rn } => self.req_rn(*rn, out, steps),
+            Command::Read {
+                bank,
+                pointer,
+                count,
+                rn,
+            } => self.read(*bank, *pointer, *count, *rn, out, steps),
+            Command::Write {
+                bank,
+                pointer,
+                covered,
+                rn,
+            } => self.write(*bank, *pointer, *covered, *rn, out, steps),
+            Command::Kill { covered, rn } => self.kill(*covered, *rn, out, steps),
+            Command::Lock { rn, .. } => self.ignore_lock(*rn, out, steps),
+            Command::Access { covered, rn } => self.access(*covered, *rn, out, steps),
+            Command::BlockWrite {
+                bank,
+                pointer,
+                words,
+                rn,
+            } => self.block_write(*bank, *pointer, words, *rn, out, steps),
+            Command::BlockErase {
+                bank,
+                pointer,
+                count,
+                rn,
+            } => self.block_erase(*bank, *pointer, *count, *rn, out, steps),
         }
     }
 }
@@ -217,7 +241,6 @@ impl Tag<Secured> {
     /// A tag in secured hears every command.
     fn hear<L: Ledger>(self, command: &Command, out: &mut Bits, steps: &mut Steps<L>) -> Heard
         requires room { 8240 ≤ out.old.capacity }
-        requires inventory { IsInventory command.now }
         ensures step { Gives (step command.now self.state self.body) result out.old out.new }
         ensures counted { steps.new ≡ steps.old + 1 }
     {
@@ -244,7 +267,34 @@ impl Tag<Secured> {
             ),
             Command::Ack { rn } => self.ack(*rn, out, steps),
             Command::Nak => self.nak(out, steps),
-            _ => unreachable!(),
+            Command::ReqRn { rn } => self.req_rn(*rn, out, steps),
+            Command::Read {
+                bank,
+                pointer,
+                count,
+                rn,
+            } => self.read(*bank, *pointer, *count, *rn, out, steps),
+            Command::Write {
+                bank,
+                pointer,
+                covered,
+                rn,
+            } => self.write(*bank, *pointer, *covered, *rn, out, steps),
+            Command::Kill { covered, rn } => self.kill(*covered, *rn, out, steps),
+            Command::Lock { payload, rn } => self.lock(*payload, *rn, out, steps),
+            Command::Access { covered, rn } => self.access(*covered, *rn, out, steps),
+            Command::BlockWrite {
+                bank,
+                pointer,
+                words,
+                rn,
+            } => self.block_write(*bank, *pointer, words, *rn, out, steps),
+            Command::BlockErase {
+                bank,
+                pointer,
+                count,
+                rn,
+            } => self.block_erase(*bank, *pointer, *count, *rn, out, steps),
         }
     }
 }
@@ -277,7 +327,6 @@ impl AnyTag {
     /// What the tag's state makes of a command.
     fn take<L: Ledger>(self, command: &Command, out: &mut Bits, steps: &mut Steps<L>) -> Heard
         requires room { 8240 ≤ out.old.capacity }
-        requires inventory { IsInventory command.now }
         ensures step { Gives (step command.now (value_of self).state (value_of self).body) result out.old out.new }
         ensures counted { steps.new ≡ steps.old + 1 }
     {
@@ -302,7 +351,6 @@ impl AnyTag {
     /// target.
     pub fn hear<L: Ledger>(self, command: &Command, out: &mut Bits, steps: &mut Steps<L>) -> Heard
         requires room { 8240 ≤ out.old.capacity }
-        requires inventory { IsInventory command.now }
         ensures step { Gives (step command.now (value_of self).state (value_of self).body) result out.old out.new }
         ensures counted { steps.new ≡ steps.old + 1 }
         ensures isolated { IsIsolated command.now (value_of self).body.flags (value_of result.tag).body.flags }
