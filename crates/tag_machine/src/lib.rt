@@ -22,3 +22,6 @@ pub use states::{
 };
 pub use steps::Steps;
 pub use tag::Tag;
+
+#[cfg(test)]
+mod access_tests;
