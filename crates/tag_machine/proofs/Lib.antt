@@ -1,3 +1,5 @@
+pub mod Absent
+pub mod AnswerLaws
 pub mod FlagsAfter
 pub mod HandleRules
 pub mod InRange

@@ -1,11 +1,14 @@
 //! What a tag does when it hears a command, whatever its state is.
-ghost use Rattle.std.specs.Prelude.{◌≡◌, ◌+◌, ◌≤◌};
-ghost use Rattle.tag_machine.specs.TagValue.{IsLegalTag};
+ghost use Rattle.std.specs.Prelude.{◌≡◌, ◌≢◌, ◌+◌, ◌≤◌, ℕ, Some, false, if◌then◌else◌};
+ghost use Rattle.reply_grammar.specs.declared.expected.Reply.TheVariants as replies;
+ghost use Rattle.tag_machine.specs.TagValue.{IsLegalTag, is_present};
+ghost use Rattle.tag_machine.specs.Answers.{Sent};
+ghost use Rattle.tag_machine.specs.Delayed.{is_delayed};
 ghost use Rattle.tag_machine.specs.Hearing.{Gives, value_of};
 ghost use Rattle.tag_machine.specs.Step.{step};
 ghost use Rattle.tag_machine.specs.Isolation.{IsIsolated};
 
-use crate::any_tag::{AnyTag, Heard};
+use crate::any_tag::{Answered, AnyTag, Heard};
 use crate::moves::unanswered;
 use crate::states::{Acknowledged, Arbitrate, InReply, Killed, Opened, Ready, Secured, Unpowered};
 use crate::steps::Steps;
@@ -349,12 +352,19 @@ impl AnyTag {
     /// The inventoried flag of a session changes only where the command is a Select with that flag as its
     /// target, or a Query, QueryRep or QueryAdjust of that session; SL changes only by a Select with SL as its
     /// target.
+    ///
+    /// An answer is `Extended` exactly where the command is a Write, Lock, BlockWrite or BlockErase, or a Kill
+    /// after a first half. A tag that answers an error keeps its memory, locks, flags and draws. A killed tag and
+    /// one without power stay as they are and are silent.
     pub fn hear<L: Ledger>(self, command: &Command, out: &mut Bits, steps: &mut Steps<L>) -> Heard
         requires room { 8240 ≤ out.old.capacity }
         ensures step { Gives (step command.now (value_of self).state (value_of self).body) result out.old out.new }
         ensures counted { steps.new ≡ steps.old + 1 }
         ensures isolated { IsIsolated command.now (value_of self).body.flags (value_of result.tag).body.flags }
         ensures legal { IsLegalTag (value_of result.tag) }
+        ensures marked { result.answered ≢ Answered.Silent → result.answered ≡ (if is_delayed command.now (value_of self).state then Answered.Extended else Answered.Plain) }
+        ensures refused { (sent : Sent) (code : ℕ) → (step command.now (value_of self).state (value_of self).body).answer ≡ Some sent → sent.reply ≡ replies.Error code → (value_of result.tag).body ≡ (value_of self).body }
+        ensures absent { is_present (value_of self).state ≡ false → (value_of result.tag ≡ value_of self) × (result.answered ≡ Answered.Silent) }
     {
         let heard = self.take(command, out, steps);
         heard.tag.audit();

@@ -24,4 +24,6 @@ pub use steps::Steps;
 pub use tag::Tag;
 
 #[cfg(test)]
+mod access_tests;
+#[cfg(test)]
 mod tests;

@@ -2,6 +2,8 @@
 //! tables of the standard.
 ghost use Rattle.std.specs.Prelude.{◌≡◌, ◌<◌, ◌≤◌, length};
 
+mod tables;
+
 use crate::body::Body;
 use crate::states::{
     Acknowledged, Arbitrate, Half, Held, InReply, Killed, Kind, Opened, Ready, Secured, Slot,
@@ -17,11 +19,12 @@ use std::alloc::Global;
 use std::marker::Brand;
 use std::sync::ledger::{Blank, Ledger};
 use std::test::Fail;
+use tables::{EVENTS, HEARD, ROUND, Row, SELECTED, SLOTS};
 use tag_memory::{BankImage, Memory};
 
 /// One command or event of a list.
 #[derive(Clone, Copy)]
-enum Act {
+pub enum Act {
     /// A Query to all tags: session, target and Q.
     Query(u8, Side, u8),
     /// A Query of session 0, target A and Q 0, to the tags that Sel names.
@@ -34,12 +37,12 @@ enum Act {
     Select(FlagName, u8),
     /// A Select with a mask that doesn't match: target and action.
     SelectOthers(FlagName, u8),
-    Event(Event),
+    Befalls(Event),
 }
 
 /// What a tag sends.
 #[derive(Clone, Copy)]
-enum Sends {
+pub enum Sends {
     Nothing,
     Rn16(u16),
     /// PC 0800, EPC 1234, and their CRC-16.
@@ -93,7 +96,7 @@ fn command(act: Act) -> Result<Option<Command>, Fail> {
             let _ = mask.push(false);
             Some(select(target, action, mask)?)
         }
-        Act::Event(_) => None,
+        Act::Befalls(_) => None,
     })
 }
 
@@ -116,7 +119,7 @@ fn hear_counted<L: Ledger>(
 /// The tag after an act, and what it sends.
 fn after(alloc: Global, tag: AnyTag, act: Act) -> Result<(AnyTag, Answered, Bits), Fail> {
     let mut out = Bits::new(alloc, 8240)?;
-    if let Act::Event(event) = act {
+    if let Act::Befalls(event) = act {
         return Ok((tag.event(event), Answered::Silent, out));
     }
     let command = command(act)?.ok_or("a command")?;
@@ -223,6 +226,15 @@ fn held(half: Option<Kind>) -> Result<Held, Fail> {
     })
 }
 
+/// A tag in arbitrate with session 1, Q 3 and slot 5.
+fn arbitrating(body: Body) -> Result<Tag<Arbitrate>, Fail> {
+    let session = session(1)?;
+    let q = QValue::new(3).ok_or("a Q")?;
+    let slot = Slot::new(5);
+    let state = Arbitrate { session, q, slot };
+    Ok(Tag { state, body })
+}
+
 /// A tag in a state, with session 1, Q 3, slot 5 and the number 2222 where the state has them.
 fn tag_in(alloc: Global, name: StateName, half: Option<Kind>) -> Result<AnyTag, Fail> {
     let body = body(alloc)?;
@@ -232,11 +244,7 @@ fn tag_in(alloc: Global, name: StateName, half: Option<Kind>) -> Result<AnyTag, 
     let rn = 0x2222;
     Ok(match name {
         StateName::Ready => AnyTag::Ready(Tag { state: Ready, body }),
-        StateName::Arbitrate => {
-            let slot = Slot::new(5);
-            let state = Arbitrate { session, q, slot };
-            AnyTag::Arbitrate(Tag { state, body })
-        }
+        StateName::Arbitrate => AnyTag::Arbitrate(arbitrating(body)?),
         StateName::InReply => {
             let state = InReply { session, q, rn };
             AnyTag::InReply(Tag { state, body })
@@ -264,152 +272,20 @@ fn tag_in(alloc: Global, name: StateName, half: Option<Kind>) -> Result<AnyTag, 
     })
 }
 
+/// The tag after the act of a row, and whether it is and sends what the row says.
+fn follow(alloc: Global, tag: AnyTag, row: &Row) -> Result<(AnyTag, bool), Fail> {
+    let (next, answered, out) = after(alloc, tag, row.0)?;
+    let good = stands(&next, row.1, row.2, row.3) && is_sent(answered, &out, row.4);
+    Ok((next, good))
+}
+
 #[test]
 fn a_round_of_one_tag(rt: HostRuntime) -> Result<(), Fail> {
-    use StateName::{Acknowledged, Arbitrate, InReply, Ready};
-
     let alloc = rt.alloc();
     let mut tag = new_tag(alloc, &[0x0000, 0x1111])?;
-    let list = [
-        (
-            Act::Query(0, Side::A, 1),
-            InReply,
-            0,
-            "AAAA0",
-            Sends::Rn16(0x1111),
-        ),
-        (Act::QueryRep(1), InReply, 0, "AAAA0", Sends::Nothing),
-        (Act::QueryRep(0), Arbitrate, 32767, "AAAA0", Sends::Nothing),
-        (Act::QueryRep(0), Arbitrate, 32766, "AAAA0", Sends::Nothing),
-        (Act::Nak, Arbitrate, 32766, "AAAA0", Sends::Nothing),
-        // The words begin again.
-        (
-            Act::Query(0, Side::A, 0),
-            InReply,
-            0,
-            "AAAA0",
-            Sends::Rn16(0x1111),
-        ),
-        (Act::Ack(0x1111), Acknowledged, 0, "AAAA0", Sends::Epc),
-        (Act::Ack(0x1111), Acknowledged, 0, "AAAA0", Sends::Epc),
-        (Act::QueryRep(1), Acknowledged, 0, "AAAA0", Sends::Nothing),
-        (
-            Act::QueryAdjust(2, UpDn::Up),
-            Acknowledged,
-            0,
-            "AAAA0",
-            Sends::Nothing,
-        ),
-        (Act::QueryRep(0), Ready, 0, "BAAA0", Sends::Nothing),
-        (Act::QueryRep(0), Ready, 0, "BAAA0", Sends::Nothing),
-        (
-            Act::QueryAdjust(0, UpDn::Same),
-            Ready,
-            0,
-            "BAAA0",
-            Sends::Nothing,
-        ),
-        (Act::Ack(0x1111), Ready, 0, "BAAA0", Sends::Nothing),
-        (Act::Nak, Ready, 0, "BAAA0", Sends::Nothing),
-        (Act::Query(0, Side::A, 0), Ready, 0, "BAAA0", Sends::Nothing),
-        (
-            Act::Query(0, Side::B, 0),
-            InReply,
-            0,
-            "BAAA0",
-            Sends::Rn16(0x1111),
-        ),
-        (Act::Ack(0x1111), Acknowledged, 0, "BAAA0", Sends::Epc),
-        // A Query of the tag's session: the flag becomes A, and then it is compared.
-        (
-            Act::Query(0, Side::A, 0),
-            InReply,
-            0,
-            "AAAA0",
-            Sends::Rn16(0x1111),
-        ),
-        (Act::Ack(0x1111), Acknowledged, 0, "AAAA0", Sends::Epc),
-        // A Query of another session inverts nothing.
-        (
-            Act::Query(3, Side::A, 0),
-            InReply,
-            0,
-            "AAAA0",
-            Sends::Rn16(0x1111),
-        ),
-        (Act::Ack(0x1111), Acknowledged, 0, "AAAA0", Sends::Epc),
-        (Act::Query(3, Side::A, 0), Ready, 0, "AAAB0", Sends::Nothing),
-        (
-            Act::Query(3, Side::B, 0),
-            InReply,
-            0,
-            "AAAB0",
-            Sends::Rn16(0x1111),
-        ),
-        (Act::Ack(0x1110), Arbitrate, 0, "AAAB0", Sends::Nothing),
-        (Act::Ack(0x1111), Arbitrate, 0, "AAAB0", Sends::Nothing),
-        (Act::QueryRep(3), Arbitrate, 32767, "AAAB0", Sends::Nothing),
-        (
-            Act::QueryAdjust(3, UpDn::Down),
-            InReply,
-            0,
-            "AAAB0",
-            Sends::Rn16(0x1111),
-        ),
-        (
-            Act::QueryAdjust(3, UpDn::Same),
-            InReply,
-            0,
-            "AAAB0",
-            Sends::Rn16(0x1111),
-        ),
-        (
-            Act::QueryAdjust(0, UpDn::Same),
-            InReply,
-            0,
-            "AAAB0",
-            Sends::Nothing,
-        ),
-        (Act::Nak, Arbitrate, 0, "AAAB0", Sends::Nothing),
-        (
-            Act::QueryAdjust(3, UpDn::Up),
-            InReply,
-            0,
-            "AAAB0",
-            Sends::Rn16(0x1111),
-        ),
-        (Act::Ack(0x1111), Acknowledged, 0, "AAAB0", Sends::Epc),
-        (Act::Ack(0x1112), Arbitrate, 0, "AAAB0", Sends::Nothing),
-        (
-            Act::QueryAdjust(3, UpDn::Same),
-            InReply,
-            0,
-            "AAAB0",
-            Sends::Rn16(0x1111),
-        ),
-        (Act::Ack(0x1111), Acknowledged, 0, "AAAB0", Sends::Epc),
-        (Act::Nak, Arbitrate, 0, "AAAB0", Sends::Nothing),
-        (
-            Act::QueryAdjust(3, UpDn::Same),
-            InReply,
-            0,
-            "AAAB0",
-            Sends::Rn16(0x1111),
-        ),
-        (Act::Ack(0x1111), Acknowledged, 0, "AAAB0", Sends::Epc),
-        (
-            Act::QueryAdjust(3, UpDn::Down),
-            Ready,
-            0,
-            "AAAA0",
-            Sends::Nothing,
-        ),
-    ];
-    for (act, state, at, text, want) in list {
-        let (next, answered, out) = after(alloc, tag, act)?;
-        assert!(rt; stands(&next, state, at, text));
-        assert!(rt; is_sent(answered, &out, want));
-        assert!(rt; next.present());
+    for (number, row) in ROUND.iter().enumerate() {
+        let (next, good) = follow(alloc, tag, row)?;
+        assert!(rt; good, "row {number}");
         tag = next;
     }
     Ok(())
@@ -417,62 +293,14 @@ fn a_round_of_one_tag(rt: HostRuntime) -> Result<(), Fail> {
 
 #[test]
 fn slots_are_the_last_bits_of_draws(rt: HostRuntime) -> Result<(), Fail> {
-    use StateName::{Arbitrate, InReply};
-
     let alloc = rt.alloc();
-    let mut tag = new_tag(
-        alloc,
-        &[
-            0x0002, 0x5555, 0x9234, 0x8001, 0x4003, 0x0006, 0xFFF8, 0x0007,
-        ],
-    )?;
-    let list = [
-        (Act::Query(2, Side::A, 2), Arbitrate, 2, Sends::Nothing),
-        (Act::QueryRep(1), Arbitrate, 2, Sends::Nothing),
-        (Act::QueryAdjust(3, UpDn::Up), Arbitrate, 2, Sends::Nothing),
-        (Act::Ack(0x5555), Arbitrate, 2, Sends::Nothing),
-        (Act::QueryRep(2), Arbitrate, 1, Sends::Nothing),
-        (Act::QueryRep(2), InReply, 0, Sends::Rn16(0x5555)),
-        (
-            Act::Query(2, Side::A, 15),
-            Arbitrate,
-            0x1234,
-            Sends::Nothing,
-        ),
-        // Q stays at 15, so that the slot has 15 bits.
-        (
-            Act::QueryAdjust(2, UpDn::Up),
-            Arbitrate,
-            0x0001,
-            Sends::Nothing,
-        ),
-        // Q is 14, and then 13.
-        (
-            Act::QueryAdjust(2, UpDn::Down),
-            Arbitrate,
-            0x0003,
-            Sends::Nothing,
-        ),
-        (
-            Act::QueryAdjust(2, UpDn::Down),
-            Arbitrate,
-            0x0006,
-            Sends::Nothing,
-        ),
-        (Act::Query(2, Side::A, 3), InReply, 0, Sends::Rn16(0x0007)),
-        // Q is 4; the words begin again.
-        (Act::QueryAdjust(2, UpDn::Up), Arbitrate, 2, Sends::Nothing),
-        (
-            Act::QueryAdjust(2, UpDn::Same),
-            Arbitrate,
-            5,
-            Sends::Nothing,
-        ),
+    let draws = [
+        0x0002, 0x5555, 0x9234, 0x8001, 0x4003, 0x0006, 0xFFF8, 0x0007,
     ];
-    for (act, state, at, want) in list {
-        let (next, answered, out) = after(alloc, tag, act)?;
-        assert!(rt; stands(&next, state, at, "AAAA0"));
-        assert!(rt; is_sent(answered, &out, want));
+    let mut tag = new_tag(alloc, &draws)?;
+    for (number, row) in SLOTS.iter().enumerate() {
+        let (next, good) = follow(alloc, tag, row)?;
+        assert!(rt; good, "row {number}");
         tag = next;
     }
     Ok(())
@@ -480,49 +308,11 @@ fn slots_are_the_last_bits_of_draws(rt: HostRuntime) -> Result<(), Fail> {
 
 #[test]
 fn sel_names_tags(rt: HostRuntime) -> Result<(), Fail> {
-    use StateName::{InReply, Ready};
-
     let alloc = rt.alloc();
     let mut tag = new_tag(alloc, &[0x0000, 0x1111])?;
-    let list = [
-        (Act::QuerySel(Sel::Sl), Ready, "AAAA0", Sends::Nothing),
-        (
-            Act::QuerySel(Sel::NotSl),
-            InReply,
-            "AAAA0",
-            Sends::Rn16(0x1111),
-        ),
-        (Act::Select(FlagName::Sl, 0), Ready, "AAAA1", Sends::Nothing),
-        (Act::QuerySel(Sel::NotSl), Ready, "AAAA1", Sends::Nothing),
-        (
-            Act::QuerySel(Sel::Sl),
-            InReply,
-            "AAAA1",
-            Sends::Rn16(0x1111),
-        ),
-        (
-            Act::QuerySel(Sel::All01),
-            InReply,
-            "AAAA1",
-            Sends::Rn16(0x1111),
-        ),
-        (
-            Act::SelectOthers(FlagName::Sl, 4),
-            Ready,
-            "AAAA1",
-            Sends::Nothing,
-        ),
-        (
-            Act::SelectOthers(FlagName::Sl, 0),
-            Ready,
-            "AAAA0",
-            Sends::Nothing,
-        ),
-    ];
-    for (act, state, text, want) in list {
-        let (next, answered, out) = after(alloc, tag, act)?;
-        assert!(rt; stands(&next, state, 0, text));
-        assert!(rt; is_sent(answered, &out, want));
+    for (number, row) in SELECTED.iter().enumerate() {
+        let (next, good) = follow(alloc, tag, row)?;
+        assert!(rt; good, "row {number}");
         tag = next;
     }
     Ok(())
@@ -530,533 +320,22 @@ fn sel_names_tags(rt: HostRuntime) -> Result<(), Fail> {
 
 #[test]
 fn each_state_hears_or_does_not(rt: HostRuntime) -> Result<(), Fail> {
-    use StateName::{Acknowledged, Arbitrate, InReply, Killed, Opened, Ready, Secured, Unpowered};
-
     let alloc = rt.alloc();
-    let select = Act::Select(FlagName::S2, 0);
-    let kill = Some(Kind::Kill);
-    let access = Some(Kind::Access);
-    let list = [
-        (Ready, None, select, Ready, 0, "BBAB1", Sends::Nothing),
-        (Arbitrate, None, select, Ready, 0, "BBAB1", Sends::Nothing),
-        (InReply, None, select, Ready, 0, "BBAB1", Sends::Nothing),
-        (
-            Acknowledged,
-            None,
-            select,
-            Ready,
-            0,
-            "BBAB1",
-            Sends::Nothing,
-        ),
-        (Opened, None, select, Ready, 0, "BBAB1", Sends::Nothing),
-        (Secured, None, select, Ready, 0, "BBAB1", Sends::Nothing),
-        (Opened, kill, select, Arbitrate, 0, "BBBB1", Sends::Nothing),
-        (
-            Secured,
-            access,
-            select,
-            Arbitrate,
-            0,
-            "BBBB1",
-            Sends::Nothing,
-        ),
-        (Killed, None, select, Killed, 0, "BBBB1", Sends::Nothing),
-        (
-            Unpowered,
-            None,
-            select,
-            Unpowered,
-            0,
-            "BBBB1",
-            Sends::Nothing,
-        ),
-        (
-            Opened,
-            None,
-            Act::QueryRep(1),
-            Ready,
-            0,
-            "BABB1",
-            Sends::Nothing,
-        ),
-        (
-            Secured,
-            None,
-            Act::QueryRep(1),
-            Ready,
-            0,
-            "BABB1",
-            Sends::Nothing,
-        ),
-        (
-            Opened,
-            None,
-            Act::QueryRep(0),
-            Opened,
-            0,
-            "BBBB1",
-            Sends::Nothing,
-        ),
-        (
-            Secured,
-            None,
-            Act::QueryRep(2),
-            Secured,
-            0,
-            "BBBB1",
-            Sends::Nothing,
-        ),
-        (
-            Opened,
-            access,
-            Act::QueryRep(1),
-            Arbitrate,
-            0,
-            "BBBB1",
-            Sends::Nothing,
-        ),
-        (
-            Secured,
-            kill,
-            Act::QueryRep(1),
-            Arbitrate,
-            0,
-            "BBBB1",
-            Sends::Nothing,
-        ),
-        (
-            Opened,
-            access,
-            Act::QueryRep(0),
-            Opened,
-            0,
-            "BBBB1",
-            Sends::Nothing,
-        ),
-        (
-            Killed,
-            None,
-            Act::QueryRep(1),
-            Killed,
-            0,
-            "BBBB1",
-            Sends::Nothing,
-        ),
-        (
-            Unpowered,
-            None,
-            Act::QueryRep(1),
-            Unpowered,
-            0,
-            "BBBB1",
-            Sends::Nothing,
-        ),
-        (
-            Opened,
-            None,
-            Act::QueryAdjust(1, UpDn::Up),
-            Ready,
-            0,
-            "BABB1",
-            Sends::Nothing,
-        ),
-        (
-            Secured,
-            None,
-            Act::QueryAdjust(1, UpDn::Up),
-            Ready,
-            0,
-            "BABB1",
-            Sends::Nothing,
-        ),
-        (
-            Opened,
-            None,
-            Act::QueryAdjust(0, UpDn::Up),
-            Opened,
-            0,
-            "BBBB1",
-            Sends::Nothing,
-        ),
-        (
-            Secured,
-            None,
-            Act::QueryAdjust(0, UpDn::Up),
-            Secured,
-            0,
-            "BBBB1",
-            Sends::Nothing,
-        ),
-        (
-            Opened,
-            kill,
-            Act::QueryAdjust(1, UpDn::Up),
-            Arbitrate,
-            0,
-            "BBBB1",
-            Sends::Nothing,
-        ),
-        (
-            Secured,
-            access,
-            Act::QueryAdjust(1, UpDn::Up),
-            Arbitrate,
-            0,
-            "BBBB1",
-            Sends::Nothing,
-        ),
-        (
-            Killed,
-            None,
-            Act::QueryAdjust(1, UpDn::Up),
-            Killed,
-            0,
-            "BBBB1",
-            Sends::Nothing,
-        ),
-        (
-            Unpowered,
-            None,
-            Act::QueryAdjust(1, UpDn::Up),
-            Unpowered,
-            0,
-            "BBBB1",
-            Sends::Nothing,
-        ),
-        (
-            Opened,
-            None,
-            Act::Ack(0x2222),
-            Opened,
-            0,
-            "BBBB1",
-            Sends::Epc,
-        ),
-        (
-            Secured,
-            None,
-            Act::Ack(0x2222),
-            Secured,
-            0,
-            "BBBB1",
-            Sends::Epc,
-        ),
-        (
-            Opened,
-            None,
-            Act::Ack(0x2223),
-            Arbitrate,
-            0,
-            "BBBB1",
-            Sends::Nothing,
-        ),
-        (
-            Secured,
-            None,
-            Act::Ack(0x2223),
-            Arbitrate,
-            0,
-            "BBBB1",
-            Sends::Nothing,
-        ),
-        (
-            Opened,
-            access,
-            Act::Ack(0x2222),
-            Arbitrate,
-            0,
-            "BBBB1",
-            Sends::Nothing,
-        ),
-        (
-            Secured,
-            kill,
-            Act::Ack(0x2222),
-            Arbitrate,
-            0,
-            "BBBB1",
-            Sends::Nothing,
-        ),
-        (
-            Killed,
-            None,
-            Act::Ack(0x2222),
-            Killed,
-            0,
-            "BBBB1",
-            Sends::Nothing,
-        ),
-        (
-            Unpowered,
-            None,
-            Act::Ack(0x2222),
-            Unpowered,
-            0,
-            "BBBB1",
-            Sends::Nothing,
-        ),
-        (
-            Opened,
-            None,
-            Act::Nak,
-            Arbitrate,
-            0,
-            "BBBB1",
-            Sends::Nothing,
-        ),
-        (
-            Secured,
-            None,
-            Act::Nak,
-            Arbitrate,
-            0,
-            "BBBB1",
-            Sends::Nothing,
-        ),
-        (
-            Opened,
-            kill,
-            Act::Nak,
-            Arbitrate,
-            0,
-            "BBBB1",
-            Sends::Nothing,
-        ),
-        (Killed, None, Act::Nak, Killed, 0, "BBBB1", Sends::Nothing),
-        (
-            Unpowered,
-            None,
-            Act::Nak,
-            Unpowered,
-            0,
-            "BBBB1",
-            Sends::Nothing,
-        ),
-        (
-            Opened,
-            None,
-            Act::Query(1, Side::A, 0),
-            InReply,
-            0,
-            "BABB1",
-            Sends::Rn16(0x1111),
-        ),
-        (
-            Secured,
-            None,
-            Act::Query(1, Side::A, 0),
-            InReply,
-            0,
-            "BABB1",
-            Sends::Rn16(0x1111),
-        ),
-        (
-            Opened,
-            kill,
-            Act::Query(1, Side::A, 0),
-            InReply,
-            0,
-            "BABB1",
-            Sends::Rn16(0x1111),
-        ),
-        (
-            Secured,
-            access,
-            Act::Query(1, Side::B, 0),
-            Ready,
-            0,
-            "BABB1",
-            Sends::Nothing,
-        ),
-        (
-            Opened,
-            None,
-            Act::Query(2, Side::B, 0),
-            InReply,
-            0,
-            "BBBB1",
-            Sends::Rn16(0x1111),
-        ),
-        (
-            Secured,
-            None,
-            Act::Query(2, Side::A, 0),
-            Ready,
-            0,
-            "BBBB1",
-            Sends::Nothing,
-        ),
-        (
-            Arbitrate,
-            None,
-            Act::Query(1, Side::A, 0),
-            Ready,
-            0,
-            "BBBB1",
-            Sends::Nothing,
-        ),
-        (
-            InReply,
-            None,
-            Act::Query(1, Side::A, 0),
-            Ready,
-            0,
-            "BBBB1",
-            Sends::Nothing,
-        ),
-        (
-            Arbitrate,
-            None,
-            Act::Query(0, Side::B, 0),
-            InReply,
-            0,
-            "BBBB1",
-            Sends::Rn16(0x1111),
-        ),
-        (
-            InReply,
-            None,
-            Act::Query(1, Side::B, 0),
-            InReply,
-            0,
-            "BBBB1",
-            Sends::Rn16(0x1111),
-        ),
-        (
-            Killed,
-            None,
-            Act::Query(1, Side::B, 0),
-            Killed,
-            0,
-            "BBBB1",
-            Sends::Nothing,
-        ),
-        (
-            Unpowered,
-            None,
-            Act::Query(1, Side::B, 0),
-            Unpowered,
-            0,
-            "BBBB1",
-            Sends::Nothing,
-        ),
-    ];
-    for (before, half, act, state, at, text, want) in list {
-        let tag = tag_in(alloc, before, half)?;
-        let (next, answered, out) = after(alloc, tag, act)?;
-        assert!(rt; stands(&next, state, at, text));
-        assert!(rt; is_sent(answered, &out, want));
+    for (number, (before, half, row)) in HEARD.iter().enumerate() {
+        let tag = tag_in(alloc, *before, *half)?;
+        let (_, good) = follow(alloc, tag, row)?;
+        assert!(rt; good, "row {number}");
     }
     Ok(())
 }
 
 #[test]
 fn events_in_every_state(rt: HostRuntime) -> Result<(), Fail> {
-    use StateName::{Acknowledged, Arbitrate, InReply, Killed, Opened, Ready, Secured, Unpowered};
-
     let alloc = rt.alloc();
-    // A state, its slot, the state after a Timeout and its slot, the flags after an Off, the states after an Off
-    // and an On, and the flags after the ends of S1, S2, S3 and SL.
-    let list = [
-        (
-            Ready,
-            0,
-            Ready,
-            0,
-            "ABBB1",
-            Unpowered,
-            Ready,
-            ["BABB1", "BBBB1", "BBBB1", "BBBB1"],
-        ),
-        (
-            Arbitrate,
-            5,
-            Arbitrate,
-            5,
-            "ABBB1",
-            Unpowered,
-            Arbitrate,
-            ["BBBB1", "BBBB1", "BBBB1", "BBBB1"],
-        ),
-        (
-            InReply,
-            0,
-            Arbitrate,
-            0,
-            "ABBB1",
-            Unpowered,
-            InReply,
-            ["BBBB1", "BBBB1", "BBBB1", "BBBB1"],
-        ),
-        (
-            Acknowledged,
-            0,
-            Arbitrate,
-            0,
-            "ABBB1",
-            Unpowered,
-            Acknowledged,
-            ["BBBB1", "BBBB1", "BBBB1", "BBBB1"],
-        ),
-        (
-            Opened,
-            0,
-            Opened,
-            0,
-            "ABBB1",
-            Unpowered,
-            Opened,
-            ["BBBB1", "BBBB1", "BBBB1", "BBBB1"],
-        ),
-        (
-            Secured,
-            0,
-            Secured,
-            0,
-            "ABBB1",
-            Unpowered,
-            Secured,
-            ["BBBB1", "BBBB1", "BBBB1", "BBBB1"],
-        ),
-        (
-            Killed,
-            0,
-            Killed,
-            0,
-            "BBBB1",
-            Killed,
-            Killed,
-            ["BBBB1", "BBBB1", "BBBB1", "BBBB1"],
-        ),
-        (
-            Unpowered,
-            0,
-            Unpowered,
-            0,
-            "ABBB1",
-            Unpowered,
-            Ready,
-            ["BABB1", "BBAB1", "BBBA1", "BBBB0"],
-        ),
-    ];
-    for (before, at, late, late_at, off_text, off, on, [s1, s2, s3, sl]) in list {
-        let tag = tag_in(alloc, before, None)?.event(Event::Timeout);
-        assert!(rt; stands(&tag, late, late_at, "BBBB1"));
-        let tag = tag_in(alloc, before, None)?.event(Event::Off);
-        assert!(rt; stands(&tag, off, 0, off_text));
-        let tag = tag_in(alloc, before, None)?.event(Event::On);
-        assert!(rt; stands(&tag, on, at, "BBBB1"));
-        let tag = tag_in(alloc, before, None)?.event(Event::Expire(FlagName::S0));
-        assert!(rt; stands(&tag, before, at, "BBBB1"));
-        let tag = tag_in(alloc, before, None)?.event(Event::Expire(FlagName::S1));
-        assert!(rt; stands(&tag, before, at, s1));
-        let tag = tag_in(alloc, before, None)?.event(Event::Expire(FlagName::S2));
-        assert!(rt; stands(&tag, before, at, s2));
-        let tag = tag_in(alloc, before, None)?.event(Event::Expire(FlagName::S3));
-        assert!(rt; stands(&tag, before, at, s3));
-        let tag = tag_in(alloc, before, None)?.event(Event::Expire(FlagName::Sl));
-        assert!(rt; stands(&tag, before, at, sl));
+    for (number, (before, row)) in EVENTS.iter().enumerate() {
+        let tag = tag_in(alloc, *before, None)?;
+        let (_, good) = follow(alloc, tag, row)?;
+        assert!(rt; good, "row {number}");
     }
     Ok(())
 }
@@ -1102,23 +381,13 @@ fn set_counted<L: Ledger>(blank: Blank, tag: &mut Tag<Arbitrate>, slot: u16)
 #[test]
 fn the_slot_counter_can_be_set(rt: HostRuntime) -> Result<(), Fail> {
     let alloc = rt.alloc();
-    match tag_in(alloc, StateName::Arbitrate, None)? {
-        AnyTag::Arbitrate(mut tag) => {
-            assert!(rt; tag.session() == session(1)?);
-            assert_eq!(rt; tag.slot(), 5);
-            set_counted::<Brand>(Blank::new(1), &mut tag, 32767);
-            assert!(rt; tag.session() == session(1)?);
-            assert_eq!(rt; tag.slot(), 32767);
-            assert!(rt;
-                stands(
-                    &AnyTag::Arbitrate(tag),
-                    StateName::Arbitrate,
-                    32767,
-                    "BBBB1"
-                )
-            );
-        }
-        _ => assert!(rt; false),
-    }
+    let mut tag = arbitrating(body(alloc)?)?;
+    let before = (tag.session().get(), tag.slot());
+    set_counted::<Brand>(Blank::new(1), &mut tag, 32767);
+    let after = (tag.session().get(), tag.slot());
+    let tag = AnyTag::Arbitrate(tag);
+    assert!(rt; before == (1, 5));
+    assert!(rt; after == (1, 32767));
+    assert!(rt; stands(&tag, StateName::Arbitrate, 32767, "BBBB1"));
     Ok(())
 }
