@@ -95,7 +95,8 @@ impl Body {
         ensures rest { OnOk result (self.new ≡ record self.old { locks = self.new.locks }) }
         ensures err { IfErr result (λ code. (locked self.old.locks payload (has_user self.old) ≡ Err code) × (self.new ≡ self.old)) }
     {
-        self.locks = self.locks.apply(payload, self.memory.size(Bank::User) > 0)?;
+        let has_user = self.memory.size(Bank::User) > 0;
+        self.locks = self.locks.apply(payload, has_user)?;
         Ok(())
     }
 }
