@@ -17,13 +17,14 @@ use lock_rules::{Level, Locks};
 use session_flags::Flags;
 use std::alloc::Global;
 use std::marker::Brand;
+use std::process::Abort;
 use std::sync::ledger::{Blank, Ledger};
 use std::test::Fail;
 use tables::{EVENTS, HEARD, ROUND, Row, SELECTED, SLOTS};
 use tag_memory::{BankImage, Memory};
 
 /// One command or event of a list.
-#[derive(Clone, Copy)]
+#[derive(Clone, Copy, Debug)]
 pub enum Act {
     /// A Query to all tags: session, target and Q.
     Query(u8, Side, u8),
@@ -41,7 +42,7 @@ pub enum Act {
 }
 
 /// What a tag sends.
-#[derive(Clone, Copy)]
+#[derive(Clone, Copy, Debug)]
 pub enum Sends {
     Nothing,
     Rn16(u16),
@@ -279,65 +280,47 @@ fn follow(alloc: Global, tag: AnyTag, row: &Row) -> Result<(AnyTag, bool), Fail>
     Ok((next, good))
 }
 
-#[test]
-fn a_round_of_one_tag(rt: HostRuntime) -> Result<(), Fail> {
-    let alloc = rt.alloc();
-    let mut tag = new_tag(alloc, &[0x0000, 0x1111])?;
-    for (number, row) in ROUND.iter().enumerate() {
+/// Follows the rows one after another.
+fn follow_all(rt: &impl Abort, alloc: Global, tag: AnyTag, rows: &[Row]) -> Result<(), Fail> {
+    let mut tag = tag;
+    for row in rows {
         let (next, good) = follow(alloc, tag, row)?;
-        assert!(rt; good, "row {number}");
+        assert!(rt; good, "{row:?}");
         tag = next;
     }
     Ok(())
 }
 
-#[test]
-fn slots_are_the_last_bits_of_draws(rt: HostRuntime) -> Result<(), Fail> {
-    let alloc = rt.alloc();
-    let draws = [
-        0x0002, 0x5555, 0x9234, 0x8001, 0x4003, 0x0006, 0xFFF8, 0x0007,
-    ];
-    let mut tag = new_tag(alloc, &draws)?;
-    for (number, row) in SLOTS.iter().enumerate() {
-        let (next, good) = follow(alloc, tag, row)?;
-        assert!(rt; good, "row {number}");
-        tag = next;
-    }
-    Ok(())
-}
-
-#[test]
-fn sel_names_tags(rt: HostRuntime) -> Result<(), Fail> {
-    let alloc = rt.alloc();
-    let mut tag = new_tag(alloc, &[0x0000, 0x1111])?;
-    for (number, row) in SELECTED.iter().enumerate() {
-        let (next, good) = follow(alloc, tag, row)?;
-        assert!(rt; good, "row {number}");
-        tag = next;
-    }
-    Ok(())
-}
-
-#[test]
-fn each_state_hears_or_does_not(rt: HostRuntime) -> Result<(), Fail> {
-    let alloc = rt.alloc();
-    for (number, (before, half, row)) in HEARD.iter().enumerate() {
+/// Follows each row from a state of its own.
+fn follow_each(
+    rt: &impl Abort,
+    alloc: Global,
+    rows: &[(StateName, Option<Kind>, Row)],
+) -> Result<(), Fail> {
+    for (before, half, row) in rows {
         let tag = tag_in(alloc, *before, *half)?;
         let (_, good) = follow(alloc, tag, row)?;
-        assert!(rt; good, "row {number}");
+        assert!(rt; good, "{before:?} {half:?} {row:?}");
     }
     Ok(())
 }
 
 #[test]
-fn events_in_every_state(rt: HostRuntime) -> Result<(), Fail> {
+fn lists_of_acts(rt: HostRuntime) -> Result<(), Fail> {
     let alloc = rt.alloc();
-    for (number, (before, row)) in EVENTS.iter().enumerate() {
-        let tag = tag_in(alloc, *before, None)?;
-        let (_, good) = follow(alloc, tag, row)?;
-        assert!(rt; good, "row {number}");
-    }
-    Ok(())
+    let one = [0x0000, 0x1111];
+    let slots = [
+        0x0002, 0x5555, 0x9234, 0x8001, 0x4003, 0x0006, 0xFFF8, 0x0007,
+    ];
+    follow_all(&rt, alloc, new_tag(alloc, &one)?, &ROUND)?;
+    follow_all(&rt, alloc, new_tag(alloc, &slots)?, &SLOTS)?;
+    follow_all(&rt, alloc, new_tag(alloc, &one)?, &SELECTED)
+}
+
+#[test]
+fn each_act_in_each_state(rt: HostRuntime) -> Result<(), Fail> {
+    follow_each(&rt, rt.alloc(), &HEARD)?;
+    follow_each(&rt, rt.alloc(), &EVENTS)
 }
 
 #[test]

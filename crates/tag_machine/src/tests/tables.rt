@@ -16,7 +16,7 @@ use command_grammar::Side::{A, B};
 use command_grammar::UpDn::{Down, Same, Up};
 
 /// An act, and what the tag is and sends after it: its state, its slot, its flags, its answer.
-#[derive(Clone, Copy)]
+#[derive(Clone, Copy, Debug)]
 pub struct Row(pub Act, pub StateName, pub u16, pub &'static str, pub Sends);
 
 /// A tag that draws 0000 and 1111 in turn, so that it replies at once with Q 0 and with Q 1. In the middle a Query of
@@ -304,192 +304,309 @@ pub const HEARD: [(StateName, Option<Kind>, Row); 52] = [
 ];
 
 /// Each event in every state, at a tag with the flags BBBB1, and slot 5 in arbitrate.
-pub const EVENTS: [(StateName, Row); 64] = [
-    (Ready, Row(Befalls(Timeout), Ready, 0, "BBBB1", Nothing)),
-    (Ready, Row(Befalls(Off), Unpowered, 0, "ABBB1", Nothing)),
-    (Ready, Row(Befalls(On), Ready, 0, "BBBB1", Nothing)),
-    (Ready, Row(Befalls(Expire(S0)), Ready, 0, "BBBB1", Nothing)),
-    (Ready, Row(Befalls(Expire(S1)), Ready, 0, "BABB1", Nothing)),
-    (Ready, Row(Befalls(Expire(S2)), Ready, 0, "BBBB1", Nothing)),
-    (Ready, Row(Befalls(Expire(S3)), Ready, 0, "BBBB1", Nothing)),
-    (Ready, Row(Befalls(Expire(Sl)), Ready, 0, "BBBB1", Nothing)),
+pub const EVENTS: [(StateName, Option<Kind>, Row); 64] = [
+    (
+        Ready,
+        None,
+        Row(Befalls(Timeout), Ready, 0, "BBBB1", Nothing),
+    ),
+    (
+        Ready,
+        None,
+        Row(Befalls(Off), Unpowered, 0, "ABBB1", Nothing),
+    ),
+    (Ready, None, Row(Befalls(On), Ready, 0, "BBBB1", Nothing)),
+    (
+        Ready,
+        None,
+        Row(Befalls(Expire(S0)), Ready, 0, "BBBB1", Nothing),
+    ),
+    (
+        Ready,
+        None,
+        Row(Befalls(Expire(S1)), Ready, 0, "BABB1", Nothing),
+    ),
+    (
+        Ready,
+        None,
+        Row(Befalls(Expire(S2)), Ready, 0, "BBBB1", Nothing),
+    ),
+    (
+        Ready,
+        None,
+        Row(Befalls(Expire(S3)), Ready, 0, "BBBB1", Nothing),
+    ),
+    (
+        Ready,
+        None,
+        Row(Befalls(Expire(Sl)), Ready, 0, "BBBB1", Nothing),
+    ),
     (
         Arbitrate,
+        None,
         Row(Befalls(Timeout), Arbitrate, 5, "BBBB1", Nothing),
     ),
-    (Arbitrate, Row(Befalls(Off), Unpowered, 0, "ABBB1", Nothing)),
-    (Arbitrate, Row(Befalls(On), Arbitrate, 5, "BBBB1", Nothing)),
     (
         Arbitrate,
+        None,
+        Row(Befalls(Off), Unpowered, 0, "ABBB1", Nothing),
+    ),
+    (
+        Arbitrate,
+        None,
+        Row(Befalls(On), Arbitrate, 5, "BBBB1", Nothing),
+    ),
+    (
+        Arbitrate,
+        None,
         Row(Befalls(Expire(S0)), Arbitrate, 5, "BBBB1", Nothing),
     ),
     (
         Arbitrate,
+        None,
         Row(Befalls(Expire(S1)), Arbitrate, 5, "BBBB1", Nothing),
     ),
     (
         Arbitrate,
+        None,
         Row(Befalls(Expire(S2)), Arbitrate, 5, "BBBB1", Nothing),
     ),
     (
         Arbitrate,
+        None,
         Row(Befalls(Expire(S3)), Arbitrate, 5, "BBBB1", Nothing),
     ),
     (
         Arbitrate,
+        None,
         Row(Befalls(Expire(Sl)), Arbitrate, 5, "BBBB1", Nothing),
     ),
     (
         InReply,
+        None,
         Row(Befalls(Timeout), Arbitrate, 0, "BBBB1", Nothing),
     ),
-    (InReply, Row(Befalls(Off), Unpowered, 0, "ABBB1", Nothing)),
-    (InReply, Row(Befalls(On), InReply, 0, "BBBB1", Nothing)),
     (
         InReply,
+        None,
+        Row(Befalls(Off), Unpowered, 0, "ABBB1", Nothing),
+    ),
+    (
+        InReply,
+        None,
+        Row(Befalls(On), InReply, 0, "BBBB1", Nothing),
+    ),
+    (
+        InReply,
+        None,
         Row(Befalls(Expire(S0)), InReply, 0, "BBBB1", Nothing),
     ),
     (
         InReply,
+        None,
         Row(Befalls(Expire(S1)), InReply, 0, "BBBB1", Nothing),
     ),
     (
         InReply,
+        None,
         Row(Befalls(Expire(S2)), InReply, 0, "BBBB1", Nothing),
     ),
     (
         InReply,
+        None,
         Row(Befalls(Expire(S3)), InReply, 0, "BBBB1", Nothing),
     ),
     (
         InReply,
+        None,
         Row(Befalls(Expire(Sl)), InReply, 0, "BBBB1", Nothing),
     ),
     (
         Acknowledged,
+        None,
         Row(Befalls(Timeout), Arbitrate, 0, "BBBB1", Nothing),
     ),
     (
         Acknowledged,
+        None,
         Row(Befalls(Off), Unpowered, 0, "ABBB1", Nothing),
     ),
     (
         Acknowledged,
+        None,
         Row(Befalls(On), Acknowledged, 0, "BBBB1", Nothing),
     ),
     (
         Acknowledged,
+        None,
         Row(Befalls(Expire(S0)), Acknowledged, 0, "BBBB1", Nothing),
     ),
     (
         Acknowledged,
+        None,
         Row(Befalls(Expire(S1)), Acknowledged, 0, "BBBB1", Nothing),
     ),
     (
         Acknowledged,
+        None,
         Row(Befalls(Expire(S2)), Acknowledged, 0, "BBBB1", Nothing),
     ),
     (
         Acknowledged,
+        None,
         Row(Befalls(Expire(S3)), Acknowledged, 0, "BBBB1", Nothing),
     ),
     (
         Acknowledged,
+        None,
         Row(Befalls(Expire(Sl)), Acknowledged, 0, "BBBB1", Nothing),
     ),
-    (Opened, Row(Befalls(Timeout), Opened, 0, "BBBB1", Nothing)),
-    (Opened, Row(Befalls(Off), Unpowered, 0, "ABBB1", Nothing)),
-    (Opened, Row(Befalls(On), Opened, 0, "BBBB1", Nothing)),
     (
         Opened,
+        None,
+        Row(Befalls(Timeout), Opened, 0, "BBBB1", Nothing),
+    ),
+    (
+        Opened,
+        None,
+        Row(Befalls(Off), Unpowered, 0, "ABBB1", Nothing),
+    ),
+    (Opened, None, Row(Befalls(On), Opened, 0, "BBBB1", Nothing)),
+    (
+        Opened,
+        None,
         Row(Befalls(Expire(S0)), Opened, 0, "BBBB1", Nothing),
     ),
     (
         Opened,
+        None,
         Row(Befalls(Expire(S1)), Opened, 0, "BBBB1", Nothing),
     ),
     (
         Opened,
+        None,
         Row(Befalls(Expire(S2)), Opened, 0, "BBBB1", Nothing),
     ),
     (
         Opened,
+        None,
         Row(Befalls(Expire(S3)), Opened, 0, "BBBB1", Nothing),
     ),
     (
         Opened,
+        None,
         Row(Befalls(Expire(Sl)), Opened, 0, "BBBB1", Nothing),
     ),
-    (Secured, Row(Befalls(Timeout), Secured, 0, "BBBB1", Nothing)),
-    (Secured, Row(Befalls(Off), Unpowered, 0, "ABBB1", Nothing)),
-    (Secured, Row(Befalls(On), Secured, 0, "BBBB1", Nothing)),
     (
         Secured,
+        None,
+        Row(Befalls(Timeout), Secured, 0, "BBBB1", Nothing),
+    ),
+    (
+        Secured,
+        None,
+        Row(Befalls(Off), Unpowered, 0, "ABBB1", Nothing),
+    ),
+    (
+        Secured,
+        None,
+        Row(Befalls(On), Secured, 0, "BBBB1", Nothing),
+    ),
+    (
+        Secured,
+        None,
         Row(Befalls(Expire(S0)), Secured, 0, "BBBB1", Nothing),
     ),
     (
         Secured,
+        None,
         Row(Befalls(Expire(S1)), Secured, 0, "BBBB1", Nothing),
     ),
     (
         Secured,
+        None,
         Row(Befalls(Expire(S2)), Secured, 0, "BBBB1", Nothing),
     ),
     (
         Secured,
+        None,
         Row(Befalls(Expire(S3)), Secured, 0, "BBBB1", Nothing),
     ),
     (
         Secured,
+        None,
         Row(Befalls(Expire(Sl)), Secured, 0, "BBBB1", Nothing),
     ),
-    (Killed, Row(Befalls(Timeout), Killed, 0, "BBBB1", Nothing)),
-    (Killed, Row(Befalls(Off), Killed, 0, "BBBB1", Nothing)),
-    (Killed, Row(Befalls(On), Killed, 0, "BBBB1", Nothing)),
     (
         Killed,
+        None,
+        Row(Befalls(Timeout), Killed, 0, "BBBB1", Nothing),
+    ),
+    (Killed, None, Row(Befalls(Off), Killed, 0, "BBBB1", Nothing)),
+    (Killed, None, Row(Befalls(On), Killed, 0, "BBBB1", Nothing)),
+    (
+        Killed,
+        None,
         Row(Befalls(Expire(S0)), Killed, 0, "BBBB1", Nothing),
     ),
     (
         Killed,
+        None,
         Row(Befalls(Expire(S1)), Killed, 0, "BBBB1", Nothing),
     ),
     (
         Killed,
+        None,
         Row(Befalls(Expire(S2)), Killed, 0, "BBBB1", Nothing),
     ),
     (
         Killed,
+        None,
         Row(Befalls(Expire(S3)), Killed, 0, "BBBB1", Nothing),
     ),
     (
         Killed,
+        None,
         Row(Befalls(Expire(Sl)), Killed, 0, "BBBB1", Nothing),
     ),
     (
         Unpowered,
+        None,
         Row(Befalls(Timeout), Unpowered, 0, "BBBB1", Nothing),
     ),
-    (Unpowered, Row(Befalls(Off), Unpowered, 0, "ABBB1", Nothing)),
-    (Unpowered, Row(Befalls(On), Ready, 0, "BBBB1", Nothing)),
     (
         Unpowered,
+        None,
+        Row(Befalls(Off), Unpowered, 0, "ABBB1", Nothing),
+    ),
+    (
+        Unpowered,
+        None,
+        Row(Befalls(On), Ready, 0, "BBBB1", Nothing),
+    ),
+    (
+        Unpowered,
+        None,
         Row(Befalls(Expire(S0)), Unpowered, 0, "BBBB1", Nothing),
     ),
     (
         Unpowered,
+        None,
         Row(Befalls(Expire(S1)), Unpowered, 0, "BABB1", Nothing),
     ),
     (
         Unpowered,
+        None,
         Row(Befalls(Expire(S2)), Unpowered, 0, "BBAB1", Nothing),
     ),
     (
         Unpowered,
+        None,
         Row(Befalls(Expire(S3)), Unpowered, 0, "BBBA1", Nothing),
     ),
     (
         Unpowered,
+        None,
         Row(Befalls(Expire(Sl)), Unpowered, 0, "BBBB0", Nothing),
     ),
 ];
