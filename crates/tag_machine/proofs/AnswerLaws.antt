@@ -1,0 +1,381 @@
+-- Which preamble the answer to a command has, and that an error leaves what the tag holds in every state as it was.
+use Rattle.std.proofs.Common.{◌≡◌, ℕ, ◌==◌, Bool, true, false, List, [], ◌∷◌, Option, Some, None, Result, Ok, Err, is_some, if◌then◌else◌, refl, sym, ◌∙◌, ap}
+use Rattle.command_grammar.specs.declared.command.Bank.{Bank}
+use Rattle.command_grammar.specs.declared.command.FlagName.{FlagName}
+use Rattle.command_grammar.specs.declared.command.MaskBank.{MaskBank}
+use Rattle.command_grammar.specs.declared.command.Sel.{Sel}
+use Rattle.command_grammar.specs.declared.command.Side.{Side}
+use Rattle.command_grammar.specs.declared.command.UpDn.{UpDn}
+use Rattle.command_grammar.specs.declared.commands.Command.{Command}
+use Rattle.command_grammar.specs.declared.commands.Command.TheVariants as commands
+use Rattle.lock_rules.specs.declared.terms.ErrorCode.{ErrorCode}
+use Rattle.lock_rules.specs.declared.terms.ErrorCode.TheVariants as errors
+use Rattle.lock_rules.specs.declared.terms.Level.{Level}
+use Rattle.lock_rules.specs.declared.terms.Level.TheVariants as levels
+use Rattle.lock_rules.specs.declared.locks.Locks.{Locks}
+use Rattle.lock_rules.specs.Codes.{code_of}
+use Rattle.lock_rules.specs.Lock.{locked}
+use Rattle.reply_grammar.specs.declared.expected.Reply.{Reply}
+use Rattle.reply_grammar.specs.declared.expected.Reply.TheVariants.{Rn16, Handle, Header, Error}
+use Rattle.session_flags.specs.Flags.{matches}
+use Rattle.tag_memory.specs.Memory.{Banks, kill_word_of, access_word_of}
+use Rattle.tag_memory.specs.Access.{words_read, written, erased}
+use Rattle.tag_machine.specs.declared.states.Half.{Half}
+use Rattle.tag_machine.specs.declared.states.Held.{Held}
+use Rattle.tag_machine.specs.declared.states.Kind.{Kind}
+use Rattle.tag_machine.specs.declared.states.Kind.TheVariants as kinds
+use Rattle.tag_machine.specs.TagValue.{StateValue, ReadyState, ArbitrateState, ReplyState, AcknowledgedState, OpenState, SecuredState, KilledState, UnpoweredState, BodyValue}
+use Rattle.tag_machine.specs.Answers.{Sent, Outcome, silent, plain, extended}
+use Rattle.tag_machine.specs.Draws.{drawn, after_draw, slot_drawn, begin_reply, enter, inverted_body, close, back}
+use Rattle.tag_machine.specs.Inventory.{take_part, closed_before, query, unless_half, end_turn, slot_below, count_down, query_rep, adjusted, query_adjust, epc_reply, ack, nak, selected_body, select}
+use Rattle.tag_machine.specs.Access.{held_state, first_level, new_held, req_rn_held, req_rn, with_handle, unless_any_half, is_kind, unless_other_half, uncover, refuse, read_answer, read_held, read, memory_changed, write_held, write, whole_of, keep_half, kill_whole, kill_half, kill_held, kill, has_user, locks_changed, lock, access_whole, access_half, access_held, access, block_write_held, block_write, block_erase_held, block_erase}
+use Rattle.tag_machine.specs.Delayed.{has_half, is_delayed}
+use Rattle.tag_machine.specs.Step.{step}
+use Rattle.tag_machine.specs.declared.any_tag.Answered.{Answered}
+use Rattle.tag_machine.specs.declared.any_tag.Answered.TheVariants.{Silent, Plain, Extended}
+use Rattle.tag_machine.specs.Hearing.{mark_of}
+
+pub record AnswersAs (delayed : Bool) (before : BodyValue) (outcome : Outcome) : Type 0 where
+  pub marked : (sent : Sent) → outcome.answer ≡ Some sent → sent.extended ≡ delayed
+  pub refused : (sent : Sent) (code : ℕ) → outcome.answer ≡ Some sent → sent.reply ≡ Error code → outcome.tag.body ≡ before
+
+extended_of : Option Sent → Bool
+extended_of None = false
+extended_of (Some sent) = sent.extended
+
+reply_of : Option Sent → Reply
+reply_of None = Header
+reply_of (Some sent) = sent.reply
+
+silent_is : (delayed : Bool) (before : BodyValue) (state : StateValue) (body : BodyValue) → AnswersAs delayed before (silent state body)
+silent_is delayed before state body = record { marked = λ sent is. cc; refused = λ sent code is error. cc }
+
+number_is : (before : BodyValue) (state : StateValue) (after : BodyValue) (rn handle : ℕ) → AnswersAs false before (plain state after (Handle rn) handle)
+unfolding extended_of reply_of
+number_is before state after rn handle = record {
+  marked = λ sent is. sym (ap extended_of is);
+  refused = λ sent code is error. let clash : Handle rn ≡ Error code = ap reply_of is ∙ error in cc;
+}
+
+slot_is : (before : BodyValue) (state : StateValue) (after : BodyValue) (rn handle : ℕ) → AnswersAs false before (plain state after (Rn16 rn) handle)
+unfolding extended_of reply_of
+slot_is before state after rn handle = record {
+  marked = λ sent is. sym (ap extended_of is);
+  refused = λ sent code is error. let clash : Rn16 rn ≡ Error code = ap reply_of is ∙ error in cc;
+}
+
+plain_same_is : (state : StateValue) (body : BodyValue) (reply : Reply) (handle : ℕ) → AnswersAs false body (plain state body reply handle)
+unfolding extended_of
+plain_same_is state body reply handle = record { marked = λ sent is. sym (ap extended_of is); refused = λ sent code is error. refl }
+
+header_is : (before : BodyValue) (state : StateValue) (after : BodyValue) (handle : ℕ) → AnswersAs true before (extended state after Header handle)
+unfolding extended_of reply_of
+header_is before state after handle = record {
+  marked = λ sent is. sym (ap extended_of is);
+  refused = λ sent code is error. let clash : Header ≡ Error code = ap reply_of is ∙ error in cc;
+}
+
+delayed_same_is : (state : StateValue) (body : BodyValue) (reply : Reply) (handle : ℕ) → AnswersAs true body (extended state body reply handle)
+unfolding extended_of
+delayed_same_is state body reply handle = record { marked = λ sent is. sym (ap extended_of is); refused = λ sent code is error. refl }
+
+either : (delayed : Bool) (before : BodyValue) (test : Bool) (x y : Outcome) → AnswersAs delayed before x → AnswersAs delayed before y → AnswersAs delayed before (if test then x else y)
+either delayed before true x y of_x of_y = of_x
+either delayed before false x y of_x of_y = of_y
+
+with_handle_is : (delayed : Bool) (level : Level) (rn : ℕ) (held : Held) (body : BodyValue) (outcome : Outcome) → AnswersAs delayed body outcome → AnswersAs delayed body (with_handle level rn held body outcome)
+with_handle_is delayed level rn held body outcome given = either delayed body (held.handle == rn) outcome (silent (held_state level held) body) given (silent_is delayed body (held_state level held) body)
+
+unless_half_is : (delayed : Bool) (body : BodyValue) (half : Option Half) (instead outcome : Outcome) → AnswersAs delayed body instead → AnswersAs delayed body outcome → AnswersAs delayed body (unless_half half instead outcome)
+unless_half_is delayed body None instead outcome of_instead given = given
+unless_half_is delayed body (Some half) instead outcome of_instead given = of_instead
+
+-- a command of another kind than any half, with what it does where it has the handle and no half stands before it
+heard_is : (delayed : Bool) (level : Level) (rn : ℕ) (held : Held) (body : BodyValue) (outcome : Outcome) → AnswersAs delayed body outcome → AnswersAs delayed body (with_handle level rn held body (unless_any_half held body outcome))
+heard_is delayed level rn held body outcome given =
+    with_handle_is delayed level rn held body (unless_any_half held body outcome)
+    (unless_half_is delayed body held.half (back held.session held.q body) outcome (silent_is delayed body (ArbitrateState held.session held.q 0) body) given)
+
+unless_other_half_is : (delayed : Bool) (body : BodyValue) (kind : Kind) (half : Option Half) (instead outcome : Outcome) → AnswersAs delayed body instead → AnswersAs delayed body outcome → AnswersAs delayed body (unless_other_half kind half instead outcome)
+unless_other_half_is delayed body kind None instead outcome of_instead given = given
+unless_other_half_is delayed body kind (Some half) instead outcome of_instead given = either delayed body (is_kind kind half.kind) outcome instead given of_instead
+
+uncover_is : (delayed : Bool) (level : Level) (held : Held) (body : BodyValue) (covered : ℕ) (cover : Option ℕ) (follows : Held → ℕ → Outcome) → ((value : ℕ) → AnswersAs delayed body (follows (record held { cover = None }) value)) → AnswersAs delayed body (uncover level held body covered cover follows)
+uncover_is delayed level held body covered None follows given = silent_is delayed body (held_state level held) body
+uncover_is delayed level held body covered (Some cover) follows given = given _
+
+memory_changed_is : (level : Level) (held : Held) (body : BodyValue) (change : Result Banks ErrorCode) → AnswersAs true body (memory_changed level held body change)
+memory_changed_is level held body (Ok memory) = header_is body (held_state level held) (record body { memory = memory }) held.handle
+memory_changed_is level held body (Err code) = delayed_same_is (held_state level held) body (Error (code_of code)) held.handle
+
+locks_changed_is : (held : Held) (body : BodyValue) (change : Result Locks ErrorCode) → AnswersAs true body (locks_changed held body change)
+locks_changed_is held body (Ok locks) = header_is body (SecuredState held) (record body { locks = locks }) held.handle
+locks_changed_is held body (Err code) = delayed_same_is (SecuredState held) body (Error (code_of code)) held.handle
+
+-- Req_RN
+give_cover_is : (level : Level) (rn : ℕ) (held : Held) (body : BodyValue) → AnswersAs false body (req_rn_held level rn held body)
+give_cover_is level rn held body =
+    either false body (held.handle == rn) (plain (held_state level (record held { cover = Some (drawn body) })) (after_draw body) (Handle (drawn body)) 0) (silent (held_state level held) body)
+    (number_is body (held_state level (record held { cover = Some (drawn body) })) (after_draw body) (drawn body) 0)
+    (silent_is false body (held_state level held) body)
+
+req_rn_is : (rn : ℕ) (state : StateValue) (body : BodyValue) → AnswersAs false body (req_rn rn state body)
+req_rn_is rn ReadyState body = silent_is false body ReadyState body
+req_rn_is rn (ArbitrateState session q slot) body = silent_is false body (ArbitrateState session q slot) body
+req_rn_is rn (ReplyState session q own) body = silent_is false body (ArbitrateState session q 0) body
+req_rn_is rn (AcknowledgedState session q own) body =
+    either false body (own == rn) (plain (held_state (first_level body) (new_held session q (drawn body))) (after_draw body) (Handle (drawn body)) 0) (silent (AcknowledgedState session q own) body)
+    (number_is body (held_state (first_level body) (new_held session q (drawn body))) (after_draw body) (drawn body) 0)
+    (silent_is false body (AcknowledgedState session q own) body)
+req_rn_is rn (OpenState held) body = give_cover_is levels.Opened rn held body
+req_rn_is rn (SecuredState held) body = give_cover_is levels.Secured rn held body
+req_rn_is rn KilledState body = silent_is false body KilledState body
+req_rn_is rn UnpoweredState body = silent_is false body UnpoweredState body
+
+-- Read
+read_held_is : (level : Level) (bank : Bank) (pointer count rn : ℕ) (held : Held) (body : BodyValue) → AnswersAs false body (read_held level bank pointer count rn held body)
+read_held_is level bank pointer count rn held body =
+    heard_is false level rn held body _ (plain_same_is (held_state level held) body (read_answer (words_read body.memory body.locks level bank pointer count)) held.handle)
+
+read_is : (bank : Bank) (pointer count rn : ℕ) (state : StateValue) (body : BodyValue) → AnswersAs false body (read bank pointer count rn state body)
+read_is bank pointer count rn ReadyState body = silent_is false body ReadyState body
+read_is bank pointer count rn (ArbitrateState session q slot) body = silent_is false body (ArbitrateState session q slot) body
+read_is bank pointer count rn (ReplyState session q own) body = silent_is false body (ArbitrateState session q 0) body
+read_is bank pointer count rn (AcknowledgedState session q own) body = silent_is false body (ArbitrateState session q 0) body
+read_is bank pointer count rn (OpenState held) body = read_held_is levels.Opened bank pointer count rn held body
+read_is bank pointer count rn (SecuredState held) body = read_held_is levels.Secured bank pointer count rn held body
+read_is bank pointer count rn KilledState body = silent_is false body KilledState body
+read_is bank pointer count rn UnpoweredState body = silent_is false body UnpoweredState body
+
+-- Write
+write_held_is : (level : Level) (bank : Bank) (pointer covered rn : ℕ) (held : Held) (body : BodyValue) → AnswersAs true body (write_held level bank pointer covered rn held body)
+write_held_is level bank pointer covered rn held body =
+    heard_is true level rn held body _
+    (uncover_is true level held body covered held.cover (λ bare word. memory_changed level bare body (written body.memory body.locks level bank pointer (word ∷ [])))
+    (λ word. memory_changed_is level (record held { cover = None }) body (written body.memory body.locks level bank pointer (word ∷ []))))
+
+write_is : (bank : Bank) (pointer covered rn : ℕ) (state : StateValue) (body : BodyValue) → AnswersAs true body (write bank pointer covered rn state body)
+write_is bank pointer covered rn ReadyState body = silent_is true body ReadyState body
+write_is bank pointer covered rn (ArbitrateState session q slot) body = silent_is true body (ArbitrateState session q slot) body
+write_is bank pointer covered rn (ReplyState session q own) body = silent_is true body (ArbitrateState session q 0) body
+write_is bank pointer covered rn (AcknowledgedState session q own) body = silent_is true body (ArbitrateState session q 0) body
+write_is bank pointer covered rn (OpenState held) body = write_held_is levels.Opened bank pointer covered rn held body
+write_is bank pointer covered rn (SecuredState held) body = write_held_is levels.Secured bank pointer covered rn held body
+write_is bank pointer covered rn KilledState body = silent_is true body KilledState body
+write_is bank pointer covered rn UnpoweredState body = silent_is true body UnpoweredState body
+
+-- BlockWrite
+block_write_is : (bank : Bank) (pointer : ℕ) (words : List ℕ) (rn : ℕ) (state : StateValue) (body : BodyValue) → AnswersAs true body (block_write bank pointer words rn state body)
+block_write_is bank pointer words rn ReadyState body = silent_is true body ReadyState body
+block_write_is bank pointer words rn (ArbitrateState session q slot) body = silent_is true body (ArbitrateState session q slot) body
+block_write_is bank pointer words rn (ReplyState session q own) body = silent_is true body (ArbitrateState session q 0) body
+block_write_is bank pointer words rn (AcknowledgedState session q own) body = silent_is true body (ArbitrateState session q 0) body
+block_write_is bank pointer words rn (OpenState held) body =
+    heard_is true levels.Opened rn held body _ (memory_changed_is levels.Opened held body (written body.memory body.locks levels.Opened bank pointer words))
+block_write_is bank pointer words rn (SecuredState held) body =
+    heard_is true levels.Secured rn held body _ (memory_changed_is levels.Secured held body (written body.memory body.locks levels.Secured bank pointer words))
+block_write_is bank pointer words rn KilledState body = silent_is true body KilledState body
+block_write_is bank pointer words rn UnpoweredState body = silent_is true body UnpoweredState body
+
+-- BlockErase
+block_erase_is : (bank : Bank) (pointer count rn : ℕ) (state : StateValue) (body : BodyValue) → AnswersAs true body (block_erase bank pointer count rn state body)
+block_erase_is bank pointer count rn ReadyState body = silent_is true body ReadyState body
+block_erase_is bank pointer count rn (ArbitrateState session q slot) body = silent_is true body (ArbitrateState session q slot) body
+block_erase_is bank pointer count rn (ReplyState session q own) body = silent_is true body (ArbitrateState session q 0) body
+block_erase_is bank pointer count rn (AcknowledgedState session q own) body = silent_is true body (ArbitrateState session q 0) body
+block_erase_is bank pointer count rn (OpenState held) body =
+    heard_is true levels.Opened rn held body _ (memory_changed_is levels.Opened held body (erased body.memory body.locks levels.Opened bank pointer count))
+block_erase_is bank pointer count rn (SecuredState held) body =
+    heard_is true levels.Secured rn held body _ (memory_changed_is levels.Secured held body (erased body.memory body.locks levels.Secured bank pointer count))
+block_erase_is bank pointer count rn KilledState body = silent_is true body KilledState body
+block_erase_is bank pointer count rn UnpoweredState body = silent_is true body UnpoweredState body
+
+-- Lock
+lock_is : (payload rn : ℕ) (state : StateValue) (body : BodyValue) → AnswersAs true body (lock payload rn state body)
+lock_is payload rn ReadyState body = silent_is true body ReadyState body
+lock_is payload rn (ArbitrateState session q slot) body = silent_is true body (ArbitrateState session q slot) body
+lock_is payload rn (ReplyState session q own) body = silent_is true body (ArbitrateState session q 0) body
+lock_is payload rn (AcknowledgedState session q own) body = silent_is true body (ArbitrateState session q 0) body
+lock_is payload rn (OpenState held) body = heard_is true levels.Opened rn held body _ (silent_is true body (OpenState held) body)
+lock_is payload rn (SecuredState held) body =
+    heard_is true levels.Secured rn held body _ (locks_changed_is held body (locked body.locks payload (has_user body)))
+lock_is payload rn KilledState body = silent_is true body KilledState body
+lock_is payload rn UnpoweredState body = silent_is true body UnpoweredState body
+
+-- Kill: the answer to a first half is plain, and that to a second is delayed
+kill_half_is : (level : Level) (half : Option Half) (value : ℕ) (held : Held) (body : BodyValue) → AnswersAs (is_some half) body (kill_half level half value held body)
+kill_half_is level None value held body = number_is body (held_state level (record held { half = Some (record { kind = kinds.Kill; value = value }) })) body held.handle 0
+kill_half_is level (Some half) value held body =
+    either true body (kill_word_of body.memory == 0) (refuse level (record held { half = None }) body errors.Other) _
+    (delayed_same_is (held_state level (record held { half = None })) body (Error (code_of errors.Other)) held.handle)
+    (either true body (kill_word_of body.memory == whole_of half.value value) (extended KilledState body Header held.handle) (back held.session held.q body)
+    (header_is body KilledState body held.handle)
+    (silent_is true body (ArbitrateState held.session held.q 0) body))
+
+kill_held_is : (level : Level) (covered rn : ℕ) (held : Held) (body : BodyValue) → AnswersAs (is_some held.half) body (kill_held level covered rn held body)
+kill_held_is level covered rn held body =
+    with_handle_is (is_some held.half) level rn held body _
+    (unless_other_half_is (is_some held.half) body kinds.Kill held.half (back held.session held.q body) _ (silent_is (is_some held.half) body (ArbitrateState held.session held.q 0) body)
+    (uncover_is (is_some held.half) level held body covered held.cover (λ bare value. kill_half level bare.half value bare body)
+    (λ value. kill_half_is level held.half value (record held { cover = None }) body)))
+
+kill_is : (covered rn : ℕ) (state : StateValue) (body : BodyValue) → AnswersAs (has_half state) body (kill covered rn state body)
+kill_is covered rn ReadyState body = silent_is false body ReadyState body
+kill_is covered rn (ArbitrateState session q slot) body = silent_is false body (ArbitrateState session q slot) body
+kill_is covered rn (ReplyState session q own) body = silent_is false body (ArbitrateState session q 0) body
+kill_is covered rn (AcknowledgedState session q own) body = silent_is false body (ArbitrateState session q 0) body
+kill_is covered rn (OpenState held) body = kill_held_is levels.Opened covered rn held body
+kill_is covered rn (SecuredState held) body = kill_held_is levels.Secured covered rn held body
+kill_is covered rn KilledState body = silent_is false body KilledState body
+kill_is covered rn UnpoweredState body = silent_is false body UnpoweredState body
+
+-- Access
+access_half_is : (level : Level) (half : Option Half) (value : ℕ) (held : Held) (body : BodyValue) → AnswersAs false body (access_half level half value held body)
+access_half_is level None value held body = number_is body (held_state level (record held { half = Some (record { kind = kinds.Access; value = value }) })) body held.handle 0
+access_half_is level (Some half) value held body =
+    either false body (access_word_of body.memory == whole_of half.value value) (plain (SecuredState (record held { half = None })) body (Handle held.handle) 0) (back held.session held.q body)
+    (number_is body (SecuredState (record held { half = None })) body held.handle 0)
+    (silent_is false body (ArbitrateState held.session held.q 0) body)
+
+access_held_is : (level : Level) (covered rn : ℕ) (held : Held) (body : BodyValue) → AnswersAs false body (access_held level covered rn held body)
+access_held_is level covered rn held body =
+    with_handle_is false level rn held body _
+    (unless_other_half_is false body kinds.Access held.half (back held.session held.q body) _ (silent_is false body (ArbitrateState held.session held.q 0) body)
+    (uncover_is false level held body covered held.cover (λ bare value. access_half level bare.half value bare body)
+    (λ value. access_half_is level held.half value (record held { cover = None }) body)))
+
+access_is : (covered rn : ℕ) (state : StateValue) (body : BodyValue) → AnswersAs false body (access covered rn state body)
+access_is covered rn ReadyState body = silent_is false body ReadyState body
+access_is covered rn (ArbitrateState session q slot) body = silent_is false body (ArbitrateState session q slot) body
+access_is covered rn (ReplyState session q own) body = silent_is false body (ArbitrateState session q 0) body
+access_is covered rn (AcknowledgedState session q own) body = silent_is false body (ArbitrateState session q 0) body
+access_is covered rn (OpenState held) body = access_held_is levels.Opened covered rn held body
+access_is covered rn (SecuredState held) body = access_held_is levels.Secured covered rn held body
+access_is covered rn KilledState body = silent_is false body KilledState body
+access_is covered rn UnpoweredState body = silent_is false body UnpoweredState body
+
+-- Query, QueryRep and QueryAdjust
+begin_reply_is : (before : BodyValue) (session q : ℕ) (body : BodyValue) → AnswersAs false before (begin_reply session q body)
+begin_reply_is before session q body = slot_is before (ReplyState session q (drawn body)) (after_draw body) (drawn body) 0
+
+enter_is : (before : BodyValue) (session q : ℕ) (body : BodyValue) → AnswersAs false before (enter session q body)
+enter_is before session q body =
+    either false before (slot_drawn q body == 0) (begin_reply session q (after_draw body)) (silent (ArbitrateState session q (slot_drawn q body)) (after_draw body))
+    (begin_reply_is before session q (after_draw body))
+    (silent_is false before (ArbitrateState session q (slot_drawn q body)) (after_draw body))
+
+take_part_is : (before : BodyValue) (sel : Sel) (session : ℕ) (target : Side) (q : ℕ) (body : BodyValue) → AnswersAs false before (take_part sel session target q body)
+take_part_is before sel session target q body =
+    either false before (matches sel session target body.flags) (enter session q body) (silent ReadyState body)
+    (enter_is before session q body) (silent_is false before ReadyState body)
+
+query_is : (sel : Sel) (session : ℕ) (target : Side) (q : ℕ) (state : StateValue) (body : BodyValue) → AnswersAs false body (query sel session target q state body)
+query_is sel session target q ReadyState body = take_part_is body sel session target q body
+query_is sel session target q (ArbitrateState own own_q slot) body = take_part_is body sel session target q body
+query_is sel session target q (ReplyState own own_q rn) body = take_part_is body sel session target q body
+query_is sel session target q (AcknowledgedState own own_q rn) body = take_part_is body sel session target q (closed_before own session body)
+query_is sel session target q (OpenState held) body = take_part_is body sel session target q (closed_before held.session session body)
+query_is sel session target q (SecuredState held) body = take_part_is body sel session target q (closed_before held.session session body)
+query_is sel session target q KilledState body = silent_is false body KilledState body
+query_is sel session target q UnpoweredState body = silent_is false body UnpoweredState body
+
+-- a command of the session, or of another, which changes nothing
+of_session : (own session : ℕ) (state : StateValue) (body : BodyValue) (outcome : Outcome) → AnswersAs false body outcome → AnswersAs false body (if own == session then outcome else silent state body)
+of_session own session state body outcome given = either false body (own == session) outcome (silent state body) given (silent_is false body state body)
+
+close_is : (session : ℕ) (body : BodyValue) → AnswersAs false body (close session body)
+close_is session body = silent_is false body ReadyState (inverted_body session body)
+
+end_turn_is : (session : ℕ) (held : Held) (body : BodyValue) → AnswersAs false body (end_turn session held body)
+end_turn_is session held body =
+    unless_half_is false body held.half (back session held.q body) (close session body) (silent_is false body (ArbitrateState session held.q 0) body) (close_is session body)
+
+query_rep_is : (session : ℕ) (state : StateValue) (body : BodyValue) → AnswersAs false body (query_rep session state body)
+query_rep_is session ReadyState body = silent_is false body ReadyState body
+query_rep_is session (ArbitrateState own q slot) body =
+    of_session own session (ArbitrateState own q slot) body (count_down session q slot body)
+    (either false body (slot_below slot == 0) (begin_reply session q body) (silent (ArbitrateState session q (slot_below slot)) body)
+    (begin_reply_is body session q body) (silent_is false body (ArbitrateState session q (slot_below slot)) body))
+query_rep_is session (ReplyState own q rn) body = of_session own session (ReplyState own q rn) body _ (silent_is false body (ArbitrateState session q 0x7FFF) body)
+query_rep_is session (AcknowledgedState own q rn) body = of_session own session (AcknowledgedState own q rn) body _ (close_is session body)
+query_rep_is session (OpenState held) body = of_session held.session session (OpenState held) body _ (end_turn_is session held body)
+query_rep_is session (SecuredState held) body = of_session held.session session (SecuredState held) body _ (end_turn_is session held body)
+query_rep_is session KilledState body = silent_is false body KilledState body
+query_rep_is session UnpoweredState body = silent_is false body UnpoweredState body
+
+query_adjust_is : (session : ℕ) (updn : UpDn) (state : StateValue) (body : BodyValue) → AnswersAs false body (query_adjust session updn state body)
+query_adjust_is session updn ReadyState body = silent_is false body ReadyState body
+query_adjust_is session updn (ArbitrateState own q slot) body = of_session own session (ArbitrateState own q slot) body _ (enter_is body session (adjusted updn q) body)
+query_adjust_is session updn (ReplyState own q rn) body = of_session own session (ReplyState own q rn) body _ (enter_is body session (adjusted updn q) body)
+query_adjust_is session updn (AcknowledgedState own q rn) body = of_session own session (AcknowledgedState own q rn) body _ (close_is session body)
+query_adjust_is session updn (OpenState held) body = of_session held.session session (OpenState held) body _ (end_turn_is session held body)
+query_adjust_is session updn (SecuredState held) body = of_session held.session session (SecuredState held) body _ (end_turn_is session held body)
+query_adjust_is session updn KilledState body = silent_is false body KilledState body
+query_adjust_is session updn UnpoweredState body = silent_is false body UnpoweredState body
+
+-- ACK, NAK and Select
+acked_is : (test : Bool) (state : StateValue) (session q : ℕ) (body : BodyValue) → AnswersAs false body (if test then plain state body (epc_reply body) 0 else back session q body)
+acked_is test state session q body =
+    either false body test (plain state body (epc_reply body) 0) (back session q body) (plain_same_is state body (epc_reply body) 0) (silent_is false body (ArbitrateState session q 0) body)
+
+ack_is : (rn : ℕ) (state : StateValue) (body : BodyValue) → AnswersAs false body (ack rn state body)
+ack_is rn ReadyState body = silent_is false body ReadyState body
+ack_is rn (ArbitrateState session q slot) body = silent_is false body (ArbitrateState session q slot) body
+ack_is rn (ReplyState session q own) body = acked_is (own == rn) (AcknowledgedState session q own) session q body
+ack_is rn (AcknowledgedState session q own) body = acked_is (own == rn) (AcknowledgedState session q own) session q body
+ack_is rn (OpenState held) body =
+    unless_half_is false body held.half (back held.session held.q body) _ (silent_is false body (ArbitrateState held.session held.q 0) body)
+    (acked_is (held.handle == rn) (OpenState held) held.session held.q body)
+ack_is rn (SecuredState held) body =
+    unless_half_is false body held.half (back held.session held.q body) _ (silent_is false body (ArbitrateState held.session held.q 0) body)
+    (acked_is (held.handle == rn) (SecuredState held) held.session held.q body)
+ack_is rn KilledState body = silent_is false body KilledState body
+ack_is rn UnpoweredState body = silent_is false body UnpoweredState body
+
+nak_is : (state : StateValue) (body : BodyValue) → AnswersAs false body (nak state body)
+nak_is ReadyState body = silent_is false body ReadyState body
+nak_is (ArbitrateState session q slot) body = silent_is false body (ArbitrateState session q slot) body
+nak_is (ReplyState session q rn) body = silent_is false body (ArbitrateState session q 0) body
+nak_is (AcknowledgedState session q rn) body = silent_is false body (ArbitrateState session q 0) body
+nak_is (OpenState held) body = silent_is false body (ArbitrateState held.session held.q 0) body
+nak_is (SecuredState held) body = silent_is false body (ArbitrateState held.session held.q 0) body
+nak_is KilledState body = silent_is false body KilledState body
+nak_is UnpoweredState body = silent_is false body UnpoweredState body
+
+select_is : (target : FlagName) (action : ℕ) (bank : MaskBank) (pointer : ℕ) (mask : List Bool) (state : StateValue) (body : BodyValue) → AnswersAs false body (select target action bank pointer mask state body)
+select_is target action bank pointer mask ReadyState body = silent_is false body ReadyState (selected_body target action bank pointer mask body)
+select_is target action bank pointer mask (ArbitrateState session q slot) body = silent_is false body ReadyState (selected_body target action bank pointer mask body)
+select_is target action bank pointer mask (ReplyState session q rn) body = silent_is false body ReadyState (selected_body target action bank pointer mask body)
+select_is target action bank pointer mask (AcknowledgedState session q rn) body = silent_is false body ReadyState (selected_body target action bank pointer mask body)
+select_is target action bank pointer mask (OpenState held) body =
+    unless_half_is false body held.half (back held.session held.q body) _ (silent_is false body (ArbitrateState held.session held.q 0) body)
+    (silent_is false body ReadyState (selected_body target action bank pointer mask body))
+select_is target action bank pointer mask (SecuredState held) body =
+    unless_half_is false body held.half (back held.session held.q body) _ (silent_is false body (ArbitrateState held.session held.q 0) body)
+    (silent_is false body ReadyState (selected_body target action bank pointer mask body))
+select_is target action bank pointer mask KilledState body = silent_is false body KilledState body
+select_is target action bank pointer mask UnpoweredState body = silent_is false body UnpoweredState body
+
+pub answers_as : (command : Command) (state : StateValue) (body : BodyValue) → AnswersAs (is_delayed command state) body (step command state body)
+answers_as (commands.QueryRep session) state body = query_rep_is session state body
+answers_as (commands.Ack rn) state body = ack_is rn state body
+answers_as (commands.Query dr line_code trext sel session target q) state body = query_is sel session target q state body
+answers_as (commands.QueryAdjust session updn) state body = query_adjust_is session updn state body
+answers_as (commands.Select target action bank pointer mask) state body = select_is target action bank pointer mask state body
+answers_as commands.Nak state body = nak_is state body
+answers_as (commands.ReqRn rn) state body = req_rn_is rn state body
+answers_as (commands.Read bank pointer count rn) state body = read_is bank pointer count rn state body
+answers_as (commands.Write bank pointer covered rn) state body = write_is bank pointer covered rn state body
+answers_as (commands.Kill covered rn) state body = kill_is covered rn state body
+answers_as (commands.Lock payload rn) state body = lock_is payload rn state body
+answers_as (commands.Access covered rn) state body = access_is covered rn state body
+answers_as (commands.BlockWrite bank pointer words rn) state body = block_write_is bank pointer words rn state body
+answers_as (commands.BlockErase bank pointer count rn) state body = block_erase_is bank pointer count rn state body
+
+marked_by : (answer : Option Sent) (delayed : Bool) (answered : Answered) → answered ≡ mark_of answer → (answered ≡ Silent → ⊥) → ((sent : Sent) → answer ≡ Some sent → sent.extended ≡ delayed) → answered ≡ (if delayed then Extended else Plain)
+marked_by None delayed answered is not_silent marks = absurd (not_silent is)
+marked_by (Some sent) delayed answered is not_silent marks = is ∙ ap (λ (b : Bool). if b then Extended else Plain) (marks sent refl)
+
+pub marked : (command : Command) (state : StateValue) (body : BodyValue) (answered : Answered) → answered ≡ mark_of (step command state body).answer → (answered ≡ Silent → ⊥) → answered ≡ (if is_delayed command state then Extended else Plain)
+marked command state body answered is not_silent =
+    marked_by (step command state body).answer (is_delayed command state) answered is not_silent (answers_as command state body).marked

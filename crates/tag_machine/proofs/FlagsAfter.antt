@@ -1,0 +1,315 @@
+-- What is said of the flags after a step: it holds where it holds of the flags before it, and, for the commands that
+-- change a flag, of the flags with that change.
+use Rattle.std.proofs.Common.{ℕ, ◌==◌, Bool, true, false, List, [], ◌∷◌, Option, Some, None, Result, Ok, Err, if◌then◌else◌}
+use Rattle.command_grammar.specs.declared.command.Bank.{Bank}
+use Rattle.command_grammar.specs.declared.command.FlagName.{FlagName}
+use Rattle.command_grammar.specs.declared.command.MaskBank.{MaskBank}
+use Rattle.command_grammar.specs.declared.command.Sel.{Sel}
+use Rattle.command_grammar.specs.declared.command.Side.{Side}
+use Rattle.command_grammar.specs.declared.command.UpDn.{UpDn}
+use Rattle.lock_rules.specs.declared.locks.Locks.{Locks}
+use Rattle.lock_rules.specs.declared.terms.ErrorCode.{ErrorCode}
+use Rattle.lock_rules.specs.declared.terms.ErrorCode.TheVariants as errors
+use Rattle.lock_rules.specs.declared.terms.Level.{Level}
+use Rattle.lock_rules.specs.declared.terms.Level.TheVariants as levels
+use Rattle.lock_rules.specs.Lock.{locked}
+use Rattle.reply_grammar.specs.declared.expected.Reply.TheVariants.{Handle, Header}
+use Rattle.session_flags.specs.declared.flags.Flags.{Flags}
+use Rattle.session_flags.specs.Flags.{inverted, matches}
+use Rattle.tag_memory.specs.Memory.{Banks, kill_word_of, access_word_of}
+use Rattle.tag_memory.specs.Access.{words_read, written, erased}
+use Rattle.tag_machine.specs.declared.states.Half.{Half}
+use Rattle.tag_machine.specs.declared.states.Kind.{Kind}
+use Rattle.tag_machine.specs.declared.states.Kind.TheVariants as kinds
+use Rattle.tag_machine.specs.declared.states.Held.{Held}
+use Rattle.tag_machine.specs.TagValue.{StateValue, ReadyState, ArbitrateState, ReplyState, AcknowledgedState, OpenState, SecuredState, KilledState, UnpoweredState, BodyValue}
+use Rattle.tag_machine.specs.Answers.{Outcome, silent, plain, extended}
+use Rattle.tag_machine.specs.Draws.{enter, begin_reply, slot_drawn, after_draw, inverted_body, close, back}
+use Rattle.tag_machine.specs.Inventory.{take_part, closed_before, query, unless_half, end_turn, slot_below, count_down, query_rep, adjusted, query_adjust, epc_reply, ack, nak, selected_body, selected_ready, select}
+use Rattle.tag_machine.specs.Access.{held_state, give_handle, give_cover, req_rn_held, req_rn, with_handle, unless_any_half, is_kind, unless_other_half, uncover, refuse, read_answer, read_held, read, memory_changed, write_held, write, whole_of, keep_half, kill_whole, kill_half, kill_held, kill, has_user, locks_changed, lock, access_whole, access_half, access_held, access, block_write_held, block_write, block_erase_held, block_erase}
+
+-- what is said of the flags after an outcome
+abbrev Holds : (Flags → Type 0) → Outcome → Type 0
+Holds P outcome = P outcome.tag.body.flags
+
+either : (P : Flags → Type 0) (test : Bool) (x y : Outcome) → Holds P x → Holds P y → Holds P (if test then x else y)
+either P true x y p q = p
+either P false x y p q = q
+
+-- moves
+entered : (P : Flags → Type 0) (session q : ℕ) (body : BodyValue) → P body.flags → Holds P (enter session q body)
+entered P session q body p =
+    either P (slot_drawn q body == 0) (begin_reply session q (after_draw body)) (silent (ArbitrateState session q (slot_drawn q body)) (after_draw body)) p p
+
+half_or : (P : Flags → Type 0) (half : Option Half) (instead outcome : Outcome) → Holds P instead → Holds P outcome → Holds P (unless_half half instead outcome)
+half_or P None instead outcome p q = q
+half_or P (Some half) instead outcome p q = p
+
+turn_ended : (P : Flags → Type 0) (session : ℕ) (held : Held) (body : BodyValue) → P body.flags → P (inverted body.flags session) → Holds P (end_turn session held body)
+turn_ended P session held body p q = half_or P held.half (back session held.q body) (close session body) p q
+
+-- Query
+took_part : (P : Flags → Type 0) (sel : Sel) (session : ℕ) (target : Side) (q : ℕ) (body : BodyValue) → P body.flags → Holds P (take_part sel session target q body)
+took_part P sel session target q body p =
+    either P (matches sel session target body.flags) (enter session q body) (silent ReadyState body) (entered P session q body p) p
+
+body_either : (P : Flags → Type 0) (test : Bool) (x y : BodyValue) → P x.flags → P y.flags → P (if test then x else y).flags
+body_either P true x y p q = p
+body_either P false x y p q = q
+
+closed_then : (P : Flags → Type 0) (sel : Sel) (session : ℕ) (target : Side) (q own : ℕ) (body : BodyValue) → P body.flags → P (inverted body.flags session) → Holds P (take_part sel session target q (closed_before own session body))
+closed_then P sel session target q own body p inv =
+    took_part P sel session target q (closed_before own session body) (body_either P (own == session) (inverted_body session body) body inv p)
+
+pub after_query : (P : Flags → Type 0) (sel : Sel) (session : ℕ) (target : Side) (q : ℕ) (state : StateValue) (body : BodyValue) → P body.flags → P (inverted body.flags session) → Holds P (query sel session target q state body)
+after_query P sel session target q ReadyState body p inv = took_part P sel session target q body p
+after_query P sel session target q (ArbitrateState own own_q slot) body p inv = took_part P sel session target q body p
+after_query P sel session target q (ReplyState own own_q rn) body p inv = took_part P sel session target q body p
+after_query P sel session target q (AcknowledgedState own own_q rn) body p inv = closed_then P sel session target q own body p inv
+after_query P sel session target q (OpenState held) body p inv = closed_then P sel session target q held.session body p inv
+after_query P sel session target q (SecuredState held) body p inv = closed_then P sel session target q held.session body p inv
+after_query P sel session target q KilledState body p inv = p
+after_query P sel session target q UnpoweredState body p inv = p
+
+-- QueryRep
+counted_down : (P : Flags → Type 0) (session q slot : ℕ) (body : BodyValue) → P body.flags → Holds P (count_down session q slot body)
+counted_down P session q slot body p =
+    either P (slot_below slot == 0) (begin_reply session q body) (silent (ArbitrateState session q (slot_below slot)) body) p p
+
+pub after_query_rep : (P : Flags → Type 0) (session : ℕ) (state : StateValue) (body : BodyValue) → P body.flags → P (inverted body.flags session) → Holds P (query_rep session state body)
+after_query_rep P session ReadyState body p inv = p
+after_query_rep P session (ArbitrateState own q slot) body p inv =
+    either P (own == session) (count_down session q slot body) (silent (ArbitrateState own q slot) body) (counted_down P session q slot body p) p
+after_query_rep P session (ReplyState own q rn) body p inv =
+    either P (own == session) (silent (ArbitrateState session q 0x7FFF) body) (silent (ReplyState own q rn) body) p p
+after_query_rep P session (AcknowledgedState own q rn) body p inv =
+    either P (own == session) (close session body) (silent (AcknowledgedState own q rn) body) inv p
+after_query_rep P session (OpenState held) body p inv =
+    either P (held.session == session) (end_turn session held body) (silent (OpenState held) body) (turn_ended P session held body p inv) p
+after_query_rep P session (SecuredState held) body p inv =
+    either P (held.session == session) (end_turn session held body) (silent (SecuredState held) body) (turn_ended P session held body p inv) p
+after_query_rep P session KilledState body p inv = p
+after_query_rep P session UnpoweredState body p inv = p
+
+-- QueryAdjust
+pub after_query_adjust : (P : Flags → Type 0) (session : ℕ) (updn : UpDn) (state : StateValue) (body : BodyValue) → P body.flags → P (inverted body.flags session) → Holds P (query_adjust session updn state body)
+after_query_adjust P session updn ReadyState body p inv = p
+after_query_adjust P session updn (ArbitrateState own q slot) body p inv =
+    either P (own == session) (enter session (adjusted updn q) body) (silent (ArbitrateState own q slot) body) (entered P session (adjusted updn q) body p) p
+after_query_adjust P session updn (ReplyState own q rn) body p inv =
+    either P (own == session) (enter session (adjusted updn q) body) (silent (ReplyState own q rn) body) (entered P session (adjusted updn q) body p) p
+after_query_adjust P session updn (AcknowledgedState own q rn) body p inv =
+    either P (own == session) (close session body) (silent (AcknowledgedState own q rn) body) inv p
+after_query_adjust P session updn (OpenState held) body p inv =
+    either P (held.session == session) (end_turn session held body) (silent (OpenState held) body) (turn_ended P session held body p inv) p
+after_query_adjust P session updn (SecuredState held) body p inv =
+    either P (held.session == session) (end_turn session held body) (silent (SecuredState held) body) (turn_ended P session held body p inv) p
+after_query_adjust P session updn KilledState body p inv = p
+after_query_adjust P session updn UnpoweredState body p inv = p
+
+-- ACK and NAK
+pub after_ack : (P : Flags → Type 0) (rn : ℕ) (state : StateValue) (body : BodyValue) → P body.flags → Holds P (ack rn state body)
+after_ack P rn ReadyState body p = p
+after_ack P rn (ArbitrateState session q slot) body p = p
+after_ack P rn (ReplyState session q own) body p =
+    either P (own == rn) (plain (AcknowledgedState session q own) body (epc_reply body) 0) (back session q body) p p
+after_ack P rn (AcknowledgedState session q own) body p =
+    either P (own == rn) (plain (AcknowledgedState session q own) body (epc_reply body) 0) (back session q body) p p
+after_ack P rn (OpenState held) body p =
+    half_or P held.half (back held.session held.q body) (if held.handle == rn then plain (OpenState held) body (epc_reply body) 0 else back held.session held.q body) p
+    (either P (held.handle == rn) (plain (OpenState held) body (epc_reply body) 0) (back held.session held.q body) p p)
+after_ack P rn (SecuredState held) body p =
+    half_or P held.half (back held.session held.q body) (if held.handle == rn then plain (SecuredState held) body (epc_reply body) 0 else back held.session held.q body) p
+    (either P (held.handle == rn) (plain (SecuredState held) body (epc_reply body) 0) (back held.session held.q body) p p)
+after_ack P rn KilledState body p = p
+after_ack P rn UnpoweredState body p = p
+
+pub after_nak : (P : Flags → Type 0) (state : StateValue) (body : BodyValue) → P body.flags → Holds P (nak state body)
+after_nak P ReadyState body p = p
+after_nak P (ArbitrateState session q slot) body p = p
+after_nak P (ReplyState session q rn) body p = p
+after_nak P (AcknowledgedState session q rn) body p = p
+after_nak P (OpenState held) body p = p
+after_nak P (SecuredState held) body p = p
+after_nak P KilledState body p = p
+after_nak P UnpoweredState body p = p
+
+-- Select
+pub after_select : (P : Flags → Type 0) (target : FlagName) (action : ℕ) (bank : MaskBank) (pointer : ℕ) (mask : List Bool) (state : StateValue) (body : BodyValue) → P body.flags → P (selected_body target action bank pointer mask body).flags → Holds P (select target action bank pointer mask state body)
+after_select P target action bank pointer mask ReadyState body p s = s
+after_select P target action bank pointer mask (ArbitrateState session q slot) body p s = s
+after_select P target action bank pointer mask (ReplyState session q rn) body p s = s
+after_select P target action bank pointer mask (AcknowledgedState session q rn) body p s = s
+after_select P target action bank pointer mask (OpenState held) body p s =
+    half_or P held.half (back held.session held.q body) (selected_ready target action bank pointer mask body) p s
+after_select P target action bank pointer mask (SecuredState held) body p s =
+    half_or P held.half (back held.session held.q body) (selected_ready target action bank pointer mask body) p s
+after_select P target action bank pointer mask KilledState body p s = p
+after_select P target action bank pointer mask UnpoweredState body p s = p
+
+-- the access commands, which change no flag
+handled : (P : Flags → Type 0) (level : Level) (rn : ℕ) (held : Held) (body : BodyValue) (outcome : Outcome) → P body.flags → Holds P outcome → Holds P (with_handle level rn held body outcome)
+handled P level rn held body outcome p q = either P (held.handle == rn) outcome (silent (held_state level held) body) q p
+
+any_half_or : (P : Flags → Type 0) (held : Held) (body : BodyValue) (outcome : Outcome) → P body.flags → Holds P outcome → Holds P (unless_any_half held body outcome)
+any_half_or P held body outcome p q = half_or P held.half (back held.session held.q body) outcome p q
+
+other_half_or : (P : Flags → Type 0) (kind : Kind) (half : Option Half) (instead outcome : Outcome) → Holds P instead → Holds P outcome → Holds P (unless_other_half kind half instead outcome)
+other_half_or P kind None instead outcome p q = q
+other_half_or P kind (Some half) instead outcome p q = either P (is_kind kind half.kind) outcome instead q p
+
+uncovered : (P : Flags → Type 0) (level : Level) (held : Held) (body : BodyValue) (covered : ℕ) (cover : Option ℕ) (follows : Held → ℕ → Outcome) → P body.flags → ((bare : Held) (value : ℕ) → Holds P (follows bare value)) → Holds P (uncover level held body covered cover follows)
+uncovered P level held body covered None follows p q = p
+uncovered P level held body covered (Some cover) follows p q = q _ _
+
+memory_set : (P : Flags → Type 0) (level : Level) (held : Held) (body : BodyValue) (after : Result Banks ErrorCode) → P body.flags → Holds P (memory_changed level held body after)
+memory_set P level held body (Ok memory) p = p
+memory_set P level held body (Err code) p = p
+
+locks_set : (P : Flags → Type 0) (held : Held) (body : BodyValue) (after : Result Locks ErrorCode) → P body.flags → Holds P (locks_changed held body after)
+locks_set P held body (Ok locks) p = p
+locks_set P held body (Err code) p = p
+
+req_rn_at : (P : Flags → Type 0) (level : Level) (rn : ℕ) (held : Held) (body : BodyValue) → P body.flags → Holds P (req_rn_held level rn held body)
+req_rn_at P level rn held body p = either P (held.handle == rn) (give_cover level held body) (silent (held_state level held) body) p p
+
+pub after_req_rn : (P : Flags → Type 0) (rn : ℕ) (state : StateValue) (body : BodyValue) → P body.flags → Holds P (req_rn rn state body)
+after_req_rn P rn ReadyState body p = p
+after_req_rn P rn (ArbitrateState session q slot) body p = p
+after_req_rn P rn (ReplyState session q own) body p = p
+after_req_rn P rn (AcknowledgedState session q own) body p = either P (own == rn) (give_handle session q body) (silent (AcknowledgedState session q own) body) p p
+after_req_rn P rn (OpenState held) body p = req_rn_at P levels.Opened rn held body p
+after_req_rn P rn (SecuredState held) body p = req_rn_at P levels.Secured rn held body p
+after_req_rn P rn KilledState body p = p
+after_req_rn P rn UnpoweredState body p = p
+
+read_at : (P : Flags → Type 0) (level : Level) (bank : Bank) (pointer count rn : ℕ) (held : Held) (body : BodyValue) → P body.flags → Holds P (read_held level bank pointer count rn held body)
+read_at P level bank pointer count rn held body p =
+    let answered = plain (held_state level held) body (read_answer (words_read body.memory body.locks level bank pointer count)) held.handle in
+    handled P level rn held body (unless_any_half held body answered) p (any_half_or P held body answered p p)
+
+pub after_read : (P : Flags → Type 0) (bank : Bank) (pointer count rn : ℕ) (state : StateValue) (body : BodyValue) → P body.flags → Holds P (read bank pointer count rn state body)
+after_read P bank pointer count rn ReadyState body p = p
+after_read P bank pointer count rn (ArbitrateState session q slot) body p = p
+after_read P bank pointer count rn (ReplyState session q own) body p = p
+after_read P bank pointer count rn (AcknowledgedState session q own) body p = p
+after_read P bank pointer count rn (OpenState held) body p = read_at P levels.Opened bank pointer count rn held body p
+after_read P bank pointer count rn (SecuredState held) body p = read_at P levels.Secured bank pointer count rn held body p
+after_read P bank pointer count rn KilledState body p = p
+after_read P bank pointer count rn UnpoweredState body p = p
+
+write_at : (P : Flags → Type 0) (level : Level) (bank : Bank) (pointer covered rn : ℕ) (held : Held) (body : BodyValue) → P body.flags → Holds P (write_held level bank pointer covered rn held body)
+write_at P level bank pointer covered rn held body p =
+    let follows = λ (bare : Held) (word : ℕ). memory_changed level bare body (written body.memory body.locks level bank pointer (word ∷ [])) in
+    handled P level rn held body (unless_any_half held body (uncover level held body covered held.cover follows)) p
+    (any_half_or P held body (uncover level held body covered held.cover follows) p
+    (uncovered P level held body covered held.cover follows p
+    (λ bare word. memory_set P level bare body (written body.memory body.locks level bank pointer (word ∷ [])) p)))
+
+pub after_write : (P : Flags → Type 0) (bank : Bank) (pointer covered rn : ℕ) (state : StateValue) (body : BodyValue) → P body.flags → Holds P (write bank pointer covered rn state body)
+after_write P bank pointer covered rn ReadyState body p = p
+after_write P bank pointer covered rn (ArbitrateState session q slot) body p = p
+after_write P bank pointer covered rn (ReplyState session q own) body p = p
+after_write P bank pointer covered rn (AcknowledgedState session q own) body p = p
+after_write P bank pointer covered rn (OpenState held) body p = write_at P levels.Opened bank pointer covered rn held body p
+after_write P bank pointer covered rn (SecuredState held) body p = write_at P levels.Secured bank pointer covered rn held body p
+after_write P bank pointer covered rn KilledState body p = p
+after_write P bank pointer covered rn UnpoweredState body p = p
+
+whole_killed : (P : Flags → Type 0) (level : Level) (value : ℕ) (held : Held) (body : BodyValue) → P body.flags → Holds P (kill_whole level value held body)
+whole_killed P level value held body p =
+    let killed = extended KilledState body Header held.handle in
+    let gone = back held.session held.q body in
+    let refused = refuse level (record held { half = None }) body errors.Other in
+    either P (kill_word_of body.memory == 0) refused (if kill_word_of body.memory == value then killed else gone) p
+    (either P (kill_word_of body.memory == value) killed gone p p)
+
+half_killed : (P : Flags → Type 0) (level : Level) (half : Option Half) (value : ℕ) (held : Held) (body : BodyValue) → P body.flags → Holds P (kill_half level half value held body)
+half_killed P level None value held body p = p
+half_killed P level (Some half) value held body p = whole_killed P level (whole_of half.value value) held body p
+
+kill_at : (P : Flags → Type 0) (level : Level) (covered rn : ℕ) (held : Held) (body : BodyValue) → P body.flags → Holds P (kill_held level covered rn held body)
+kill_at P level covered rn held body p =
+    let gone = back held.session held.q body in
+    let follows = λ (bare : Held) (value : ℕ). kill_half level bare.half value bare body in
+    let rest = uncover level held body covered held.cover follows in
+    handled P level rn held body (unless_other_half kinds.Kill held.half gone rest) p
+    (other_half_or P kinds.Kill held.half gone rest p
+    (uncovered P level held body covered held.cover follows p (λ bare value. half_killed P level bare.half value bare body p)))
+
+pub after_kill : (P : Flags → Type 0) (covered rn : ℕ) (state : StateValue) (body : BodyValue) → P body.flags → Holds P (kill covered rn state body)
+after_kill P covered rn ReadyState body p = p
+after_kill P covered rn (ArbitrateState session q slot) body p = p
+after_kill P covered rn (ReplyState session q own) body p = p
+after_kill P covered rn (AcknowledgedState session q own) body p = p
+after_kill P covered rn (OpenState held) body p = kill_at P levels.Opened covered rn held body p
+after_kill P covered rn (SecuredState held) body p = kill_at P levels.Secured covered rn held body p
+after_kill P covered rn KilledState body p = p
+after_kill P covered rn UnpoweredState body p = p
+
+pub after_lock : (P : Flags → Type 0) (payload rn : ℕ) (state : StateValue) (body : BodyValue) → P body.flags → Holds P (lock payload rn state body)
+after_lock P payload rn ReadyState body p = p
+after_lock P payload rn (ArbitrateState session q slot) body p = p
+after_lock P payload rn (ReplyState session q own) body p = p
+after_lock P payload rn (AcknowledgedState session q own) body p = p
+after_lock P payload rn (OpenState held) body p =
+    handled P levels.Opened rn held body (unless_any_half held body (silent (OpenState held) body)) p
+    (any_half_or P held body (silent (OpenState held) body) p p)
+after_lock P payload rn (SecuredState held) body p =
+    let after = locked body.locks payload (has_user body) in
+    handled P levels.Secured rn held body (unless_any_half held body (locks_changed held body after)) p
+    (any_half_or P held body (locks_changed held body after) p (locks_set P held body after p))
+after_lock P payload rn KilledState body p = p
+after_lock P payload rn UnpoweredState body p = p
+
+whole_accessed : (P : Flags → Type 0) (value : ℕ) (held : Held) (body : BodyValue) → P body.flags → Holds P (access_whole value held body)
+whole_accessed P value held body p =
+    either P (access_word_of body.memory == value) (plain (SecuredState (record held { half = None })) body (Handle held.handle) 0) (back held.session held.q body) p p
+
+half_accessed : (P : Flags → Type 0) (level : Level) (half : Option Half) (value : ℕ) (held : Held) (body : BodyValue) → P body.flags → Holds P (access_half level half value held body)
+half_accessed P level None value held body p = p
+half_accessed P level (Some half) value held body p = whole_accessed P (whole_of half.value value) held body p
+
+access_at : (P : Flags → Type 0) (level : Level) (covered rn : ℕ) (held : Held) (body : BodyValue) → P body.flags → Holds P (access_held level covered rn held body)
+access_at P level covered rn held body p =
+    let gone = back held.session held.q body in
+    let follows = λ (bare : Held) (value : ℕ). access_half level bare.half value bare body in
+    let rest = uncover level held body covered held.cover follows in
+    handled P level rn held body (unless_other_half kinds.Access held.half gone rest) p
+    (other_half_or P kinds.Access held.half gone rest p
+    (uncovered P level held body covered held.cover follows p (λ bare value. half_accessed P level bare.half value bare body p)))
+
+pub after_access : (P : Flags → Type 0) (covered rn : ℕ) (state : StateValue) (body : BodyValue) → P body.flags → Holds P (access covered rn state body)
+after_access P covered rn ReadyState body p = p
+after_access P covered rn (ArbitrateState session q slot) body p = p
+after_access P covered rn (ReplyState session q own) body p = p
+after_access P covered rn (AcknowledgedState session q own) body p = p
+after_access P covered rn (OpenState held) body p = access_at P levels.Opened covered rn held body p
+after_access P covered rn (SecuredState held) body p = access_at P levels.Secured covered rn held body p
+after_access P covered rn KilledState body p = p
+after_access P covered rn UnpoweredState body p = p
+
+changed_at : (P : Flags → Type 0) (level : Level) (rn : ℕ) (held : Held) (body : BodyValue) (after : Result Banks ErrorCode) → P body.flags → Holds P (with_handle level rn held body (unless_any_half held body (memory_changed level held body after)))
+changed_at P level rn held body after p =
+    handled P level rn held body (unless_any_half held body (memory_changed level held body after)) p
+    (any_half_or P held body (memory_changed level held body after) p (memory_set P level held body after p))
+
+pub after_block_write : (P : Flags → Type 0) (bank : Bank) (pointer : ℕ) (words : List ℕ) (rn : ℕ) (state : StateValue) (body : BodyValue) → P body.flags → Holds P (block_write bank pointer words rn state body)
+after_block_write P bank pointer words rn ReadyState body p = p
+after_block_write P bank pointer words rn (ArbitrateState session q slot) body p = p
+after_block_write P bank pointer words rn (ReplyState session q own) body p = p
+after_block_write P bank pointer words rn (AcknowledgedState session q own) body p = p
+after_block_write P bank pointer words rn (OpenState held) body p = changed_at P levels.Opened rn held body (written body.memory body.locks levels.Opened bank pointer words) p
+after_block_write P bank pointer words rn (SecuredState held) body p = changed_at P levels.Secured rn held body (written body.memory body.locks levels.Secured bank pointer words) p
+after_block_write P bank pointer words rn KilledState body p = p
+after_block_write P bank pointer words rn UnpoweredState body p = p
+
+pub after_block_erase : (P : Flags → Type 0) (bank : Bank) (pointer count rn : ℕ) (state : StateValue) (body : BodyValue) → P body.flags → Holds P (block_erase bank pointer count rn state body)
+after_block_erase P bank pointer count rn ReadyState body p = p
+after_block_erase P bank pointer count rn (ArbitrateState session q slot) body p = p
+after_block_erase P bank pointer count rn (ReplyState session q own) body p = p
+after_block_erase P bank pointer count rn (AcknowledgedState session q own) body p = p
+after_block_erase P bank pointer count rn (OpenState held) body p = changed_at P levels.Opened rn held body (erased body.memory body.locks levels.Opened bank pointer count) p
+after_block_erase P bank pointer count rn (SecuredState held) body p = changed_at P levels.Secured rn held body (erased body.memory body.locks levels.Secured bank pointer count) p
+after_block_erase P bank pointer count rn KilledState body p = p
+after_block_erase P bank pointer count rn UnpoweredState body p = p

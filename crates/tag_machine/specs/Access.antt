@@ -1,0 +1,247 @@
+-- 6.3.2.11.3 Access commands; Annex B and Annex C: what each of these commands does in each state. A state that a command
+-- doesn't name stays as it is, without a reply. In open and secured a command with another handle changes nothing and
+-- gets no reply. How an unfinished Kill or Access ends, and what becomes of a cover, is profile.
+use Rattle.std.specs.Prelude.{ℕ, ◌+◌, ◌*◌, ◌^◌, ◌==◌, nat_lt, Bool, true, false, List, [], ◌∷◌, length, Option, Some, None, Result, Ok, Err, bit_xor, if◌then◌else◌}
+use Rattle.command_grammar.specs.declared.command.Bank.{Bank}
+use Rattle.lock_rules.specs.declared.locks.Locks.{Locks}
+use Rattle.lock_rules.specs.declared.terms.ErrorCode.{ErrorCode}
+use Rattle.lock_rules.specs.declared.terms.ErrorCode.TheVariants as errors
+use Rattle.lock_rules.specs.declared.terms.Level.{Level}
+use Rattle.lock_rules.specs.declared.terms.Level.TheVariants as levels
+use Rattle.lock_rules.specs.Codes.{code_of}
+use Rattle.lock_rules.specs.Lock.{locked}
+use Rattle.reply_grammar.specs.declared.expected.Reply.{Reply}
+use Rattle.reply_grammar.specs.declared.expected.Reply.TheVariants.{Handle, Words, Header, Error}
+use Rattle.tag_memory.specs.Memory.{Banks, kill_word_of, access_word_of}
+use Rattle.tag_memory.specs.Access.{words_read, written, erased}
+use Rattle.tag_machine.specs.declared.states.Half.{Half}
+use Rattle.tag_machine.specs.declared.states.Kind.{Kind}
+use Rattle.tag_machine.specs.declared.states.Kind.TheVariants as kinds
+use Rattle.tag_machine.specs.declared.states.Held.{Held}
+use Rattle.tag_machine.specs.TagValue.{StateValue, ReadyState, ArbitrateState, ReplyState, AcknowledgedState, OpenState, SecuredState, KilledState, UnpoweredState, BodyValue}
+use Rattle.tag_machine.specs.Answers.{Outcome, silent, plain, extended}
+use Rattle.tag_machine.specs.Draws.{drawn, after_draw, back}
+use Rattle.tag_machine.specs.Inventory.{unless_half}
+
+-- open or secured, with what the tag holds there: the permissions are those of the state
+abbrev pub held_state : Level → Held → StateValue
+held_state levels.Opened held = OpenState held
+held_state levels.Secured held = SecuredState held
+
+-- 6.3.2.11.3.1 Req_RN in acknowledged: what is drawn is the handle; secured where the access password is 0, else open
+abbrev pub new_held : ℕ → ℕ → ℕ → Held
+new_held session q handle = record { session = session; q = q; handle = handle; cover = None; half = None }
+
+abbrev pub first_level : BodyValue → Level
+first_level body = (if access_word_of body.memory == 0 then levels.Secured else levels.Opened)
+
+abbrev pub give_handle : ℕ → ℕ → BodyValue → Outcome
+give_handle session q body =
+    plain (held_state (first_level body) (new_held session q (drawn body))) (after_draw body) (Handle (drawn body)) 0
+
+-- ... in open and secured: what is drawn covers the next Write, Kill or Access; a first half stays
+abbrev pub give_cover : Level → Held → BodyValue → Outcome
+give_cover level held body =
+    plain (held_state level (record held { cover = Some (drawn body) })) (after_draw body) (Handle (drawn body)) 0
+
+abbrev pub req_rn_held : Level → ℕ → Held → BodyValue → Outcome
+req_rn_held level rn held body =
+    (if held.handle == rn then give_cover level held body else silent (held_state level held) body)
+
+abbrev pub req_rn : ℕ → StateValue → BodyValue → Outcome
+req_rn rn ReadyState body = silent ReadyState body
+req_rn rn (ArbitrateState session q slot) body = silent (ArbitrateState session q slot) body
+req_rn rn (ReplyState session q own) body = back session q body
+req_rn rn (AcknowledgedState session q own) body =
+    (if own == rn then give_handle session q body else silent (AcknowledgedState session q own) body)
+req_rn rn (OpenState held) body = req_rn_held levels.Opened rn held body
+req_rn rn (SecuredState held) body = req_rn_held levels.Secured rn held body
+req_rn rn KilledState body = silent KilledState body
+req_rn rn UnpoweredState body = silent UnpoweredState body
+
+-- where the number is the handle: the outcome of the rules below, else nothing changes
+abbrev pub with_handle : Level → ℕ → Held → BodyValue → Outcome → Outcome
+with_handle level rn held body outcome =
+    (if held.handle == rn then outcome else silent (held_state level held) body)
+
+-- the first rule of all: with a first half and a command of another kind the tag goes back, without a reply
+abbrev pub unless_any_half : Held → BodyValue → Outcome → Outcome
+unless_any_half held body outcome = unless_half held.half (back held.session held.q body) outcome
+
+abbrev pub is_kind : Kind → Kind → Bool
+is_kind kinds.Kill kinds.Kill = true
+is_kind kinds.Kill kinds.Access = false
+is_kind kinds.Access kinds.Kill = false
+is_kind kinds.Access kinds.Access = true
+
+abbrev pub unless_other_half : Kind → Option Half → Outcome → Outcome → Outcome
+unless_other_half kind None instead outcome = outcome
+unless_other_half kind (Some half) instead outcome = (if is_kind kind half.kind then outcome else instead)
+
+-- a Write, Kill or Access without a cover changes nothing and gets no reply. With one, the cover is used up, whatever
+-- follows, and the value is the covered number XOR the cover.
+abbrev pub uncover : Level → Held → BodyValue → ℕ → Option ℕ → (Held → ℕ → Outcome) → Outcome
+uncover level held body covered None follows = silent (held_state level held) body
+uncover level held body covered (Some cover) follows = follows (record held { cover = None }) (bit_xor covered cover)
+
+-- the error that a tag answers in place of a delayed reply, and nothing else changes
+abbrev pub refuse : Level → Held → BodyValue → ErrorCode → Outcome
+refuse level held body code = extended (held_state level held) body (Error (code_of code)) held.handle
+
+-- 6.3.2.11.3.2 Read: the words, or an error
+abbrev pub read_answer : Result (List ℕ) ErrorCode → Reply
+read_answer (Ok words) = Words words
+read_answer (Err code) = Error (code_of code)
+
+abbrev pub read_held : Level → Bank → ℕ → ℕ → ℕ → Held → BodyValue → Outcome
+read_held level bank pointer count rn held body =
+    with_handle level rn held body (unless_any_half held body
+    (plain (held_state level held) body (read_answer (words_read body.memory body.locks level bank pointer count)) held.handle))
+
+abbrev pub read : Bank → ℕ → ℕ → ℕ → StateValue → BodyValue → Outcome
+read bank pointer count rn ReadyState body = silent ReadyState body
+read bank pointer count rn (ArbitrateState session q slot) body = silent (ArbitrateState session q slot) body
+read bank pointer count rn (ReplyState session q own) body = back session q body
+read bank pointer count rn (AcknowledgedState session q own) body = back session q body
+read bank pointer count rn (OpenState held) body = read_held levels.Opened bank pointer count rn held body
+read bank pointer count rn (SecuredState held) body = read_held levels.Secured bank pointer count rn held body
+read bank pointer count rn KilledState body = silent KilledState body
+read bank pointer count rn UnpoweredState body = silent UnpoweredState body
+
+-- what a change of the memory gives: the new memory and the header, or an error and the memory as it was
+abbrev pub memory_changed : Level → Held → BodyValue → Result Banks ErrorCode → Outcome
+memory_changed level held body (Ok memory) = extended (held_state level held) (record body { memory = memory }) Header held.handle
+memory_changed level held body (Err code) = refuse level held body code
+
+-- 6.3.2.11.3.3 Write
+abbrev pub write_held : Level → Bank → ℕ → ℕ → ℕ → Held → BodyValue → Outcome
+write_held level bank pointer covered rn held body =
+    with_handle level rn held body (unless_any_half held body (uncover level held body covered held.cover
+    (λ bare word. memory_changed level bare body (written body.memory body.locks level bank pointer (word ∷ [])))))
+
+abbrev pub write : Bank → ℕ → ℕ → ℕ → StateValue → BodyValue → Outcome
+write bank pointer covered rn ReadyState body = silent ReadyState body
+write bank pointer covered rn (ArbitrateState session q slot) body = silent (ArbitrateState session q slot) body
+write bank pointer covered rn (ReplyState session q own) body = back session q body
+write bank pointer covered rn (AcknowledgedState session q own) body = back session q body
+write bank pointer covered rn (OpenState held) body = write_held levels.Opened bank pointer covered rn held body
+write bank pointer covered rn (SecuredState held) body = write_held levels.Secured bank pointer covered rn held body
+write bank pointer covered rn KilledState body = silent KilledState body
+write bank pointer covered rn UnpoweredState body = silent UnpoweredState body
+
+-- both halves of a password, the upper one first
+abbrev pub whole_of : ℕ → ℕ → ℕ
+whole_of upper lower = upper * 2 ^ 16 + lower
+
+-- the first half is kept, and the handle answered
+abbrev pub keep_half : Level → Kind → ℕ → Held → BodyValue → Outcome
+keep_half level kind value held body =
+    plain (held_state level (record held { half = Some (record { kind = kind; value = value }) })) body (Handle held.handle) 0
+
+-- 6.3.2.11.3.4 Kill: what both halves give. With the kill password 0 the answer is an error (its code is profile), the
+-- first half is forgotten, and the state stays. With the kill password the tag is killed. With another value it goes
+-- back, without a reply.
+abbrev pub kill_whole : Level → ℕ → Held → BodyValue → Outcome
+kill_whole level value held body =
+    (if kill_word_of body.memory == 0 then refuse level (record held { half = None }) body errors.Other
+    else (if kill_word_of body.memory == value then extended KilledState body Header held.handle
+    else back held.session held.q body))
+
+abbrev pub kill_half : Level → Option Half → ℕ → Held → BodyValue → Outcome
+kill_half level None value held body = keep_half level kinds.Kill value held body
+kill_half level (Some half) value held body = kill_whole level (whole_of half.value value) held body
+
+abbrev pub kill_held : Level → ℕ → ℕ → Held → BodyValue → Outcome
+kill_held level covered rn held body =
+    with_handle level rn held body (unless_other_half kinds.Kill held.half (back held.session held.q body)
+    (uncover level held body covered held.cover (λ bare value. kill_half level bare.half value bare body)))
+
+abbrev pub kill : ℕ → ℕ → StateValue → BodyValue → Outcome
+kill covered rn ReadyState body = silent ReadyState body
+kill covered rn (ArbitrateState session q slot) body = silent (ArbitrateState session q slot) body
+kill covered rn (ReplyState session q own) body = back session q body
+kill covered rn (AcknowledgedState session q own) body = back session q body
+kill covered rn (OpenState held) body = kill_held levels.Opened covered rn held body
+kill covered rn (SecuredState held) body = kill_held levels.Secured covered rn held body
+kill covered rn KilledState body = silent KilledState body
+kill covered rn UnpoweredState body = silent UnpoweredState body
+
+-- 6.3.2.11.3.5 Lock: in open nothing changes, and there is no reply. In secured: the new pairs and the header, or an error.
+abbrev pub has_user : BodyValue → Bool
+has_user body = nat_lt 0 (length body.memory.user)
+
+abbrev pub locks_changed : Held → BodyValue → Result Locks ErrorCode → Outcome
+locks_changed held body (Ok locks) = extended (SecuredState held) (record body { locks = locks }) Header held.handle
+locks_changed held body (Err code) = refuse levels.Secured held body code
+
+abbrev pub lock : ℕ → ℕ → StateValue → BodyValue → Outcome
+lock payload rn ReadyState body = silent ReadyState body
+lock payload rn (ArbitrateState session q slot) body = silent (ArbitrateState session q slot) body
+lock payload rn (ReplyState session q own) body = back session q body
+lock payload rn (AcknowledgedState session q own) body = back session q body
+lock payload rn (OpenState held) body =
+    with_handle levels.Opened rn held body (unless_any_half held body (silent (OpenState held) body))
+lock payload rn (SecuredState held) body =
+    with_handle levels.Secured rn held body (unless_any_half held body
+    (locks_changed held body (locked body.locks payload (has_user body))))
+lock payload rn KilledState body = silent KilledState body
+lock payload rn UnpoweredState body = silent UnpoweredState body
+
+-- 6.3.2.11.3.6 Access: what both halves give. With the access password the tag is secured; with another value it goes
+-- back, without a reply.
+abbrev pub access_whole : ℕ → Held → BodyValue → Outcome
+access_whole value held body =
+    (if access_word_of body.memory == value
+    then plain (SecuredState (record held { half = None })) body (Handle held.handle) 0
+    else back held.session held.q body)
+
+abbrev pub access_half : Level → Option Half → ℕ → Held → BodyValue → Outcome
+access_half level None value held body = keep_half level kinds.Access value held body
+access_half level (Some half) value held body = access_whole (whole_of half.value value) held body
+
+abbrev pub access_held : Level → ℕ → ℕ → Held → BodyValue → Outcome
+access_held level covered rn held body =
+    with_handle level rn held body (unless_other_half kinds.Access held.half (back held.session held.q body)
+    (uncover level held body covered held.cover (λ bare value. access_half level bare.half value bare body)))
+
+abbrev pub access : ℕ → ℕ → StateValue → BodyValue → Outcome
+access covered rn ReadyState body = silent ReadyState body
+access covered rn (ArbitrateState session q slot) body = silent (ArbitrateState session q slot) body
+access covered rn (ReplyState session q own) body = back session q body
+access covered rn (AcknowledgedState session q own) body = back session q body
+access covered rn (OpenState held) body = access_held levels.Opened covered rn held body
+access covered rn (SecuredState held) body = access_held levels.Secured covered rn held body
+access covered rn KilledState body = silent KilledState body
+access covered rn UnpoweredState body = silent UnpoweredState body
+
+-- 6.3.2.11.3.7 BlockWrite
+abbrev pub block_write_held : Level → Bank → ℕ → List ℕ → ℕ → Held → BodyValue → Outcome
+block_write_held level bank pointer words rn held body =
+    with_handle level rn held body (unless_any_half held body
+    (memory_changed level held body (written body.memory body.locks level bank pointer words)))
+
+abbrev pub block_write : Bank → ℕ → List ℕ → ℕ → StateValue → BodyValue → Outcome
+block_write bank pointer words rn ReadyState body = silent ReadyState body
+block_write bank pointer words rn (ArbitrateState session q slot) body = silent (ArbitrateState session q slot) body
+block_write bank pointer words rn (ReplyState session q own) body = back session q body
+block_write bank pointer words rn (AcknowledgedState session q own) body = back session q body
+block_write bank pointer words rn (OpenState held) body = block_write_held levels.Opened bank pointer words rn held body
+block_write bank pointer words rn (SecuredState held) body = block_write_held levels.Secured bank pointer words rn held body
+block_write bank pointer words rn KilledState body = silent KilledState body
+block_write bank pointer words rn UnpoweredState body = silent UnpoweredState body
+
+-- 6.3.2.11.3.8 BlockErase
+abbrev pub block_erase_held : Level → Bank → ℕ → ℕ → ℕ → Held → BodyValue → Outcome
+block_erase_held level bank pointer count rn held body =
+    with_handle level rn held body (unless_any_half held body
+    (memory_changed level held body (erased body.memory body.locks level bank pointer count)))
+
+abbrev pub block_erase : Bank → ℕ → ℕ → ℕ → StateValue → BodyValue → Outcome
+block_erase bank pointer count rn ReadyState body = silent ReadyState body
+block_erase bank pointer count rn (ArbitrateState session q slot) body = silent (ArbitrateState session q slot) body
+block_erase bank pointer count rn (ReplyState session q own) body = back session q body
+block_erase bank pointer count rn (AcknowledgedState session q own) body = back session q body
+block_erase bank pointer count rn (OpenState held) body = block_erase_held levels.Opened bank pointer count rn held body
+block_erase bank pointer count rn (SecuredState held) body = block_erase_held levels.Secured bank pointer count rn held body
+block_erase bank pointer count rn KilledState body = silent KilledState body
+block_erase bank pointer count rn UnpoweredState body = silent UnpoweredState body

@@ -1,0 +1,34 @@
+-- 6.3.2.11.3.3 to 6.3.2.11.3.8: the replies that a tag sends once it wrote its memory. They have the extended preamble,
+-- whatever the TRext of the Query says; all others go by it.
+use Rattle.std.specs.Prelude.{Bool, true, false, is_some}
+use Rattle.command_grammar.specs.declared.commands.Command.{Command}
+use Rattle.command_grammar.specs.declared.commands.Command.TheVariants as commands
+use Rattle.tag_machine.specs.TagValue.{StateValue, ReadyState, ArbitrateState, ReplyState, AcknowledgedState, OpenState, SecuredState, KilledState, UnpoweredState}
+
+-- a Kill or an Access is unfinished
+abbrev pub has_half : StateValue → Bool
+has_half ReadyState = false
+has_half (ArbitrateState session q slot) = false
+has_half (ReplyState session q rn) = false
+has_half (AcknowledgedState session q rn) = false
+has_half (OpenState held) = is_some held.half
+has_half (SecuredState held) = is_some held.half
+has_half KilledState = false
+has_half UnpoweredState = false
+
+-- the replies to Write, Lock, BlockWrite and BlockErase, and to a Kill that comes after a first half, errors too
+abbrev pub is_delayed : Command → StateValue → Bool
+is_delayed (commands.QueryRep session) state = false
+is_delayed (commands.Ack rn) state = false
+is_delayed (commands.Query dr line_code trext sel session target q) state = false
+is_delayed (commands.QueryAdjust session updn) state = false
+is_delayed (commands.Select target action bank pointer mask) state = false
+is_delayed commands.Nak state = false
+is_delayed (commands.ReqRn rn) state = false
+is_delayed (commands.Read bank pointer count rn) state = false
+is_delayed (commands.Write bank pointer covered rn) state = true
+is_delayed (commands.Kill covered rn) state = has_half state
+is_delayed (commands.Lock payload rn) state = true
+is_delayed (commands.Access covered rn) state = false
+is_delayed (commands.BlockWrite bank pointer words rn) state = true
+is_delayed (commands.BlockErase bank pointer count rn) state = true

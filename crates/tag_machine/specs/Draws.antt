@@ -1,0 +1,67 @@
+-- 6.3.2.5 Tag random or pseudo-random number generator; 6.3.2.4.8 Slot counter: what a tag draws, and the moves that
+-- the tables of Annex B share. That draws come from a list which begins again at its end is profile.
+use Rattle.std.specs.Prelude.{ℕ, zero, suc, ◌+◌, ◌%◌, ◌^◌, ◌==◌, length, slice_index, if◌then◌else◌}
+use Rattle.reply_grammar.specs.declared.expected.Reply.TheVariants.{Rn16}
+use Rattle.session_flags.specs.Flags.{inverted}
+use Rattle.tag_machine.specs.TagValue.{StateValue, ReadyState, ArbitrateState, ReplyState, AcknowledgedState, OpenState, SecuredState, KilledState, UnpoweredState, BodyValue, TagValue}
+use Rattle.tag_machine.specs.Answers.{Outcome, silent, plain}
+use Rattle.tag_machine.specs.declared.states.Held.{Held}
+
+-- a draw is the word at the tag's place
+abbrev pub drawn : BodyValue → ℕ
+drawn body = slice_index body.words body.place
+
+-- the place rises by one, and is 0 again where it reaches the number of words
+abbrev pub place_behind : ℕ → ℕ → ℕ
+place_behind count place = (if place + 1 == count then 0 else place + 1)
+
+abbrev pub place_after : BodyValue → ℕ
+place_after body = place_behind (length body.words) body.place
+
+-- the place of the draw with a number, counted from 0, that a tag makes: it begins at place 0
+unfoldable pub place_of_draw : ℕ → ℕ → ℕ
+place_of_draw count zero = 0
+place_of_draw count (suc number) = place_behind count (place_of_draw count number)
+
+abbrev pub after_draw : BodyValue → BodyValue
+after_draw body = record body { place = place_after body }
+
+-- an RN16 is drawn and answered, and the tag is in reply
+abbrev pub begin_reply : ℕ → ℕ → BodyValue → Outcome
+begin_reply session q body = plain (ReplyState session q (drawn body)) (after_draw body) (Rn16 (drawn body)) 0
+
+-- ENTER: a slot is drawn, the last Q bits of the draw. With slot 0 the tag replies at once, with a further draw.
+abbrev pub slot_drawn : ℕ → BodyValue → ℕ
+slot_drawn q body = drawn body % 2 ^ q
+
+abbrev pub enter : ℕ → ℕ → BodyValue → Outcome
+enter session q body =
+    (if slot_drawn q body == 0
+    then begin_reply session q (after_draw body)
+    else silent (ArbitrateState session q (slot_drawn q body)) (after_draw body))
+
+-- the body with the inventoried flag of a session inverted
+abbrev pub inverted_body : ℕ → BodyValue → BodyValue
+inverted_body session body = record body { flags = inverted body.flags session }
+
+-- CLOSE: the tag was inventoried, so that its flag of the session is inverted, and it is ready
+abbrev pub close : ℕ → BodyValue → Outcome
+close session body = silent ReadyState (inverted_body session body)
+
+-- BACK: arbitrate with slot 0
+abbrev pub tag_back : ℕ → ℕ → BodyValue → TagValue
+tag_back session q body = record { state = ArbitrateState session q 0; body = body }
+
+abbrev pub back : ℕ → ℕ → BodyValue → Outcome
+back session q body = silent (ArbitrateState session q 0) body
+
+-- BACK of a tag, with the session and Q that its state holds
+abbrev pub gone_back : StateValue → BodyValue → TagValue
+gone_back ReadyState body = record { state = ReadyState; body = body }
+gone_back (ArbitrateState session q slot) body = tag_back session q body
+gone_back (ReplyState session q rn) body = tag_back session q body
+gone_back (AcknowledgedState session q rn) body = tag_back session q body
+gone_back (OpenState held) body = tag_back held.session held.q body
+gone_back (SecuredState held) body = tag_back held.session held.q body
+gone_back KilledState body = record { state = KilledState; body = body }
+gone_back UnpoweredState body = record { state = UnpoweredState; body = body }

@@ -1,0 +1,12 @@
+pub mod TagValue
+pub mod Answers
+pub mod Draws
+pub mod Inventory
+pub mod Access
+pub mod Step
+pub mod Events
+pub mod Isolation
+pub mod States
+pub mod Names
+pub mod Hearing
+pub mod Delayed

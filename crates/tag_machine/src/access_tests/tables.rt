@@ -1,0 +1,342 @@
+//! The tables: lists of commands with the answer, the state, and what changes of the flags, the locks and the memory.
+
+use super::rows::Says::{
+    Access, Ack, BlockErase, BlockWrite, Kill, Lock, Nak, Query, QueryAdjust, QueryRep, Read,
+    ReqRn, Select, Write,
+};
+use super::rows::Then::{FlagsAre, LocksAre, PairIs, Same, WordIs};
+use super::rows::Want::{Error, Handle, Header, Nothing, One, PcEpc, ReadError, Rn16, Two};
+use super::rows::{H, RN, Row, S0_B};
+use crate::StateName::{Acknowledged, Arbitrate, InReply, Killed, Opened, Ready, Secured};
+use command_grammar::Bank::{Epc, Reserved, Tid, User};
+
+/// A tag in acknowledged.
+pub const ACKNOWLEDGED: [Row; 2] = [
+    (Query, Rn16(RN), InReply, Same),
+    (Ack(RN), PcEpc, Acknowledged, Same),
+];
+
+/// A tag with an access password, singulated and given its handle.
+pub const OPENED: [Row; 3] = [
+    (Query, Rn16(RN), InReply, Same),
+    (Ack(RN), PcEpc, Acknowledged, Same),
+    (ReqRn(RN), Handle(H), Opened, Same),
+];
+
+/// ... and one without.
+pub const SECURED: [Row; 3] = [
+    (Query, Rn16(RN), InReply, Same),
+    (Ack(RN), PcEpc, Acknowledged, Same),
+    (ReqRn(RN), Handle(H), Secured, Same),
+];
+
+/// A tag whose draws are all A1B2: its locks are changed, and the pair of the EPC bank is permalocked.
+pub const PERMALOCK: [Row; 8] = [
+    (Query, Rn16(RN), InReply, Same),
+    (Ack(RN), PcEpc, Acknowledged, Same),
+    (ReqRn(RN), Handle(RN), Secured, Same),
+    (
+        Lock(0x0C030, RN),
+        Header,
+        Secured,
+        LocksAre(0b00_00_11_00_00),
+    ),
+    (ReqRn(RN), Handle(RN), Secured, Same),
+    (Write(Epc, 2, 0x9999 ^ RN, RN), Error(0x04), Secured, Same),
+    (Lock(0x0C000, RN), Error(0x04), Secured, Same),
+    (QueryAdjust(0), Nothing, Ready, FlagsAre(S0_B)),
+];
+
+/// A Kill of a tag whose kill password is 0, and an Access with a wrong password.
+pub const WRONG_PASSWORDS: [Row; 11] = [
+    (Query, Rn16(RN), InReply, Same),
+    (Ack(RN), PcEpc, Acknowledged, Same),
+    (ReqRn(RN), Handle(RN), Opened, Same),
+    (ReqRn(RN), Handle(RN), Opened, Same),
+    (Kill(0x1111 ^ RN, RN), Handle(RN), Opened, Same),
+    (ReqRn(RN), Handle(RN), Opened, Same),
+    (Kill(0x2222 ^ RN, RN), Error(0x00), Opened, Same),
+    (ReqRn(RN), Handle(RN), Opened, Same),
+    (Access(0x1234 ^ RN, RN), Handle(RN), Opened, Same),
+    (ReqRn(RN), Handle(RN), Opened, Same),
+    (Access(RN, RN), Nothing, Arbitrate, Same),
+];
+
+/// A Kill by the kill password, and what a killed tag does with further commands.
+pub const KILL: [Row; 11] = [
+    (Query, Rn16(RN), InReply, Same),
+    (Ack(RN), PcEpc, Acknowledged, Same),
+    (ReqRn(RN), Handle(RN), Secured, Same),
+    (ReqRn(RN), Handle(RN), Secured, Same),
+    (Kill(0xAABB ^ RN, RN), Handle(RN), Secured, Same),
+    (ReqRn(RN), Handle(RN), Secured, Same),
+    (Kill(0xCCDD ^ RN, RN), Header, Killed, Same),
+    (QueryAdjust(0), Nothing, Killed, Same),
+    (Query, Nothing, Killed, Same),
+    (ReqRn(RN), Nothing, Killed, Same),
+    (Select, Nothing, Killed, Same),
+];
+
+/// Writes with and without a cover, and blocks. The covers are 00FF, 1234, 8001, 7FFE and C0DE, and then 0000.
+pub const WRITES: [Row; 22] = [
+    (Write(User, 0, 0xAB32, H), Nothing, Secured, Same),
+    (ReqRn(H), Handle(0x00FF), Secured, Same),
+    (
+        Write(User, 0, 0xAB32, H),
+        Header,
+        Secured,
+        WordIs(User, 0, 0xABCD),
+    ),
+    (Write(User, 0, 0xAB32, H), Nothing, Secured, Same),
+    (ReqRn(H), Handle(0x1234), Secured, Same),
+    // The refused Write uses its cover up.
+    (Write(User, 2, 0x1234, H), Error(0x03), Secured, Same),
+    (Write(User, 0, 0x1234, H), Nothing, Secured, Same),
+    (ReqRn(H), Handle(0x8001), Secured, Same),
+    (Write(Epc, 0, 0x8001, H), Error(0x04), Secured, Same),
+    // A second cover takes the place of the first.
+    (ReqRn(H), Handle(0x7FFE), Secured, Same),
+    (ReqRn(H), Handle(0xC0DE), Secured, Same),
+    (
+        Write(Tid, 1, 0xC02F, H),
+        Header,
+        Secured,
+        WordIs(Tid, 1, 0x00F1),
+    ),
+    (
+        BlockWrite(User, 0, [0xAAAA, 0xBBBB], H),
+        Header,
+        Secured,
+        PairIs(User, 0, [0xAAAA, 0xBBBB]),
+    ),
+    (
+        BlockWrite(User, 1, [0xCCCC, 0xDDDD], H),
+        Error(0x03),
+        Secured,
+        Same,
+    ),
+    (
+        BlockWrite(Epc, 0, [0xCCCC, 0x0800], H),
+        Error(0x04),
+        Secured,
+        Same,
+    ),
+    (Read(User, 0, 2, H), Two(0xAAAA, 0xBBBB), Secured, Same),
+    (
+        BlockErase(User, 1, 1, H),
+        Header,
+        Secured,
+        WordIs(User, 1, 0),
+    ),
+    (BlockErase(User, 1, 2, H), Error(0x03), Secured, Same),
+    (
+        BlockErase(User, 0, 2, H),
+        Header,
+        Secured,
+        PairIs(User, 0, [0, 0]),
+    ),
+    (Read(User, 2, 0, H), ReadError(0x03), Secured, Same),
+    (Read(Epc, 2, 0, H), One(0x1234), Secured, Same),
+    (Nak, Nothing, Arbitrate, Same),
+];
+
+/// In open nothing comes of a Lock, a field that wants secured isn't written, and a password can be written away.
+pub const OPEN: [Row; 8] = [
+    (Lock(0x0C030, H), Nothing, Opened, Same),
+    (
+        BlockWrite(Epc, 1, [0x0800, 0x5678], H),
+        Error(0x04),
+        Opened,
+        Same,
+    ),
+    (
+        BlockWrite(User, 0, [0xAAAA, 0xBBBB], H),
+        Header,
+        Opened,
+        PairIs(User, 0, [0xAAAA, 0xBBBB]),
+    ),
+    (
+        BlockErase(Reserved, 2, 2, H),
+        Header,
+        Opened,
+        PairIs(Reserved, 2, [0, 0]),
+    ),
+    (ReqRn(H), Handle(0x00FF), Opened, Same),
+    (Access(0x00FF, H), Handle(H), Opened, Same),
+    (ReqRn(H), Handle(0x1234), Opened, Same),
+    (Access(0x1234, H), Handle(H), Secured, Same),
+];
+
+/// In secured a Lock that names the User bank of a tag without one is refused, and one of another field isn't.
+pub const LOCKS: [Row; 4] = [
+    (Lock(0x00C03, H), Error(0x03), Secured, Same),
+    (
+        Lock(0x08020, H),
+        Header,
+        Secured,
+        LocksAre(0b00_00_10_00_00),
+    ),
+    (Lock(0x08020 + 1, H), Header, Secured, Same),
+    (
+        BlockWrite(Epc, 1, [0x0800, 0x5678], H),
+        Header,
+        Secured,
+        PairIs(Epc, 1, [0x0800, 0x5678]),
+    ),
+];
+
+/// The two halves of an Access, each with its cover; between them a half without a cover, which changes nothing.
+pub const ACCESS: [Row; 7] = [
+    (ReqRn(H), Handle(0x00FF), Opened, Same),
+    (Access(0x12CB, H), Handle(H), Opened, Same),
+    (Access(0x444C, H), Nothing, Opened, Same),
+    (ReqRn(H), Handle(0x1234), Opened, Same),
+    (Access(0x444C, H), Handle(H), Secured, Same),
+    (
+        Lock(0x0C030, H),
+        Header,
+        Secured,
+        LocksAre(0b00_00_11_00_00),
+    ),
+    (Ack(H), PcEpc, Secured, Same),
+];
+
+/// The halves of an Access in the other order.
+pub const ACCESS_SWAPPED: [Row; 4] = [
+    (ReqRn(H), Handle(0x00FF), Opened, Same),
+    (Access(0x5687, H), Handle(H), Opened, Same),
+    (ReqRn(H), Handle(0x1234), Opened, Same),
+    (Access(0x0000, H), Nothing, Arbitrate, Same),
+];
+
+/// The access password 0, and then a wrong second half.
+pub const ACCESS_ZERO: [Row; 8] = [
+    (ReqRn(H), Handle(0x00FF), Secured, Same),
+    (Access(0x00FF, H), Handle(H), Secured, Same),
+    (ReqRn(H), Handle(0x1234), Secured, Same),
+    (Access(0x1234, H), Handle(H), Secured, Same),
+    (ReqRn(H), Handle(0x8001), Secured, Same),
+    (Access(0x8001, H), Handle(H), Secured, Same),
+    (ReqRn(H), Handle(0x7FFE), Secured, Same),
+    (Access(0x7FFF, H), Nothing, Arbitrate, Same),
+];
+
+pub const KILL_IN_OPEN: [Row; 4] = [
+    (ReqRn(H), Handle(0x00FF), Opened, Same),
+    (Kill(0xAA44, H), Handle(H), Opened, Same),
+    (ReqRn(H), Handle(0x1234), Opened, Same),
+    (Kill(0xDEE9, H), Header, Killed, Same),
+];
+
+pub const KILL_WRONG: [Row; 4] = [
+    (ReqRn(H), Handle(0x00FF), Opened, Same),
+    (Kill(0xAA44, H), Handle(H), Opened, Same),
+    (ReqRn(H), Handle(0x1234), Opened, Same),
+    (Kill(0xDEE8, H), Nothing, Arbitrate, Same),
+];
+
+/// The kill password 0: an error, after which the next Kill is a first half again.
+pub const KILL_ZERO: [Row; 9] = [
+    (ReqRn(H), Handle(0x00FF), Secured, Same),
+    (Kill(0x00FF, H), Handle(H), Secured, Same),
+    (ReqRn(H), Handle(0x1234), Secured, Same),
+    (Kill(0x1234, H), Error(0x00), Secured, Same),
+    (Kill(0x1234, H), Nothing, Secured, Same),
+    (ReqRn(H), Handle(0x8001), Secured, Same),
+    (Kill(0x8001, H), Handle(H), Secured, Same),
+    (ReqRn(H), Handle(0x7FFE), Secured, Same),
+    (Kill(0x7FFE, H), Error(0x00), Secured, Same),
+];
+
+/// A half of one kind and then of the other, with a cover and without.
+pub const KILL_THEN_ACCESS: [Row; 4] = [
+    (ReqRn(H), Handle(0x00FF), Opened, Same),
+    (Kill(0xAA44, H), Handle(H), Opened, Same),
+    (ReqRn(H), Handle(0x1234), Opened, Same),
+    (Access(0x444C, H), Nothing, Arbitrate, Same),
+];
+
+pub const ACCESS_THEN_KILL: [Row; 4] = [
+    (ReqRn(H), Handle(0x00FF), Opened, Same),
+    (Access(0x12CB, H), Handle(H), Opened, Same),
+    (ReqRn(H), Handle(0x1234), Opened, Same),
+    (Kill(0xDEE9, H), Nothing, Arbitrate, Same),
+];
+
+/// A number that isn't the handle leaves all as it is, a cover and a first half too, in open and in secured.
+pub const OTHER_HANDLES: [Row; 22] = [
+    (ReqRn(H), Handle(0x00FF), Opened, Same),
+    (Access(0x12CB, H), Handle(H), Opened, Same),
+    (ReqRn(H), Handle(0x1234), Opened, Same),
+    (ReqRn(0x5A5B), Nothing, Opened, Same),
+    (Read(User, 0, 1, 0x5A5B), Nothing, Opened, Same),
+    (Write(User, 0, 0, 0x5A5B), Nothing, Opened, Same),
+    (Kill(0xDEE9, 0x5A5B), Nothing, Opened, Same),
+    (Lock(0x0C030, 0x5A5B), Nothing, Opened, Same),
+    (Access(0x444C, 0x5A5B), Nothing, Opened, Same),
+    (BlockWrite(User, 0, [0, 0], 0x5A5B), Nothing, Opened, Same),
+    (BlockErase(User, 0, 1, 0x5A5B), Nothing, Opened, Same),
+    (Access(0x444C, H), Handle(H), Secured, Same),
+    (ReqRn(H), Handle(0x8001), Secured, Same),
+    (ReqRn(0x5A5B), Nothing, Secured, Same),
+    (Read(User, 0, 1, 0x5A5B), Nothing, Secured, Same),
+    (Write(User, 0, 0, 0x5A5B), Nothing, Secured, Same),
+    (Kill(0xAA44, 0x5A5B), Nothing, Secured, Same),
+    (Lock(0x0C030, 0x5A5B), Nothing, Secured, Same),
+    (Access(0x12CB, 0x5A5B), Nothing, Secured, Same),
+    (BlockWrite(User, 0, [0, 0], 0x5A5B), Nothing, Secured, Same),
+    (BlockErase(User, 0, 1, 0x5A5B), Nothing, Secured, Same),
+    (
+        Write(User, 0, 0x8F0E, H),
+        Header,
+        Secured,
+        WordIs(User, 0, 0x0F0F),
+    ),
+];
+
+/// A Req_RN in each state but open, with the tag's number and with another; all draws are A1B2.
+pub const REQ_RN: [Row; 11] = [
+    (ReqRn(RN), Nothing, Ready, Same),
+    (Query, Rn16(RN), InReply, Same),
+    (ReqRn(RN), Nothing, Arbitrate, Same),
+    (ReqRn(RN), Nothing, Arbitrate, Same),
+    (Query, Rn16(RN), InReply, Same),
+    (ReqRn(0), Nothing, Arbitrate, Same),
+    (Query, Rn16(RN), InReply, Same),
+    (Ack(RN), PcEpc, Acknowledged, Same),
+    (ReqRn(0), Nothing, Acknowledged, Same),
+    (ReqRn(RN), Handle(RN), Secured, Same),
+    (ReqRn(0), Nothing, Secured, Same),
+];
+
+/// A first half of an Access in open.
+pub const FIRST_HALF: [Row; 2] = [
+    (ReqRn(H), Handle(0x00FF), Opened, Same),
+    (Access(0x12CB, H), Handle(H), Opened, Same),
+];
+
+/// What each other command does after it.
+pub const AFTER_HALF: [Row; 22] = [
+    (Ack(H), Nothing, Arbitrate, Same),
+    (Ack(RN), Nothing, Arbitrate, Same),
+    (QueryRep(0), Nothing, Arbitrate, Same),
+    (QueryRep(1), Nothing, Opened, Same),
+    (QueryAdjust(0), Nothing, Arbitrate, Same),
+    (QueryAdjust(1), Nothing, Opened, Same),
+    (Query, Nothing, Ready, FlagsAre(S0_B)),
+    (Nak, Nothing, Arbitrate, Same),
+    (Select, Nothing, Arbitrate, Same),
+    (ReqRn(H), Handle(0x1234), Opened, Same),
+    (Read(User, 0, 1, H), Nothing, Arbitrate, Same),
+    (Write(User, 0, 0, H), Nothing, Arbitrate, Same),
+    (Kill(0xDEE9, H), Nothing, Arbitrate, Same),
+    (Lock(0x0C030, H), Nothing, Arbitrate, Same),
+    (Access(0x444C, H), Nothing, Opened, Same),
+    (BlockWrite(User, 0, [0, 0], H), Nothing, Arbitrate, Same),
+    (BlockErase(User, 0, 1, H), Nothing, Arbitrate, Same),
+    (Read(User, 0, 1, RN), Nothing, Opened, Same),
+    (Write(User, 0, 0, RN), Nothing, Opened, Same),
+    (Kill(0xDEE9, RN), Nothing, Opened, Same),
+    (BlockWrite(User, 0, [0, 0], RN), Nothing, Opened, Same),
+    (BlockErase(User, 0, 1, RN), Nothing, Opened, Same),
+];

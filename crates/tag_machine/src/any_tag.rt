@@ -1,0 +1,137 @@
+//! A tag in any state, and what it gives when it heard a command.
+ghost use Rattle.std.specs.Prelude.{◌≡◌};
+ghost use Rattle.tag_machine.specs.TagValue.{is_present, IsLegalTag};
+ghost use Rattle.tag_machine.specs.Events.{new_tag};
+ghost use Rattle.tag_machine.specs.Names.{name_of};
+ghost use Rattle.tag_machine.specs.Hearing.{value_of, typed_name_of};
+
+use crate::body::Body;
+use crate::states::{
+    Acknowledged, Arbitrate, InReply, Killed, Opened, Ready, Secured, State, StateName, Unpowered,
+};
+use crate::tag::Tag;
+use lock_rules::Locks;
+use session_flags::{DrawWords, Flags};
+use tag_memory::Memory;
+
+/// A tag in any state.
+#[derive(Drop)]
+pub enum AnyTag {
+    Ready(Tag<Ready>),
+    Arbitrate(Tag<Arbitrate>),
+    InReply(Tag<InReply>),
+    Acknowledged(Tag<Acknowledged>),
+    Opened(Tag<Opened>),
+    Secured(Tag<Secured>),
+    Killed(Tag<Killed>),
+    Unpowered(Tag<Unpowered>),
+}
+
+/// Whether a tag answered a command.
+#[derive(Clone, Copy, Debug, PartialEq, Eq)]
+pub enum Answered {
+    /// It sent nothing.
+    Silent,
+    /// It sent a reply whose preamble goes by the TRext of the Query.
+    Plain,
+    /// It sent a reply with the extended preamble.
+    Extended,
+}
+
+/// What a tag gives when it heard a command.
+#[derive(Drop)]
+pub struct Heard {
+    /// The tag after the command.
+    pub tag: AnyTag,
+    /// Whether it answered.
+    pub answered: Answered,
+}
+
+impl AnyTag {
+    /// A new tag: powered, in ready, with the flags of a new tag and no draw made.
+    pub fn new(memory: Memory, locks: Locks, words: DrawWords) -> AnyTag
+        ensures { value_of result ≡ new_tag memory locks words }
+    {
+        AnyTag::Ready(Tag {
+            state: Ready,
+            body: Body::new(memory, locks, words),
+        })
+    }
+
+    /// The name of the tag's state, which is that of its type.
+    pub fn state(&self) -> StateName
+        ensures value { result ≡ name_of (value_of self.now).state }
+        ensures typed { result ≡ typed_name_of self.now }
+    {
+        match self {
+            AnyTag::Ready(tag) => tag.state.name(),
+            AnyTag::Arbitrate(tag) => tag.state.name(),
+            AnyTag::InReply(tag) => tag.state.name(),
+            AnyTag::Acknowledged(tag) => tag.state.name(),
+            AnyTag::Opened(tag) => tag.state.name(),
+            AnyTag::Secured(tag) => tag.state.name(),
+            AnyTag::Killed(tag) => tag.state.name(),
+            AnyTag::Unpowered(tag) => tag.state.name(),
+        }
+    }
+
+    /// Whether the tag has power and isn't killed.
+    pub fn present(&self) -> bool
+        ensures { result ≡ is_present (value_of self.now).state }
+    {
+        !matches!(self.state(), StateName::Killed | StateName::Unpowered)
+    }
+
+    /// Changes nothing: each tag is legal.
+    pub fn audit(&self)
+        ensures { IsLegalTag (value_of self.now) }
+    {
+        match self {
+            AnyTag::Ready(tag) => tag.audit(),
+            AnyTag::Arbitrate(tag) => tag.audit(),
+            AnyTag::InReply(tag) => tag.audit(),
+            AnyTag::Acknowledged(tag) => tag.audit(),
+            AnyTag::Opened(tag) => tag.audit(),
+            AnyTag::Secured(tag) => tag.audit(),
+            AnyTag::Killed(tag) => tag.audit(),
+            AnyTag::Unpowered(tag) => tag.audit(),
+        }
+    }
+
+    /// What the tag holds in every state.
+    fn body(&self) -> &Body
+        ensures { result.now ≡ (value_of self.now).body }
+    {
+        match self {
+            AnyTag::Ready(tag) => tag.body(),
+            AnyTag::Arbitrate(tag) => tag.body(),
+            AnyTag::InReply(tag) => tag.body(),
+            AnyTag::Acknowledged(tag) => tag.body(),
+            AnyTag::Opened(tag) => tag.body(),
+            AnyTag::Secured(tag) => tag.body(),
+            AnyTag::Killed(tag) => tag.body(),
+            AnyTag::Unpowered(tag) => tag.body(),
+        }
+    }
+
+    /// The inventoried flags and the selected flag.
+    pub fn flags(&self) -> &Flags
+        ensures { result.now ≡ (value_of self.now).body.flags }
+    {
+        self.body().flags()
+    }
+
+    /// The pairs of lock bits.
+    pub fn locks(&self) -> &Locks
+        ensures { result.now ≡ (value_of self.now).body.locks }
+    {
+        self.body().locks()
+    }
+
+    /// The memory.
+    pub fn memory(&self) -> &Memory
+        ensures { result.now ≡ (value_of self.now).body.memory }
+    {
+        self.body().memory()
+    }
+}

@@ -1,0 +1,164 @@
+//! What a tag holds in every state.
+ghost use Rattle.std.specs.Prelude.{◌≡◌, ◌+◌, ◌==◌, ◌<◌, length, if◌then◌else◌};
+ghost use Rattle.reply_grammar.specs.Table.{CanBeSent};
+ghost use Rattle.session_flags.specs.Flags.{new_flags, matches, without_power};
+ghost use Rattle.tag_memory.specs.Memory.{with_stored_crc};
+ghost use Rattle.tag_machine.specs.TagValue.{IsLegalBody};
+ghost use Rattle.tag_machine.specs.Draws.{drawn, place_behind, after_draw, inverted_body};
+ghost use Rattle.tag_machine.specs.Inventory.{epc_reply, selected_body};
+ghost use Rattle.tag_machine.specs.Events.{with_expired};
+
+mod access;
+
+use bit_strings::{Action, Pointer, Session};
+use command_grammar::{Bank, FlagName, Mask, MaskBank, Sel, Side};
+use lock_rules::Locks;
+use reply_grammar::Reply;
+use session_flags::{DrawWords, Flags, mask_matches};
+use std::marker::Model;
+use tag_memory::Memory;
+
+/// What a tag holds in every state. A contract sees the record of it.
+#[derive(Drop)]
+pub struct Body {
+    memory: Memory,
+    locks: Locks,
+    flags: Flags,
+    words: DrawWords,
+    place: usize,
+}
+
+impl Model for Body {
+    ghost use Rattle.std.specs.Prelude.{◌<◌, length};
+    ghost use Rattle.tag_machine.specs.TagValue.{BodyValue};
+
+    ghost Value = { BodyValue };
+
+    ghost view = { λ body. record { memory = body.memory; locks = body.locks; flags = body.flags; words = body.words; place = body.place } };
+
+    ghost invariant = { λ body. body.place < length body.words };
+}
+
+/// The place behind this one, among so many.
+fn next_place(place: usize, count: usize) -> usize
+    requires { place < count }
+    ensures value { result ≡ place_behind count place }
+    ensures inside { result < count }
+{
+    if place + 1 == count { 0 } else { place + 1 }
+}
+
+impl Body {
+    /// The body of a new tag.
+    pub fn new(memory: Memory, locks: Locks, words: DrawWords) -> Body
+        ensures { result ≡ record { memory = memory; locks = locks; flags = new_flags; words = words; place = 0 } }
+    {
+        let _ = words.words();
+        Body {
+            memory,
+            locks,
+            flags: Flags::new(),
+            words,
+            place: 0,
+        }
+    }
+
+    /// Changes nothing: each body is legal.
+    pub fn audit(&self)
+        ensures { IsLegalBody self.now }
+    {
+        let _ = self.words.words();
+        let _ = self.memory.size(Bank::Epc);
+        let _ = self.place;
+    }
+
+    pub fn memory(&self) -> &Memory
+        ensures { result.now ≡ self.now.memory }
+    {
+        &self.memory
+    }
+
+    pub fn locks(&self) -> &Locks
+        ensures { result.now ≡ self.now.locks }
+    {
+        &self.locks
+    }
+
+    pub fn flags(&self) -> &Flags
+        ensures { result.now ≡ self.now.flags }
+    {
+        &self.flags
+    }
+
+    /// Draws a word (6.3.2.5 Tag random or pseudo-random number generator).
+    pub fn draw(&mut self) -> u16
+        ensures word { result ≡ drawn self.old }
+        ensures after { self.new ≡ after_draw self.old }
+    {
+        let words = self.words.words();
+        let word = words[self.place];
+        self.place = next_place(self.place, words.len());
+        word
+    }
+
+    /// Whether a Query with these fields speaks to the tag.
+    pub fn matches(&self, sel: Sel, session: Session, target: Side) -> bool
+        ensures { result ≡ matches sel session target self.now.flags }
+    {
+        self.flags.matches(sel, session, target)
+    }
+
+    /// Inverts the inventoried flag of a session.
+    pub fn invert(&mut self, session: Session)
+        ensures { self.new ≡ inverted_body session self.old }
+    {
+        self.flags.invert(session);
+    }
+
+    /// Lets a Select change its flag.
+    pub fn select(
+        &mut self,
+        target: FlagName,
+        action: Action,
+        bank: MaskBank,
+        pointer: Pointer,
+        mask: &Mask,
+    )
+        ensures { self.new ≡ selected_body target action bank pointer mask.now self.old }
+    {
+        let matching = mask_matches(self.memory.words(bank), pointer, mask);
+        self.flags.select(target, action, matching);
+    }
+
+    /// Sets the inventoried flag of S0 to A, as a loss of power does.
+    pub fn lose_power(&mut self)
+        ensures { self.new ≡ record self.old { flags = without_power self.old.flags } }
+    {
+        self.flags.lose_power();
+    }
+
+    /// Computes StoredCRC again, as power-on does.
+    pub fn power_on(&mut self)
+        ensures { self.new ≡ record self.old { memory = with_stored_crc self.old.memory } }
+    {
+        self.memory.power_on();
+    }
+
+    /// Ends the persistence of a flag.
+    pub fn expire(&mut self, flag: FlagName, powered: bool, takes_part: bool)
+        ensures { self.new ≡ with_expired flag powered takes_part self.old }
+    {
+        self.flags.expire(flag, powered, takes_part);
+    }
+
+    /// The answer to an ACK.
+    pub fn epc_reply(&self) -> Reply
+        ensures value { result ≡ epc_reply self.now }
+        ensures sendable { CanBeSent result }
+    {
+        Reply::Epc {
+            pc: self.memory.pc(),
+            epc: self.memory.epc(),
+        }
+    }
+}

@@ -1,0 +1,102 @@
+//! What the access commands do with a tag's memory and locks.
+ghost use Rattle.std.specs.Prelude.{◌≡◌, ◌==◌, Ok, Err, [], ◌∷◌, OnOk, IfErr};
+ghost use Rattle.reply_grammar.specs.Table.{CanBeSent};
+ghost use Rattle.lock_rules.specs.Lock.{locked};
+ghost use Rattle.tag_memory.specs.Memory.{kill_word_of, access_word_of};
+ghost use Rattle.tag_memory.specs.Access.{words_read, written, erased};
+ghost use Rattle.tag_machine.specs.Access.{has_user, read_answer};
+
+use super::Body;
+use bit_strings::{Count1, Payload, Pointer};
+use command_grammar::{Bank, BlockWords};
+use lock_rules::{ErrorCode, Level};
+use reply_grammar::{ReadWords, Reply};
+
+impl Body {
+    /// The kill password.
+    pub fn kill_word(&self) -> u32
+        ensures { result ≡ kill_word_of self.now.memory }
+    {
+        self.memory.kill_word()
+    }
+
+    /// The access password.
+    pub fn access_word(&self) -> u32
+        ensures { result ≡ access_word_of self.now.memory }
+    {
+        self.memory.access_word()
+    }
+
+    /// What a Read answers: the words, or an error.
+    pub fn read(&self, level: Level, bank: Bank, pointer: Pointer, count: u8) -> Reply
+        ensures value { result ≡ read_answer (words_read self.now.memory self.now.locks level bank pointer count) }
+        ensures sendable { CanBeSent result }
+    {
+        let mut words = ReadWords::new();
+        match self
+            .memory
+            .read(bank, pointer, count, level, &self.locks, &mut words)
+        {
+            Ok(()) => Reply::Words(words),
+            Err(code) => Reply::Error(code.code()),
+        }
+    }
+
+    /// Writes a word, or refuses and changes nothing.
+    pub fn write(
+        &mut self,
+        level: Level,
+        bank: Bank,
+        pointer: Pointer,
+        word: u16,
+    ) -> Result<(), ErrorCode>
+        ensures ok { OnOk result (written self.old.memory self.old.locks level bank pointer (word ∷ []) ≡ Ok self.new.memory) }
+        ensures rest { OnOk result (self.new ≡ record self.old { memory = self.new.memory }) }
+        ensures err { IfErr result (λ code. (written self.old.memory self.old.locks level bank pointer (word ∷ []) ≡ Err code) × (self.new ≡ self.old)) }
+    {
+        self.memory.write(bank, pointer, word, level, &self.locks)
+    }
+
+    /// Writes words, all of them, or refuses and changes nothing.
+    pub fn block_write(
+        &mut self,
+        level: Level,
+        bank: Bank,
+        pointer: Pointer,
+        words: &BlockWords,
+    ) -> Result<(), ErrorCode>
+        ensures ok { OnOk result (written self.old.memory self.old.locks level bank pointer words.now ≡ Ok self.new.memory) }
+        ensures rest { OnOk result (self.new ≡ record self.old { memory = self.new.memory }) }
+        ensures err { IfErr result (λ code. (written self.old.memory self.old.locks level bank pointer words.now ≡ Err code) × (self.new ≡ self.old)) }
+    {
+        self.memory
+            .block_write(bank, pointer, words, level, &self.locks)
+    }
+
+    /// Erases so many words, or refuses and changes nothing.
+    pub fn block_erase(
+        &mut self,
+        level: Level,
+        bank: Bank,
+        pointer: Pointer,
+        count: Count1,
+    ) -> Result<(), ErrorCode>
+        ensures ok { OnOk result (erased self.old.memory self.old.locks level bank pointer count ≡ Ok self.new.memory) }
+        ensures rest { OnOk result (self.new ≡ record self.old { memory = self.new.memory }) }
+        ensures err { IfErr result (λ code. (erased self.old.memory self.old.locks level bank pointer count ≡ Err code) × (self.new ≡ self.old)) }
+    {
+        self.memory
+            .block_erase(bank, pointer, count, level, &self.locks)
+    }
+
+    /// Changes the pairs of lock bits by a Lock payload, or refuses and changes nothing.
+    pub fn lock(&mut self, payload: Payload) -> Result<(), ErrorCode>
+        ensures ok { OnOk result (locked self.old.locks payload (has_user self.old) ≡ Ok self.new.locks) }
+        ensures rest { OnOk result (self.new ≡ record self.old { locks = self.new.locks }) }
+        ensures err { IfErr result (λ code. (locked self.old.locks payload (has_user self.old) ≡ Err code) × (self.new ≡ self.old)) }
+    {
+        let has_user = self.memory.size(Bank::User) > 0;
+        self.locks = self.locks.apply(payload, has_user)?;
+        Ok(())
+    }
+}

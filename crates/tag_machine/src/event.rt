@@ -1,0 +1,165 @@
+//! What befalls a tag besides commands.
+ghost use Rattle.std.specs.Prelude.{◌≡◌};
+ghost use Rattle.tag_machine.specs.Events.{happens, after_timeout, after_off, after_on, after_expiry, powered_off};
+ghost use Rattle.tag_machine.specs.TagValue.{UnpoweredState, IsLegalTag};
+ghost use Rattle.tag_machine.specs.Events.{with_expired};
+ghost use Rattle.tag_machine.specs.Hearing.{value_of};
+
+use crate::any_tag::AnyTag;
+use crate::body::Body;
+use crate::states::{Ready, Unpowered};
+use crate::tag::Tag;
+use air_events::Event;
+use command_grammar::FlagName;
+
+impl Body {
+    /// The tag without power, which loses the inventoried flag of S0.
+    fn without_power(self) -> AnyTag
+        ensures { value_of result ≡ powered_off self }
+    {
+        let mut body = self;
+        body.lose_power();
+        AnyTag::Unpowered(Tag {
+            state: Unpowered,
+            body,
+        })
+    }
+
+    /// The tag that gets power: it is ready, with StoredCRC computed again.
+    fn with_power(self) -> AnyTag
+        ensures { value_of result ≡ after_on UnpoweredState self }
+    {
+        let mut body = self;
+        body.power_on();
+        AnyTag::Ready(Tag { state: Ready, body })
+    }
+
+    /// The body after the persistence of a flag ended.
+    fn with_expired(self, flag: FlagName, powered: bool, takes_part: bool) -> Body
+        ensures { result ≡ with_expired flag powered takes_part self }
+    {
+        let mut body = self;
+        body.expire(flag, powered, takes_part);
+        body
+    }
+}
+
+impl AnyTag {
+    /// The time T2 ran out: a tag in reply or acknowledged goes back to arbitrate.
+    fn time_out(self) -> AnyTag
+        ensures { value_of result ≡ after_timeout (value_of self).state (value_of self).body }
+    {
+        match self {
+            AnyTag::Ready(Tag { state, body }) => AnyTag::Ready(Tag { state, body }),
+            AnyTag::Arbitrate(Tag { state, body }) => AnyTag::Arbitrate(Tag { state, body }),
+            AnyTag::InReply(Tag { state, body }) => {
+                AnyTag::Arbitrate(body.back(state.session, state.q))
+            }
+            AnyTag::Acknowledged(Tag { state, body }) => {
+                AnyTag::Arbitrate(body.back(state.session, state.q))
+            }
+            AnyTag::Opened(Tag { state, body }) => AnyTag::Opened(Tag { state, body }),
+            AnyTag::Secured(Tag { state, body }) => AnyTag::Secured(Tag { state, body }),
+            AnyTag::Killed(Tag { state, body }) => AnyTag::Killed(Tag { state, body }),
+            AnyTag::Unpowered(Tag { state, body }) => AnyTag::Unpowered(Tag { state, body }),
+        }
+    }
+
+    /// Power is lost. A killed tag stays as it is.
+    fn lose_power(self) -> AnyTag
+        ensures { value_of result ≡ after_off (value_of self).state (value_of self).body }
+    {
+        match self {
+            AnyTag::Ready(Tag { state: _, body }) => body.without_power(),
+            AnyTag::Arbitrate(Tag { state: _, body }) => body.without_power(),
+            AnyTag::InReply(Tag { state: _, body }) => body.without_power(),
+            AnyTag::Acknowledged(Tag { state: _, body }) => body.without_power(),
+            AnyTag::Opened(Tag { state: _, body }) => body.without_power(),
+            AnyTag::Secured(Tag { state: _, body }) => body.without_power(),
+            AnyTag::Killed(Tag { state, body }) => AnyTag::Killed(Tag { state, body }),
+            AnyTag::Unpowered(Tag { state: _, body }) => body.without_power(),
+        }
+    }
+
+    /// Power comes, which a tag that has it doesn't see.
+    fn get_power(self) -> AnyTag
+        ensures { value_of result ≡ after_on (value_of self).state (value_of self).body }
+    {
+        match self {
+            AnyTag::Ready(Tag { state, body }) => AnyTag::Ready(Tag { state, body }),
+            AnyTag::Arbitrate(Tag { state, body }) => AnyTag::Arbitrate(Tag { state, body }),
+            AnyTag::InReply(Tag { state, body }) => AnyTag::InReply(Tag { state, body }),
+            AnyTag::Acknowledged(Tag { state, body }) => AnyTag::Acknowledged(Tag { state, body }),
+            AnyTag::Opened(Tag { state, body }) => AnyTag::Opened(Tag { state, body }),
+            AnyTag::Secured(Tag { state, body }) => AnyTag::Secured(Tag { state, body }),
+            AnyTag::Killed(Tag { state, body }) => AnyTag::Killed(Tag { state, body }),
+            AnyTag::Unpowered(Tag { state: _, body }) => body.with_power(),
+        }
+    }
+
+    /// The persistence of a flag ends, by whether the tag has power and whether it takes part in a round.
+    fn expire(self, flag: FlagName) -> AnyTag
+        ensures { value_of result ≡ after_expiry flag (value_of self).state (value_of self).body }
+    {
+        match self {
+            AnyTag::Ready(Tag { state, body }) => {
+                let body = body.with_expired(flag, true, false);
+                AnyTag::Ready(Tag { state, body })
+            }
+            AnyTag::Arbitrate(Tag { state, body }) => {
+                let body = body.with_expired(flag, true, true);
+                AnyTag::Arbitrate(Tag { state, body })
+            }
+            AnyTag::InReply(Tag { state, body }) => {
+                let body = body.with_expired(flag, true, true);
+                AnyTag::InReply(Tag { state, body })
+            }
+            AnyTag::Acknowledged(Tag { state, body }) => {
+                let body = body.with_expired(flag, true, true);
+                AnyTag::Acknowledged(Tag { state, body })
+            }
+            AnyTag::Opened(Tag { state, body }) => {
+                let body = body.with_expired(flag, true, true);
+                AnyTag::Opened(Tag { state, body })
+            }
+            AnyTag::Secured(Tag { state, body }) => {
+                let body = body.with_expired(flag, true, true);
+                AnyTag::Secured(Tag { state, body })
+            }
+            AnyTag::Killed(Tag { state, body }) => AnyTag::Killed(Tag { state, body }),
+            AnyTag::Unpowered(Tag { state, body }) => {
+                let body = body.with_expired(flag, false, false);
+                AnyTag::Unpowered(Tag { state, body })
+            }
+        }
+    }
+
+    fn befall(self, event: Event) -> AnyTag
+        ensures { value_of result ≡ happens event (value_of self).state (value_of self).body }
+    {
+        match event {
+            Event::Timeout => self.time_out(),
+            Event::Off => self.lose_power(),
+            Event::On => self.get_power(),
+            Event::Expire(flag) => self.expire(flag),
+        }
+    }
+
+    /// What an event does to the tag:
+    ///
+    /// - `Timeout` takes a tag in reply or acknowledged back to arbitrate (6.3.1.6 Link timing, T2).
+    /// - `Off` takes power from the tag: the inventoried flag of S0 becomes A.
+    /// - `On` gives power to a tag that has none: it is ready, and StoredCRC is computed again (6.3.2.1.2.1).
+    /// - `Expire` ends the persistence of a flag (6.3.2.2 Sessions and inventoried flags, the table of
+    ///   persistence).
+    ///
+    /// A killed tag stays as it is, and an event changes nothing besides.
+    pub fn event(self, event: Event) -> AnyTag
+        ensures step { value_of result ≡ happens event (value_of self).state (value_of self).body }
+        ensures legal { IsLegalTag (value_of result) }
+    {
+        let tag = self.befall(event);
+        tag.audit();
+        tag
+    }
+}

@@ -1,0 +1,56 @@
+//! BACK: a tag that answered waits again.
+ghost use Rattle.std.specs.Prelude.{◌≡◌, ◌+◌};
+ghost use Rattle.tag_machine.specs.Draws.{gone_back};
+
+use crate::states::{Acknowledged, Arbitrate, InReply, Opened, Secured};
+use crate::steps::Steps;
+use crate::tag::Tag;
+use std::sync::ledger::Ledger;
+
+impl Tag<InReply> {
+    /// The tag is in arbitrate with slot 0, in its session and with its Q.
+    pub fn back<L: Ledger>(self, steps: &mut Steps<L>) -> Tag<Arbitrate>
+        ensures step { result ≡ gone_back self.state self.body }
+        ensures counted { steps.new ≡ steps.old + 1 }
+    {
+        steps.tick();
+        let Tag { state, body } = self;
+        body.back(state.session, state.q)
+    }
+}
+
+impl Tag<Acknowledged> {
+    /// The tag is in arbitrate with slot 0, in its session and with its Q.
+    pub fn back<L: Ledger>(self, steps: &mut Steps<L>) -> Tag<Arbitrate>
+        ensures step { result ≡ gone_back self.state self.body }
+        ensures counted { steps.new ≡ steps.old + 1 }
+    {
+        steps.tick();
+        let Tag { state, body } = self;
+        body.back(state.session, state.q)
+    }
+}
+
+impl Tag<Opened> {
+    /// The tag is in arbitrate with slot 0, in its session and with its Q.
+    pub fn back<L: Ledger>(self, steps: &mut Steps<L>) -> Tag<Arbitrate>
+        ensures step { result ≡ gone_back self.state self.body }
+        ensures counted { steps.new ≡ steps.old + 1 }
+    {
+        steps.tick();
+        let Tag { state, body } = self;
+        body.back(state.held.session, state.held.q)
+    }
+}
+
+impl Tag<Secured> {
+    /// The tag is in arbitrate with slot 0, in its session and with its Q.
+    pub fn back<L: Ledger>(self, steps: &mut Steps<L>) -> Tag<Arbitrate>
+        ensures step { result ≡ gone_back self.state self.body }
+        ensures counted { steps.new ≡ steps.old + 1 }
+    {
+        steps.tick();
+        let Tag { state, body } = self;
+        body.back(state.held.session, state.held.q)
+    }
+}

@@ -1,0 +1,170 @@
+//! QueryRep (6.3.2.11.2.3).
+ghost use Rattle.std.specs.Prelude.{◌≡◌, ◌+◌, ◌≤◌};
+ghost use Rattle.tag_machine.specs.Inventory.{query_rep, slot_below, count_down, end_turn};
+ghost use Rattle.tag_machine.specs.Hearing.{Gives};
+
+use crate::any_tag::{AnyTag, Heard};
+use crate::body::Body;
+use crate::moves::unanswered;
+use crate::states::{Acknowledged, Arbitrate, Held, InReply, Opened, Secured, Slot};
+use crate::steps::Steps;
+use crate::tag::Tag;
+use bit_strings::{Bits, QValue, Session};
+use std::sync::ledger::Ledger;
+
+impl Slot {
+    /// The counter that is one less; below 0 stands 7FFFh (6.3.2.4.8 Slot counter).
+    fn below(self) -> Slot
+        ensures { result ≡ slot_below self }
+    {
+        let number = self.get();
+        if number == 0 {
+            return Slot::new(0x7FFF);
+        }
+        Slot::new(number - 1)
+    }
+}
+
+impl Body {
+    /// What a QueryRep of the tag's session does in arbitrate: the counter falls by one, and where it becomes 0
+    /// the tag draws an RN16 and answers it.
+    fn count_down(self, session: Session, q: QValue, slot: Slot, out: &mut Bits) -> Heard
+        requires room { 8240 ≤ out.old.capacity }
+        ensures { Gives (count_down session q slot self) result out.old out.new }
+    {
+        let slot = slot.below();
+        if slot.get() == 0 {
+            return self.begin_reply(session, q, out);
+        }
+        let tag = Tag {
+            state: Arbitrate { session, q, slot },
+            body: self,
+        };
+        unanswered(AnyTag::Arbitrate(tag), out)
+    }
+
+    /// The end of the turn of a tag that has a handle: CLOSE, or BACK where a Kill or Access is not finished.
+    pub fn end_turn(self, session: Session, held: Held, out: &mut Bits) -> Heard
+        ensures { Gives (end_turn session held self) result out.old out.new }
+    {
+        match held.half {
+            Some(_) => self.go_back(session, held.q, out),
+            None => self.close(session, out),
+        }
+    }
+}
+
+impl Tag<Arbitrate> {
+    /// The slot counter falls by one, and where it becomes 0 the tag answers an RN16. A QueryRep of another
+    /// session changes nothing.
+    pub fn query_rep<L: Ledger>(
+        self,
+        session: Session,
+        out: &mut Bits,
+        steps: &mut Steps<L>,
+    ) -> Heard
+        requires room { 8240 ≤ out.old.capacity }
+        ensures step { Gives (query_rep session self.state self.body) result out.old out.new }
+        ensures counted { steps.new ≡ steps.old + 1 }
+    {
+        steps.tick();
+        let Tag { state, body } = self;
+        if state.session != session {
+            return unanswered(AnyTag::Arbitrate(Tag { state, body }), out);
+        }
+        body.count_down(session, state.q, state.slot, out)
+    }
+}
+
+impl Tag<InReply> {
+    /// The RN16 was not acknowledged: the tag is in arbitrate with slot 7FFFh. A QueryRep of another session
+    /// changes nothing.
+    pub fn query_rep<L: Ledger>(
+        self,
+        session: Session,
+        out: &mut Bits,
+        steps: &mut Steps<L>,
+    ) -> Heard
+        requires room { 8240 ≤ out.old.capacity }
+        ensures step { Gives (query_rep session self.state self.body) result out.old out.new }
+        ensures counted { steps.new ≡ steps.old + 1 }
+    {
+        steps.tick();
+        let Tag { state, body } = self;
+        if state.session != session {
+            return unanswered(AnyTag::InReply(Tag { state, body }), out);
+        }
+        let state = Arbitrate {
+            session,
+            q: state.q,
+            slot: Slot::new(0x7FFF),
+        };
+        unanswered(AnyTag::Arbitrate(Tag { state, body }), out)
+    }
+}
+
+impl Tag<Acknowledged> {
+    /// The tag was inventoried: its flag is inverted, and it is ready. A QueryRep of another session changes
+    /// nothing.
+    pub fn query_rep<L: Ledger>(
+        self,
+        session: Session,
+        out: &mut Bits,
+        steps: &mut Steps<L>,
+    ) -> Heard
+        requires room { 8240 ≤ out.old.capacity }
+        ensures step { Gives (query_rep session self.state self.body) result out.old out.new }
+        ensures counted { steps.new ≡ steps.old + 1 }
+    {
+        steps.tick();
+        let Tag { state, body } = self;
+        if state.session != session {
+            return unanswered(AnyTag::Acknowledged(Tag { state, body }), out);
+        }
+        body.close(session, out)
+    }
+}
+
+impl Tag<Opened> {
+    /// The tag was inventoried: its flag is inverted, and it is ready; with an unfinished Kill or Access it goes
+    /// back to arbitrate. A QueryRep of another session changes nothing.
+    pub fn query_rep<L: Ledger>(
+        self,
+        session: Session,
+        out: &mut Bits,
+        steps: &mut Steps<L>,
+    ) -> Heard
+        requires room { 8240 ≤ out.old.capacity }
+        ensures step { Gives (query_rep session self.state self.body) result out.old out.new }
+        ensures counted { steps.new ≡ steps.old + 1 }
+    {
+        steps.tick();
+        let Tag { state, body } = self;
+        if state.held.session != session {
+            return unanswered(AnyTag::Opened(Tag { state, body }), out);
+        }
+        body.end_turn(session, state.held, out)
+    }
+}
+
+impl Tag<Secured> {
+    /// The tag was inventoried: its flag is inverted, and it is ready; with an unfinished Kill or Access it goes
+    /// back to arbitrate. A QueryRep of another session changes nothing.
+    pub fn query_rep<L: Ledger>(
+        self,
+        session: Session,
+        out: &mut Bits,
+        steps: &mut Steps<L>,
+    ) -> Heard
+        requires room { 8240 ≤ out.old.capacity }
+        ensures step { Gives (query_rep session self.state self.body) result out.old out.new }
+        ensures counted { steps.new ≡ steps.old + 1 }
+    {
+        steps.tick();
+        let Tag { state, body } = self;
+        if state.held.session != session {
+            return unanswered(AnyTag::Secured(Tag { state, body }), out);
+        }
+        body.end_turn(session, state.held, out)
+    }
+}

@@ -1,0 +1,187 @@
+//! Select (6.3.2.11.1.1).
+ghost use Rattle.std.specs.Prelude.{◌≡◌, ◌+◌, ◌≤◌};
+ghost use Rattle.tag_machine.specs.Draws.{back};
+ghost use Rattle.tag_machine.specs.Inventory.{select, selected_ready, unless_half};
+ghost use Rattle.tag_machine.specs.Hearing.{Gives};
+
+use crate::any_tag::{AnyTag, Heard};
+use crate::body::Body;
+use crate::moves::unanswered;
+use crate::states::{Acknowledged, Arbitrate, Held, InReply, Opened, Ready, Secured};
+use crate::steps::Steps;
+use crate::tag::Tag;
+use bit_strings::{Action, Bits, Pointer};
+use command_grammar::{FlagName, Mask, MaskBank};
+use std::sync::ledger::Ledger;
+
+impl Body {
+    /// The flag changes by the action, and the tag is ready.
+    fn select_ready(
+        self,
+        target: FlagName,
+        action: Action,
+        bank: MaskBank,
+        pointer: Pointer,
+        mask: &Mask,
+        out: &mut Bits,
+    ) -> Heard
+        ensures { Gives (selected_ready target action bank pointer mask.now self) result out.old out.new }
+    {
+        let mut body = self;
+        body.select(target, action, bank, pointer, mask);
+        unanswered(AnyTag::Ready(Tag { state: Ready, body }), out)
+    }
+
+    /// The same for a tag that has a handle, which goes back where a Kill or Access is not finished.
+    fn select_held(
+        self,
+        held: Held,
+        target: FlagName,
+        action: Action,
+        bank: MaskBank,
+        pointer: Pointer,
+        mask: &Mask,
+        out: &mut Bits,
+    ) -> Heard
+        ensures { Gives (unless_half held.half (back held.session held.q self) (selected_ready target action bank pointer mask.now self)) result out.old out.new }
+    {
+        match held.half {
+            Some(_) => self.go_back(held.session, held.q, out),
+            None => self.select_ready(target, action, bank, pointer, mask, out),
+        }
+    }
+}
+
+impl Tag<Ready> {
+    /// The flag changes by the action, and the tag is ready.
+    pub fn select<L: Ledger>(
+        self,
+        target: FlagName,
+        action: Action,
+        bank: MaskBank,
+        pointer: Pointer,
+        mask: &Mask,
+        out: &mut Bits,
+        steps: &mut Steps<L>,
+    ) -> Heard
+        requires room { 8240 ≤ out.old.capacity }
+        ensures step { Gives (select target action bank pointer mask.now self.state self.body) result out.old out.new }
+        ensures counted { steps.new ≡ steps.old + 1 }
+    {
+        steps.tick();
+        let Tag { state: _, body } = self;
+        body.select_ready(target, action, bank, pointer, mask, out)
+    }
+}
+
+impl Tag<Arbitrate> {
+    /// The flag changes by the action, and the tag is ready.
+    pub fn select<L: Ledger>(
+        self,
+        target: FlagName,
+        action: Action,
+        bank: MaskBank,
+        pointer: Pointer,
+        mask: &Mask,
+        out: &mut Bits,
+        steps: &mut Steps<L>,
+    ) -> Heard
+        requires room { 8240 ≤ out.old.capacity }
+        ensures step { Gives (select target action bank pointer mask.now self.state self.body) result out.old out.new }
+        ensures counted { steps.new ≡ steps.old + 1 }
+    {
+        steps.tick();
+        let Tag { state: _, body } = self;
+        body.select_ready(target, action, bank, pointer, mask, out)
+    }
+}
+
+impl Tag<InReply> {
+    /// The flag changes by the action, and the tag is ready.
+    pub fn select<L: Ledger>(
+        self,
+        target: FlagName,
+        action: Action,
+        bank: MaskBank,
+        pointer: Pointer,
+        mask: &Mask,
+        out: &mut Bits,
+        steps: &mut Steps<L>,
+    ) -> Heard
+        requires room { 8240 ≤ out.old.capacity }
+        ensures step { Gives (select target action bank pointer mask.now self.state self.body) result out.old out.new }
+        ensures counted { steps.new ≡ steps.old + 1 }
+    {
+        steps.tick();
+        let Tag { state: _, body } = self;
+        body.select_ready(target, action, bank, pointer, mask, out)
+    }
+}
+
+impl Tag<Acknowledged> {
+    /// The flag changes by the action, and the tag is ready.
+    pub fn select<L: Ledger>(
+        self,
+        target: FlagName,
+        action: Action,
+        bank: MaskBank,
+        pointer: Pointer,
+        mask: &Mask,
+        out: &mut Bits,
+        steps: &mut Steps<L>,
+    ) -> Heard
+        requires room { 8240 ≤ out.old.capacity }
+        ensures step { Gives (select target action bank pointer mask.now self.state self.body) result out.old out.new }
+        ensures counted { steps.new ≡ steps.old + 1 }
+    {
+        steps.tick();
+        let Tag { state: _, body } = self;
+        body.select_ready(target, action, bank, pointer, mask, out)
+    }
+}
+
+impl Tag<Opened> {
+    /// The flag changes by the action, and the tag is ready. With an unfinished Kill or Access no flag changes,
+    /// and the tag goes back to arbitrate.
+    pub fn select<L: Ledger>(
+        self,
+        target: FlagName,
+        action: Action,
+        bank: MaskBank,
+        pointer: Pointer,
+        mask: &Mask,
+        out: &mut Bits,
+        steps: &mut Steps<L>,
+    ) -> Heard
+        requires room { 8240 ≤ out.old.capacity }
+        ensures step { Gives (select target action bank pointer mask.now self.state self.body) result out.old out.new }
+        ensures counted { steps.new ≡ steps.old + 1 }
+    {
+        steps.tick();
+        let Tag { state, body } = self;
+        body.select_held(state.held, target, action, bank, pointer, mask, out)
+    }
+}
+
+impl Tag<Secured> {
+    /// The flag changes by the action, and the tag is ready. With an unfinished Kill or Access no flag changes,
+    /// and the tag goes back to arbitrate.
+    pub fn select<L: Ledger>(
+        self,
+        target: FlagName,
+        action: Action,
+        bank: MaskBank,
+        pointer: Pointer,
+        mask: &Mask,
+        out: &mut Bits,
+        steps: &mut Steps<L>,
+    ) -> Heard
+        requires room { 8240 ≤ out.old.capacity }
+        ensures step { Gives (select target action bank pointer mask.now self.state self.body) result out.old out.new }
+        ensures counted { steps.new ≡ steps.old + 1 }
+    {
+        steps.tick();
+        let Tag { state, body } = self;
+        body.select_held(state.held, target, action, bank, pointer, mask, out)
+    }
+}

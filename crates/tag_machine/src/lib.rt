@@ -1,0 +1,31 @@
+//! A tag of the EPCglobal Class-1 Generation-2 standard, version 1.2.0, as a state machine: what it becomes and
+//! what it answers when it hears a command (6.3.2.4 Tag states and slot counter, 6.3.2.10, 6.3.2.11, Annex B),
+//! and what events do to it.
+#![tactic(auto)]
+
+mod access;
+mod any_tag;
+mod body;
+mod event;
+mod hear;
+mod inventory;
+mod laws;
+mod moves;
+mod states;
+mod steps;
+mod tag;
+
+pub use air_events::{Choice, Entry, Event};
+pub use any_tag::{Answered, AnyTag, Heard};
+pub use laws::draw_laws;
+pub use session_flags::DrawWords;
+pub use states::{
+    Acknowledged, Arbitrate, InReply, Killed, Opened, Ready, Secured, State, StateName, Unpowered,
+};
+pub use steps::Steps;
+pub use tag::Tag;
+
+#[cfg(test)]
+mod access_tests;
+#[cfg(test)]
+mod tests;

@@ -1,0 +1,115 @@
+//! The moves that the commands share: how a tag answers, and where it goes.
+ghost use Rattle.std.specs.Prelude.{◌≡◌, ◌≤◌, Some, None, true, false};
+ghost use Rattle.reply_grammar.specs.Table.{CanBeSent};
+ghost use Rattle.tag_machine.specs.TagValue.{ReadyState, ArbitrateState};
+ghost use Rattle.tag_machine.specs.Answers.{silent, plain, extended};
+ghost use Rattle.tag_machine.specs.Draws.{begin_reply, enter, close, back, tag_back};
+ghost use Rattle.tag_machine.specs.Hearing.{Gives, value_of};
+
+use crate::any_tag::{Answered, AnyTag, Heard};
+use crate::body::Body;
+use crate::states::{Arbitrate, InReply, Ready, Slot};
+use crate::tag::Tag;
+use bit_strings::{Bits, QValue, Session};
+use reply_grammar::{Reply, encode_reply};
+
+/// No answer.
+pub fn unanswered(tag: AnyTag, out: &mut Bits) -> Heard
+    ensures { Gives (silent (value_of tag).state (value_of tag).body) result out.old out.new }
+{
+    out.clear();
+    Heard {
+        tag,
+        answered: Answered::Silent,
+    }
+}
+
+/// An answer whose preamble goes by the TRext of the Query.
+pub fn answer(tag: AnyTag, reply: &Reply, handle: u16, out: &mut Bits) -> Heard
+    requires room { 8240 ≤ out.old.capacity }
+    requires sendable { CanBeSent reply.now }
+    ensures { Gives (plain (value_of tag).state (value_of tag).body reply.now handle) result out.old out.new }
+{
+    encode_reply(reply, handle, out);
+    Heard {
+        tag,
+        answered: Answered::Plain,
+    }
+}
+
+/// An answer with the extended preamble.
+pub fn answer_extended(tag: AnyTag, reply: &Reply, handle: u16, out: &mut Bits) -> Heard
+    requires room { 8240 ≤ out.old.capacity }
+    requires sendable { CanBeSent reply.now }
+    ensures { Gives (extended (value_of tag).state (value_of tag).body reply.now handle) result out.old out.new }
+{
+    encode_reply(reply, handle, out);
+    Heard {
+        tag,
+        answered: Answered::Extended,
+    }
+}
+
+impl Body {
+    /// BACK: arbitrate with slot 0.
+    pub fn back(self, session: Session, q: QValue) -> Tag<Arbitrate>
+        ensures { result ≡ tag_back session q self }
+    {
+        Tag {
+            state: Arbitrate {
+                session,
+                q,
+                slot: Slot::new(0),
+            },
+            body: self,
+        }
+    }
+
+    /// BACK, without an answer.
+    pub fn go_back(self, session: Session, q: QValue, out: &mut Bits) -> Heard
+        ensures { Gives (back session q self) result out.old out.new }
+    {
+        unanswered(AnyTag::Arbitrate(self.back(session, q)), out)
+    }
+
+    /// CLOSE: the flag of the session is inverted, and the tag is ready.
+    pub fn close(self, session: Session, out: &mut Bits) -> Heard
+        ensures { Gives (close session self) result out.old out.new }
+    {
+        let mut body = self;
+        body.invert(session);
+        unanswered(AnyTag::Ready(Tag { state: Ready, body }), out)
+    }
+
+    /// Draws an RN16 and answers it.
+    pub fn begin_reply(self, session: Session, q: QValue, out: &mut Bits) -> Heard
+        requires room { 8240 ≤ out.old.capacity }
+        ensures { Gives (begin_reply session q self) result out.old out.new }
+    {
+        let mut body = self;
+        let rn = body.draw();
+        let tag = Tag {
+            state: InReply { session, q, rn },
+            body,
+        };
+        answer(AnyTag::InReply(tag), &Reply::Rn16(rn), 0, out)
+    }
+
+    /// ENTER: draws a slot, the last Q bits of a word, and replies at once where it is 0.
+    pub fn enter(self, session: Session, q: QValue, out: &mut Bits) -> Heard
+        requires room { 8240 ≤ out.old.capacity }
+        ensures { Gives (enter session q self) result out.old out.new }
+    {
+        let mut body = self;
+        let slot = body.draw() % (1 << q.get());
+        if slot == 0 {
+            return body.begin_reply(session, q, out);
+        }
+        let slot = Slot::new(slot);
+        let tag = Tag {
+            state: Arbitrate { session, q, slot },
+            body,
+        };
+        unanswered(AnyTag::Arbitrate(tag), out)
+    }
+}

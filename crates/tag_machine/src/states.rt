@@ -1,0 +1,296 @@
+//! The states of a tag, each with the numbers that it holds (6.3.2.4 Tag states and slot counter).
+ghost use Rattle.std.specs.Prelude.{◌≡◌, ◌<◌, ◌^◌};
+ghost use Rattle.tag_machine.specs.TagValue.{IsWordOrNone, IsHalfOrNone, IsLegalHeld};
+
+use bit_strings::{QValue, Session};
+use std::marker::Model;
+
+/// The name of a state (6.3.2.4 Tag states and slot counter).
+#[derive(Clone, Copy, Debug, PartialEq, Eq)]
+pub enum StateName {
+    Ready,
+    Arbitrate,
+    InReply,
+    Acknowledged,
+    Opened,
+    Secured,
+    Killed,
+    Unpowered,
+}
+
+/// A state of a tag.
+pub trait State: Copy {
+    ghost use Rattle.tag_machine.specs.TagValue.{StateValue, IsLegalState};
+    ghost use Rattle.tag_machine.specs.Names.{name_of};
+
+    ghost value: { Self → StateValue };
+
+    /// The name of the state.
+    fn name(&self) -> StateName
+        ensures { result ≡ name_of (value self.now) };
+
+    /// Changes nothing: each number is in its range.
+    fn audit(&self)
+        ensures { IsLegalState (value self.now) };
+}
+
+/// Powered, and in no round (6.3.2.4.1 Ready state).
+#[derive(Clone, Copy, Debug, PartialEq, Eq)]
+pub struct Ready;
+
+/// In a round, and waiting for its slot (6.3.2.4.2 Arbitrate state).
+#[derive(Clone, Copy, Debug, PartialEq, Eq)]
+pub struct Arbitrate {
+    pub(crate) session: Session,
+    pub(crate) q: QValue,
+    pub(crate) slot: Slot,
+}
+
+/// An RN16 was sent, and the tag waits for it to be acknowledged (6.3.2.4.3 Reply state).
+#[derive(Clone, Copy, Debug, PartialEq, Eq)]
+pub struct InReply {
+    pub(crate) session: Session,
+    pub(crate) q: QValue,
+    /// The RN16 that was sent.
+    pub(crate) rn: u16,
+}
+
+/// The EPC was sent (6.3.2.4.4 Acknowledged state).
+#[derive(Clone, Copy, Debug, PartialEq, Eq)]
+pub struct Acknowledged {
+    pub(crate) session: Session,
+    pub(crate) q: QValue,
+    /// The RN16 that was acknowledged.
+    pub(crate) rn: u16,
+}
+
+/// Access commands may come (6.3.2.4.5 Open state).
+#[derive(Clone, Copy, Debug, PartialEq, Eq)]
+pub struct Opened {
+    pub(crate) held: Held,
+}
+
+/// Access commands may come, Lock among them (6.3.2.4.6 Secured state).
+#[derive(Clone, Copy, Debug, PartialEq, Eq)]
+pub struct Secured {
+    pub(crate) held: Held,
+}
+
+/// The tag never answers again (6.3.2.4.7 Killed state).
+#[derive(Clone, Copy, Debug, PartialEq, Eq)]
+pub struct Killed;
+
+/// The tag has no power (profile).
+#[derive(Clone, Copy, Debug, PartialEq, Eq)]
+pub struct Unpowered;
+
+/// What open and secured hold.
+#[derive(Clone, Copy, Debug, PartialEq, Eq)]
+pub struct Held {
+    pub session: Session,
+    pub q: QValue,
+    /// The number that commands to this tag must carry.
+    pub handle: u16,
+    /// The RN16 that covers the number in the next Write, Kill or Access, where one was asked for.
+    pub cover: Option<u16>,
+    /// The half of a Kill or Access that is not finished.
+    pub half: Option<Half>,
+}
+
+/// The first half of a password, which came with a Kill or an Access.
+#[derive(Clone, Copy, Debug, PartialEq, Eq)]
+pub struct Half {
+    pub kind: Kind,
+    /// The half, without its cover.
+    pub value: u16,
+}
+
+/// The command that a half came with.
+#[derive(Clone, Copy, Debug, PartialEq, Eq)]
+pub enum Kind {
+    Kill,
+    Access,
+}
+
+/// A slot counter: 15 bits (6.3.2.4.8 Slot counter). A contract sees its number.
+#[derive(Clone, Copy, Debug, PartialEq, Eq)]
+pub struct Slot {
+    number: u16,
+}
+
+impl Model for Slot {
+    ghost use Rattle.std.specs.Prelude.{ℕ, ◌<◌, ◌^◌};
+
+    ghost Value = { ℕ };
+
+    ghost view = { λ slot. slot.number };
+
+    ghost invariant = { λ slot. slot.number < 2 ^ 15 };
+
+    ghost inverse = { λ n. record { number = n } };
+}
+
+impl Slot {
+    /// The counter with this number.
+    pub fn new(number: u16) -> Slot
+        requires { number < 2 ^ 15 }
+        ensures { result ≡ number }
+    {
+        Slot { number }
+    }
+
+    /// The number.
+    pub fn get(&self) -> u16
+        ensures value { result ≡ self.now }
+        ensures range { self.now < 2 ^ 15 }
+    {
+        self.number
+    }
+}
+
+/// Changes nothing: a word is a number of 16 bits.
+fn audit_word(word: Option<u16>)
+    ensures { IsWordOrNone word }
+{
+    match word {
+        Some(_word) => {}
+        None => {}
+    }
+}
+
+/// Changes nothing: a half is a number of 16 bits.
+fn audit_half(half: Option<Half>)
+    ensures { IsHalfOrNone half }
+{
+    match half {
+        Some(half) => {
+            let _value = half.value;
+        }
+        None => {}
+    }
+}
+
+impl Held {
+    /// Changes nothing: each number is in its range.
+    fn audit(&self)
+        ensures { IsLegalHeld self.now }
+    {
+        let _ = self.session.get();
+        let _ = self.q.get();
+        let _handle = self.handle;
+        audit_word(self.cover);
+        audit_half(self.half);
+    }
+}
+
+impl State for Ready {
+    ghost use Rattle.tag_machine.specs.States.{ready_state};
+
+    ghost value = { ready_state };
+
+    fn name(&self) -> StateName {
+        StateName::Ready
+    }
+
+    fn audit(&self) {}
+}
+
+impl State for Arbitrate {
+    ghost use Rattle.tag_machine.specs.States.{arbitrate_state};
+
+    ghost value = { arbitrate_state };
+
+    fn name(&self) -> StateName {
+        StateName::Arbitrate
+    }
+
+    fn audit(&self) {
+        let _ = self.session.get();
+        let _ = self.q.get();
+        let _ = self.slot.get();
+    }
+}
+
+impl State for InReply {
+    ghost use Rattle.tag_machine.specs.States.{reply_state};
+
+    ghost value = { reply_state };
+
+    fn name(&self) -> StateName {
+        StateName::InReply
+    }
+
+    fn audit(&self) {
+        let _ = self.session.get();
+        let _ = self.q.get();
+        let _rn = self.rn;
+    }
+}
+
+impl State for Acknowledged {
+    ghost use Rattle.tag_machine.specs.States.{acknowledged_state};
+
+    ghost value = { acknowledged_state };
+
+    fn name(&self) -> StateName {
+        StateName::Acknowledged
+    }
+
+    fn audit(&self) {
+        let _ = self.session.get();
+        let _ = self.q.get();
+        let _rn = self.rn;
+    }
+}
+
+impl State for Opened {
+    ghost use Rattle.tag_machine.specs.States.{open_state};
+
+    ghost value = { open_state };
+
+    fn name(&self) -> StateName {
+        StateName::Opened
+    }
+
+    fn audit(&self) {
+        self.held.audit();
+    }
+}
+
+impl State for Secured {
+    ghost use Rattle.tag_machine.specs.States.{secured_state};
+
+    ghost value = { secured_state };
+
+    fn name(&self) -> StateName {
+        StateName::Secured
+    }
+
+    fn audit(&self) {
+        self.held.audit();
+    }
+}
+
+impl State for Killed {
+    ghost use Rattle.tag_machine.specs.States.{killed_state};
+
+    ghost value = { killed_state };
+
+    fn name(&self) -> StateName {
+        StateName::Killed
+    }
+
+    fn audit(&self) {}
+}
+
+impl State for Unpowered {
+    ghost use Rattle.tag_machine.specs.States.{unpowered_state};
+
+    ghost value = { unpowered_state };
+
+    fn name(&self) -> StateName {
+        StateName::Unpowered
+    }
+
+    fn audit(&self) {}
+}
