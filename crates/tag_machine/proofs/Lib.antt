@@ -4,3 +4,4 @@ pub mod FlagsAfter
 pub mod HandleRules
 pub mod InRange
 pub mod Isolated
+pub mod Places

@@ -1,6 +1,6 @@
 -- 6.3.2.5 Tag random or pseudo-random number generator; 6.3.2.4.8 Slot counter: what a tag draws, and the moves that
 -- the tables of Annex B share. That draws come from a list which begins again at its end is profile.
-use Rattle.std.specs.Prelude.{ℕ, ◌+◌, ◌%◌, ◌^◌, ◌==◌, length, slice_index, if◌then◌else◌}
+use Rattle.std.specs.Prelude.{ℕ, zero, suc, ◌+◌, ◌%◌, ◌^◌, ◌==◌, length, slice_index, if◌then◌else◌}
 use Rattle.reply_grammar.specs.declared.expected.Reply.TheVariants.{Rn16}
 use Rattle.session_flags.specs.Flags.{inverted}
 use Rattle.tag_machine.specs.TagValue.{StateValue, ReadyState, ArbitrateState, ReplyState, AcknowledgedState, OpenState, SecuredState, KilledState, UnpoweredState, BodyValue, TagValue}
@@ -12,8 +12,16 @@ abbrev pub drawn : BodyValue → ℕ
 drawn body = slice_index body.words body.place
 
 -- the place rises by one, and is 0 again where it reaches the number of words
+abbrev pub place_behind : ℕ → ℕ → ℕ
+place_behind count place = (if place + 1 == count then 0 else place + 1)
+
 abbrev pub place_after : BodyValue → ℕ
-place_after body = (if body.place + 1 == length body.words then 0 else body.place + 1)
+place_after body = place_behind (length body.words) body.place
+
+-- the place of the draw with a number, counted from 0, that a tag makes: it begins at place 0
+unfoldable pub place_of_draw : ℕ → ℕ → ℕ
+place_of_draw count zero = 0
+place_of_draw count (suc number) = place_behind count (place_of_draw count number)
 
 abbrev pub after_draw : BodyValue → BodyValue
 after_draw body = record body { place = place_after body }

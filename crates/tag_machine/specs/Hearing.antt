@@ -6,6 +6,8 @@ use Rattle.tag_machine.specs.declared.any_tag.AnyTag.TheVariants as tags
 use Rattle.tag_machine.specs.declared.any_tag.Answered.{Answered}
 use Rattle.tag_machine.specs.declared.any_tag.Answered.TheVariants.{Silent, Plain, Extended}
 use Rattle.tag_machine.specs.declared.any_tag.Heard.{Heard}
+use Rattle.tag_machine.specs.declared.states.StateName.{StateName}
+use Rattle.tag_machine.specs.declared.states.StateName.TheVariants as names
 use Rattle.tag_machine.specs.TagValue.{TagValue}
 use Rattle.tag_machine.specs.Answers.{Sent, Outcome, bits_sent, IsSent}
 
@@ -18,6 +20,17 @@ value_of (tags.Opened tag) = tag
 value_of (tags.Secured tag) = tag
 value_of (tags.Killed tag) = tag
 value_of (tags.Unpowered tag) = tag
+
+-- the name of the state that a tag's type says
+abbrev pub typed_name_of : AnyTag → StateName
+typed_name_of (tags.Ready tag) = names.Ready
+typed_name_of (tags.Arbitrate tag) = names.Arbitrate
+typed_name_of (tags.InReply tag) = names.InReply
+typed_name_of (tags.Acknowledged tag) = names.Acknowledged
+typed_name_of (tags.Opened tag) = names.Opened
+typed_name_of (tags.Secured tag) = names.Secured
+typed_name_of (tags.Killed tag) = names.Killed
+typed_name_of (tags.Unpowered tag) = names.Unpowered
 
 -- the mark of an answer
 abbrev pub mark_of : Option Sent → Answered

@@ -3,11 +3,11 @@ ghost use Rattle.std.specs.Prelude.{◌≡◌};
 ghost use Rattle.tag_machine.specs.TagValue.{is_present, IsLegalTag};
 ghost use Rattle.tag_machine.specs.Events.{new_tag};
 ghost use Rattle.tag_machine.specs.Names.{name_of};
-ghost use Rattle.tag_machine.specs.Hearing.{value_of};
+ghost use Rattle.tag_machine.specs.Hearing.{value_of, typed_name_of};
 
 use crate::body::Body;
 use crate::states::{
-    Acknowledged, Arbitrate, InReply, Killed, Opened, Ready, Secured, StateName, Unpowered,
+    Acknowledged, Arbitrate, InReply, Killed, Opened, Ready, Secured, State, StateName, Unpowered,
 };
 use crate::tag::Tag;
 use lock_rules::Locks;
@@ -58,19 +58,20 @@ impl AnyTag {
         })
     }
 
-    /// The name of the tag's state.
+    /// The name of the tag's state, which is that of its type.
     pub fn state(&self) -> StateName
-        ensures { result ≡ name_of (value_of self.now).state }
+        ensures value { result ≡ name_of (value_of self.now).state }
+        ensures typed { result ≡ typed_name_of self.now }
     {
         match self {
-            AnyTag::Ready(tag) => tag.name(),
-            AnyTag::Arbitrate(tag) => tag.name(),
-            AnyTag::InReply(tag) => tag.name(),
-            AnyTag::Acknowledged(tag) => tag.name(),
-            AnyTag::Opened(tag) => tag.name(),
-            AnyTag::Secured(tag) => tag.name(),
-            AnyTag::Killed(tag) => tag.name(),
-            AnyTag::Unpowered(tag) => tag.name(),
+            AnyTag::Ready(tag) => tag.state.name(),
+            AnyTag::Arbitrate(tag) => tag.state.name(),
+            AnyTag::InReply(tag) => tag.state.name(),
+            AnyTag::Acknowledged(tag) => tag.state.name(),
+            AnyTag::Opened(tag) => tag.state.name(),
+            AnyTag::Secured(tag) => tag.state.name(),
+            AnyTag::Killed(tag) => tag.state.name(),
+            AnyTag::Unpowered(tag) => tag.state.name(),
         }
     }
 

@@ -4,7 +4,7 @@ ghost use Rattle.reply_grammar.specs.Table.{CanBeSent};
 ghost use Rattle.session_flags.specs.Flags.{new_flags, matches, without_power};
 ghost use Rattle.tag_memory.specs.Memory.{with_stored_crc};
 ghost use Rattle.tag_machine.specs.TagValue.{IsLegalBody};
-ghost use Rattle.tag_machine.specs.Draws.{drawn, after_draw, inverted_body};
+ghost use Rattle.tag_machine.specs.Draws.{drawn, place_behind, after_draw, inverted_body};
 ghost use Rattle.tag_machine.specs.Inventory.{epc_reply, selected_body};
 ghost use Rattle.tag_machine.specs.Events.{with_expired};
 
@@ -40,9 +40,9 @@ impl Model for Body {
 }
 
 /// The place behind this one, among so many.
-fn place_behind(place: usize, count: usize) -> usize
+fn next_place(place: usize, count: usize) -> usize
     requires { place < count }
-    ensures value { result ≡ (if place + 1 == count then 0 else place + 1) }
+    ensures value { result ≡ place_behind count place }
     ensures inside { result < count }
 {
     if place + 1 == count { 0 } else { place + 1 }
@@ -97,7 +97,7 @@ impl Body {
     {
         let words = self.words.words();
         let word = words[self.place];
-        self.place = place_behind(self.place, words.len());
+        self.place = next_place(self.place, words.len());
         word
     }
 

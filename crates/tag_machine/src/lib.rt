@@ -9,6 +9,7 @@ mod body;
 mod event;
 mod hear;
 mod inventory;
+mod laws;
 mod moves;
 mod states;
 mod steps;
@@ -16,6 +17,7 @@ mod tag;
 
 pub use air_events::{Choice, Entry, Event};
 pub use any_tag::{Answered, AnyTag, Heard};
+pub use laws::draw_laws;
 pub use session_flags::DrawWords;
 pub use states::{
     Acknowledged, Arbitrate, InReply, Killed, Opened, Ready, Secured, State, StateName, Unpowered,
@@ -25,3 +27,5 @@ pub use tag::Tag;
 
 #[cfg(test)]
 mod access_tests;
+#[cfg(test)]
+mod tests;

@@ -1,10 +1,9 @@
 //! A tag whose state is known.
 ghost use Rattle.std.specs.Prelude.{◌≡◌};
 ghost use Rattle.tag_machine.specs.TagValue.{IsLegalTag};
-ghost use Rattle.tag_machine.specs.Names.{name_of};
 
 use crate::body::Body;
-use crate::states::{State, StateName};
+use crate::states::State;
 use std::marker::Model;
 
 /// A tag in the state `S`. A contract sees the state with its numbers, and what a tag holds in every state.
@@ -23,13 +22,6 @@ impl<S: State> Model for Tag<S> {
 }
 
 impl<S: State> Tag<S> {
-    /// The name of the tag's state.
-    pub(crate) fn name(&self) -> StateName
-        ensures { result ≡ name_of self.now.state }
-    {
-        self.state.name()
-    }
-
     /// What the tag holds in every state.
     pub(crate) fn body(&self) -> &Body
         ensures { result.now ≡ self.now.body }

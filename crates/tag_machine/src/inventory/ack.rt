@@ -45,16 +45,17 @@ impl Tag<Acknowledged> {
     {
         steps.tick();
         let Tag { state, body } = self;
-        if state.rn != rn {
-            return body.go_back(state.session, state.q, out);
+        let Acknowledged {
+            session,
+            q,
+            rn: own,
+        } = state;
+        if own != rn {
+            return body.go_back(session, q, out);
         }
         let reply = body.epc_reply();
-        let state = Acknowledged {
-            session: state.session,
-            q: state.q,
-            rn,
-        };
-        answer(AnyTag::Acknowledged(Tag { state, body }), &reply, 0, out)
+        let tag = AnyTag::Acknowledged(Tag { state, body });
+        answer(tag, &reply, 0, out)
     }
 }
 
