@@ -6,7 +6,7 @@ use Rattle.scenario_lines.specs.declared.line.Line.{Line}
 use Rattle.scenario_lines.specs.declared.line.Line.TheVariants as lines
 use Rattle.scenario_lines.specs.declared.fault.LineFault.{LineFault}
 use Rattle.scenario_lines.specs.declared.fault.LineFault.TheVariants as line_faults
-use Rattle.scenario_lines.specs.Spelling.{line_fields, line_text, word_of_line}
+use Rattle.scenario_lines.specs.Spelling.{line_text, word_of_line}
 use Rattle.scenario_lines.specs.LineFaults.{BeginsWith, IsFaulty, Spells}
 use Rattle.scenario.specs.declared.fault.Fault.{Fault}
 use Rattle.scenario.specs.declared.fault.Fault.TheVariants.{Extra, End, Version, Word as WordFault, Limit, Shape, Number, Tari, RtCal, TrCal, Pw, Pc, Tag, Order, Twice}
@@ -85,7 +85,7 @@ IsFaultyBefore behind (ended draft) line fault = (fault ≡ Extra) × (line ∷ 
 -- a line is needed, and isn't there or has no line feed
 IsFaultyBefore [] standing line fault = fault ≡ End
 -- the first line is the version
-IsFaultyBefore (next ∷ more) start line fault = (fault ≡ Version) × (fields_of line ≢ line_fields lines.Version)
+IsFaultyBefore (next ∷ more) start line fault = (fault ≡ Version) × (line ≢ line_text lines.Version)
 IsFaultyBefore (next ∷ more) standing line fault = IsFaultyAt standing (fields_of line) fault
 
 -- the lines are the spellings of lines that follow one another from the start, and lead there

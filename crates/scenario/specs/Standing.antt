@@ -78,6 +78,10 @@ last_entry (suc before) latest = (suc before, latest) ∷ []
 abbrev pub entries_of : DraftValue → List (ℕ × Entry)
 entries_of draft = draft.closed ++ last_entry draft.exchange draft.latest
 
+-- how many lines say a draft, behind the version and the link
+abbrev pub size : DraftValue → ℕ
+size draft = length draft.tags + draft.airs + length draft.steps
+
 -- nothing in a draft is more than the limits allow
 pub record IsSmall (draft : DraftValue) : Type 0 where
   pub tags : length draft.tags ≤ most_tags

@@ -19,3 +19,9 @@ abbrev pub Takes : DraftValue → List (List ℕ) → DraftValue → Taken → T
 Takes old fields new More = LeadsBy fields (within old) (within new)
 Takes old fields new End = LeadsBy fields (within old) (ended new)
 Takes old fields new (Faulty fault) = IsFaultyAt (within old) fields fault
+
+-- the standing is the one that the draft has then
+abbrev pub LeadsTo : Standing → DraftValue → Taken → Type 0
+LeadsTo standing draft More = standing ≡ within draft
+LeadsTo standing draft End = standing ≡ ended draft
+LeadsTo standing draft (Faulty fault) = ⊥

@@ -1,11 +1,13 @@
 //! A scenario, line by line.
-ghost use Rattle.std.specs.Prelude.{◌≡◌, ◌<◌, ◌↔◌, ◌++◌, [], ◌∷◌, length, IsTrue, IfOk, IfErr, OnOk};
+ghost use Rattle.std.specs.Prelude.{◌≡◌, ◌<◌, ◌≤◌, ◌+◌, ◌↔◌, ◌++◌, [], ◌∷◌, length, IsTrue, IfOk, IfErr, OnOk};
 ghost use Rattle.text_fields.specs.Lines.{fields_of};
-ghost use Rattle.scenario.specs.Standing.{Agrees, ChoosesOnce, HasRoom, KeepsOrder, MayFollow, MayStand, NamesTag, entries_of, grown, new_draft, scenario_of, turned, with_air, with_happening, with_step, within};
+ghost use Rattle.scenario.specs.Standing.{Agrees, ChoosesOnce, Follows, HasRoom, KeepsOrder, MayFollow, MayStand, NamesTag, after, entries_of, grown, new_draft, scenario_of, size, turned, with_air, with_happening, with_step, within};
 ghost use Rattle.scenario.specs.Faults.{IsAtOddsBy, fault_of_line};
+ghost use Rattle.scenario_lines.specs.declared.line.Line.{Line};
+ghost use Rattle.scenario_lines.specs.LineFaults.{Spells};
 ghost use Rattle.scenario_lines.specs.Spelling.{word_of_line};
 ghost use Rattle.scenario.specs.Limits.{most_air_lines, most_steps, most_tags, no_operations};
-ghost use Rattle.scenario.specs.Taking.{Takes};
+ghost use Rattle.scenario.specs.Taking.{LeadsTo, Takes};
 
 use crate::Fault;
 use crate::values::{Scenario, Step};
@@ -98,6 +100,15 @@ impl Draft {
             choice: None,
             steps: Vec::new(alloc),
         }
+    }
+
+    /// The number of the next line, counted from 1: behind the version and the link stands one line for
+    /// each tag, air line and step.
+    pub(crate) fn next_line(&self) -> u32
+        ensures number { result ≡ 3 + size self.now }
+        ensures small { result ≤ 5379 }
+    {
+        3 + self.tags.len() as u32 + self.airs + self.steps.len() as u32
     }
 
     /// Whether a line that begins with this word may follow.
@@ -259,7 +270,7 @@ impl Draft {
     /// Adds a step.
     fn add_step(&mut self, step: Step) -> Result<(), OutOfMemory>
         requires { length self.old.steps < most_steps }
-        ensures { OnOk result (self.new ≡ with_step self.old step.entry) }
+        ensures { OnOk result (self.new ≡ with_step self.old step) }
     {
         self.steps.push(step)?;
         Ok(())
@@ -297,7 +308,9 @@ impl Draft {
     /// Takes the next line, which is given without its line feed. After an error the draft may hold a
     /// part of what the line says.
     pub(crate) fn take(&mut self, alloc: Global, line: &[u8]) -> Result<Taken, OutOfMemory>
-        ensures { IfOk result (Takes self.old (fields_of line.now) self.new) }
+        ensures taken { IfOk result (Takes self.old (fields_of line.now) self.new) }
+        ensures only { (said : Line) → Spells (fields_of line.now) said → Follows (within self.old) said
+            → IfOk result (LeadsTo (after (within self.old) said) self.new) }
     {
         let Some(word) = word_of(line) else {
             return Ok(Taken::Faulty(Fault::Word));

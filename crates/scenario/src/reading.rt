@@ -1,13 +1,14 @@
 //! A scenario, read from its text.
-ghost use Rattle.std.specs.Prelude.{◌≡◌, ◌↔◌, IsTrue, IfOk, IfErr};
+ghost use Rattle.std.specs.Prelude.{◌≡◌, ◌↔◌, [], List, IsTrue, IfOk, IfErr, IsOkAnd};
 ghost use Rattle.scenario.specs.declared.values.Scenario.{Scenario};
+ghost use Rattle.scenario_lines.specs.declared.line.Line.{Line};
 ghost use Rattle.scenario.specs.Limits.{IsScenario};
 ghost use Rattle.scenario.specs.ScenarioText.{scenario_text};
-ghost use Rattle.scenario.specs.Standing.{begun, new_draft, within};
+ghost use Rattle.scenario.specs.Standing.{DraftValue, Follows, begun, new_draft, scenario_of, within};
 ghost use Rattle.scenario.specs.Faults.{IsFaultyAt, IsRefused};
-ghost use Rattle.scenario.specs.Rest.{Finishes, IsRefusedFrom};
+ghost use Rattle.scenario.specs.Rest.{AreLeft, Finishes, IsExtra, IsRefusedBehind};
 ghost use Rattle.text_fields.specs.Lines.{fields_of};
-ghost use Rattle.scenario_lines.specs.Spelling.{line_fields};
+ghost use Rattle.scenario_lines.specs.Spelling.{line_text};
 ghost use Rattle.scenario_lines.specs.LineFaults.{Spells};
 
 use crate::draft::{Draft, Taken, fault_of};
@@ -17,11 +18,14 @@ use scenario_lines::{Line, Word, read_line, word_of};
 use std::alloc::Global;
 use text_fields::split_line;
 
+#[cfg(test)]
+mod tests;
+
 /// Whether a line is the version that a scenario begins with.
 fn is_version(line: &[u8]) -> bool
-    ensures { IsTrue result ↔ (fields_of line.now ≡ line_fields Line.Version) }
+    ensures { IsTrue result ↔ (line.now ≡ line_text Line.Version) }
 {
-    line == b"gen2 1".as_slice()
+    matches!(line, b"gen2 1")
 }
 
 /// The link that the second line spells.
@@ -31,42 +35,55 @@ fn is_version(line: &[u8]) -> bool
 /// The first reason for which the line is faulty.
 fn link_of(line: &[u8]) -> Result<Link, Fault>
     ensures ok { IfOk result (λ link. Spells (fields_of line.now) (Line.Link link)) }
+    ensures only { (said : Line) → Spells (fields_of line.now) said → Follows begun said → IsOkAnd result (λ link. said ≡ Line.Link link) }
     ensures refused { IfErr result (IsFaultyAt begun (fields_of line.now)) }
 {
-    match word_of(line) {
-        Some(Word::Link) => {}
-        _ => return Err(Fault::Word),
+    let Some(word) = word_of(line) else {
+        return Err(Fault::Word);
+    };
+    if word != Word::Link {
+        return Err(Fault::Word);
     }
-    match read_line(line) {
-        Ok(Line::Link(link)) => Ok(link),
-        Ok(_) => Err(Fault::Word),
-        Err(fault) => Err(fault_of(fault)),
+    let said = match read_line(line) {
+        Ok(said) => said,
+        Err(fault) => return Err(fault_of(fault)),
+    };
+    match said {
+        Line::Link(link) => Ok(link),
+        _ => Err(Fault::Word),
     }
+}
+
+/// The scenario of a draft that is whole, behind whose end nothing may stand.
+fn finish(draft: Draft, rest: &[u8]) -> Result<Scenario, ScenarioFault>
+    ensures ok { IfOk result (λ scenario. (scenario ≡ scenario_of draft) × (rest.now ≡ [])) }
+    ensures refused { IfErr result (IsExtra draft rest.now) }
+{
+    if !rest.is_empty() {
+        return Err(ScenarioFault::Line(draft.next_line() + 1, Fault::Extra));
+    }
+    Ok(draft.finish()?)
 }
 
 /// The scenario of a link, which the lines behind that of the link spell.
 fn read_behind_link(alloc: Global, link: Link, text: &[u8]) -> Result<Scenario, ScenarioFault>
-    ensures ok { IfOk result (Finishes (within (new_draft link)) text.now) }
-    ensures refused { IfErr result (IsRefusedFrom (within (new_draft link)) 3 text.now) }
+    ensures ok { IfOk result (Finishes link text.now) }
+    ensures only { (said : List Line) (draft : DraftValue) → AreLeft text.now (within (new_draft link)) said draft
+        → IfOk result (λ scenario. scenario ≡ scenario_of draft) × IfErr result (λ fault. fault ≡ ScenarioFault.OutOfMemory) }
+    ensures refused { IfErr result (IsRefusedBehind link text.now) }
 {
     let mut draft = Draft::new(alloc, link);
-    let mut number = 3;
     let mut rest = text;
     loop {
+        let number = draft.next_line();
         let Some((line, behind)) = split_line(rest) else {
             return Err(ScenarioFault::Line(number, Fault::End));
         };
-        rest = behind;
         match draft.take(alloc, line)? {
-            Taken::More => number += 1,
-            Taken::End => break,
+            Taken::More => rest = behind,
+            Taken::End => return finish(draft, behind),
             Taken::Faulty(fault) => return Err(ScenarioFault::Line(number, fault)),
         }
-    }
-    if rest.is_empty() {
-        Ok(draft.finish()?)
-    } else {
-        Err(ScenarioFault::Line(number + 1, Fault::Extra))
     }
 }
 

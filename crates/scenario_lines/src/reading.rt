@@ -3,6 +3,7 @@ ghost use Rattle.std.specs.Prelude.{◌≡◌, ◌↔◌, [], IfOk, IfErr, IfSom
 ghost use Rattle.text_fields.specs.Lines.{fields_of};
 ghost use Rattle.scenario_lines.specs.Spelling.{line_fields, other_fields};
 ghost use Rattle.scenario_lines.specs.declared.line.Line.{Line};
+ghost use Rattle.scenario_lines.specs.declared.words.Word.{Word};
 ghost use Rattle.scenario_lines.specs.Reading.{Misreads};
 ghost use Rattle.scenario_lines.specs.LineFaults.{AreFilled, BeginsWith, HasKnownKind, IsFaulty, IsFaultyBehind, Spells, SpellsBehind};
 
@@ -63,6 +64,7 @@ fn has_known_kind(word: Word, others: Fields) -> bool
 /// the kind of an air or event line is there and is none of its kinds.
 pub fn word_of(line: &[u8]) -> Option<Word>
     ensures value { IfSome result (BeginsWith (fields_of line.now)) }
+    ensures only { (word : Word) → BeginsWith (fields_of line.now) word → result ≡ Some word }
     ensures none { IfNone result (IsFaulty (fields_of line.now) LineFault.Word) }
 {
     let mut fields = Fields::new(line);

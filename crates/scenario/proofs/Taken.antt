@@ -1,0 +1,74 @@
+-- What a line does to a draft.
+use Rattle.std.proofs.Common.{◌≡◌, ◌≢◌, ℕ, List, [], ◌∷◌, Option, Some, None, refl, sym, ◌∙◌, subst}
+use Rattle.text_fields.specs.Lines.{fields_of}
+use Rattle.scenario_lines.specs.declared.words.Word.{Word}
+use Rattle.scenario_lines.specs.declared.words.Word.TheVariants as words
+use Rattle.scenario_lines.specs.declared.line.Line.{Line}
+use Rattle.scenario_lines.specs.declared.line.Line.TheVariants as lines
+use Rattle.scenario_lines.specs.Names.{air_kind, event_kind}
+use Rattle.scenario_lines.specs.Spelling.{other_fields, word_of_line}
+use Rattle.scenario_lines.specs.LineFaults.{BeginsWith, HasKnownKind, Spells}
+use Rattle.scenario.specs.declared.fault.Fault.{Fault}
+use Rattle.scenario.specs.declared.fault.Fault.TheVariants.{Extra, End, Version, Word as WordFault, Limit, Shape, Number, Tari, RtCal, TrCal, Pw, Pc, Tag, Order, Twice}
+use Rattle.scenario.specs.Standing.{Agrees, DraftValue, Follows, HasRoom, MayStand, Standing, after, ended, grown, within}
+use Rattle.scenario.specs.Faults.{IsAtOddsBy}
+
+known_kind : (said : Line) → HasKnownKind (word_of_line said) (other_fields said)
+known_kind lines.Version = tt
+known_kind (lines.Link link) = tt
+known_kind (lines.Tag tag) = tt
+known_kind (lines.Air exchange happening) = (air_kind happening, refl)
+known_kind (lines.Select selection) = tt
+known_kind lines.Nak = tt
+known_kind (lines.Event event tag) = (event_kind event, refl)
+known_kind (lines.Round spec) = tt
+known_kind lines.End = tt
+
+-- the fields of a line begin with its word
+pub spelled_begins : (fields : List (List ℕ)) (said : Line) → Spells fields said → BeginsWith fields (word_of_line said)
+spelled_begins fields said spells = record { others = other_fields said; first = spells.spelling; kind = known_kind said }
+
+pub same_word : {word other : Word} → Some word ≡ Some other → word ≡ other
+same_word same = cc
+
+-- the end ends a draft
+pub after_end : (draft : DraftValue) (said : Line) → word_of_line said ≡ words.End → after (within draft) said ≡ ended draft
+after_end draft lines.Version is = cc
+after_end draft (lines.Link link) is = cc
+after_end draft (lines.Tag tag) is = cc
+after_end draft (lines.Air exchange happening) is = cc
+after_end draft (lines.Select selection) is = cc
+after_end draft lines.Nak is = cc
+after_end draft (lines.Event event tag) is = cc
+after_end draft (lines.Round spec) is = cc
+after_end draft lines.End is = refl
+
+-- each other line lets it grow
+pub after_grown : (draft : DraftValue) (said : Line) → word_of_line said ≢ words.End → after (within draft) said ≡ within (grown draft said)
+after_grown draft lines.Version other = refl
+after_grown draft (lines.Link link) other = refl
+after_grown draft (lines.Tag tag) other = refl
+after_grown draft (lines.Air exchange happening) other = refl
+after_grown draft (lines.Select selection) other = refl
+after_grown draft lines.Nak other = refl
+after_grown draft (lines.Event event tag) other = refl
+after_grown draft (lines.Round spec) other = refl
+after_grown draft lines.End other = absurd (other refl)
+
+-- a line that agrees with the lines before it is not at odds with them
+pub not_at_odds : (draft : DraftValue) (said : Line) (fault : Fault) → Agrees draft said → IsAtOddsBy draft said fault → ⊥
+not_at_odds draft said Tag agrees odds = odds agrees.names
+not_at_odds draft said Order agrees odds = odds.1 agrees.order
+not_at_odds draft said Twice agrees odds = odds.2 agrees.once
+not_at_odds draft said Extra agrees odds = odds
+not_at_odds draft said End agrees odds = odds
+not_at_odds draft said Version agrees odds = odds
+not_at_odds draft said WordFault agrees odds = odds
+not_at_odds draft said Limit agrees odds = odds
+not_at_odds draft said Shape agrees odds = odds
+not_at_odds draft said Number agrees odds = odds
+not_at_odds draft said Tari agrees odds = odds
+not_at_odds draft said RtCal agrees odds = odds
+not_at_odds draft said TrCal agrees odds = odds
+not_at_odds draft said Pw agrees odds = odds
+not_at_odds draft said Pc agrees odds = odds

@@ -1,0 +1,73 @@
+-- The whole text of a scenario.
+use Rattle.std.proofs.Common.{◌≡◌, ◌≢◌, List, ℕ, sym, subst, rules}
+use Rattle.std.proofs.lemmas.Grind.{common_steps}
+use Rattle.std.proofs.lemmas.Result.{IfErr-weaker, IfOk-weaker}
+use Rattle.scenario_lines.specs.declared.line.Line.TheVariants as lines
+use Rattle.scenario_lines.specs.Spelling.{line_text}
+use Rattle.pie_line.specs.Link.{LinkValue}
+use Rattle.scenario.specs.Standing.{DraftValue, new_draft, within}
+use Rattle.scenario.specs.ScenarioText.{scenario_text}
+use Rattle.scenario.specs.Limits.{IsScenario}
+use Rattle.scenario.specs.Faults.{IsRefused}
+use Rattle.scenario.specs.Rest.{AreLeft, Finishes, IsRefusedBehind}
+use Rattle.scenario.proofs.Whole.{Heads, first_is_other, first_unended, is_the_one, link_follows, opens, read_is_spelled, same_link, second_is_faulty, second_is_link, second_is_there, second_unended, whole_refused}
+use Rattle.scenario.proofs.reading.read_scenario.Goals as goal
+
+pub returns-in_default-clause-refused : goal.returns-in_default-clause-refused
+returns-in_default-clause-refused c = first_unended c.args.text.now c.in_default.ensures.whole
+
+pub returns-then-not-is_version-clause-refused : goal.returns-then-not-is_version-clause-refused
+returns-then-not-is_version-clause-refused c =
+    let other : c.in-Some.version.now ≢ line_text lines.Version = search rules in
+    first_is_other c.args.text.now c.in-Some.version.now c.in-Some.behind.now c.in-Some.ensures.lines other
+
+pub returns-in_default-split_line-clause-only : goal.returns-in_default-split_line-clause-only
+returns-in_default-split_line-clause-only c = λ said is text.
+    absurd (second_is_there c.args.text.now c.in-Some.version.now c.in-Some.behind.now said (opens c.args.text.now said is text) c.in-Some.ensures.lines
+    c.in_default-split_line.ensures.whole)
+
+pub returns-in_default-split_line-clause-refused : goal.returns-in_default-split_line-clause-refused
+returns-in_default-split_line-clause-refused c =
+    let same : c.in-Some.version.now ≡ line_text lines.Version = search rules in
+    second_unended c.args.text.now c.in-Some.version.now c.in-Some.behind.now c.in-Some.ensures.lines same c.in_default-split_line.ensures.whole
+
+pub returns-in-Err-clause-only : goal.returns-in-Err-clause-only
+returns-in-Err-clause-only c = λ said is text.
+    let opened = opens c.args.text.now said is text in
+    let second = second_is_link c.args.text.now c.in-Some.version.now c.in-Some.behind.now c.in-Some-split_line.line.now c.in-Some-split_line.rest.now said
+    opened c.in-Some.ensures.lines c.in-Some-split_line.ensures.lines in
+    absurd (c.in-Err.ensures.only (lines.Link said.link) second.0 (link_follows said.link opened.is))
+
+pub returns-in-Err-clause-refused : goal.returns-in-Err-clause-refused
+returns-in-Err-clause-refused c =
+    let same : c.in-Some.version.now ≡ line_text lines.Version = search rules in
+    second_is_faulty c.args.text.now c.in-Some.version.now c.in-Some.behind.now c.in-Some-split_line.line.now c.in-Some-split_line.rest.now c.in-Err.fault
+    c.in-Some.ensures.lines same c.in-Some-split_line.ensures.lines c.in-Err.ensures.refused
+
+pub returns-in-Ok-clause-ok : goal.returns-in-Ok-clause-ok
+returns-in-Ok-clause-ok c =
+    let same : c.in-Some.version.now ≡ line_text lines.Version = search rules in
+    let heads : Heads c.args.text.now c.in-Some.version.now c.in-Some.behind.now c.in-Some-split_line.line.now c.in-Some-split_line.rest.now c.in-Ok.link =
+    record { cut = c.in-Some.ensures.lines; same = same; cut_behind = c.in-Some-split_line.ensures.lines; spells = c.in-Ok.ensures.ok } in
+    IfOk-weaker c.read_behind_link.result (Finishes c.in-Ok.link c.in-Some-split_line.rest.now)
+    (λ scenario. IsScenario scenario × (c.args.text.now ≡ scenario_text scenario))
+    (λ scenario finishes. read_is_spelled c.args.text.now c.in-Some.version.now c.in-Some.behind.now c.in-Some-split_line.line.now
+    c.in-Some-split_line.rest.now c.in-Ok.link scenario heads finishes) c.read_behind_link.ensures.ok
+
+pub returns-in-Ok-clause-only : goal.returns-in-Ok-clause-only
+returns-in-Ok-clause-only c = λ said is text.
+    let opened = opens c.args.text.now said is text in
+    let second = second_is_link c.args.text.now c.in-Some.version.now c.in-Some.behind.now c.in-Some-split_line.line.now c.in-Some-split_line.rest.now said
+    opened c.in-Some.ensures.lines c.in-Some-split_line.ensures.lines in
+    let link = same_link (c.in-Ok.ensures.only (lines.Link said.link) second.0 (link_follows said.link opened.is)) in
+    let left = subst (λ (l : LinkValue). AreLeft c.in-Some-split_line.rest.now (within (new_draft l)) opened.todo opened.draft) link second.1 in
+    is_the_one c.read_behind_link.result _ said opened.says (c.read_behind_link.ensures.only opened.todo opened.draft left)
+
+pub returns-in-Ok-clause-refused : goal.returns-in-Ok-clause-refused
+returns-in-Ok-clause-refused c =
+    let same : c.in-Some.version.now ≡ line_text lines.Version = search rules in
+    let heads : Heads c.args.text.now c.in-Some.version.now c.in-Some.behind.now c.in-Some-split_line.line.now c.in-Some-split_line.rest.now c.in-Ok.link =
+    record { cut = c.in-Some.ensures.lines; same = same; cut_behind = c.in-Some-split_line.ensures.lines; spells = c.in-Ok.ensures.ok } in
+    IfErr-weaker c.read_behind_link.result (IsRefusedBehind c.in-Ok.link c.in-Some-split_line.rest.now) (IsRefused c.args.text.now)
+    (λ fault refused. whole_refused c.args.text.now c.in-Some.version.now c.in-Some.behind.now c.in-Some-split_line.line.now c.in-Some-split_line.rest.now
+    c.in-Ok.link fault heads refused) c.read_behind_link.ensures.refused

@@ -1,0 +1,386 @@
+//! The reader's answers, against answers written out by hand.
+
+use super::*;
+use std::alloc::AllocError;
+use std::process::Abort;
+use std::test::Fail;
+
+/// A scenario with a line of each kind, one line a row.
+const LINES: [&str; 11] = [
+    "gen2 1\n",
+    "link 12500 31250 50000 6250 1 fm0 0\n",
+    "tag 00000000 00000000 0000000000 08001234 E2000001 - A1B2\n",
+    "air 1 off 0\n",
+    "air 1 miss 0\n",
+    "air 1 pick 0\n",
+    "air 2 silent\n",
+    "select s0 4 epc 0 -\n",
+    "event on 0\n",
+    "round all 0 a 0 300 5\n",
+    "end\n",
+];
+
+/// What the reader answers: nothing where it reads a scenario, and else the faulty line with its fault.
+fn answer_to(rt: &(impl Abort + Alloc<A = Global>), text: &[u8]) -> Option<(u32, Fault)> {
+    match read_scenario(rt.alloc(), text) {
+        Ok(_) => None,
+        Err(ScenarioFault::Line(number, fault)) => Some((number, fault)),
+        Err(ScenarioFault::OutOfMemory) => rt.abort(),
+    }
+}
+
+/// Compares the answer to the scenario of all kinds, in which another text stands for the line of this
+/// number.
+fn expect(
+    rt: &(impl Abort + Alloc<A = Global>),
+    number: usize,
+    text: &str,
+    wanted: Option<(u32, Fault)>,
+) -> Result<(), AllocError> {
+    let mut whole = String::new(rt.alloc());
+    for (at, line) in LINES.iter().enumerate() {
+        whole.push_str(if at + 1 == number { text } else { *line })?;
+    }
+    assert_eq!(rt;
+        answer_to(rt, whole.as_bytes()),
+        wanted,
+        "on {text:?} as line {number}"
+    );
+    Ok(())
+}
+
+/// Compares the answer to a scenario in which a line stands many times behind other lines.
+fn expect_many(
+    rt: &(impl Abort + Alloc<A = Global>),
+    before: &str,
+    line: &str,
+    times: u32,
+    wanted: Option<(u32, Fault)>,
+) -> Result<(), AllocError> {
+    let mut whole = String::new(rt.alloc());
+    whole.push_str("gen2 1\nlink 12500 31250 50000 6250 1 fm0 0\n")?;
+    whole.push_str(before)?;
+    for _ in 0..times {
+        whole.push_str(line)?;
+    }
+    whole.push_str("end\n")?;
+    assert_eq!(rt;
+        answer_to(rt, whole.as_bytes()),
+        wanted,
+        "on {line:?}, {times} times"
+    );
+    Ok(())
+}
+
+#[test]
+fn each_reason_on_each_line(rt: HostRuntime) -> Result<(), Fail> {
+    let tag = "tag 00000000 00000000 0000000000 08001234 E2000001 - A1B2\n";
+    let cases = [
+        (1, "gen2 1\n", None),
+        (1, "gen2 2\n", Some((1, Fault::Version))),
+        (1, "gen2 1 \n", Some((1, Fault::Version))),
+        (1, "gen2 1\r\n", Some((1, Fault::Version))),
+        (1, "GEN2 1\n", Some((1, Fault::Version))),
+        (1, "\n", Some((1, Fault::Version))),
+        (1, "", Some((1, Fault::Version))),
+        (2, "", Some((2, Fault::Word))),
+        (2, "\n", Some((2, Fault::Word))),
+        (2, "gen2 1\n", Some((2, Fault::Word))),
+        (
+            2,
+            "Link 12500 31250 50000 6250 1 fm0 0\n",
+            Some((2, Fault::Word)),
+        ),
+        (
+            2,
+            "link 12500 31250 50000 6250 1 fm0\n",
+            Some((2, Fault::Shape)),
+        ),
+        (
+            2,
+            "link 12500 31250 50000 6250 1 fm0 0 \n",
+            Some((2, Fault::Shape)),
+        ),
+        (
+            2,
+            "link 12500  50000 6250 1 fm0 0\n",
+            Some((2, Fault::Shape)),
+        ),
+        (
+            2,
+            "link 12500 1000000 50000 6250 1 fm0 0\n",
+            Some((2, Fault::Number)),
+        ),
+        (
+            2,
+            "link 012500 31250 50000 6250 1 fm0 0\n",
+            Some((2, Fault::Number)),
+        ),
+        (
+            2,
+            "link +12500 31250 50000 6250 1 fm0 0\n",
+            Some((2, Fault::Number)),
+        ),
+        (
+            2,
+            "link 12500 31250 50000 6250 2 fm0 0\n",
+            Some((2, Fault::Number)),
+        ),
+        (
+            2,
+            "link 12500 31250 50000 6250 1 FM0 0\n",
+            Some((2, Fault::Number)),
+        ),
+        (
+            2,
+            "link 12500 31250 50000 6250 1 fm0 0\r\n",
+            Some((2, Fault::Number)),
+        ),
+        (2, "link 6249 0 0 0 1 fm0 0\n", Some((2, Fault::Tari))),
+        (2, "link 12500 31249 0 0 1 fm0 0\n", Some((2, Fault::RtCal))),
+        (
+            2,
+            "link 12500 31250 30000 0 1 fm0 0\n",
+            Some((2, Fault::TrCal)),
+        ),
+        (
+            2,
+            "link 12500 31250 50000 3312 1 fm0 0\n",
+            Some((2, Fault::Pw)),
+        ),
+        (2, "link 12500 31250 50000 3313 1 fm0 0\n", None),
+        (
+            3,
+            "link 12500 31250 50000 6250 1 fm0 0\n",
+            Some((3, Fault::Word)),
+        ),
+        (3, "", Some((3, Fault::Tag))),
+        (
+            3,
+            "tag 00000000 00000000 0000000000 08001234 E2000001 A1B2\n",
+            Some((3, Fault::Shape)),
+        ),
+        (
+            3,
+            "tag 0000000 00000000 0000000000 08001234 E2000001 - A1B2\n",
+            Some((3, Fault::Number)),
+        ),
+        (
+            3,
+            "tag 00000000 0000000a 0000000000 08001234 E2000001 - A1B2\n",
+            Some((3, Fault::Number)),
+        ),
+        (
+            3,
+            "tag 00000000 00000000 000000000 08001234 E2000001 - A1B2\n",
+            Some((3, Fault::Number)),
+        ),
+        (
+            3,
+            "tag 00000000 00000000 0000000002 08001234 E2000001 - A1B2\n",
+            Some((3, Fault::Number)),
+        ),
+        (
+            3,
+            "tag 00000000 00000000 0000000000 - E2000001 - A1B2\n",
+            Some((3, Fault::Number)),
+        ),
+        (
+            3,
+            "tag 00000000 00000000 0000000000 08001234 E200 - A1B2\n",
+            Some((3, Fault::Number)),
+        ),
+        (
+            3,
+            "tag 00000000 00000000 0000000000 08001234 E2000001 A1B A1B2\n",
+            Some((3, Fault::Number)),
+        ),
+        (
+            3,
+            "tag 00000000 00000000 0000000000 08001234 E2000001 - -\n",
+            Some((3, Fault::Number)),
+        ),
+        (
+            3,
+            "tag 00000000 00000000 0000000000 08001234 E2000001 - a1b2\n",
+            Some((3, Fault::Number)),
+        ),
+        (
+            3,
+            "tag 00000000 00000000 0000000000 10001234 E2000001 - A1B2\n",
+            Some((3, Fault::Pc)),
+        ),
+        (
+            3,
+            "tag 00000000 00000000 0000000000 10001234 E2000001 - A1B\n",
+            Some((3, Fault::Number)),
+        ),
+        (
+            3,
+            "tag FFFFFFFF 0123ABCD 1111111111 0800 E2000001 0000 A1B2FFFF\n",
+            Some((3, Fault::Pc)),
+        ),
+        (
+            3,
+            "tag FFFFFFFF 0123ABCD 1111111111 0000 E2000001 0000 A1B2FFFF\n",
+            None,
+        ),
+        (4, tag, None),
+        (5, tag, Some((5, Fault::Word))),
+        (4, "air\n", Some((4, Fault::Shape))),
+        (4, "air 1\n", Some((4, Fault::Shape))),
+        (4, "air 1 \n", Some((4, Fault::Word))),
+        (4, "air 1  0\n", Some((4, Fault::Word))),
+        (4, "air 1 Off 0\n", Some((4, Fault::Word))),
+        (4, "air  off 0\n", Some((4, Fault::Shape))),
+        (4, "air 1 off\n", Some((4, Fault::Shape))),
+        (4, "air 1 off 0 0\n", Some((4, Fault::Shape))),
+        (4, "air 0 off 0\n", Some((4, Fault::Number))),
+        (4, "air 01 off 0\n", Some((4, Fault::Number))),
+        (4, "air 1 off 4096\n", Some((4, Fault::Number))),
+        (4, "air 1 off 1\n", Some((4, Fault::Tag))),
+        (4, "air 1 timeout 0\n", None),
+        (4, "air 1 on 0\n", None),
+        (4, "air 1 expire sl 0\n", None),
+        (4, "air 1 expire s0 0\n", Some((4, Fault::Number))),
+        (4, "air 1 expire 0\n", Some((4, Fault::Shape))),
+        (5, "air 2 miss 0\n", Some((6, Fault::Order))),
+        (5, "air 1 miss 4096\n", Some((5, Fault::Number))),
+        (5, "air 1 miss 4095\n", Some((5, Fault::Tag))),
+        (6, "air 1 pick 4095\n", None),
+        (6, "air 1 pick 4096\n", Some((6, Fault::Number))),
+        (6, "air 1 break 999999\n", None),
+        (6, "air 1 break 1000000\n", Some((6, Fault::Number))),
+        (6, "air 1 silent 0\n", Some((6, Fault::Shape))),
+        (7, "air 1000000 silent\n", None),
+        (7, "air 1000001 silent\n", Some((7, Fault::Number))),
+        (7, "air 1 silent\n", Some((7, Fault::Twice))),
+        (7, "air 1 miss 0\n", Some((7, Fault::Order))),
+        (7, "air 1 off 0\n", Some((7, Fault::Order))),
+        (7, "air 1 off 1\n", Some((7, Fault::Tag))),
+        (8, "air 1 silent\n", Some((8, Fault::Order))),
+        (8, "air 2 pick 0\n", Some((8, Fault::Twice))),
+        (8, "air 2 raw 0\n", Some((8, Fault::Word))),
+        (8, "select\n", Some((8, Fault::Shape))),
+        (8, "select s0 4 epc 0\n", Some((8, Fault::Shape))),
+        (8, "select s4 4 epc 0 -\n", Some((8, Fault::Number))),
+        (8, "select s0 8 epc 0 -\n", Some((8, Fault::Number))),
+        (8, "select s0 4 res 0 -\n", Some((8, Fault::Number))),
+        (8, "select sl 7 user 268435455 01\n", None),
+        (8, "select s0 4 epc 268435456 -\n", Some((8, Fault::Number))),
+        (8, "select s0 4 epc 0 012\n", Some((8, Fault::Number))),
+        (8, "nak\n", None),
+        (8, "nak \n", Some((8, Fault::Shape))),
+        (8, "only -\n", Some((8, Fault::Word))),
+        (8, "op kill 00000000\n", Some((8, Fault::Word))),
+        (9, "air 3 silent\n", Some((9, Fault::Word))),
+        (9, "event\n", Some((9, Fault::Shape))),
+        (9, "event \n", Some((9, Fault::Word))),
+        (9, "event miss 0\n", Some((9, Fault::Word))),
+        (9, "event on\n", Some((9, Fault::Shape))),
+        (9, "event on 1\n", Some((9, Fault::Tag))),
+        (9, "event expire s0 0\n", Some((9, Fault::Number))),
+        (9, "event expire s1 0\n", None),
+        (10, "round all 0 a 0 300\n", Some((10, Fault::Shape))),
+        (10, "round none 0 a 0 300 5\n", Some((10, Fault::Number))),
+        (10, "round all 4 a 0 300 5\n", Some((10, Fault::Number))),
+        (10, "round all 0 A 0 300 5\n", Some((10, Fault::Number))),
+        (10, "round all 0 a 16 300 5\n", Some((10, Fault::Number))),
+        (10, "round all 0 a 0 99 5\n", Some((10, Fault::Number))),
+        (10, "round all 0 a 0 501 5\n", Some((10, Fault::Number))),
+        (10, "round all 0 a 0 300 0\n", Some((10, Fault::Number))),
+        (10, "round all 0 a 0 300 70001\n", Some((10, Fault::Number))),
+        (
+            10,
+            "round nsl 3 b 15 100 1\nround sl 0 a 0 500 70000\n",
+            None,
+        ),
+        (11, "", Some((11, Fault::End))),
+        (11, "end", Some((11, Fault::End))),
+        (11, "end x\n", Some((11, Fault::Shape))),
+        (11, "end\n\n", Some((12, Fault::Extra))),
+        (11, "end\nend", Some((12, Fault::Extra))),
+        // Of two faulty lines the first one is reported.
+        (4, "air 1 off 0 0\nair 2 off 1\n", Some((4, Fault::Shape))),
+    ];
+    for (number, text, wanted) in cases {
+        expect(&rt, number, text, wanted)?;
+    }
+    Ok(())
+}
+
+#[test]
+fn limits_and_cuts(rt: HostRuntime) -> Result<(), Fail> {
+    let tag = "tag 00000000 00000000 0000000000 08001234 E2000001 - A1B2\n";
+    expect_many(&rt, "", tag, 256, None)?;
+    expect_many(&rt, "", tag, 257, Some((259, Fault::Limit)))?;
+    expect_many(&rt, "", "air 7 off 0\n", 1, Some((3, Fault::Tag)))?;
+    expect_many(&rt, tag, "air 7 off 0\n", 4096, None)?;
+    expect_many(&rt, tag, "air 7 off 0\n", 4097, Some((4100, Fault::Limit)))?;
+    expect_many(&rt, "", "nak\n", 1024, None)?;
+    expect_many(&rt, "", "nak\n", 1025, Some((1027, Fault::Limit)))?;
+
+    let mut whole = String::new(rt.alloc());
+    for line in LINES {
+        whole.push_str(line)?;
+    }
+    let text = whole.as_bytes();
+    let mut line = 1;
+    for (at, byte) in text.iter().enumerate() {
+        assert_eq!(rt; answer_to(&rt, &text[..at]), Some((line, Fault::End)));
+        if *byte == b'\n' && line < 11 {
+            line += 1;
+        }
+    }
+    assert_eq!(rt; answer_to(&rt, text), None);
+    Ok(())
+}
+
+/// Compares the answer to a scenario of one tag whose line has these lists, each of so many words.
+fn expect_lists(
+    rt: &(impl Abort + Alloc<A = Global>),
+    (epc, tid, user, words): (u32, u32, u32, u32),
+    wanted: Option<(u32, Fault)>,
+) -> Result<(), AllocError> {
+    let mut line = String::new(rt.alloc());
+    line.push_str("tag 00000000 00000000 0000000000")?;
+    for count in [epc, tid, user, words] {
+        line.push_str(" ")?;
+        for _ in 0..count {
+            line.push_str("0000")?;
+        }
+        if count == 0 {
+            line.push_str("-")?;
+        }
+    }
+    line.push_str("\n")?;
+    expect_many(rt, "", line.as_str(), 1, wanted)
+}
+
+#[test]
+fn limits_of_lists(rt: HostRuntime) -> Result<(), Fail> {
+    let number = Some((3, Fault::Number));
+    for (counts, wanted) in [
+        ((1, 2, 0, 1), None),
+        ((32, 16, 512, 256), None),
+        ((33, 16, 512, 256), number),
+        ((32, 17, 512, 256), number),
+        ((32, 16, 513, 256), number),
+        ((32, 16, 512, 257), number),
+        ((0, 2, 0, 1), number),
+        ((1, 1, 0, 1), number),
+        ((1, 2, 0, 0), number),
+    ] {
+        expect_lists(&rt, counts, wanted)?;
+    }
+    for (bits, wanted) in [(255, None), (256, number)] {
+        let mut line = String::new(rt.alloc());
+        line.push_str("select s0 4 epc 0 ")?;
+        for _ in 0..bits {
+            line.push_str("1")?;
+        }
+        line.push_str("\n")?;
+        expect_many(&rt, "", line.as_str(), 1, wanted)?;
+    }
+    Ok(())
+}
