@@ -1,44 +1,51 @@
-//! Scenarios, written, against texts written out by hand.
+//! Scenarios, written: each text has one scenario, whose one text it is.
 
-use super::*;
-use crate::{OpList, RoundSpec};
-use bit_strings::{Code, List, QValue, Session};
-use command_grammar::{Sel, Side};
-use lock_rules::Locks;
-use pie_line::Link;
-use session_flags::DrawWords;
+use crate::{Scenario, print_and_read, print_scenario, read_and_print, read_scenario};
 use std::test::Fail;
-use tag_memory::BankImage;
+
+/// One tag, and a round of one slot.
+const ONE_TAG: &[u8] = b"gen2 1
+link 12500 31250 50000 6250 1 fm0 0
+tag 00000000 00000000 0000000000 08001234 E2000001 - A1B2
+round all 0 a 0 300 5
+end
+";
+
+/// Each kind of line.
+const EACH_LINE: &[u8] = b"gen2 1
+link 6250 18750 56250 2000 0 m8 1
+tag AABBCCDD 12345678 1001001101 0000 E2000000FFFF 000AB000 00001111
+tag 00000000 00000000 0000000000 08005678 E2000002 - A1B2
+air 1 timeout 0
+air 1 off 1
+air 1 miss 1
+air 1 miss 0
+air 1 pick 4095
+air 2 on 1
+air 2 expire sl 0
+air 2 silent
+air 1000000 break 999999
+select sl 7 user 268435455 10010
+select s0 0 epc 0 -
+nak
+event expire s3 1
+round nsl 3 b 15 100 70000
+event off 0
+round sl 1 a 6 500 1
+end
+";
 
 #[test]
-fn one_tag_and_one_round(rt: HostRuntime) -> Result<(), Fail> {
-    let alloc = rt.alloc();
-    let tag = TagSpec {
-        image: BankImage {
-            kill: 0,
-            access: 0,
-            epc: List::new([0x0800, 0x1234].to_vec(alloc)?),
-            tid: List::new([0xE200, 0x0001].to_vec(alloc)?),
-            user: List::new(Vec::new(alloc)),
-        },
-        locks: Locks::from_bits(0).ok_or("ten bits")?,
-        words: DrawWords::new(alloc, &[0xA1B2])?,
-    };
-    let session = Session::new(0).ok_or("a session")?;
-    let q = QValue::new(0).ok_or("a Q")?;
-    let spec = RoundSpec::new(Sel::All00, session, Side::A, q, 300, 5).ok_or("parameters")?;
-    let operations = OpList {
-        only: None,
-        ops: List::new(Vec::new(alloc)),
-    };
-    let scenario = Scenario {
-        link: Link::new(12500, 31250, 50000, 6250, true, Code::Fm0, false)?,
-        tags: List::new(vec![in alloc; tag]?),
-        entries: List::new(Vec::new(alloc)),
-        steps: List::new(vec![in alloc; Step::Round(spec, operations)]?),
-    };
-    let text = print_scenario(alloc, &scenario)?;
-    let wanted = b"gen2 1\nlink 12500 31250 50000 6250 1 fm0 0\ntag 00000000 00000000 0000000000 08001234 E2000001 - A1B2\nround all 0 a 0 300 5\nend\n";
-    assert_eq!(rt; text.as_slice(), wanted.as_slice());
+fn texts_come_back(rt: HostRuntime) -> Result<(), Fail> {
+    for text in [ONE_TAG, EACH_LINE] {
+        let scenario = read_scenario(rt.alloc(), text)?;
+        let printed = print_scenario(rt.alloc(), &scenario)?;
+        assert_eq!(rt; printed.as_slice(), text);
+        let again: Scenario = print_and_read(rt.alloc(), &scenario)?;
+        assert_eq!(rt; again.tags.len(), scenario.tags.len());
+        assert_eq!(rt; again.steps.len(), scenario.steps.len());
+        let same = read_and_print(rt.alloc(), text)?;
+        assert_eq!(rt; same.as_slice(), text);
+    }
     Ok(())
 }
