@@ -8,11 +8,10 @@ mod line;
 mod printing;
 mod reading;
 mod tag;
-#[cfg(test)]
-mod tests;
 mod words;
 
 pub use fault::LineFault;
+pub use laws::lines_are_field_texts;
 pub use line::{Happening, Line, Selection};
 pub use printing::{
     push_air, push_end, push_event, push_link, push_nak, push_round, push_tag, push_version,
