@@ -6,3 +6,4 @@ pub mod Taken
 pub mod Texts
 pub mod Reader
 pub mod Whole
+pub mod Endings

@@ -23,7 +23,7 @@ use Rattle.scenario.specs.declared.values.Step.TheVariants as steps
 use Rattle.scenario.specs.declared.values.Scenario.{Scenario}
 use Rattle.scenario.specs.ScenarioText.{air_lines, choice_lines, entry_lines, scenario_lines, step_line}
 use Rattle.scenario.specs.Limits.{IsEntry, IsScenario, IsStep, Rises, SaysSomething, most_air_lines, most_steps, most_tags, no_operations}
-use Rattle.scenario.specs.Standing.{Agrees, ChoosesOnce, DraftValue, Follows, Leads, MayFollow, Standing, after, begun, draft_of, ended, entries_of, last_entry, new_draft, nothing_said, scenario_of, start, turned, with_air, with_said, with_step, within}
+use Rattle.scenario.specs.Standing.{Agrees, ChoosesOnce, DraftValue, Follows, IsSaid, Leads, MayFollow, Standing, after, begun, draft_of, ended, entries_of, last_entry, new_draft, nothing_said, scenario_of, start, turned, with_air, with_said, with_step, within}
 use Rattle.scenario.proofs.Leading.{leads_on}
 
 -- a link that keeps its ranges has the form of a line's
@@ -289,12 +289,7 @@ speak_steps draft (step ∷ todo) are few =
     let same = ap (λ (list : List Step). within (record draft { steps = list })) (append_assoc draft.steps (step ∷ []) todo) in
     (one.0, subst (λ (s : Standing). Leads s (map step_line todo) (within (record draft { steps = draft.steps ++ step ∷ todo }))) (sym one.1) (leads_to _ _ _ _ same others))
 
--- a scenario is said by its lines
-pub record IsSaid (scenario : Scenario) (said : List Line) : Type 0 where
-  pub draft : DraftValue
-  pub leads : Leads start said (ended draft)
-  pub says : scenario_of draft ≡ scenario
-
+-- each scenario within the limits is said by its lines
 pub scenario_is_said : (scenario : Scenario) → IsScenario scenario → IsSaid scenario (scenario_lines scenario)
 scenario_is_said scenario is =
     let link = scenario.link in

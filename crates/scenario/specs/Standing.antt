@@ -199,3 +199,15 @@ after standing line = standing
 abbrev pub Leads : Standing → List Line → Standing → Type 0
 Leads from [] to = from ≡ to
 Leads from (line ∷ lines) to = Follows from line × Leads (after from line) lines to
+
+-- the lines follow one another from the start to the end, and say the scenario
+pub record IsSaid (scenario : Scenario) (said : List Line) : Type 0 where
+  pub draft : DraftValue
+  pub leads : Leads start said (ended draft)
+  pub says : scenario_of draft ≡ scenario
+
+-- some lines lead from here to the end
+pub record CanEnd (standing : Standing) : Type 0 where
+  pub more : List Line
+  pub draft : DraftValue
+  pub leads : Leads standing more (ended draft)

@@ -1,1 +1,30 @@
-//! What holds of texts and scenarios.
+//! What holds of the lines of scenarios. Each function here states one law by its contract, and does
+//! nothing.
+ghost use Rattle.std.specs.Prelude.{◌≡◌, List};
+ghost use Rattle.scenario_lines.specs.declared.line.Line.{Line};
+ghost use Rattle.scenario.specs.declared.values.Scenario.{Scenario};
+ghost use Rattle.scenario.specs.ScenarioText.{scenario_lines};
+ghost use Rattle.scenario.specs.Limits.{IsScenario};
+ghost use Rattle.scenario.specs.Standing.{CanEnd, DraftValue, IsSaid, Leads, ended, Standing, scenario_of, start};
+
+/// Lines that follow one another from the start to the end are the lines of a scenario that keeps the
+/// limits.
+#[tactic(auto, using(crate::proofs::Settled::said_scenario))]
+pub fn lines_say_a_scenario()
+    ensures { (draft : DraftValue) (said : List Line) → Leads start said (ended draft)
+        → (said ≡ scenario_lines (scenario_of draft)) × IsScenario (scenario_of draft) }
+{}
+
+/// The lines of a scenario that keeps the limits follow one another from the start to the end, and say
+/// it.
+#[tactic(auto, using(crate::proofs::Spoken::scenario_is_said))]
+pub fn scenarios_are_said()
+    ensures { (scenario : Scenario) → IsScenario scenario → IsSaid scenario (scenario_lines scenario) }
+{}
+
+/// Lines that follow one another from the start are the first lines of some scenario's text, wherever
+/// they lead.
+#[tactic(auto, using(crate::proofs::Endings::can_end))]
+pub fn each_standing_can_end()
+    ensures { (standing : Standing) → CanEnd standing }
+{}

@@ -11,13 +11,12 @@ mod laws;
 mod printing;
 mod reading;
 mod round_trip;
-#[cfg(test)]
-mod tests;
 mod values;
 
 pub use access_ops::{Op, OpList};
 pub use air_events::{Choice, Entry, Event};
 pub use fault::{Fault, ScenarioFault};
+pub use laws::{each_standing_can_end, lines_say_a_scenario, scenarios_are_said};
 pub use printing::print_scenario;
 pub use q_round::RoundSpec;
 pub use reading::read_scenario;

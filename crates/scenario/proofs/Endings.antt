@@ -1,0 +1,45 @@
+-- Each standing can end.
+use Rattle.std.proofs.Common.{true, false, List, [], ◌∷◌, refl, arith}
+use Rattle.bit_strings.specs.declared.code.Code.TheVariants.{Fm0}
+use Rattle.pie_line.specs.Link.{LinkValue, IsLegal}
+use Rattle.scenario_lines.specs.declared.line.Line.{Line}
+use Rattle.scenario_lines.specs.declared.line.Line.TheVariants as lines
+use Rattle.scenario_lines.specs.LineForm.{IsLine}
+use Rattle.scenario.specs.Standing.{CanEnd, DraftValue, Follows, Leads, Standing, begun, ended, new_draft, start, within}
+
+-- some link
+some_link : LinkValue
+some_link = record { tari = 12500; rtcal = 31250; trcal = 50000; pw = 6250; dr = true; code = Fm0; trext = false }
+
+some_link_is_legal : IsLegal some_link
+unfolding some_link
+some_link_is_legal = record {
+  tari_range = (omega arith, omega arith);
+  rtcal_range = (omega arith, omega arith);
+  trcal_range = (omega arith, omega arith);
+  pw_range = (omega arith, omega arith, omega arith);
+}
+
+some_link_is_line : IsLine (lines.Link some_link)
+unfolding some_link
+some_link_is_line = record {
+  form = record { tari = omega arith; rtcal = omega arith; trcal = omega arith; pw = omega arith };
+  coherent = some_link_is_legal;
+}
+
+end_follows : (draft : DraftValue) → Follows (within draft) lines.End
+end_follows draft =
+    record { is = record { form = tt; coherent = tt }; stands = tt; room = tt; agrees = record { names = tt; order = tt; once = tt } }
+
+link_ends : Leads begun (lines.Link some_link ∷ lines.End ∷ []) (ended (new_draft some_link))
+link_ends = (record { is = some_link_is_line; stands = tt; room = tt; agrees = tt }, (end_follows (new_draft some_link), refl))
+
+pub can_end : (standing : Standing) → CanEnd standing
+can_end start = record {
+  more = lines.Version ∷ lines.Link some_link ∷ lines.End ∷ [];
+  draft = new_draft some_link;
+  leads = (record { is = record { form = tt; coherent = tt }; stands = tt; room = tt; agrees = tt }, link_ends);
+}
+can_end begun = record { more = lines.Link some_link ∷ lines.End ∷ []; draft = new_draft some_link; leads = link_ends }
+can_end (within draft) = record { more = lines.End ∷ []; draft = draft; leads = (end_follows draft, refl) }
+can_end (ended draft) = record { more = []; draft = draft; leads = refl }
