@@ -1,8 +1,9 @@
 #!/usr/bin/env python3
-"""Writes an input of decode lines of one kind: inputs.py KIND BYTES > FILE.
+"""Writes an input of one kind: inputs.py KIND BYTES > FILE. It has at most BYTES bytes.
 
-Each line is as long as a line may be (or a whole reply), and each stream, reply and sample group is a good one, so that
-the decoder goes over all of it. The input has at most BYTES bytes.
+Of decode lines each line is as long as a line may be (or a whole reply), and each stream, reply and sample group is a
+good one, so that the decoder goes over all of it. `scenario` is a scenario with as many tags of full banks as fit, and
+`long` one whose first tag line is as long as fits, so that its last field is refused.
 """
 
 import random
@@ -87,9 +88,43 @@ def line(kind, rng):
     sys.exit(f"no such kind of line: {kind}")
 
 
+HEAD = "gen2 1\nlink 12500 31250 50000 6250 1 m4 0\n"
+ROUND = "round all 0 a 4 300 1000\nend\n"
+
+
+def words(count, rng):
+    return "".join(f"{rng.randrange(65_536):04X}" for _ in range(count))
+
+
+def tag(rng):
+    epc = "F800" + words(31, rng)
+    return f"tag 00000000 {words(2, rng)} 0000000000 {epc} {words(16, rng)} {words(512, rng)} {words(256, rng)}\n"
+
+
+def scenario(size, rng):
+    text = [HEAD]
+    left = size - len(HEAD) - len(ROUND)
+    for _ in range(256):
+        line = tag(rng)
+        if len(line) > left:
+            break
+        text.append(line)
+        left -= len(line)
+    return "".join(text) + ROUND
+
+
+def long(size, rng):
+    front = "tag 00000000 00000000 0000000000 08001234 E2000001 - "
+    digits = (size - len(HEAD) - len(front) - len(ROUND) - 1) // 4 * 4
+    return HEAD + front + words(1024, rng) * (digits // 4096) + "\n" + ROUND
+
+
 def main():
     kind, size = sys.argv[1], int(sys.argv[2])
     rng = random.Random(7)
+    if kind in ("scenario", "long"):
+        sys.stdout.write({"scenario": scenario, "long": long}[kind](size, rng))
+        return
     lines = [line(kind, rng) + "\n" for _ in range(4)]
     written = 0
     while True:
