@@ -73,8 +73,7 @@ fn expect_many(
 }
 
 #[test]
-fn each_reason_on_each_line(rt: HostRuntime) -> Result<(), Fail> {
-    let tag = "tag 00000000 00000000 0000000000 08001234 E2000001 - A1B2\n";
+fn versions(rt: HostRuntime) -> Result<(), Fail> {
     let cases = [
         (1, "gen2 1\n", None),
         (1, "gen2 2\n", Some((1, Fault::Version))),
@@ -83,6 +82,16 @@ fn each_reason_on_each_line(rt: HostRuntime) -> Result<(), Fail> {
         (1, "GEN2 1\n", Some((1, Fault::Version))),
         (1, "\n", Some((1, Fault::Version))),
         (1, "", Some((1, Fault::Version))),
+    ];
+    for (number, text, wanted) in cases {
+        expect(&rt, number, text, wanted)?;
+    }
+    Ok(())
+}
+
+#[test]
+fn links(rt: HostRuntime) -> Result<(), Fail> {
+    let cases = [
         (2, "", Some((2, Fault::Word))),
         (2, "\n", Some((2, Fault::Word))),
         (2, "gen2 1\n", Some((2, Fault::Word))),
@@ -149,6 +158,16 @@ fn each_reason_on_each_line(rt: HostRuntime) -> Result<(), Fail> {
             Some((2, Fault::Pw)),
         ),
         (2, "link 12500 31250 50000 3313 1 fm0 0\n", None),
+    ];
+    for (number, text, wanted) in cases {
+        expect(&rt, number, text, wanted)?;
+    }
+    Ok(())
+}
+
+#[test]
+fn tags(rt: HostRuntime) -> Result<(), Fail> {
+    let cases = [
         (
             3,
             "link 12500 31250 50000 6250 1 fm0 0\n",
@@ -225,8 +244,18 @@ fn each_reason_on_each_line(rt: HostRuntime) -> Result<(), Fail> {
             "tag FFFFFFFF 0123ABCD 1111111111 0000 E2000001 0000 A1B2FFFF\n",
             None,
         ),
+    ];
+    for (number, text, wanted) in cases {
+        expect(&rt, number, text, wanted)?;
+    }
+    Ok(())
+}
+
+#[test]
+fn air_lines(rt: HostRuntime) -> Result<(), Fail> {
+    let tag = "tag 00000000 00000000 0000000000 08001234 E2000001 - A1B2\n";
+    let cases = [
         (4, tag, None),
-        (5, tag, Some((5, Fault::Word))),
         (4, "air\n", Some((4, Fault::Shape))),
         (4, "air 1\n", Some((4, Fault::Shape))),
         (4, "air 1 \n", Some((4, Fault::Word))),
@@ -244,6 +273,20 @@ fn each_reason_on_each_line(rt: HostRuntime) -> Result<(), Fail> {
         (4, "air 1 expire sl 0\n", None),
         (4, "air 1 expire s0 0\n", Some((4, Fault::Number))),
         (4, "air 1 expire 0\n", Some((4, Fault::Shape))),
+        // Of two faulty lines the first one is reported.
+        (4, "air 1 off 0 0\nair 2 off 1\n", Some((4, Fault::Shape))),
+    ];
+    for (number, text, wanted) in cases {
+        expect(&rt, number, text, wanted)?;
+    }
+    Ok(())
+}
+
+#[test]
+fn air_lines_of_one_exchange(rt: HostRuntime) -> Result<(), Fail> {
+    let tag = "tag 00000000 00000000 0000000000 08001234 E2000001 - A1B2\n";
+    let cases = [
+        (5, tag, Some((5, Fault::Word))),
         (5, "air 2 miss 0\n", Some((6, Fault::Order))),
         (5, "air 1 miss 4096\n", Some((5, Fault::Number))),
         (5, "air 1 miss 4095\n", Some((5, Fault::Tag))),
@@ -258,6 +301,16 @@ fn each_reason_on_each_line(rt: HostRuntime) -> Result<(), Fail> {
         (7, "air 1 miss 0\n", Some((7, Fault::Order))),
         (7, "air 1 off 0\n", Some((7, Fault::Order))),
         (7, "air 1 off 1\n", Some((7, Fault::Tag))),
+    ];
+    for (number, text, wanted) in cases {
+        expect(&rt, number, text, wanted)?;
+    }
+    Ok(())
+}
+
+#[test]
+fn selects(rt: HostRuntime) -> Result<(), Fail> {
+    let cases = [
         (8, "air 1 silent\n", Some((8, Fault::Order))),
         (8, "air 2 pick 0\n", Some((8, Fault::Twice))),
         (8, "air 2 raw 0\n", Some((8, Fault::Word))),
@@ -273,6 +326,16 @@ fn each_reason_on_each_line(rt: HostRuntime) -> Result<(), Fail> {
         (8, "nak \n", Some((8, Fault::Shape))),
         (8, "only -\n", Some((8, Fault::Word))),
         (8, "op kill 00000000\n", Some((8, Fault::Word))),
+    ];
+    for (number, text, wanted) in cases {
+        expect(&rt, number, text, wanted)?;
+    }
+    Ok(())
+}
+
+#[test]
+fn events_and_ends(rt: HostRuntime) -> Result<(), Fail> {
+    let cases = [
         (9, "air 3 silent\n", Some((9, Fault::Word))),
         (9, "event\n", Some((9, Fault::Shape))),
         (9, "event \n", Some((9, Fault::Word))),
@@ -281,6 +344,21 @@ fn each_reason_on_each_line(rt: HostRuntime) -> Result<(), Fail> {
         (9, "event on 1\n", Some((9, Fault::Tag))),
         (9, "event expire s0 0\n", Some((9, Fault::Number))),
         (9, "event expire s1 0\n", None),
+        (11, "", Some((11, Fault::End))),
+        (11, "end", Some((11, Fault::End))),
+        (11, "end x\n", Some((11, Fault::Shape))),
+        (11, "end\n\n", Some((12, Fault::Extra))),
+        (11, "end\nend", Some((12, Fault::Extra))),
+    ];
+    for (number, text, wanted) in cases {
+        expect(&rt, number, text, wanted)?;
+    }
+    Ok(())
+}
+
+#[test]
+fn rounds(rt: HostRuntime) -> Result<(), Fail> {
+    let cases = [
         (10, "round all 0 a 0 300\n", Some((10, Fault::Shape))),
         (10, "round none 0 a 0 300 5\n", Some((10, Fault::Number))),
         (10, "round all 4 a 0 300 5\n", Some((10, Fault::Number))),
@@ -295,13 +373,6 @@ fn each_reason_on_each_line(rt: HostRuntime) -> Result<(), Fail> {
             "round nsl 3 b 15 100 1\nround sl 0 a 0 500 70000\n",
             None,
         ),
-        (11, "", Some((11, Fault::End))),
-        (11, "end", Some((11, Fault::End))),
-        (11, "end x\n", Some((11, Fault::Shape))),
-        (11, "end\n\n", Some((12, Fault::Extra))),
-        (11, "end\nend", Some((12, Fault::Extra))),
-        // Of two faulty lines the first one is reported.
-        (4, "air 1 off 0 0\nair 2 off 1\n", Some((4, Fault::Shape))),
     ];
     for (number, text, wanted) in cases {
         expect(&rt, number, text, wanted)?;
