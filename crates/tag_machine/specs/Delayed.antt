@@ -1,5 +1,5 @@
--- 6.3.2.11.3.3 to 6.3.2.11.3.8: the replies that a tag sends once it wrote its memory. They have the extended preamble,
--- whatever the TRext of the Query says; all others go by it.
+-- 6.3.2.11.3.3 Write, 6.3.2.11.3.4 Kill, 6.3.2.11.3.5 Lock, 6.3.2.11.3.7 BlockWrite, 6.3.2.11.3.8 BlockErase: a tag answers
+-- these once it wrote its memory, with the extended preamble, whatever the TRext of the Query says. All other answers go by it.
 use Rattle.std.specs.Prelude.{Bool, true, false, is_some}
 use Rattle.command_grammar.specs.declared.commands.Command.{Command}
 use Rattle.command_grammar.specs.declared.commands.Command.TheVariants as commands

@@ -120,7 +120,7 @@ impl TagWithHandle {
         answer(self.into_tag(), reply, handle, out)
     }
 
-    /// Answers the success of a command that takes its time.
+    /// Answers the header, with the extended preamble: what was asked is done.
     pub fn answer_header(self, out: &mut Bits) -> Heard
         requires { 8240 ≤ out.old.capacity }
         ensures { Gives (extended (held_state self.level self.held) self.body Header self.held.handle) result out.old out.new }
@@ -129,7 +129,7 @@ impl TagWithHandle {
         answer_extended(self.into_tag(), &Reply::Header, handle, out)
     }
 
-    /// Answers the error of a command that would take its time.
+    /// Answers an error in place of the header, with the extended preamble.
     pub fn refuse(self, code: ErrorCode, out: &mut Bits) -> Heard
         requires { 8240 ≤ out.old.capacity }
         ensures { Gives (refuse self.level self.held self.body code) result out.old out.new }
@@ -138,7 +138,7 @@ impl TagWithHandle {
         answer_extended(self.into_tag(), &Reply::Error(code.code()), handle, out)
     }
 
-    /// The answer of a command that changes the memory or the locks: success, or the error where it was refused.
+    /// Answers a command that changes the memory or the locks: the header, or the error where it was refused.
     pub fn answer_change(self, change: Result<(), ErrorCode>, out: &mut Bits) -> Heard
         requires { 8240 ≤ out.old.capacity }
         ensures ok { OnOk change (Gives (extended (held_state self.level self.held) self.body Header self.held.handle) result out.old out.new) }
