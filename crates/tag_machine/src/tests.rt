@@ -20,7 +20,7 @@ use std::marker::Brand;
 use std::process::Abort;
 use std::sync::ledger::{Blank, Ledger};
 use std::test::Fail;
-use tables::{EVENTS, HEARD, ROUND, Row, SELECTED, SLOTS};
+use tables::{EXPIRIES, HEARD, POWER, ROUND, Row, SELECTED, SLOTS};
 use tag_memory::{BankImage, Memory};
 
 /// One command or event of a list.
@@ -317,10 +317,24 @@ fn lists_of_acts(rt: HostRuntime) -> Result<(), Fail> {
     follow_all(&rt, alloc, new_tag(alloc, &one)?, &SELECTED)
 }
 
+fn each_command(rt: &impl Abort, alloc: Global) -> Result<(), Fail> {
+    follow_each(rt, alloc, &HEARD)
+}
+
+fn each_event(rt: &impl Abort, alloc: Global) -> Result<(), Fail> {
+    follow_each(rt, alloc, &POWER)
+}
+
+fn each_expiry(rt: &impl Abort, alloc: Global) -> Result<(), Fail> {
+    follow_each(rt, alloc, &EXPIRIES)
+}
+
 #[test]
 fn each_act_in_each_state(rt: HostRuntime) -> Result<(), Fail> {
-    follow_each(&rt, rt.alloc(), &HEARD)?;
-    follow_each(&rt, rt.alloc(), &EVENTS)
+    let alloc = rt.alloc();
+    each_command(&rt, alloc)?;
+    each_event(&rt, alloc)?;
+    each_expiry(&rt, alloc)
 }
 
 #[test]

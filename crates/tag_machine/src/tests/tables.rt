@@ -303,8 +303,8 @@ pub const HEARD: [(StateName, Option<Kind>, Row); 52] = [
     ),
 ];
 
-/// Each event in every state, at a tag with the flags BBBB1, and slot 5 in arbitrate.
-pub const EVENTS: [(StateName, Option<Kind>, Row); 64] = [
+/// A loss of time, and power that goes and comes, in every state, at a tag with the flags BBBB1, and slot 5 in arbitrate.
+pub const POWER: [(StateName, Option<Kind>, Row); 24] = [
     (
         Ready,
         None,
@@ -316,6 +316,103 @@ pub const EVENTS: [(StateName, Option<Kind>, Row); 64] = [
         Row(Befalls(Off), Unpowered, 0, "ABBB1", Nothing),
     ),
     (Ready, None, Row(Befalls(On), Ready, 0, "BBBB1", Nothing)),
+    (
+        Arbitrate,
+        None,
+        Row(Befalls(Timeout), Arbitrate, 5, "BBBB1", Nothing),
+    ),
+    (
+        Arbitrate,
+        None,
+        Row(Befalls(Off), Unpowered, 0, "ABBB1", Nothing),
+    ),
+    (
+        Arbitrate,
+        None,
+        Row(Befalls(On), Arbitrate, 5, "BBBB1", Nothing),
+    ),
+    (
+        InReply,
+        None,
+        Row(Befalls(Timeout), Arbitrate, 0, "BBBB1", Nothing),
+    ),
+    (
+        InReply,
+        None,
+        Row(Befalls(Off), Unpowered, 0, "ABBB1", Nothing),
+    ),
+    (
+        InReply,
+        None,
+        Row(Befalls(On), InReply, 0, "BBBB1", Nothing),
+    ),
+    (
+        Acknowledged,
+        None,
+        Row(Befalls(Timeout), Arbitrate, 0, "BBBB1", Nothing),
+    ),
+    (
+        Acknowledged,
+        None,
+        Row(Befalls(Off), Unpowered, 0, "ABBB1", Nothing),
+    ),
+    (
+        Acknowledged,
+        None,
+        Row(Befalls(On), Acknowledged, 0, "BBBB1", Nothing),
+    ),
+    (
+        Opened,
+        None,
+        Row(Befalls(Timeout), Opened, 0, "BBBB1", Nothing),
+    ),
+    (
+        Opened,
+        None,
+        Row(Befalls(Off), Unpowered, 0, "ABBB1", Nothing),
+    ),
+    (Opened, None, Row(Befalls(On), Opened, 0, "BBBB1", Nothing)),
+    (
+        Secured,
+        None,
+        Row(Befalls(Timeout), Secured, 0, "BBBB1", Nothing),
+    ),
+    (
+        Secured,
+        None,
+        Row(Befalls(Off), Unpowered, 0, "ABBB1", Nothing),
+    ),
+    (
+        Secured,
+        None,
+        Row(Befalls(On), Secured, 0, "BBBB1", Nothing),
+    ),
+    (
+        Killed,
+        None,
+        Row(Befalls(Timeout), Killed, 0, "BBBB1", Nothing),
+    ),
+    (Killed, None, Row(Befalls(Off), Killed, 0, "BBBB1", Nothing)),
+    (Killed, None, Row(Befalls(On), Killed, 0, "BBBB1", Nothing)),
+    (
+        Unpowered,
+        None,
+        Row(Befalls(Timeout), Unpowered, 0, "BBBB1", Nothing),
+    ),
+    (
+        Unpowered,
+        None,
+        Row(Befalls(Off), Unpowered, 0, "ABBB1", Nothing),
+    ),
+    (
+        Unpowered,
+        None,
+        Row(Befalls(On), Ready, 0, "BBBB1", Nothing),
+    ),
+];
+
+/// The end of each flag's persistence in every state, at the same tags.
+pub const EXPIRIES: [(StateName, Option<Kind>, Row); 40] = [
     (
         Ready,
         None,
@@ -340,21 +437,6 @@ pub const EVENTS: [(StateName, Option<Kind>, Row); 64] = [
         Ready,
         None,
         Row(Befalls(Expire(Sl)), Ready, 0, "BBBB1", Nothing),
-    ),
-    (
-        Arbitrate,
-        None,
-        Row(Befalls(Timeout), Arbitrate, 5, "BBBB1", Nothing),
-    ),
-    (
-        Arbitrate,
-        None,
-        Row(Befalls(Off), Unpowered, 0, "ABBB1", Nothing),
-    ),
-    (
-        Arbitrate,
-        None,
-        Row(Befalls(On), Arbitrate, 5, "BBBB1", Nothing),
     ),
     (
         Arbitrate,
@@ -384,21 +466,6 @@ pub const EVENTS: [(StateName, Option<Kind>, Row); 64] = [
     (
         InReply,
         None,
-        Row(Befalls(Timeout), Arbitrate, 0, "BBBB1", Nothing),
-    ),
-    (
-        InReply,
-        None,
-        Row(Befalls(Off), Unpowered, 0, "ABBB1", Nothing),
-    ),
-    (
-        InReply,
-        None,
-        Row(Befalls(On), InReply, 0, "BBBB1", Nothing),
-    ),
-    (
-        InReply,
-        None,
         Row(Befalls(Expire(S0)), InReply, 0, "BBBB1", Nothing),
     ),
     (
@@ -420,21 +487,6 @@ pub const EVENTS: [(StateName, Option<Kind>, Row); 64] = [
         InReply,
         None,
         Row(Befalls(Expire(Sl)), InReply, 0, "BBBB1", Nothing),
-    ),
-    (
-        Acknowledged,
-        None,
-        Row(Befalls(Timeout), Arbitrate, 0, "BBBB1", Nothing),
-    ),
-    (
-        Acknowledged,
-        None,
-        Row(Befalls(Off), Unpowered, 0, "ABBB1", Nothing),
-    ),
-    (
-        Acknowledged,
-        None,
-        Row(Befalls(On), Acknowledged, 0, "BBBB1", Nothing),
     ),
     (
         Acknowledged,
@@ -464,17 +516,6 @@ pub const EVENTS: [(StateName, Option<Kind>, Row); 64] = [
     (
         Opened,
         None,
-        Row(Befalls(Timeout), Opened, 0, "BBBB1", Nothing),
-    ),
-    (
-        Opened,
-        None,
-        Row(Befalls(Off), Unpowered, 0, "ABBB1", Nothing),
-    ),
-    (Opened, None, Row(Befalls(On), Opened, 0, "BBBB1", Nothing)),
-    (
-        Opened,
-        None,
         Row(Befalls(Expire(S0)), Opened, 0, "BBBB1", Nothing),
     ),
     (
@@ -496,21 +537,6 @@ pub const EVENTS: [(StateName, Option<Kind>, Row); 64] = [
         Opened,
         None,
         Row(Befalls(Expire(Sl)), Opened, 0, "BBBB1", Nothing),
-    ),
-    (
-        Secured,
-        None,
-        Row(Befalls(Timeout), Secured, 0, "BBBB1", Nothing),
-    ),
-    (
-        Secured,
-        None,
-        Row(Befalls(Off), Unpowered, 0, "ABBB1", Nothing),
-    ),
-    (
-        Secured,
-        None,
-        Row(Befalls(On), Secured, 0, "BBBB1", Nothing),
     ),
     (
         Secured,
@@ -540,13 +566,6 @@ pub const EVENTS: [(StateName, Option<Kind>, Row); 64] = [
     (
         Killed,
         None,
-        Row(Befalls(Timeout), Killed, 0, "BBBB1", Nothing),
-    ),
-    (Killed, None, Row(Befalls(Off), Killed, 0, "BBBB1", Nothing)),
-    (Killed, None, Row(Befalls(On), Killed, 0, "BBBB1", Nothing)),
-    (
-        Killed,
-        None,
         Row(Befalls(Expire(S0)), Killed, 0, "BBBB1", Nothing),
     ),
     (
@@ -568,21 +587,6 @@ pub const EVENTS: [(StateName, Option<Kind>, Row); 64] = [
         Killed,
         None,
         Row(Befalls(Expire(Sl)), Killed, 0, "BBBB1", Nothing),
-    ),
-    (
-        Unpowered,
-        None,
-        Row(Befalls(Timeout), Unpowered, 0, "BBBB1", Nothing),
-    ),
-    (
-        Unpowered,
-        None,
-        Row(Befalls(Off), Unpowered, 0, "ABBB1", Nothing),
-    ),
-    (
-        Unpowered,
-        None,
-        Row(Befalls(On), Ready, 0, "BBBB1", Nothing),
     ),
     (
         Unpowered,
