@@ -2,6 +2,7 @@ pub mod ScenarioText
 pub mod Limits
 pub mod Standing
 pub mod Faults
+pub mod FaultLine
 pub mod Taking
 pub mod Rest
 pub use Rattle.scenario_lines.specs.Spelling

@@ -11,7 +11,7 @@ use Rattle.scenario_lines.specs.LineForm.{IsEvent, IsPlace, IsChoice, IsExchange
 use Rattle.scenario.specs.declared.values.Step.{Step}
 use Rattle.scenario.specs.declared.values.Step.TheVariants as steps
 use Rattle.scenario.specs.declared.values.Scenario.{Scenario}
-use Rattle.scenario.specs.ScenarioText.{air_lines}
+use Rattle.scenario.specs.ScenarioText.{air_lines, scenario_text}
 
 -- the limits on the numbers of tags, air lines and steps
 abbrev pub most_tags : ℕ
@@ -63,3 +63,7 @@ pub record IsScenario (scenario : Scenario) : Type 0 where
   pub few_tags : length scenario.tags ≤ most_tags
   pub few_air_lines : length (air_lines scenario.entries) ≤ most_air_lines
   pub few_steps : length scenario.steps ≤ most_steps
+
+-- the bytes are the text of a scenario that keeps the limits
+abbrev pub IsText : List ℕ → Type 0
+IsText bytes = (scenario : Scenario) × IsScenario scenario × (bytes ≡ scenario_text scenario)

@@ -1,7 +1,7 @@
 //! A scenario, line by line.
 ghost use Rattle.std.specs.Prelude.{◌≡◌, ◌<◌, ◌≤◌, ◌+◌, ◌↔◌, ◌++◌, [], ◌∷◌, length, IsTrue, IfOk, IfErr, OnOk};
 ghost use Rattle.text_fields.specs.Lines.{fields_of};
-ghost use Rattle.scenario.specs.Standing.{Agrees, ChoosesOnce, Follows, HasRoom, KeepsOrder, MayFollow, MayStand, NamesTag, after, entries_of, grown, new_draft, scenario_of, size, turned, with_air, with_happening, with_step, within};
+ghost use Rattle.scenario.specs.Standing.{Agrees, ChoosesOnce, Follows, HasRoom, KeepsOrder, MayFollow, MayStand, NamesTag, after, entries_of, grown, last_entry, new_draft, scenario_of, size, turned, with_air, with_happening, with_step, within};
 ghost use Rattle.scenario.specs.Faults.{IsAtOddsBy, fault_of_line};
 ghost use Rattle.scenario_lines.specs.declared.line.Line.{Line};
 ghost use Rattle.scenario_lines.specs.LineFaults.{Spells};
@@ -223,14 +223,7 @@ impl Draft {
         let events = mem::replace(&mut self.events, Vec::new(alloc));
         let missed = mem::replace(&mut self.missed, Vec::new(alloc));
         let choice = self.choice.take();
-        if self.exchange > 0 {
-            let entry = Entry {
-                events: List::new(events),
-                missed: List::new(missed),
-                choice,
-            };
-            self.closed.push((self.exchange, entry))?;
-        }
+        close(&mut self.closed, self.exchange, events, missed, choice)?;
         self.exchange = exchange;
         Ok(())
     }
@@ -350,14 +343,7 @@ impl Draft {
             choice,
             steps,
         } = self;
-        if exchange > 0 {
-            let entry = Entry {
-                events: List::new(events),
-                missed: List::new(missed),
-                choice,
-            };
-            closed.push((exchange, entry))?;
-        }
+        close(&mut closed, exchange, events, missed, choice)?;
         Ok(Scenario {
             link,
             tags: List::new(tags),
@@ -365,6 +351,28 @@ impl Draft {
             steps: List::new(steps),
         })
     }
+}
+
+/// Adds what is said of the last exchange, where there is one, to what is said of those before it.
+fn close(
+    closed: &mut Vec<(u64, Entry)>,
+    exchange: u64,
+    events: Vec<(Event, u32)>,
+    missed: Vec<u32>,
+    choice: Option<Choice>,
+) -> Result<(), OutOfMemory>
+    ensures { OnOk result (closed.new.items ≡ closed.old.items
+        ++ last_entry exchange (record { events = events.items; missed = missed.items; choice = choice })) }
+{
+    if exchange > 0 {
+        let entry = Entry {
+            events: List::new(events),
+            missed: List::new(missed),
+            choice,
+        };
+        closed.push((exchange, entry))?;
+    }
+    Ok(())
 }
 
 /// No operation, and no EPC that is named.

@@ -10,6 +10,7 @@ mod fault;
 mod laws;
 mod printing;
 mod reading;
+mod report;
 mod round_trip;
 mod values;
 
@@ -20,6 +21,7 @@ pub use laws::{each_standing_can_end, lines_say_a_scenario, scenarios_are_said};
 pub use printing::print_scenario;
 pub use q_round::RoundSpec;
 pub use reading::read_scenario;
+pub use report::fault_text;
 pub use round_trip::{print_and_read, read_and_print};
 pub use scenario_lines::TagSpec;
 pub use values::{Scenario, Step};

@@ -2,45 +2,39 @@
 //! the reader of scenarios says of a text, and bench/run measures the reader and the writer by it.
 #![tactic(auto)]
 
-use air_io::{ReadEnd, StdSink, StdSource, read_to_end, write_all};
+ghost use Rattle.std.specs.Prelude.{IfOk};
+ghost use Rattle.scenario_text.specs.Answer.{IsAnswer};
+
+use air_io::{Bytes, ReadEnd, StdSink, StdSource, read_to_end, write_all};
 use bit_strings::OutOfMemory;
-use scenario::{Fault, ScenarioFault, read_and_print};
-use std::alloc::Global;
+use scenario::{ScenarioFault, fault_text, read_and_print};
+use std::alloc::{AllocError, Global};
 use std::process::ExitCode;
-use text_fields::push_number;
 
 /// The greatest length of an input, in bytes.
 const MOST_BYTES: u32 = 16_777_216;
 
-/// What a reason is called.
-fn reason_word(fault: Fault) -> &'static str {
-    match fault {
-        Fault::Extra => "extra",
-        Fault::End => "end",
-        Fault::Version => "version",
-        Fault::Word => "word",
-        Fault::Limit => "limit",
-        Fault::Shape => "shape",
-        Fault::Number => "number",
-        Fault::Tari => "tari",
-        Fault::RtCal => "rtcal",
-        Fault::TrCal => "trcal",
-        Fault::Pw => "pw",
-        Fault::Pc => "pc",
-        Fault::Tag => "tag",
-        Fault::Order => "order",
-        Fault::Twice => "twice",
-    }
+/// What is written for a text.
+#[derive(Drop)]
+enum Answer {
+    /// The text again, where it is that of a scenario.
+    Again(Bytes),
+    /// The line that reports its first faulty line.
+    Faulty(String),
 }
 
-/// The line that reports a fault.
-fn fault_line(alloc: Global, line: u32, fault: Fault) -> Result<String, OutOfMemory> {
-    let mut text = String::from_str(alloc, "fault ")?;
-    push_number(&mut text, line)?;
-    text.push(' ')?;
-    text.push_str(reason_word(fault))?;
-    text.push('\n')?;
-    Ok(text)
+/// What is written for a text.
+fn answer(alloc: Global, text: &[u8]) -> Result<Answer, OutOfMemory>
+    ensures { IfOk result (IsAnswer text.now) }
+{
+    match read_and_print(alloc, text) {
+        Ok(again) => Ok(Answer::Again(again)),
+        Err(ScenarioFault::Line(number, fault)) => {
+            let line = fault_text(alloc, number, fault)?;
+            Ok(Answer::Faulty(line))
+        }
+        Err(ScenarioFault::OutOfMemory) => Err(AllocError),
+    }
 }
 
 /// The statuses are those of the program: 0 done, 3 a faulty text, 4 a read failed, 5 a write failed, 6 the
@@ -55,21 +49,13 @@ fn main(rt: HostRuntime) -> ExitCode {
         Err(ReadEnd::TooLong) => return ExitCode::from(6),
         Err(ReadEnd::OutOfMemory) => return ExitCode::from(7),
     };
-    let (line, fault) = match read_and_print(alloc, text.as_slice()) {
-        Ok(again) => {
-            return match write_all(&mut output, again.as_slice()) {
-                Ok(()) => ExitCode::SUCCESS,
-                Err(_) => ExitCode::from(5),
-            };
-        }
-        Err(ScenarioFault::OutOfMemory) => return ExitCode::from(7),
-        Err(ScenarioFault::Line(line, fault)) => (line, fault),
+    let (written, status) = match answer(alloc, text.as_slice()) {
+        Ok(Answer::Again(again)) => (write_all(&mut output, again.as_slice()), 0),
+        Ok(Answer::Faulty(line)) => (write_all(&mut output, line.as_bytes()), 3),
+        Err(_) => return ExitCode::from(7),
     };
-    let Ok(report) = fault_line(alloc, line, fault) else {
-        return ExitCode::from(7);
-    };
-    match write_all(&mut output, report.as_bytes()) {
-        Ok(()) => ExitCode::from(3),
+    match written {
+        Ok(()) => ExitCode::from(status),
         Err(_) => ExitCode::from(5),
     }
 }
