@@ -13,17 +13,24 @@ use bit_strings::Payload;
 /// changes again.
 #[derive(Clone, Copy, Debug, PartialEq, Eq)]
 pub struct Pair {
+    /// The first bit of the pair: the field wants the secured state.
     pub write_bit: bool,
+    /// The second bit: the pair never changes again.
     pub permalock: bool,
 }
 
 /// The pairs of lock bits of a tag's fields.
 #[derive(Clone, Copy, Debug, PartialEq, Eq)]
 pub struct Locks {
+    /// The pair of the kill password, words 0 and 1 of the Reserved bank.
     pub kill_word: Pair,
+    /// The pair of the access password, words 2 and 3 of the Reserved bank.
     pub access_word: Pair,
+    /// The pair of the EPC bank.
     pub epc: Pair,
+    /// The pair of the TID bank.
     pub tid: Pair,
+    /// The pair of the User bank.
     pub user: Pair,
 }
 
@@ -77,6 +84,7 @@ impl Pair {
         2 * u16::from(self.write_bit) + u16::from(self.permalock)
     }
 
+    /// Whether the pair lets a tag of this level write, or read a password.
     fn allows(self, level: Level) -> bool
         ensures { result ≡ pair_allows self level }
     {

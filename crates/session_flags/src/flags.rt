@@ -10,9 +10,13 @@ use command_grammar::{FlagName, Sel, Side};
 /// and the selected flag SL (6.3.2.3 Selected flag).
 #[derive(Clone, Copy, Debug, PartialEq, Eq)]
 pub struct Flags {
+    /// The inventoried flag of session S0.
     pub s0: Side,
+    /// The inventoried flag of session S1.
     pub s1: Side,
+    /// The inventoried flag of session S2.
     pub s2: Side,
+    /// The inventoried flag of session S3.
     pub s3: Side,
     /// Whether SL is asserted.
     pub sl: bool,
@@ -49,6 +53,7 @@ impl Effect {
         if matching { at_match } else { at_mismatch }
     }
 
+    /// The side of an inventoried flag after the effect.
     fn on_side(self, side: Side) -> Side
         ensures { result ≡ side_after self side }
     {
@@ -59,6 +64,7 @@ impl Effect {
         }
     }
 
+    /// Whether SL is asserted after the effect.
     fn on_sl(self, sl: bool) -> bool
         ensures { result ≡ sl_after self sl }
     {
@@ -104,6 +110,7 @@ impl Flags {
         self.sl
     }
 
+    /// Lets the flag of this name take the effect.
     fn change(&mut self, target: FlagName, effect: Effect)
         ensures { self.new ≡ changed self.old target effect }
     {

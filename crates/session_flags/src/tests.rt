@@ -1,5 +1,5 @@
 //! The table of actions, the ends of persistence, and masks, against values written out by hand.
-use crate::{Flags, mask_matches};
+use crate::{DrawWords, Flags, mask_matches};
 use bit_strings::{Action, Pointer, Session};
 use command_grammar::{FlagName, Mask, Sel, Side};
 use std::test::Fail;
@@ -217,5 +217,12 @@ fn masks_at_the_edges_of_a_bank(rt: HostRuntime) -> Result<(), Fail> {
     assert!(rt; mask_matches(&[], start, &Mask::new()));
     assert!(rt; !mask_matches(&[], behind, &Mask::new()));
     assert!(rt; !mask_matches(&[], start, &mask_of("0")));
+    Ok(())
+}
+
+#[test]
+fn draw_words_are_a_copy(rt: HostRuntime) -> Result<(), Fail> {
+    let words = DrawWords::new(rt.alloc(), &[0x0000, 0x1111])?;
+    assert!(rt; words.words() == [0x0000, 0x1111].as_slice());
     Ok(())
 }

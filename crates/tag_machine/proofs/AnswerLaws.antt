@@ -29,7 +29,7 @@ use Rattle.tag_machine.specs.Answers.{Sent, Outcome, silent, plain, extended}
 use Rattle.tag_machine.specs.Draws.{drawn, after_draw, slot_drawn, begin_reply, enter, inverted_body, close, back}
 use Rattle.tag_machine.specs.Inventory.{take_part, closed_before, query, unless_half, end_turn, slot_below, count_down, query_rep, adjusted, query_adjust, epc_reply, ack, nak, selected_body, select}
 use Rattle.tag_machine.specs.Access.{held_state, first_level, new_held, req_rn_held, req_rn, with_handle, unless_any_half, is_kind, unless_other_half, uncover, refuse, read_answer, read_held, read, memory_changed, write_held, write, whole_of, keep_half, kill_whole, kill_half, kill_held, kill, has_user, locks_changed, lock, access_whole, access_half, access_held, access, block_write_held, block_write, block_erase_held, block_erase}
-use Rattle.tag_machine.specs.Delayed.{has_half, is_delayed}
+use Rattle.tag_machine.specs.Extended.{has_half, is_extended}
 use Rattle.tag_machine.specs.Step.{step}
 use Rattle.tag_machine.specs.declared.any_tag.Answered.{Answered}
 use Rattle.tag_machine.specs.declared.any_tag.Answered.TheVariants.{Silent, Plain, Extended}
@@ -356,7 +356,7 @@ select_is target action bank pointer mask (SecuredState held) body =
 select_is target action bank pointer mask KilledState body = silent_is false body KilledState body
 select_is target action bank pointer mask UnpoweredState body = silent_is false body UnpoweredState body
 
-pub answers_as : (command : Command) (state : StateValue) (body : BodyValue) → AnswersAs (is_delayed command state) body (step command state body)
+pub answers_as : (command : Command) (state : StateValue) (body : BodyValue) → AnswersAs (is_extended command state) body (step command state body)
 answers_as (commands.QueryRep session) state body = query_rep_is session state body
 answers_as (commands.Ack rn) state body = ack_is rn state body
 answers_as (commands.Query dr line_code trext sel session target q) state body = query_is sel session target q state body
@@ -376,6 +376,6 @@ marked_by : (answer : Option Sent) (delayed : Bool) (answered : Answered) → an
 marked_by None delayed answered is not_silent marks = absurd (not_silent is)
 marked_by (Some sent) delayed answered is not_silent marks = is ∙ ap (λ (b : Bool). if b then Extended else Plain) (marks sent refl)
 
-pub marked : (command : Command) (state : StateValue) (body : BodyValue) (answered : Answered) → answered ≡ mark_of (step command state body).answer → (answered ≡ Silent → ⊥) → answered ≡ (if is_delayed command state then Extended else Plain)
+pub marked : (command : Command) (state : StateValue) (body : BodyValue) (answered : Answered) → answered ≡ mark_of (step command state body).answer → (answered ≡ Silent → ⊥) → answered ≡ (if is_extended command state then Extended else Plain)
 marked command state body answered is not_silent =
-    marked_by (step command state body).answer (is_delayed command state) answered is not_silent (answers_as command state body).marked
+    marked_by (step command state body).answer (is_extended command state) answered is not_silent (answers_as command state body).marked

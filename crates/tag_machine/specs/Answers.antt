@@ -5,7 +5,7 @@ use Rattle.reply_grammar.specs.Table.{IsReply, spelling}
 use Rattle.tag_machine.specs.TagValue.{StateValue, BodyValue, TagValue}
 
 -- a reply, the handle that stands in it where its kind has one, and whether it has the extended preamble whatever the
--- Query's TRext says (6.3.1.3.2: delayed replies have it)
+-- Query's TRext says (6.3.2.11.3)
 pub record Sent : Type 0 where
   pub reply : Reply
   pub handle : ℕ

@@ -9,4 +9,4 @@ pub mod Isolation
 pub mod States
 pub mod Names
 pub mod Hearing
-pub mod Delayed
+pub mod Extended

@@ -25,9 +25,10 @@ use std::process::Abort;
 use std::sync::ledger::{Blank, Ledger};
 use std::test::Fail;
 use tables::{
-    ACCESS, ACCESS_SWAPPED, ACCESS_THEN_KILL, ACCESS_ZERO, ACKNOWLEDGED, AFTER_HALF, FIRST_HALF,
-    KILL, KILL_IN_OPEN, KILL_THEN_ACCESS, KILL_WRONG, KILL_ZERO, LOCKS, OPEN, OPENED,
-    OTHER_HANDLES, PERMALOCK, REQ_RN, SECURED, WRITES, WRONG_PASSWORDS,
+    ACCESS, ACCESS_SWAPPED, ACCESS_THEN_KILL, ACCESS_ZERO, ACKNOWLEDGED, AFTER_HALF,
+    BETWEEN_HALVES, FIRST_HALF, KILL, KILL_IN_OPEN, KILL_THEN_ACCESS, KILL_THEN_BARE_ACCESS,
+    KILL_WRONG, KILL_ZERO, LATE_HALF, LOCKS, OPEN, OPENED, OTHER_HANDLES, PERMALOCK, REQ_RN,
+    SECOND_COVER, SECURED, WRITES, WRONG_PASSWORDS,
 };
 use tag_memory::{BankImage, Memory};
 
@@ -213,10 +214,15 @@ fn lists_of_commands<L: Ledger>(
     played(rt, alloc, &GUARDED, &OPENED, &KILL_WRONG, steps)?;
     played(rt, alloc, &no_kill, &SECURED, &KILL_ZERO, steps)?;
     played(rt, alloc, &GUARDED, &OPENED, &KILL_THEN_ACCESS, steps)?;
+    played(rt, alloc, &GUARDED, &OPENED, &KILL_THEN_BARE_ACCESS, steps)?;
     played(rt, alloc, &GUARDED, &OPENED, &ACCESS_THEN_KILL, steps)?;
     played(rt, alloc, &GUARDED, &OPENED, &OTHER_HANDLES, steps)?;
     for row in AFTER_HALF {
         let rows = [FIRST_HALF[0], FIRST_HALF[1], row];
+        played(rt, alloc, &GUARDED, &OPENED, &rows, steps)?;
+    }
+    for row in BETWEEN_HALVES {
+        let rows = [FIRST_HALF[0], FIRST_HALF[1], SECOND_COVER, row, LATE_HALF];
         played(rt, alloc, &GUARDED, &OPENED, &rows, steps)?;
     }
     Ok(())

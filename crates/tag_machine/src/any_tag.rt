@@ -17,13 +17,21 @@ use tag_memory::Memory;
 /// A tag in any state.
 #[derive(Drop)]
 pub enum AnyTag {
+    /// In ready.
     Ready(Tag<Ready>),
+    /// In arbitrate.
     Arbitrate(Tag<Arbitrate>),
+    /// In reply.
     InReply(Tag<InReply>),
+    /// In acknowledged.
     Acknowledged(Tag<Acknowledged>),
+    /// In open.
     Opened(Tag<Opened>),
+    /// In secured.
     Secured(Tag<Secured>),
+    /// Killed.
     Killed(Tag<Killed>),
+    /// Without power.
     Unpowered(Tag<Unpowered>),
 }
 

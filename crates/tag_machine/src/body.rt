@@ -72,18 +72,21 @@ impl Body {
         let _ = self.place;
     }
 
+    /// The memory.
     pub fn memory(&self) -> &Memory
         ensures { result.now ≡ self.now.memory }
     {
         &self.memory
     }
 
+    /// The pairs of lock bits.
     pub fn locks(&self) -> &Locks
         ensures { result.now ≡ self.now.locks }
     {
         &self.locks
     }
 
+    /// The inventoried flags and the selected flag.
     pub fn flags(&self) -> &Flags
         ensures { result.now ≡ self.now.flags }
     {

@@ -134,6 +134,7 @@ impl AnyTag {
         }
     }
 
+    /// What an event does to the tag, by the kind of the event.
     fn befall(self, event: Event) -> AnyTag
         ensures { value_of result ≡ happens event (value_of self).state (value_of self).body }
     {

@@ -3,7 +3,7 @@ ghost use Rattle.std.specs.Prelude.{◌≡◌, ◌≢◌, ◌+◌, ◌≤◌, �
 ghost use Rattle.reply_grammar.specs.declared.expected.Reply.TheVariants as replies;
 ghost use Rattle.tag_machine.specs.TagValue.{IsLegalTag, is_present};
 ghost use Rattle.tag_machine.specs.Answers.{Sent};
-ghost use Rattle.tag_machine.specs.Delayed.{is_delayed};
+ghost use Rattle.tag_machine.specs.Extended.{is_extended};
 ghost use Rattle.tag_machine.specs.Hearing.{Gives, value_of};
 ghost use Rattle.tag_machine.specs.Step.{step};
 ghost use Rattle.tag_machine.specs.Isolation.{IsIsolated};
@@ -362,7 +362,7 @@ impl AnyTag {
         ensures counted { steps.new ≡ steps.old + 1 }
         ensures isolated { IsIsolated command.now (value_of self).body.flags (value_of result.tag).body.flags }
         ensures legal { IsLegalTag (value_of result.tag) }
-        ensures marked { result.answered ≢ Answered.Silent → result.answered ≡ (if is_delayed command.now (value_of self).state then Answered.Extended else Answered.Plain) }
+        ensures marked { result.answered ≢ Answered.Silent → result.answered ≡ (if is_extended command.now (value_of self).state then Answered.Extended else Answered.Plain) }
         ensures refused { (sent : Sent) (code : ℕ) → (step command.now (value_of self).state (value_of self).body).answer ≡ Some sent → sent.reply ≡ replies.Error code → (value_of result.tag).body ≡ (value_of self).body }
         ensures absent { is_present (value_of self).state ≡ false → (value_of result.tag ≡ value_of self) × (result.answered ≡ Answered.Silent) }
     {

@@ -1,5 +1,5 @@
 //! A tag of the EPCglobal Class-1 Generation-2 standard, version 1.2.0, as a state machine: what it becomes and
-//! what it answers when it hears a command (6.3.2.4 Tag states and slot counter, 6.3.2.10, 6.3.2.11, Annex B),
+//! what it answers when it hears a command (6.3.2.4 Tag states and slot counter, 6.3.2.8, 6.3.2.11, Annex B),
 //! and what events do to it.
 #![tactic(auto)]
 

@@ -8,13 +8,21 @@ use std::marker::Model;
 /// The name of a state (6.3.2.4 Tag states and slot counter).
 #[derive(Clone, Copy, Debug, PartialEq, Eq)]
 pub enum StateName {
+    /// Powered, and in no round (6.3.2.4.1 Ready state).
     Ready,
+    /// In a round, and waiting for its slot (6.3.2.4.2 Arbitrate state).
     Arbitrate,
+    /// An RN16 was sent, and waits to be acknowledged (6.3.2.4.3 Reply state).
     InReply,
+    /// The EPC was sent (6.3.2.4.4 Acknowledged state).
     Acknowledged,
+    /// Access commands may come, and the access password was not shown (6.3.2.4.5 Open state).
     Opened,
+    /// Access commands may come, Lock among them (6.3.2.4.6 Secured state).
     Secured,
+    /// The tag never answers again (6.3.2.4.7 Killed state).
     Killed,
+    /// The tag has no power (profile).
     Unpowered,
 }
 
@@ -87,7 +95,9 @@ pub struct Unpowered;
 /// What open and secured hold.
 #[derive(Clone, Copy, Debug, PartialEq, Eq)]
 pub struct Held {
+    /// The session of the round.
     pub session: Session,
+    /// Q of the round.
     pub q: QValue,
     /// The number that commands to this tag must carry.
     pub handle: u16,
@@ -100,6 +110,7 @@ pub struct Held {
 /// The first half of a password, which came with a Kill or an Access.
 #[derive(Clone, Copy, Debug, PartialEq, Eq)]
 pub struct Half {
+    /// The command that it came with.
     pub kind: Kind,
     /// The half, without its cover.
     pub value: u16,
@@ -108,7 +119,9 @@ pub struct Half {
 /// The command that a half came with.
 #[derive(Clone, Copy, Debug, PartialEq, Eq)]
 pub enum Kind {
+    /// Half of the kill password (6.3.2.11.3.4 Kill).
     Kill,
+    /// Half of the access password (6.3.2.11.3.6 Access).
     Access,
 }
 

@@ -19,8 +19,11 @@ use reply_grammar::Reply;
 /// A tag in open or secured. The level says in which of the two, and what the tag permits goes by it.
 #[derive(Drop)]
 pub struct TagWithHandle {
+    /// In which of the two states it is.
     pub level: Level,
+    /// The numbers that the state holds.
     pub held: Held,
+    /// What every state holds.
     pub body: Body,
 }
 

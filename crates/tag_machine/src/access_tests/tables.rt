@@ -248,11 +248,18 @@ pub const KILL_ZERO: [Row; 9] = [
     (Kill(0x7FFE, H), Error(0x00), Secured, Same),
 ];
 
-/// A half of one kind and then of the other, with a cover and without.
+/// A half of one kind and then of the other, each with a cover.
 pub const KILL_THEN_ACCESS: [Row; 4] = [
     (ReqRn(H), Handle(0x00FF), Opened, Same),
     (Kill(0xAA44, H), Handle(H), Opened, Same),
     (ReqRn(H), Handle(0x1234), Opened, Same),
+    (Access(0x444C, H), Nothing, Arbitrate, Same),
+];
+
+/// ... and then of the other without a cover.
+pub const KILL_THEN_BARE_ACCESS: [Row; 3] = [
+    (ReqRn(H), Handle(0x00FF), Opened, Same),
+    (Kill(0xAA44, H), Handle(H), Opened, Same),
     (Access(0x444C, H), Nothing, Arbitrate, Same),
 ];
 
@@ -294,7 +301,8 @@ pub const OTHER_HANDLES: [Row; 22] = [
     ),
 ];
 
-/// A Req_RN in each state but open, with the tag's number and with another; all draws are A1B2.
+/// A Req_RN in ready, arbitrate, reply, acknowledged and secured, with the tag's number and, where the state holds one, with
+/// another; all draws are A1B2.
 pub const REQ_RN: [Row; 11] = [
     (ReqRn(RN), Nothing, Ready, Same),
     (Query, Rn16(RN), InReply, Same),
@@ -315,7 +323,20 @@ pub const FIRST_HALF: [Row; 2] = [
     (Access(0x12CB, H), Handle(H), Opened, Same),
 ];
 
-/// What each other command does after it.
+/// The cover of the second half.
+pub const SECOND_COVER: Row = (ReqRn(H), Handle(0x1234), Opened, Same);
+
+/// What comes between the halves, and ends the Access.
+pub const BETWEEN_HALVES: [Row; 3] = [
+    (Ack(H), Nothing, Arbitrate, Same),
+    (QueryRep(0), Nothing, Arbitrate, Same),
+    (Select, Nothing, Arbitrate, Same),
+];
+
+/// The second half, which comes too late.
+pub const LATE_HALF: Row = (Access(0x444C, H), Nothing, Arbitrate, Same);
+
+/// What each other command does after a first half.
 pub const AFTER_HALF: [Row; 22] = [
     (Ack(H), Nothing, Arbitrate, Same),
     (Ack(RN), Nothing, Arbitrate, Same),

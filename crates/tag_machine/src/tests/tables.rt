@@ -303,7 +303,7 @@ pub const HEARD: [(StateName, Option<Kind>, Row); 52] = [
     ),
 ];
 
-/// A loss of time, and power that goes and comes, in every state, at a tag with the flags BBBB1, and slot 5 in arbitrate.
+/// The end of T2, and power that goes and comes, in every state, at a tag with the flags BBBB1, and slot 5 in arbitrate.
 pub const POWER: [(StateName, Option<Kind>, Row); 24] = [
     (
         Ready,

@@ -17,18 +17,18 @@ has_half KilledState = false
 has_half UnpoweredState = false
 
 -- the replies to Write, Lock, BlockWrite and BlockErase, and to a Kill that comes after a first half, errors too
-abbrev pub is_delayed : Command → StateValue → Bool
-is_delayed (commands.QueryRep session) state = false
-is_delayed (commands.Ack rn) state = false
-is_delayed (commands.Query dr line_code trext sel session target q) state = false
-is_delayed (commands.QueryAdjust session updn) state = false
-is_delayed (commands.Select target action bank pointer mask) state = false
-is_delayed commands.Nak state = false
-is_delayed (commands.ReqRn rn) state = false
-is_delayed (commands.Read bank pointer count rn) state = false
-is_delayed (commands.Write bank pointer covered rn) state = true
-is_delayed (commands.Kill covered rn) state = has_half state
-is_delayed (commands.Lock payload rn) state = true
-is_delayed (commands.Access covered rn) state = false
-is_delayed (commands.BlockWrite bank pointer words rn) state = true
-is_delayed (commands.BlockErase bank pointer count rn) state = true
+abbrev pub is_extended : Command → StateValue → Bool
+is_extended (commands.QueryRep session) state = false
+is_extended (commands.Ack rn) state = false
+is_extended (commands.Query dr line_code trext sel session target q) state = false
+is_extended (commands.QueryAdjust session updn) state = false
+is_extended (commands.Select target action bank pointer mask) state = false
+is_extended commands.Nak state = false
+is_extended (commands.ReqRn rn) state = false
+is_extended (commands.Read bank pointer count rn) state = false
+is_extended (commands.Write bank pointer covered rn) state = true
+is_extended (commands.Kill covered rn) state = has_half state
+is_extended (commands.Lock payload rn) state = true
+is_extended (commands.Access covered rn) state = false
+is_extended (commands.BlockWrite bank pointer words rn) state = true
+is_extended (commands.BlockErase bank pointer count rn) state = true
