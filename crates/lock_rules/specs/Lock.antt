@@ -57,7 +57,8 @@ abbrev pub takes_permalock_off : Locks → ℕ → Field → Bool
 takes_permalock_off locks payload field =
     (mask_of payload field).permalock && not (action_of payload field).permalock && (pair_of locks field).permalock
 
--- a pair after a payload: one that is permalocked stays, and in another each masked bit becomes its action bit
+-- a pair after a payload: one that is permalocked stays (profile, but for a payload that asserts the permalock again), and
+-- in another each masked bit becomes its action bit
 abbrev pub changed : Pair → Pair → Pair → Pair
 changed pair mask action =
     (if pair.permalock then pair else record {
@@ -75,14 +76,14 @@ fields = KillWord ∷ AccessWord ∷ Epc ∷ Tid ∷ User ∷ []
 abbrev pub masks_user : ℕ → Bool
 masks_user payload = (mask_of payload User).write_bit || (mask_of payload User).permalock
 
-abbrev pub takes_a_permalock_off : Locks → ℕ → Bool
-takes_a_permalock_off locks payload = list_any (takes_permalock_off locks payload) fields
+abbrev pub takes_any_permalock_off : Locks → ℕ → Bool
+takes_any_permalock_off locks payload = list_any (takes_permalock_off locks payload) fields
 
 -- the three rules, the first that applies: the codes are profile
 abbrev pub locked : Locks → ℕ → Bool → Result Locks ErrorCode
 locked locks payload has_user =
     (if not has_user && masks_user payload then Err Overrun
-    else (if takes_a_permalock_off locks payload then Err Locked
+    else (if takes_any_permalock_off locks payload then Err Locked
     else Ok (record {
       kill_word = changed_field locks payload KillWord;
       access_word = changed_field locks payload AccessWord;

@@ -1,7 +1,7 @@
 //! The pairs of lock bits, what they allow, and how a Lock payload changes them.
 ghost use Rattle.std.specs.Prelude.{◌≡◌, ◌<◌, ◌≤◌, ◌↔◌, IsNone, IfSome};
 ghost use Rattle.lock_rules.specs.Permissions.{pair_of, pair_allows, may, Reading, Writing};
-ghost use Rattle.lock_rules.specs.Lock.{bit_at_place, pair_at, pair_number, number_of, locks_of, takes_permalock_off, changed, changed_field, masks_user, takes_a_permalock_off, locked};
+ghost use Rattle.lock_rules.specs.Lock.{bit_at_place, pair_at, pair_number, number_of, locks_of, takes_permalock_off, changed, changed_field, masks_user, takes_any_permalock_off, locked};
 
 use crate::terms::{ErrorCode, Field, Level};
 use bit_strings::Payload;
@@ -9,8 +9,8 @@ use bit_strings::Payload;
 /// The two lock bits of a field (6.3.2.11.3.5 Lock). The standard calls the first one pwd-write or
 /// pwd-read/write.
 ///
-/// With the write bit 1 the field wants the secured state. With the permalock 1 the pair never
-/// changes again.
+/// With the write bit 1 the field wants the secured state, and with both bits 1 it may never be written.
+/// With the permalock 1 the pair never changes again.
 #[derive(Clone, Copy, Debug, PartialEq, Eq)]
 pub struct Pair {
     /// The first bit of the pair: the field wants the secured state.
@@ -152,7 +152,7 @@ impl Locks {
     }
 
     /// The pair of a field.
-    pub fn pair(&self, field: Field) -> Pair
+    fn pair(&self, field: Field) -> Pair
         ensures { result ≡ pair_of self.now field }
     {
         match field {
@@ -192,8 +192,8 @@ impl Locks {
     }
 
     /// Whether the payload would take any permalock off.
-    fn takes_a_permalock_off(&self, payload: u32) -> bool
-        ensures { result ≡ takes_a_permalock_off self.now payload }
+    fn takes_any_permalock_off(&self, payload: u32) -> bool
+        ensures { result ≡ takes_any_permalock_off self.now payload }
     {
         FIELDS
             .iter()
@@ -213,7 +213,8 @@ impl Locks {
     ///
     /// 1. `Overrun` where the tag has no User bank and the payload's mask names it.
     /// 2. `Locked` where the payload would take the permalock of a field off.
-    /// 3. Each permalocked field stays, and in each other field each masked bit becomes its action bit.
+    /// 3. Each permalocked field stays (profile, but for a payload that asserts the permalock again), and in
+    ///    each other field each masked bit becomes its action bit.
     pub fn apply(&self, payload: Payload, has_user: bool) -> Result<Locks, ErrorCode>
         ensures { result ≡ locked self.now payload has_user }
     {
@@ -221,7 +222,7 @@ impl Locks {
         if !has_user && masks_user(payload) {
             return Err(ErrorCode::Overrun);
         }
-        if self.takes_a_permalock_off(payload) {
+        if self.takes_any_permalock_off(payload) {
             return Err(ErrorCode::Locked);
         }
         Ok(Locks {

@@ -18,7 +18,7 @@ pub enum Field {
     User,
 }
 
-/// The state of the tag that asks for a permission (6.3.2.4.5 Open state, 6.3.2.4.6 Secured state).
+/// The state in which a tag is asked for a permission (6.3.2.4.5 Open state, 6.3.2.4.6 Secured state).
 #[derive(Clone, Copy, Debug, PartialEq, Eq)]
 pub enum Level {
     /// The tag is in open.
@@ -35,7 +35,7 @@ pub enum ErrorCode {
     Other,
     /// The memory asked for isn't there, or a length in PC passes the EPC bank.
     Overrun,
-    /// The memory asked for is locked, and may not be read or written.
+    /// The memory asked for is locked, and may not be read or written; or a payload would take a permalock off.
     Locked,
 }
 

@@ -1,5 +1,5 @@
 -- 6.3.2.2 Sessions and inventoried flags, 6.3.2.3 Selected flag: what changes a tag's flags, and which tags a
--- Query speaks to. A session is its number; no session is 4 or above, and there nothing changes.
+-- Query speaks to. A session is its number; no session is 4 or above: there nothing changes, and the flag is that of S3.
 use Rattle.std.specs.Prelude.{ℕ, Bool, true, false, not, ◌==◌, ◌&&◌, if◌then◌else◌}
 use Rattle.command_grammar.specs.declared.command.Side.{Side}
 use Rattle.command_grammar.specs.declared.command.Side.TheVariants.{A, B}

@@ -165,7 +165,7 @@ impl Flags {
 
     /// What the end of a flag's persistence does, at a tag with power or without, which takes part in
     /// a round or doesn't. S1 becomes A unless the tag takes part; S2 and S3 become A, and SL is
-    /// deasserted, where there is no power; S0 has no such end.
+    /// deasserted, where there is no power; S0 has no such end (6.3.2.2; that S1 stays in a round is profile).
     pub fn expire(&mut self, flag: FlagName, powered: bool, takes_part: bool)
         ensures { self.new ≡ expired self.old flag powered takes_part }
     {

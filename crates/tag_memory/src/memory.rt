@@ -117,7 +117,7 @@ impl Memory {
 
     /// The memory of a tag that was just made, with StoredCRC computed. `Size` comes exactly where a
     /// bank of the image has a size that it may not have; `Pc` exactly where the sizes are right and the
-    /// EPC that PC announces would pass its bank. `OutOfMemory` means want of memory alone.
+    /// EPC that PC announces would pass its bank. No clause ties `OutOfMemory` to a cause.
     pub fn new(alloc: Global, image: &BankImage) -> Result<Memory, ImageRefusal>
         ensures size { (result ≡ Err ImageRefusal.Size) ↔ (sizes_fit image.now ≡ false) }
         ensures pc { (result ≡ Err ImageRefusal.Pc) ↔ ((sizes_fit image.now ≡ true) × (pc_fits image.now ≡ false)) }

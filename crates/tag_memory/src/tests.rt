@@ -105,6 +105,19 @@ fn stored_crc_is_computed_when_made_and_at_power_on(rt: HostRuntime) -> Result<(
     Ok(())
 }
 
+/// Whether these are the words that a Read left.
+fn holds(words: &ReadWords, want: &[u16]) -> bool {
+    if words.len() as usize != want.len() {
+        return false;
+    }
+    for at in 0..words.len() {
+        if words.get(at) != want.get(at as usize).copied() {
+            return false;
+        }
+    }
+    true
+}
+
 #[test]
 fn reads_at_the_edges(rt: HostRuntime) -> Result<(), Fail> {
     let alloc = rt.alloc();
@@ -117,55 +130,67 @@ fn reads_at_the_edges(rt: HostRuntime) -> Result<(), Fail> {
     let memory = Memory::new(alloc, &image)?;
     // The kill password wants the secured state, the access password is never readable.
     let locks = Locks::from_bits(0b10_11_00_00_00).ok_or("ten bits")?;
-    // A bank, the pointer, the count, the level, and how many words come.
-    let table = [
-        (Bank::Epc, 1u32, 0u8, Level::Opened, Ok(2u32)),
-        (Bank::Epc, 2, 0, Level::Opened, Ok(1)),
-        (Bank::Epc, 3, 0, Level::Opened, Ok(2)),
-        (Bank::Epc, 5, 0, Level::Opened, Err(ErrorCode::Overrun)),
-        (Bank::Epc, 1, 4, Level::Opened, Ok(4)),
-        (Bank::Epc, 4, 2, Level::Opened, Err(ErrorCode::Overrun)),
-        (Bank::Tid, 0, 0, Level::Opened, Ok(2)),
-        (Bank::User, 1, 0, Level::Opened, Ok(1)),
-        (Bank::User, 2, 0, Level::Opened, Err(ErrorCode::Overrun)),
+    // A bank, the pointer, the count, the level, and the words that come.
+    let words: [(Bank, u32, u8, Level, &[u16]); 7] = [
+        (Bank::Epc, 1, 0, Level::Opened, &[0x0800, 0x1234]),
+        (Bank::Epc, 2, 0, Level::Opened, &[0x1234]),
+        (Bank::Epc, 3, 0, Level::Opened, &[0x5678, 0x9ABC]),
+        (
+            Bank::Epc,
+            1,
+            4,
+            Level::Opened,
+            &[0x0800, 0x1234, 0x5678, 0x9ABC],
+        ),
+        (Bank::Tid, 0, 0, Level::Opened, &[0xE200, 0x0003]),
+        (Bank::User, 1, 0, Level::Opened, &[0x2222]),
+        (Bank::Reserved, 0, 2, Level::Secured, &[0xAABB, 0xCCDD]),
+    ];
+    // The same with the refusal.
+    let refusals = [
+        (Bank::Epc, 5u32, 0u8, Level::Opened, ErrorCode::Overrun),
+        (Bank::Epc, 4, 2, Level::Opened, ErrorCode::Overrun),
+        (Bank::User, 2, 0, Level::Opened, ErrorCode::Overrun),
         (
             Bank::User,
             268_435_455,
             255,
             Level::Opened,
-            Err(ErrorCode::Overrun),
+            ErrorCode::Overrun,
         ),
-        (Bank::Reserved, 0, 2, Level::Opened, Err(ErrorCode::Locked)),
-        (Bank::Reserved, 0, 2, Level::Secured, Ok(2)),
-        (Bank::Reserved, 1, 2, Level::Secured, Err(ErrorCode::Locked)),
-        (
-            Bank::Reserved,
-            3,
-            2,
-            Level::Secured,
-            Err(ErrorCode::Overrun),
-        ),
-        (
-            Bank::Reserved,
-            4,
-            0,
-            Level::Secured,
-            Err(ErrorCode::Overrun),
-        ),
+        (Bank::Reserved, 0, 2, Level::Opened, ErrorCode::Locked),
+        (Bank::Reserved, 1, 2, Level::Secured, ErrorCode::Locked),
+        (Bank::Reserved, 3, 2, Level::Secured, ErrorCode::Overrun),
+        (Bank::Reserved, 4, 0, Level::Secured, ErrorCode::Overrun),
     ];
-    for (bank, place, count, level, want) in table {
-        let mut out = ReadWords::new();
-        let start = pointer(place)?;
-        let got = memory.read(bank, start, count, level, &locks, &mut out);
-        assert!(rt; got.map(|_| out.len()) == want, "{bank:?} {place} {count}");
-        for at in 0..out.len() {
-            assert_eq!(rt;
-                out.get(at),
-                memory.get(bank, start.get() + at),
-                "{bank:?} {place} {count}"
-            );
-        }
+    let mut out = ReadWords::new();
+    for (bank, place, count, level, want) in words {
+        let got = memory.read(bank, pointer(place)?, count, level, &locks, &mut out);
+        assert!(rt; got.is_ok(), "{bank:?} {place} {count}");
+        assert!(rt; holds(&out, want), "{bank:?} {place} {count}");
     }
+    for (bank, place, count, level, want) in refusals {
+        let _ = out.push(0x1111);
+        let got = memory.read(bank, pointer(place)?, count, level, &locks, &mut out);
+        assert!(rt; got == Err(want), "{bank:?} {place} {count}");
+        assert_eq!(rt; out.len(), 0, "{bank:?} {place} {count}");
+    }
+    Ok(())
+}
+
+#[test]
+fn an_epc_of_no_words_ends_with_pc(rt: HostRuntime) -> Result<(), Fail> {
+    let alloc = rt.alloc();
+    let image = image(alloc, &[0x0000, 0x5678], &[0xE200, 0x0003], &[])?;
+    let memory = Memory::new(alloc, &image)?;
+    let open = Locks::from_bits(0).ok_or("ten bits")?;
+    let mut out = ReadWords::new();
+    let got = memory.read(Bank::Epc, pointer(1)?, 0, Level::Opened, &open, &mut out);
+    assert!(rt; got.is_ok());
+    assert!(rt; holds(&out, &[0x0000]));
+    let got = memory.read(Bank::Epc, pointer(2)?, 0, Level::Opened, &open, &mut out);
+    assert!(rt; got.is_ok());
+    assert!(rt; holds(&out, &[0x5678]));
     Ok(())
 }
 
@@ -223,41 +248,50 @@ fn blocks_are_written_whole_or_not_at_all(rt: HostRuntime) -> Result<(), Fail> {
     let mut words = BlockWords::first(0xAAAA);
     let _ = words.push(0xBBBB);
     let both = Count1::new(2).ok_or("a count")?;
+    assert!(rt;
+        memory.block_write(Bank::User, pointer(1)?, &words, Level::Opened, &open)
+            == Err(ErrorCode::Overrun)
+    );
+    assert!(rt; memory.words(MaskBank::User) == [0x1111, 0x2222].as_slice());
+    // A bank, the pointer, and what comes of the words and then of their erasure. As PC, AAAAh and BBBBh announce
+    // more words than the bank has, and 0000h none.
     let table = [
-        (Bank::User, 1u32, Err(ErrorCode::Overrun)),
-        (Bank::User, 0, Ok(())),
-        (Bank::Epc, 0, Err(ErrorCode::Overrun)),
-        (Bank::Epc, 1, Err(ErrorCode::Overrun)),
-        (Bank::Reserved, 2, Ok(())),
+        (
+            Bank::User,
+            1u32,
+            Err(ErrorCode::Overrun),
+            Err(ErrorCode::Overrun),
+        ),
+        (Bank::User, 0, Ok(()), Ok(())),
+        (
+            Bank::Epc,
+            0,
+            Err(ErrorCode::Overrun),
+            Err(ErrorCode::Locked),
+        ),
+        (Bank::Epc, 1, Err(ErrorCode::Overrun), Ok(())),
+        (Bank::Reserved, 2, Ok(()), Ok(())),
     ];
-    for (bank, place, want) in table {
+    for (bank, place, written, erased) in table {
         let before = (memory.get(bank, place), memory.get(bank, place + 1));
         let got = memory.block_write(bank, pointer(place)?, &words, Level::Opened, &open);
-        assert!(rt; got == want, "{bank:?} {place}");
-        let after = (memory.get(bank, place), memory.get(bank, place + 1));
-        let wanted = if want.is_ok() {
+        assert!(rt; got == written, "{bank:?} {place}");
+        let with_words = if written.is_ok() {
             (Some(0xAAAA), Some(0xBBBB))
         } else {
             before
         };
-        assert!(rt; after == wanted, "{bank:?} {place}");
-        let erased = memory.block_erase(bank, pointer(place)?, both, Level::Opened, &open);
-        // A PC of 0000h announces no word of EPC.
-        let code = if bank == Bank::Epc && place == 0 {
-            Err(ErrorCode::Locked)
+        let after = (memory.get(bank, place), memory.get(bank, place + 1));
+        assert!(rt; after == with_words, "{bank:?} {place}");
+        let got = memory.block_erase(bank, pointer(place)?, both, Level::Opened, &open);
+        assert!(rt; got == erased, "{bank:?} {place}");
+        let without = if erased.is_ok() {
+            (Some(0), Some(0))
         } else {
-            want
+            with_words
         };
-        let code = if bank == Bank::Epc && place == 1 {
-            Ok(())
-        } else {
-            code
-        };
-        assert!(rt; erased == code, "{bank:?} {place}");
-        if erased.is_ok() {
-            assert_eq!(rt; memory.get(bank, place), Some(0), "{bank:?} {place}");
-            assert_eq!(rt; memory.get(bank, place + 1), Some(0), "{bank:?} {place}");
-        }
+        let after = (memory.get(bank, place), memory.get(bank, place + 1));
+        assert!(rt; after == without, "{bank:?} {place}");
     }
     Ok(())
 }

@@ -130,10 +130,10 @@ impl Memory {
     }
 
     /// What a Read answers (6.3.2.11.3.2 Read): the words of a bank from the pointer on, into `out`. With
-    /// the count 0 these are all words up to the bank's end; in the EPC bank they end with the EPC where
-    /// the pointer is at or before its last word. `Overrun` where there is no such word or they pass the
-    /// bank, else `Locked` where one of them is of a password that may not be read at this level. After a
-    /// refusal `out` is empty.
+    /// the count 0 these are all words up to the bank's end; in the EPC bank they end with the EPC, or with
+    /// PC where it announces no word, where the pointer is at or before that word. `Overrun` where there is
+    /// no such word or they pass the bank, else `Locked` where one of them is of a password that may not be
+    /// read at this level. After a refusal `out` is empty.
     pub fn read(
         &self,
         bank: Bank,
@@ -166,6 +166,7 @@ impl Memory {
         }
     }
 
+    /// Writes words over those of a bank from a place on.
     fn put(&mut self, bank: Bank, from: usize, words: &[u16])
         requires inside { from + length words.now ≤ length (bank_of self.old bank) }
         requires length { length_fits (replaced_in self.old bank from words.now) ≡ true }
