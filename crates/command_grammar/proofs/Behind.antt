@@ -1,6 +1,7 @@
 -- A reader of the fields of a command behind the fields before, and what it has to do with whole commands.
-use Rattle.std.proofs.Common.{◌≡◌, ℕ, ◌+◌, ◌-◌, Bool, List, [], ◌∷◌, ◌++◌, length, Ok, Err, refl, sym, ap, subst, ◌∙◌, append_assoc, append-nil, length-append, arith}
+use Rattle.std.proofs.Common.{◌≡◌, ℕ, ◌+◌, ◌-◌, ◌≤◌, Bool, List, [], ◌∷◌, ◌++◌, length, Ok, Err, refl, sym, ap, subst, ◌∙◌, append_assoc, append-nil, length-append, inl, inr, arith}
 use Rattle.std.specs.Prelude.{Option, Some}
+use Rattle.std.proofs.lemmas.Bool.{cases_lt}
 use Rattle.std.proofs.lemmas.List.{take_at}
 use Rattle.gen2_crc.specs.Crc.{crc5_of, crc16_of}
 use Rattle.command_grammar.specs.declared.commands.Command.{Command}
@@ -41,12 +42,16 @@ pub record StuckOn (pre : List Part) (read : List Bool → List Bool → Reading
   pub stands : StandsIn (parts_of command) (length (bits_of pre) + length front) reason
   pub stays : (other : List Bool) → read (bits_of pre ++ (front ++ bit ∷ other)) (front ++ bit ∷ other) ≡ Err (Bad (length other + 1) reason)
 
--- behind these fields the reader answers as the commands that begin with them ask
+-- behind these fields the reader answers as the commands that begin with them ask; where it stops at the last bit, each command that it reads
+-- from bits with the same front has the field of the refusal at that place
 pub record ReadsOn (pre : List Part) (read : List Bool → List Bool → Reading Command) : Type 0 where
   pub live : (command : Command) × (more : List Part) × IsLegal command × (parts_of command ≡ pre ++ more)
   pub found : (bits : List Bool) (command : Command) (rest : List Bool) → read (bits_of pre ++ bits) bits ≡ Ok (command, rest) → IsLegal command × (bits_of pre ++ bits ≡ spelling_of command ++ rest)
   pub short : (bits : List Bool) → read (bits_of pre ++ bits) bits ≡ Err Short → (command : Command) × (more : List Bool) × IsLegal command × (spelling_of command ≡ (bits_of pre ++ bits) ++ more)
   pub bad : (bits : List Bool) (left : ℕ) (reason : Reason) → read (bits_of pre ++ bits) bits ≡ Err (Bad left reason) → StuckOn pre read bits left reason
+  pub fields : (bits : List Bool) (command : Command) (rest : List Bool) → read (bits_of pre ++ bits) bits ≡ Ok (command, rest) → (more : List Part) × (parts_of command ≡ pre ++ more)
+  pub named : (front : List Bool) (bit : Bool) (reason : Reason) → read (bits_of pre ++ (front ++ bit ∷ [])) (front ++ bit ∷ []) ≡ Err (Bad 1 reason) → (back : List Bool) (command : Command) (rest : List Bool)
+      → read (bits_of pre ++ (front ++ back)) (front ++ back) ≡ Ok (command, rest) → StandsIn (parts_of command) (length (bits_of pre) + length front) reason
 
 -- a whole command
 pub reads_whole : (pre : List Part) (command : Command) → IsLegal command → parts_of command ≡ pre → ReadsOn pre (λ whole bits. Ok (command, bits))
@@ -59,6 +64,8 @@ reads_whole pre command legal same = record {
       (subst IsLegal it legal, ap (λ (ps : List Part). bits_of ps ++ bits) (sym same) ∙ ap (λ (p : Command × List Bool). spelling_of p.0 ++ p.1) pair);
   short = λ bits e. absurd (not_short (command, bits) e);
   bad = λ bits left reason e. absurd (not_bad (command, bits) left reason e);
+  fields = λ bits other rest e. ([], ap (λ (p : Command × List Bool). parts_of p.0) (sym (ok_pair (command, bits) (other, rest) e)) ∙ same ∙ sym (append-nil pre));
+  named = λ front bit reason e. absurd (not_bad (command, front ++ bit ∷ []) 1 reason e);
 } where
   ok_pair : (x y : Command × List Bool) → ◌≡◌ {A = Reading Command} (Ok x) (Ok y) → x ≡ y
   ok_pair x y e = cc
@@ -78,7 +85,31 @@ reads_same pre read other same reads = record {
   bad = λ bits left reason e.
       let w = reads.bad bits left reason (sym (same bits) ∙ e) in
       record { front = w.front; bit = w.bit; back = w.back; split = w.split; left_is = w.left_is; command = w.command; legal = w.legal; more = w.more; begins = w.begins; stands = w.stands; stays = λ l. same (w.front ++ w.bit ∷ l) ∙ w.stays l };
+  fields = λ bits command rest e. reads.fields bits command rest (sym (same bits) ∙ e);
+  named = λ front bit reason stopped back command rest e. reads.named front bit reason (sym (same (front ++ bit ∷ [])) ∙ stopped) back command rest (sym (same (front ++ back)) ∙ e);
 }
+
+-- ---- two fields at the front of the same bits
+
+-- the longer of two fronts goes on behind the other
+pub longer_front : (a b c d : List Bool) → a ++ b ≡ c ++ d → length c ≤ length a → (more : List Bool) × (a ≡ c ++ more) × (d ≡ more ++ b)
+longer_front a b [] d same less = (a, refl, sym same)
+longer_front [] b (y ∷ c) d same less = absurd (omega arith)
+longer_front (x ∷ a) b (y ∷ c) d same less =
+    let head : x ≡ y = cc in
+    let tail : a ++ b ≡ c ++ d = cc in
+    let f = longer_front a b c d tail (omega arith) in
+    (f.0, cc, f.2)
+
+-- no bits of one value begin those of another
+none_longer : {A : Type 0} (R : A → List Bool → Type 0) (name : Option Reason) (r : List Bool → Reading A) (value other : A) (bits more : List Bool) → Reads R name r → R value (bits ++ more) → R other bits → more ≡ []
+none_longer {A} R name r value other bits more reads long short =
+    let first : r (bits ++ more) ≡ Ok (value, []) = ap r (sym (append-nil (bits ++ more))) ∙ reads.again value (bits ++ more) [] long in
+    let pair : ◌≡◌ {A = A × List Bool} (other, more) (value, []) = ok_pair (other, more) (value, []) (sym (reads.again other bits more short) ∙ first) in
+    ap (λ (p : A × List Bool). p.1) pair
+  where
+    ok_pair : (x y : A × List Bool) → ◌≡◌ {A = Reading A} (Ok x) (Ok y) → x ≡ y
+    ok_pair x y e = cc
 
 -- a field, and then the others
 pub reads_field_then : {A : Type 0} (pre : List Part) (name : Option Reason) (R : A → List Bool → Type 0) (r : List Bool → Reading A) (k : A × List Bool → List Bool → Reading Command)
@@ -135,8 +166,6 @@ reads_field_then {A} pre name R r k first second some_value some_bits some = rec
         let f = first.found bits x.0 x.1 h in
         let whole = whole_is bits f.0 x.1 f.2 in
         let w = (second x.0 f.0 f.1).bad x.1 left reason (ap (λ (t : List Bool). k x t) (sym whole) ∙ e2) in
-        let place : length (bits_of (pre ++ part name f.0 ∷ [])) + length w.front ≡ length (bits_of pre) + length (f.0 ++ w.front) =
-        omega (arith, ap (λ (l : List Bool). length l) (bits_of-more pre name f.0 []), length-append (bits_of pre) (f.0 ++ []), length-append f.0 [], length-append (bits_of (pre ++ part name f.0 ∷ [])) [], length-append f.0 w.front) in
         record {
           front = f.0 ++ w.front;
           bit = w.bit;
@@ -147,7 +176,7 @@ reads_field_then {A} pre name R r k first second some_value some_bits some = rec
           legal = w.legal;
           more = w.more;
           begins = w.begins ∙ ap (λ (l : List Bool). l ++ w.more) (sym (bits_of-more pre name f.0 w.front));
-          stands = subst (λ (n : ℕ). StandsIn (parts_of w.command) n reason) place w.stands;
+          stands = subst (λ (n : ℕ). StandsIn (parts_of w.command) n reason) (place_is f.0 w.front) w.stands;
           stays = λ l.
               let e3 : r ((f.0 ++ w.front) ++ w.bit ∷ l) ≡ Ok (x.0, w.front ++ w.bit ∷ l) = ap r (append_assoc f.0 w.front (w.bit ∷ l)) ∙ first.again x.0 f.0 (w.front ++ w.bit ∷ l) f.1 in
               let t : bits_of pre ++ ((f.0 ++ w.front) ++ w.bit ∷ l) ≡ bits_of (pre ++ part name f.0 ∷ []) ++ (w.front ++ w.bit ∷ l) =
@@ -156,9 +185,56 @@ reads_field_then {A} pre name R r k first second some_value some_bits some = rec
               ∙ ap (λ (m : List Bool). k (x.0, w.front ++ w.bit ∷ l) m) t ∙ w.stays l;
         }
   ];
+  fields = λ bits command rest e.
+      let b = bind_ok (r bits) (λ x. k x (bits_of pre ++ bits)) (command, rest) e in
+      let f = first.found bits b.0.0 b.0.1 b.1 in
+      let g = (second b.0.0 f.0 f.1).fields b.0.1 command rest (ap (λ (w : List Bool). k b.0 w) (sym (whole_is bits f.0 b.0.1 f.2)) ∙ b.2) in
+      (part name f.0 ∷ g.0, g.1 ∙ append_assoc pre (part name f.0 ∷ []) g.0);
+  named = λ front bit reason stopped back command rest e.
+      let b = bind_ok (r (front ++ back)) (λ x. k x (bits_of pre ++ (front ++ back))) (command, rest) e in
+      let f = first.found (front ++ back) b.0.0 b.0.1 b.1 in
+      let goes_on : k b.0 (bits_of (pre ++ part name f.0 ∷ []) ++ b.0.1) ≡ Ok (command, rest) = ap (λ (w : List Bool). k b.0 w) (sym (whole_is (front ++ back) f.0 b.0.1 f.2)) ∙ b.2 in
+      elim (cases_lt (length front) (length f.0)) [
+        | inl inside ↦
+            let g = (second b.0.0 f.0 f.1).fields b.0.1 command rest goes_on in
+            let longer = longer_front f.0 b.0.1 front back (sym f.2) (omega (arith, inside)) in
+            record {
+              before = pre;
+              field = part name f.0;
+              behind = g.0;
+              whole = g.1;
+              name = elim (bind_err (r (front ++ bit ∷ [])) (λ x. k x (bits_of pre ++ (front ++ bit ∷ []))) (Bad 1 reason) stopped) [
+                | at_first h ↦ (first.bad (front ++ bit ∷ []) 1 reason h).0
+                | at_second x h k-stopped ↦
+                    let o = first.found (front ++ bit ∷ []) x.0 x.1 h in
+                    let w = (second x.0 o.0 o.1).bad x.1 1 reason (ap (λ (t : List Bool). k x t) (sym (whole_is (front ++ bit ∷ []) o.0 x.1 o.2)) ∙ k-stopped) in
+                    let less : length o.0 ≤ length front =
+                    omega (arith, ap (λ (l : List Bool). length l) o.2, ap (λ (l : List Bool). length l) w.split, length-append o.0 x.1, length-append front (bit ∷ []), length-append w.front (w.bit ∷ w.back)) in
+                    let shorter = longer_front front (bit ∷ []) o.0 x.1 o.2 less in
+                    let whole : f.0 ≡ o.0 ++ (shorter.0 ++ longer.0) = longer.1 ∙ ap (λ (l : List Bool). l ++ longer.0) shorter.1 ∙ append_assoc o.0 shorter.0 longer.0 in
+                    let none : shorter.0 ++ longer.0 ≡ [] = none_longer R name r b.0.0 x.0 o.0 (shorter.0 ++ longer.0) first (subst (λ (l : List Bool). R b.0.0 l) whole f.1) o.1 in
+                    absurd (omega (arith, inside, less, ap (λ (l : List Bool). length l) (whole ∙ ap (λ (l : List Bool). o.0 ++ l) none ∙ append-nil o.0)))
+              ];
+              from = omega arith;
+              upto = omega (arith, inside);
+            }
+        | inr behind ↦
+            let longer = longer_front front back f.0 b.0.1 f.2 behind in
+            let split : front ++ bit ∷ [] ≡ f.0 ++ (longer.0 ++ bit ∷ []) = ap (λ (l : List Bool). l ++ bit ∷ []) longer.1 ∙ append_assoc f.0 longer.0 (bit ∷ []) in
+            let again : r (front ++ bit ∷ []) ≡ Ok (b.0.0, longer.0 ++ bit ∷ []) = ap r split ∙ first.again b.0.0 f.0 (longer.0 ++ bit ∷ []) f.1 in
+            subst (λ (n : ℕ). StandsIn (parts_of command) n reason) (place_is f.0 longer.0 ∙ ap (λ (l : List Bool). length (bits_of pre) + length l) (sym longer.1)) ((second b.0.0 f.0 f.1).named longer.0 bit reason
+            (ap (λ (w : List Bool). k (b.0.0, longer.0 ++ bit ∷ []) w) (sym (whole_is (front ++ bit ∷ []) f.0 (longer.0 ++ bit ∷ []) split))
+            ∙ sym (bind_to (r (front ++ bit ∷ [])) (λ x. k x (bits_of pre ++ (front ++ bit ∷ []))) (b.0.0, longer.0 ++ bit ∷ []) again) ∙ stopped)
+            back command rest (subst (λ (t : List Bool). k (b.0.0, t) (bits_of (pre ++ part name f.0 ∷ []) ++ t) ≡ Ok (command, rest)) longer.2 goes_on))
+      ];
 } where
   whole_is : (bits front rest : List Bool) → bits ≡ front ++ rest → bits_of pre ++ bits ≡ bits_of (pre ++ part name front ∷ []) ++ rest
   whole_is bits front rest e = ap (λ (l : List Bool). bits_of pre ++ l) e ∙ bits_of-more pre name front rest
+
+  -- a place behind the field
+  place_is : (front rest : List Bool) → length (bits_of (pre ++ part name front ∷ [])) + length rest ≡ length (bits_of pre) + length (front ++ rest)
+  place_is front rest =
+      omega (arith, ap (λ (l : List Bool). length l) (bits_of-append pre (part name front ∷ [])), length-append (bits_of pre) (front ++ []), length-append front [], length-append front rest)
 
   spelled : (command : Command) (bits : List Bool) (more : List Part) → parts_of command ≡ (pre ++ part name bits ∷ []) ++ more → spelling_of command ≡ bits_of pre ++ (bits ++ bits_of more)
   spelled command bits more e = ap bits_of e ∙ bits_of-append (pre ++ part name bits ∷ []) more ∙ sym (bits_of-more pre name bits (bits_of more))

@@ -9,6 +9,7 @@ pub mod Fields
 pub mod Lengths
 pub mod Loops
 pub mod NamedFields
+pub mod OneField
 pub mod SpellingLaws
 pub mod Vectors
 pub mod Verdict

@@ -1,20 +1,22 @@
 -- One spelling a command, and one answer for each list of bits.
-use Rattle.std.proofs.Common.{◌≡◌, ℕ, ◌+◌, ◌-◌, ◌≤◌, Bool, List, [], ◌∷◌, ◌++◌, length, take, drop, Result, Ok, Err, refl, sym, ap, subst, ◌∙◌, append_assoc, append-nil, length-append, inl, inr, arith}
+use Rattle.std.proofs.Common.{◌≡◌, ℕ, suc, ◌+◌, ◌-◌, ◌<◌, ◌≤◌, Bool, true, List, [], ◌∷◌, ◌++◌, length, take, drop, get_or, take-suc, Result, Ok, Err, refl, sym, ap, subst, ◌∙◌, append_assoc, append-nil, length-append, inl, inr, arith}
 use Rattle.std.specs.Prelude.{◌⊎◌, Option, Some, None}
 use Rattle.std.proofs.lemmas.Bool.{cases_lt}
-use Rattle.std.proofs.lemmas.List.{take-append-drop, take-take, take-append-le}
+use Rattle.std.proofs.lemmas.List.{take-append-drop, take-take, take-append-le, take_at, take_all, length-take-le}
 use Rattle.command_grammar.specs.declared.refusal.Reason.{Reason}
 use Rattle.bit_strings.specs.Family.{Begins, IsBadAt, IsShortAt}
 use Rattle.command_grammar.specs.declared.commands.Command.{Command}
 use Rattle.command_grammar.specs.declared.commands.Command.TheVariants as commands
+use Rattle.command_grammar.specs.declared.refusal.CommandRefusal.{CommandRefusal}
+use Rattle.command_grammar.specs.declared.refusal.CommandRefusal.TheVariants as refusals
 use Rattle.command_grammar.specs.declared.refusal.Pushed.{Pushed}
 use Rattle.command_grammar.specs.declared.refusal.Pushed.TheVariants as pushed
 use Rattle.command_grammar.specs.Framing.{Keeps, refusal_in}
 use Rattle.command_grammar.specs.declared.reader.Stop.{Stop}
 use Rattle.command_grammar.specs.declared.reader.Stop.TheVariants.{Short, Bad}
-use Rattle.command_grammar.specs.Commands.{spelling_of, Spells, Spellings, IsRefusedAt, Judges}
+use Rattle.command_grammar.specs.Commands.{spelling_of, Spells, Spellings, IsRefusedAt, Judges, Finishes}
 use Rattle.command_grammar.specs.Reading.{all_of}
-use Rattle.command_grammar.proofs.Verdict.{same_command, all_whole, all_short, all_bad}
+use Rattle.command_grammar.proofs.Verdict.{same_command, all_whole, all_short, all_bad, all_named}
 
 pub one_command : (c d : Command) (bits : List Bool) → Spells c bits → Spells d bits → c ≡ d
 one_command c d bits left right =
@@ -84,6 +86,60 @@ answer bits (Err (Bad left reason)) e = inr (inr (length bits - left, (all_bad b
 
 pub some_answer : (bits : List Bool) → Answer bits
 some_answer bits = answer bits (all_of bits) refl
+
+-- ---- one outcome
+
+-- of the bits up to the place of refusal the reader stops at the last one
+stops_last : (bits : List Bool) (place : ℕ) (bit : Bool) → IsBadAt Spellings bits place → take (place + 1) bits ≡ take place bits ++ bit ∷ [] → (reason : Reason) × (all_of (take place bits ++ bit ∷ []) ≡ Err (Bad 1 reason))
+stops_last bits place bit bad split = read_is (all_of now) refl
+  where
+    now : List Bool
+    now = take place bits ++ bit ∷ []
+
+    none : Begins Spellings now → ⊥
+    none member = bad.stops (subst (λ (l : List Bool). Begins Spellings l) (sym split) member)
+
+    front : length (take place bits) ≡ place
+    front = length-take-le place bits (omega (arith, bad.inside))
+
+    last : IsBadAt Spellings now place
+    last = record {
+      inside = omega (arith, front, length-append (take place bits) (bit ∷ []));
+      begins = subst (λ (l : List Bool). Begins Spellings l) (sym (take_at (take place bits) (bit ∷ []) place front)) bad.begins;
+      stops = λ member. none (subst (λ (l : List Bool). Begins Spellings l) (take_all (place + 1) now (omega (arith, front, length-append (take place bits) (bit ∷ [])))) member);
+    }
+
+    read_is : (read : Result Command Stop) → all_of now ≡ read → (reason : Reason) × (all_of now ≡ Err (Bad 1 reason))
+    read_is (Ok command) e = absurd (none (begun Spellings now (command, all_whole command now e)))
+    read_is (Err Short) e = absurd (none (all_short now e).begins)
+    read_is (Err (Bad left reason)) e =
+        let h = all_bad now left reason e in
+        let one : left ≡ 1 = omega (arith, h.0, front, length-append (take place bits) (bit ∷ []), one_place Spellings now (length now - left) place h.1.bad last) in
+        (reason, e ∙ ap (λ n. Err (Bad n reason)) one)
+
+-- the reason is the one for which the reader stops there
+pub one_refusal : (bits : List Bool) (p q : ℕ) (one other : Reason) → IsRefusedAt bits p one → IsRefusedAt bits q other → (p ≡ q) × (one ≡ other)
+one_refusal bits p q one other left right =
+    let place : q ≡ p = one_place Spellings bits q p right.bad left.bad in
+    let same : IsRefusedAt bits p other = subst (λ n. IsRefusedAt bits n other) place right in
+    let inside : p < length bits = left.bad.inside in
+    let bit : Bool = get_or bits p true in
+    let next : suc p ≡ p + 1 = omega arith in
+    let s = stops_last bits p bit left.bad (ap (λ n. take n bits) (sym next) ∙ take-suc bits p true inside) in
+    (sym place, all_named bits p bit s.0 one (omega (arith, inside)) s.1 left.name ∙ sym (all_named bits p bit s.0 other (omega (arith, inside)) s.1 same.name))
+
+pub one_outcome : (bits : List Bool) (one other : Result Command CommandRefusal) → Finishes one bits → Finishes other bits → one ≡ other
+one_outcome bits (Ok command) (Ok other) left right = ap (λ (c : Command). Ok c) (one_command command other bits left right)
+one_outcome bits (Ok command) (Err (refusals.At place reason)) left right = absurd (not_spelled bits place (command, left) right.bad)
+one_outcome bits (Ok command) (Err (refusals.Short count)) left right = absurd (right.no_member (command, left))
+one_outcome bits (Err (refusals.At place reason)) (Ok command) left right = absurd (not_spelled bits place (command, right) left.bad)
+one_outcome bits (Err (refusals.At place reason)) (Err (refusals.At other name)) left right =
+    let same = one_refusal bits place other reason name left right in
+    rw (same.0, same.1) refl
+one_outcome bits (Err (refusals.At place reason)) (Err (refusals.Short count)) left right = absurd (not_begun Spellings bits place right.begins left.bad)
+one_outcome bits (Err (refusals.Short count)) (Ok command) left right = absurd (left.no_member (command, right))
+one_outcome bits (Err (refusals.Short count)) (Err (refusals.At place reason)) left right = absurd (not_begun Spellings bits place left.begins right.bad)
+one_outcome bits (Err (refusals.Short count)) (Err (refusals.Short other)) left right = ap (λ n. Err (refusals.Short n)) (left.whole ∙ sym right.whole)
 
 -- a NAK begins with no bits
 pub begins_nak : Begins Spellings []

@@ -1,7 +1,7 @@
 -- What reading all of the bits says of the family of spellings.
 use Rattle.std.proofs.Common.{◌≡◌, ℕ, suc, ◌+◌, ◌-◌, ◌<◌, ◌≤◌, Bool, true, false, cond, List, [], ◌∷◌, ◌++◌, length, take, Result, Ok, Err, refl, sym, ap, subst, ◌∙◌, append_assoc, append-nil, length-append, inl, inr, arith}
-use Rattle.std.specs.Prelude.{◌==◌}
-use Rattle.std.proofs.lemmas.List.{take_at}
+use Rattle.std.specs.Prelude.{◌==◌, ◌⊎◌}
+use Rattle.std.proofs.lemmas.List.{take_at, length-take-le}
 use Rattle.std.proofs.lemmas.Bool.Decides.{nat_tests}
 use Rattle.bit_strings.specs.Family.{IsShortAt}
 use Rattle.command_grammar.specs.declared.commands.Command.{Command}
@@ -9,9 +9,11 @@ use Rattle.command_grammar.specs.declared.refusal.Reason.{Reason}
 use Rattle.command_grammar.specs.declared.refusal.Reason.TheVariants as reasons
 use Rattle.command_grammar.specs.declared.reader.Stop.{Stop}
 use Rattle.command_grammar.specs.declared.reader.Stop.TheVariants.{Short, Bad}
-use Rattle.command_grammar.specs.Commands.{parts_of, spelling_of, IsLegal, Spells, Spellings, StandsIn, IsRefusedAt}
+use Rattle.command_grammar.specs.Commands.{parts_of, spelling_of, IsLegal, Spells, Spellings, StandsIn, IsField, IsRefusedAt}
 use Rattle.command_grammar.specs.Reading.{Reading, command_at, all_of}
 use Rattle.command_grammar.proofs.Fields.{bind_ok, bind_err, bind_to, at_first, at_second}
+use Rattle.command_grammar.proofs.Behind.{longer_front}
+use Rattle.command_grammar.proofs.OneField.{one_name, stands_inside}
 use Rattle.command_grammar.proofs.EachCommand.{reads_command}
 use Rattle.command_grammar.proofs.EachAgain.{goes_command}
 
@@ -159,3 +161,46 @@ all_bad bits left reason e = elim (bind_err (command_at bits) whole_only (Bad le
           name = inl (name, (c, record { legal = legal; spelled = p.4 }));
         }),
       )
+
+-- ---- the reason
+
+-- the reader stops at the last bit with the reason of each command that begins with the bits before
+pub all_named : (bits : List Bool) (place : ℕ) (bit : Bool) (reason one : Reason) → place ≤ length bits → all_of (take place bits ++ bit ∷ []) ≡ Err (Bad 1 reason)
+    → ((one ≡ reasons.Extra) × Spellings (take place bits)) ⊎ IsField bits place one → one ≡ reason
+unfolding all_of command_at
+all_named bits place bit reason one inside e name = elim (bind_err (command_at (take place bits ++ bit ∷ [])) whole_only (Bad 1 reason) e) [
+  | at_first h ↦ elim name [
+    | inl extra ↦
+        let command = extra.1.0 in
+        let spells = extra.1.1 in
+        let again = ap (λ (l : List Bool). command_at (l ++ bit ∷ [])) spells.spelled ∙ command_again command (bit ∷ []) spells.legal in
+        absurd (reading_not_err (command, bit ∷ []) (Bad 1 reason) (sym again ∙ h))
+    | inr field ↦
+        let again : command_at (take place bits ++ field.more) ≡ Ok (field.command, []) = ap command_at (sym field.begins ∙ sym (append-nil (spelling_of field.command))) ∙ command_again field.command [] field.legal in
+        let stands = reads_command.named (take place bits) bit reason h field.more field.command [] again in
+        one_name (parts_of field.command) place one reason field.stands (subst (λ (n : ℕ). StandsIn (parts_of field.command) n reason) (omega (arith, length-take-le place bits inside)) stands)
+  ]
+  | at_second x h k ↦
+      let w = whole_bad (length x.1 == 0) x 1 reason k in
+      elim name [
+        | inl extra ↦ extra.0 ∙ sym w.2
+        | inr field ↦
+            let f = reads_command.found (take place bits ++ bit ∷ []) x.0 x.1 h in
+            let front : length (take place bits) ≡ place = length-take-le place bits inside in
+            let less : length (spelling_of x.0) ≤ length (take place bits) =
+            omega (arith, w.1, ap (λ (l : List Bool). length l) f.1, length-append (take place bits) (bit ∷ []), length-append (spelling_of x.0) x.1) in
+            let longer = longer_front (take place bits) (bit ∷ []) (spelling_of x.0) x.1 f.1 less in
+            let t : spelling_of x.0 ++ (longer.0 ++ field.more) ≡ spelling_of field.command ++ [] =
+            sym (append_assoc (spelling_of x.0) longer.0 field.more) ∙ ap (λ (l : List Bool). l ++ field.more) (sym longer.1) ∙ sym field.begins ∙ sym (append-nil (spelling_of field.command)) in
+            let none = (same_command x.0 field.command (longer.0 ++ field.more) [] f.0 field.legal t).1 in
+            absurd (omega (
+              arith,
+              front,
+              stands_inside (parts_of field.command) place one field.stands,
+              ap (λ (l : List Bool). length l) field.begins,
+              length-append (take place bits) field.more,
+              ap (λ (l : List Bool). length l) none,
+              length-append longer.0 field.more,
+            ))
+      ]
+]

@@ -1,8 +1,10 @@
 //! What holds of the spellings of commands.
-ghost use Rattle.std.specs.Prelude.{◌≡◌, ◌≤◌, ◌++◌, ◌⊎◌, ℕ, [], List, Bool, length};
+ghost use Rattle.std.specs.Prelude.{◌≡◌, ◌≤◌, ◌++◌, ◌⊎◌, ℕ, [], List, Bool, Result, length};
 ghost use Rattle.bit_strings.specs.Family.{IsBadAt, IsShortAt};
-ghost use Rattle.command_grammar.specs.Commands.{Spells, Spellings};
+ghost use Rattle.command_grammar.specs.Commands.{Spells, Spellings, IsRefusedAt, Finishes};
 ghost use Rattle.command_grammar.specs.declared.commands.Command.{Command};
+ghost use Rattle.command_grammar.specs.declared.refusal.CommandRefusal.{CommandRefusal};
+ghost use Rattle.command_grammar.specs.declared.refusal.Reason.{Reason};
 
 /// Each command has one spelling, of at most 4,162 bits, no two have the same, and none begins
 /// another. Each list of bits is a spelling, or is refused at one place, or only begins a spelling,
@@ -17,4 +19,14 @@ pub fn spelling_laws()
     ensures not_short { (bits : List Bool) (count : ℕ) → Spellings bits → IsShortAt Spellings bits count → ⊥ }
     ensures not_both { (bits : List Bool) (place count : ℕ) → IsBadAt Spellings bits place → IsShortAt Spellings bits count → ⊥ }
     ensures place { (bits : List Bool) (p q : ℕ) → IsBadAt Spellings bits p → IsBadAt Spellings bits q → p ≡ q }
+{}
+
+/// Bits that are refused are refused at one place, for one reason.
+pub fn one_refusal()
+    ensures { (bits : List Bool) (p q : ℕ) (one other : Reason) → IsRefusedAt bits p one → IsRefusedAt bits q other → (p ≡ q) × (one ≡ other) }
+{}
+
+/// Each list of bits has one outcome.
+pub fn one_outcome()
+    ensures { (bits : List Bool) (one other : Result Command CommandRefusal) → Finishes one bits → Finishes other bits → one ≡ other }
 {}

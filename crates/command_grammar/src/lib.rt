@@ -17,7 +17,7 @@ pub use bit_strings::{Action, Code, Count1, Payload, Pointer, QValue, Session};
 pub use command::{Bank, FlagName, MaskBank, Sel, Side, UpDn};
 pub use commands::Command;
 pub use framer::Framer;
-pub use laws::spelling_laws;
+pub use laws::{one_outcome, one_refusal, spelling_laws};
 pub use refusal::{CommandRefusal, Pushed, Reason};
 pub use spelling::encode_command;
 pub use words::{BlockWords, Mask};

@@ -120,7 +120,8 @@ asked_not_faulty request kind others Number asks faulty = faulty.1 request asks
 asked_not_faulty request kind others Shape asks faulty =
     faulty (subst (λ k. HasShape k others) (sym asks.same_kind) (request_shape request others asks.spelling asks.limits))
 
-same_fields : (a b : List ℕ) (xs ys : List (List ℕ)) → a ∷ xs ≡ b ∷ ys → (a ≡ b) × (xs ≡ ys)
+-- two lists of fields that are equal have equal first fields and equal others
+pub same_fields : (a b : List ℕ) (xs ys : List (List ℕ)) → a ∷ xs ≡ b ∷ ys → (a ≡ b) × (xs ≡ ys)
 same_fields a b xs ys e = (cc, cc)
 
 -- a line that asks for something is not faulty behind another reading of its first field

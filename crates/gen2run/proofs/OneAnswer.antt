@@ -1,0 +1,88 @@
+-- A request within its limits has one answer at most.
+use Rattle.std.proofs.Common.{◌≡◌, ◌≤◌, ℕ, Bool, List, Result, Ok, Err, refl, ap}
+use Rattle.bit_strings.specs.declared.code.Code.{Code}
+use Rattle.line_code.specs.Stream.{Streams}
+use Rattle.line_code.specs.declared.refusal.LineRefusal.{LineRefusal}
+use Rattle.line_code.proofs.Whole.{refused_is_none}
+use Rattle.line_code.proofs.Existence.{same_answer as same_stream_answer}
+use Rattle.line_codes.specs.Codes.{table_of}
+use Rattle.sample_slicer.specs.declared.slicer.SliceRefusal.{SliceRefusal}
+use Rattle.sample_slicer.proofs.OneAnswer.{same_answer as same_samples_answer}
+use Rattle.reply_grammar.specs.declared.expected.Expect.{Expect}
+use Rattle.reply_grammar.specs.declared.expected.Reply.{Reply}
+use Rattle.reply_grammar.specs.declared.expected.ReplyRefusal.{ReplyRefusal}
+use Rattle.reply_grammar.specs.declared.expected.Received.{Received}
+use Rattle.reply_grammar.proofs.Passing.{answers_pass}
+use Rattle.reply_grammar.proofs.OneReply.{one_reply, one_fault, passes_apart}
+use Rattle.air_channel.proofs.OneReceived.{same_bits, same_received}
+use Rattle.pie_line.specs.declared.frame.FrameKind.{FrameKind}
+use Rattle.pie_line.specs.declared.frame.PieRefusal.{PieRefusal}
+use Rattle.pie_line.proofs.FrameLaws.{frame-one, refuses-no_frame}
+use Rattle.pie_line.proofs.FrameAnswers.{one-answer}
+use Rattle.command_grammar.specs.declared.commands.Command.{Command}
+use Rattle.command_grammar.specs.declared.refusal.CommandRefusal.{CommandRefusal}
+use Rattle.command_grammar.proofs.SpellingLaws.{one_outcome}
+use Rattle.gen2run.specs.Request.{IsWithinLimits}
+use Rattle.gen2run.specs.Answer.{Answer, IsAnswer, streamed, sliced, replied, heard, framed, commanded}
+use Rattle.gen2run.specs.declared.decode.request.Request.{Request}
+use Rattle.gen2run.specs.declared.decode.request.Request.TheVariants.{Stream, Samples, Reply as ReplyLine, Heard, Pie, Command as CommandLine}
+
+same_refusal : (code : Code) (trext : Bool) (levels : List Bool) (one other : LineRefusal) → IsAnswer (Stream code trext levels) (streamed (Err one))
+    → IsAnswer (Stream code trext levels) (streamed (Err other)) → one ≡ other
+same_refusal code trext levels one other left right =
+    let refused : Err one ≡ Err other = same_stream_answer (table_of code) trext levels (Err one) (Err other) left right in cc
+
+same_streamed : (code : Code) (trext : Bool) (levels : List Bool) (one : Result (List Bool) LineRefusal) (other : Answer)
+    → IsAnswer (Stream code trext levels) (streamed one) → IsAnswer (Stream code trext levels) other → streamed one ≡ other
+same_streamed code trext levels (Ok one) (streamed (Ok other)) left right = ap (λ (bits : List Bool). streamed (Ok bits)) (same_bits code trext one other levels left right)
+same_streamed code trext levels (Ok one) (streamed (Err other)) left right = absurd (refused_is_none (Streams (table_of code) trext) levels other right (one, left))
+same_streamed code trext levels (Err one) (streamed (Ok other)) left right = absurd (refused_is_none (Streams (table_of code) trext) levels one left (other, right))
+same_streamed code trext levels (Err one) (streamed (Err other)) left right = ap (λ (refusal : LineRefusal). streamed (Err refusal)) (same_refusal code trext levels one other left right)
+same_streamed code trext levels one other left right = absurd right
+
+same_sliced : (threshold per_level : ℕ) (samples : List ℕ) → 1 ≤ per_level → (one : Result (List Bool) SliceRefusal) (other : Answer)
+    → IsAnswer (Samples threshold per_level samples) (sliced one) → IsAnswer (Samples threshold per_level samples) other → sliced one ≡ other
+same_sliced threshold per_level samples some (Ok one) (sliced (Ok other)) left right = ap sliced (same_samples_answer threshold per_level samples (Ok one) (Ok other) some left right)
+same_sliced threshold per_level samples some (Ok one) (sliced (Err other)) left right = ap sliced (same_samples_answer threshold per_level samples (Ok one) (Err other) some left right)
+same_sliced threshold per_level samples some (Err one) (sliced (Ok other)) left right = ap sliced (same_samples_answer threshold per_level samples (Err one) (Ok other) some left right)
+same_sliced threshold per_level samples some (Err one) (sliced (Err other)) left right = ap sliced (same_samples_answer threshold per_level samples (Err one) (Err other) some left right)
+same_sliced threshold per_level samples some one other left right = absurd right
+
+same_replied : (expect : Expect) (bits : List Bool) (one : Result Reply ReplyRefusal) (other : Answer)
+    → IsAnswer (ReplyLine expect bits) (replied one) → IsAnswer (ReplyLine expect bits) other → replied one ≡ other
+same_replied expect bits (Ok one) (replied (Ok other)) left right = ap (λ (reply : Reply). replied (Ok reply)) (one_reply one other expect bits left right)
+same_replied expect bits (Ok one) (replied (Err other)) left right = absurd (passes_apart other expect bits (answers_pass one expect bits left) right)
+same_replied expect bits (Err one) (replied (Ok other)) left right = absurd (passes_apart one expect bits (answers_pass other expect bits right) left)
+same_replied expect bits (Err one) (replied (Err other)) left right = ap (λ (refusal : ReplyRefusal). replied (Err refusal)) (one_fault one other expect bits left right)
+same_replied expect bits one other left right = absurd right
+
+same_heard : (code : Code) (trext : Bool) (expect : Expect) (levels : List Bool) (one : Received) (other : Answer)
+    → IsAnswer (Heard code trext expect levels) (heard one) → IsAnswer (Heard code trext expect levels) other → heard one ≡ other
+same_heard code trext expect levels one (heard other) left right = ap heard (same_received code trext expect levels one other left right)
+same_heard code trext expect levels one other left right = absurd right
+
+same_frame : (one other : FrameKind × List Bool) → (one.0 ≡ other.0) × (one.1 ≡ other.1) → framed (Ok one) ≡ framed (Ok other)
+same_frame (kind, bits) (kind', bits') same = rw (same.0, same.1) refl
+
+same_framed : (intervals : List ℕ) (one : Result (FrameKind × List Bool) PieRefusal) (other : Answer)
+    → IsAnswer (Pie intervals) (framed one) → IsAnswer (Pie intervals) other → framed one ≡ other
+same_framed intervals (Ok one) (framed (Ok other)) left right = same_frame one other (frame-one one.0 other.0 one.1 other.1 intervals left right)
+same_framed intervals (Ok one) (framed (Err other)) left right = absurd (refuses-no_frame other intervals right (one.0, one.1, left))
+same_framed intervals (Err one) (framed (Ok other)) left right = absurd (refuses-no_frame one intervals left (other.0, other.1, right))
+same_framed intervals (Err one) (framed (Err other)) left right = ap (λ (refusal : PieRefusal). framed (Err refusal)) ((one-answer intervals).one_refusal one other left right)
+same_framed intervals one other left right = absurd right
+
+same_commanded : (bits : List Bool) (one : Result Command CommandRefusal) (other : Answer)
+    → IsAnswer (CommandLine bits) (commanded one) → IsAnswer (CommandLine bits) other → commanded one ≡ other
+same_commanded bits one (commanded other) left right = ap commanded (one_outcome bits one other left right)
+same_commanded bits one other left right = absurd right
+
+-- a request within its limits has one answer: samples need a level that has samples
+pub same_answer : (request : Request) (one other : Answer) → IsWithinLimits request → IsAnswer request one → IsAnswer request other → one ≡ other
+same_answer (Stream code trext levels) (streamed one) other within left right = same_streamed code trext levels one other left right
+same_answer (Samples threshold per_level samples) (sliced one) other within left right = same_sliced threshold per_level samples within.1 one other left right
+same_answer (ReplyLine expect bits) (replied one) other within left right = same_replied expect bits one other left right
+same_answer (Heard code trext expect levels) (heard one) other within left right = same_heard code trext expect levels one other left right
+same_answer (Pie intervals) (framed one) other within left right = same_framed intervals one other left right
+same_answer (CommandLine bits) (commanded one) other within left right = same_commanded bits one other left right
+same_answer request one other within left right = absurd left
