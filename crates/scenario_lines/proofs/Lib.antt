@@ -7,3 +7,8 @@ pub mod Events
 pub mod AirFields
 pub mod TagFields
 pub mod LineTexts
+pub mod ToldNames
+pub mod ToldFields
+pub mod ToldLines
+pub mod LineShapes
+pub mod LineReasons

@@ -19,8 +19,8 @@ use Rattle.scenario_lines.specs.LineForm.{HasForm, IsEvent, IsHappening, IsLine,
 use Rattle.scenario_lines.specs.Spelling.{event_fields, happening_fields, line_fields, link_fields, other_fields, round_fields, select_fields, tag_fields, word_of_line}
 use Rattle.scenario_lines.proofs.Filled.{air_word_is, bank_text_is, code_text_is, event_word_is, flag_text_is, flag_word_is, locks_is, mask_is, number_text, password_is, sel_text_is, side_text_is, word_text_is, words_is}
 
-record Texts (fields : List (List ℕ)) : Type 0 where
-  are : All IsFieldText fields
+pub record Texts (fields : List (List ℕ)) : Type 0 where
+  pub are : All IsFieldText fields
 
 no_more : Texts []
 no_more = record { are = All-nil IsFieldText }
@@ -65,7 +65,7 @@ round_texts spec is =
     (with _ _ (number_text spec.q (omega (arith, is.legal.q))) (with _ _ (number_text spec.c (omega (arith, is.legal.step)))
     (only _ (number_text spec.limit (omega (arith, is.legal.limit))))))))
 
-other_texts : (line : Line) → HasForm line → Texts (other_fields line)
+pub other_texts : (line : Line) → HasForm line → Texts (other_fields line)
 other_texts lines.Version form = only (codes "1") (flag_text_is true)
 other_texts (lines.Link link) form = link_texts link form
 other_texts (lines.Tag tag) form = tag_texts tag

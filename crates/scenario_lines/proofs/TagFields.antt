@@ -16,7 +16,7 @@ pub record AreTagFields (kill access locks epc tid user words : List ℕ) (tag :
   pub user_is : user ≡ hex_words tag.image.user
   pub words_is : words ≡ hex_words tag.words
 
-same_7 : (a b c d e f g a' b' c' d' e' f' g' : List ℕ) → a ∷ b ∷ c ∷ d ∷ e ∷ f ∷ g ∷ [] ≡ a' ∷ b' ∷ c' ∷ d' ∷ e' ∷ f' ∷ g' ∷ []
+pub same_7 : (a b c d e f g a' b' c' d' e' f' g' : List ℕ) → a ∷ b ∷ c ∷ d ∷ e ∷ f ∷ g ∷ [] ≡ a' ∷ b' ∷ c' ∷ d' ∷ e' ∷ f' ∷ g' ∷ []
     → (a ≡ a') × (b ≡ b') × (c ≡ c') × (d ≡ d') × (e ≡ e') × (f ≡ f') × (g ≡ g')
 same_7 a b c d e f g a' b' c' d' e' f' g' same = (cc, cc, cc, cc, cc, cc, cc)
 

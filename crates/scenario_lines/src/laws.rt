@@ -1,13 +1,42 @@
 //! What holds of the spellings themselves. Each function here states one law by its contract, and does
 //! nothing.
-ghost use Rattle.std.specs.Prelude.{◌≡◌, All};
+ghost use Rattle.std.specs.Prelude.{◌≡◌, ℕ, List, All};
 ghost use Rattle.text_fields.specs.Lines.{IsFieldText};
+ghost use Rattle.scenario_lines.specs.declared.words.Word.{Word};
 ghost use Rattle.scenario_lines.specs.declared.line.Line.{Line};
+ghost use Rattle.scenario_lines.specs.declared.fault.LineFault.{LineFault};
 ghost use Rattle.scenario_lines.specs.LineForm.{IsLine};
-ghost use Rattle.scenario_lines.specs.Spelling.{line_fields};
+ghost use Rattle.scenario_lines.specs.LineFaults.{BeginsWith, IsFaulty, Spells};
+ghost use Rattle.scenario_lines.specs.Spelling.{line_fields, word_of_line};
 
 /// Each field of a line may stand as a field.
 #[tactic(auto, using(crate::proofs::LineTexts::line_texts))]
 pub fn lines_are_field_texts()
     ensures { (line : Line) → IsLine line → All IsFieldText (line_fields line) }
+{}
+
+/// A list of fields spells at most one line.
+pub fn lines_are_told_apart()
+    ensures { (fields : List (List ℕ)) (one other : Line) → Spells fields one → Spells fields other → one ≡ other }
+{}
+
+/// The fields of a line begin with its word.
+#[tactic(auto, using(crate::proofs::LineShapes::begins))]
+pub fn lines_begin_with_their_word()
+    ensures { (line : Line) → IsLine line → BeginsWith (line_fields line) (word_of_line line) }
+{}
+
+/// Fields begin with at most one word.
+pub fn lines_begin_with_one_word()
+    ensures { (fields : List (List ℕ)) (one other : Word) → BeginsWith fields one → BeginsWith fields other → one ≡ other }
+{}
+
+/// Fields that spell a line are not faulty.
+pub fn spelled_lines_are_not_faulty()
+    ensures { (fields : List (List ℕ)) (line : Line) (fault : LineFault) → Spells fields line → IsFaulty fields fault → ⊥ }
+{}
+
+/// Fields are faulty for at most one reason.
+pub fn lines_have_one_fault()
+    ensures { (fields : List (List ℕ)) (one other : LineFault) → IsFaulty fields one → IsFaulty fields other → one ≡ other }
 {}

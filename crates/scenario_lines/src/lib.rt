@@ -11,7 +11,10 @@ mod tag;
 mod words;
 
 pub use fault::LineFault;
-pub use laws::lines_are_field_texts;
+pub use laws::{
+    lines_are_field_texts, lines_are_told_apart, lines_begin_with_one_word,
+    lines_begin_with_their_word, lines_have_one_fault, spelled_lines_are_not_faulty,
+};
 pub use line::{Happening, Line, Selection};
 pub use printing::{
     push_air, push_end, push_event, push_link, push_nak, push_round, push_tag, push_version,

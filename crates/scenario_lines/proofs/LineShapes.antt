@@ -1,0 +1,64 @@
+-- The fields of a line begin with its word, and have the shape that belongs to it.
+use Rattle.std.proofs.Common.{◌≡◌, ℕ, List, [], ◌∷◌, refl, sym, ◌∙◌}
+use Rattle.std.specs.Fmt.{decimal}
+use Rattle.std.specs.Prelude.{All}
+use Rattle.std.proofs.lemmas.List.Elements.{All-head, All-weaker}
+use Rattle.text_fields.specs.Lines.{IsFieldText}
+use Rattle.scenario_lines.specs.declared.line.Line.{Line}
+use Rattle.scenario_lines.specs.declared.line.Line.TheVariants as lines
+use Rattle.scenario_lines.specs.declared.words.Word.{Word}
+use Rattle.scenario_lines.specs.declared.words.Word.TheVariants as words
+use Rattle.scenario_lines.specs.Names.{air_kind, air_word, event_kind, word_text}
+use Rattle.scenario_lines.specs.LineForm.{HasForm, IsLine}
+use Rattle.scenario_lines.specs.LineFaults.{BeginsWith, HasKnownKind, HasShape}
+use Rattle.scenario_lines.specs.Spelling.{happening_fields, line_fields, other_fields, word_of_line}
+use Rattle.scenario_lines.proofs.Counted.{Filled}
+use Rattle.scenario_lines.proofs.AirFields.{event_filled, happening_filled}
+use Rattle.scenario_lines.proofs.LineTexts.{other_texts}
+use Rattle.scenario_lines.proofs.ToldLines.{same_fields}
+use Rattle.scenario_lines.proofs.ToldNames.{word_told}
+
+pub begins_once : (fields : List (List ℕ)) (one other : Word) → BeginsWith fields one → BeginsWith fields other → one ≡ other
+begins_once fields one other begins begins' =
+    word_told one other (same_fields (word_text one) (word_text other) begins.others begins'.others (sym begins.first ∙ begins'.first)).0
+
+-- the kind of a line is one of its word's kinds
+known_kind : (line : Line) → HasKnownKind (word_of_line line) (other_fields line)
+known_kind lines.Version = tt
+known_kind (lines.Link link) = tt
+known_kind (lines.Tag tag) = tt
+known_kind (lines.Air exchange happening) = (air_kind happening, refl)
+known_kind (lines.Select selection) = tt
+known_kind lines.Nak = tt
+known_kind (lines.Event event tag) = (event_kind event, refl)
+known_kind (lines.Round spec) = tt
+known_kind lines.End = tt
+
+pub begins : (line : Line) → IsLine line → BeginsWith (line_fields line) (word_of_line line)
+begins line is = record { others = other_fields line; first = refl; kind = known_kind line }
+
+-- fields of the right shape have a known kind
+pub shaped_known : (word : Word) (others : List (List ℕ)) → HasShape word others → HasKnownKind word others
+shaped_known words.Air (exchange ∷ kind ∷ others) shape = (shape.1, shape.2)
+shaped_known words.Event (kind ∷ others) shape = (shape.0, shape.1)
+shaped_known words.Air [] shape = absurd shape
+shaped_known words.Air (exchange ∷ []) shape = absurd shape
+shaped_known words.Event [] shape = absurd shape
+shaped_known word others shape = tt
+
+filled : (line : Line) → HasForm line → All Filled (other_fields line)
+filled line form = All-weaker IsFieldText Filled (λ field is. is.filled) (other_fields line) (other_texts line form).are
+
+-- a line whose fields are of their forms has the shape of its word
+pub line_shape : (line : Line) → HasForm line → HasShape (word_of_line line) (other_fields line)
+line_shape lines.Version form = record { number = refl; filled = filled lines.Version form }
+line_shape (lines.Link link) form = record { number = refl; filled = filled (lines.Link link) form }
+line_shape (lines.Tag tag) form = record { number = refl; filled = filled (lines.Tag tag) form }
+line_shape (lines.Air exchange happening) form =
+    let first = All-head Filled (decimal exchange) (air_word (air_kind happening) ∷ happening_fields happening) (filled (lines.Air exchange happening) form) in
+    (first, air_kind happening, refl, happening_filled happening form.1)
+line_shape (lines.Select selection) form = record { number = refl; filled = filled (lines.Select selection) form }
+line_shape lines.Nak form = record { number = refl; filled = filled lines.Nak form }
+line_shape (lines.Event event tag) form = (event_kind event, refl, event_filled event tag form)
+line_shape (lines.Round spec) form = record { number = refl; filled = filled (lines.Round spec) form }
+line_shape lines.End form = record { number = refl; filled = filled lines.End form }

@@ -1,0 +1,184 @@
+-- A list of fields spells at most one line.
+use Rattle.std.proofs.Common.{◌≡◌, ◌≤◌, ℕ, List, [], ◌∷◌, ap, arith, refl, sym, ◌∙◌}
+use Rattle.std.specs.Fmt.{decimal}
+use Rattle.text_fields.proofs.Told.{binary_told, decimal_told, hex_words_told}
+use Rattle.text_fields.specs.Binary.{binary}
+use Rattle.text_fields.specs.Hexadecimal.{hex_words}
+use Rattle.line_codes.specs.Names.{code_word}
+use Rattle.command_text.specs.CommandText.{flag_word, mask_bank_word, side_word}
+use Rattle.air_events.specs.declared.Event.{Event}
+use Rattle.air_events.specs.declared.Event.TheVariants as events
+use Rattle.air_events.specs.declared.Choice.TheVariants as choices
+use Rattle.pie_line.specs.Link.{LinkValue}
+use Rattle.q_round.specs.SpecValue.{SpecValue}
+use Rattle.scenario_lines.specs.declared.tag.TagSpec.{TagSpec}
+use Rattle.scenario_lines.specs.declared.line.Selection.{Selection}
+use Rattle.scenario_lines.specs.declared.line.Happening.{Happening}
+use Rattle.scenario_lines.specs.declared.line.Happening.TheVariants as happenings
+use Rattle.scenario_lines.specs.declared.line.Line.{Line}
+use Rattle.scenario_lines.specs.declared.line.Line.TheVariants as lines
+use Rattle.scenario_lines.specs.Names.{air_kind, air_word, event_kind, event_word, sel_text, word_text}
+use Rattle.scenario_lines.specs.TagForm.{IsTagForm}
+use Rattle.scenario_lines.specs.LineForm.{HasForm, IsEvent, IsHappening, IsLinkForm, IsRound, IsSelection}
+use Rattle.scenario_lines.specs.LineFaults.{Spells}
+use Rattle.scenario_lines.specs.Spelling.{event_fields, flag_text, happening_fields, line_fields, link_fields, locks_text, other_fields, password_text, round_fields, select_fields, tag_fields, word_of_line}
+use Rattle.scenario_lines.proofs.TagFields.{same_7, same_tag}
+use Rattle.scenario_lines.proofs.ToldNames.{air_word_told, bank_told, code_told, event_word_told, flag_told, sel_told, side_told, word_told}
+use Rattle.scenario_lines.proofs.ToldFields.{flag_text_told, locks_told, password_told}
+
+-- the first of two equal lists of fields, and those behind it
+pub same_fields : (a b : List ℕ) (behind behind' : List (List ℕ)) → a ∷ behind ≡ b ∷ behind' → (a ≡ b) × (behind ≡ behind')
+same_fields a b behind behind' same = (cc, cc)
+
+same_5 : (a b c d e a' b' c' d' e' : List ℕ) → a ∷ b ∷ c ∷ d ∷ e ∷ [] ≡ a' ∷ b' ∷ c' ∷ d' ∷ e' ∷ []
+    → (a ≡ a') × (b ≡ b') × (c ≡ c') × (d ≡ d') × (e ≡ e')
+same_5 a b c d e a' b' c' d' e' same = (cc, cc, cc, cc, cc)
+
+same_6 : (a b c d e f a' b' c' d' e' f' : List ℕ) → a ∷ b ∷ c ∷ d ∷ e ∷ f ∷ [] ≡ a' ∷ b' ∷ c' ∷ d' ∷ e' ∷ f' ∷ []
+    → (a ≡ a') × (b ≡ b') × (c ≡ c') × (d ≡ d') × (e ≡ e') × (f ≡ f')
+same_6 a b c d e f a' b' c' d' e' f' same = (cc, cc, cc, cc, cc, cc)
+
+-- two places are not spelled alike
+place_told : (one other : ℕ) (behind behind' : List (List ℕ)) → one ≤ 1000000 → other ≤ 1000000 → decimal one ∷ behind ≡ decimal other ∷ behind' → one ≡ other
+place_told one other behind behind' small small' same =
+    decimal_told one other (omega arith) (omega arith) (same_fields (decimal one) (decimal other) behind behind' same).0
+
+link_told : (one other : LinkValue) → IsLinkForm one → IsLinkForm other → link_fields one ≡ link_fields other → one ≡ other
+link_told one other form form' same =
+    let fields = same_7 (decimal one.tari) (decimal one.rtcal) (decimal one.trcal) (decimal one.pw) (flag_text one.dr) (code_word one.code)
+    (flag_text one.trext) (decimal other.tari) (decimal other.rtcal) (decimal other.trcal) (decimal other.pw) (flag_text other.dr)
+    (code_word other.code) (flag_text other.trext) same in
+    let tari = decimal_told one.tari other.tari (omega arith) (omega arith) fields.0 in
+    let rtcal = decimal_told one.rtcal other.rtcal (omega arith) (omega arith) fields.1 in
+    let trcal = decimal_told one.trcal other.trcal (omega arith) (omega arith) fields.2 in
+    let pw = decimal_told one.pw other.pw (omega arith) (omega arith) fields.3 in
+    let dr = flag_text_told one.dr other.dr fields.4 in
+    let code = code_told one.code other.code fields.5 in
+    let trext = flag_text_told one.trext other.trext fields.6 in
+    let whole : ◌≡◌ {A = LinkValue} (record {
+      tari = one.tari;
+      rtcal = one.rtcal;
+      trcal = one.trcal;
+      pw = one.pw;
+      dr = one.dr;
+      code = one.code;
+      trext = one.trext;
+    }) other = rw (tari, rtcal, trcal, pw, dr, code, trext) refl in
+    whole
+
+tag_told : (one other : TagSpec) → IsTagForm one → IsTagForm other → tag_fields one ≡ tag_fields other → one ≡ other
+tag_told one other form form' same =
+    let fields = same_7 (password_text one.image.kill) (password_text one.image.access) (locks_text one.locks) (hex_words one.image.epc)
+    (hex_words one.image.tid) (hex_words one.image.user) (hex_words one.words) (password_text other.image.kill) (password_text other.image.access)
+    (locks_text other.locks) (hex_words other.image.epc) (hex_words other.image.tid) (hex_words other.image.user) (hex_words other.words) same in
+    let kill = password_told one.image.kill other.image.kill form.kill form'.kill fields.0 in
+    let access = password_told one.image.access other.image.access form.access form'.access fields.1 in
+    let locks = locks_told one.locks other.locks fields.2 in
+    let epc = hex_words_told one.image.epc other.image.epc form.epc.small form'.epc.small fields.3 in
+    let tid = hex_words_told one.image.tid other.image.tid form.tid.small form'.tid.small fields.4 in
+    let user = hex_words_told one.image.user other.image.user form.user.small form'.user.small fields.5 in
+    let words = hex_words_told one.words other.words form.words.small form'.words.small fields.6 in
+    same_tag one.image.kill one.image.access one.locks one.image.epc one.image.tid one.image.user one.words other kill access locks epc tid user words
+
+-- the event of a kind, and the number of its tag
+event_told : (one other : Event) (tag tag' : ℕ) → IsEvent one tag → IsEvent other tag' → event_kind one ≡ event_kind other
+    → event_fields one tag ≡ event_fields other tag' → (one ≡ other) × (tag ≡ tag')
+event_told events.Timeout events.Timeout tag tag' is is' kind same = (refl, place_told tag tag' [] [] (omega (arith, is.place)) (omega (arith, is'.place)) same)
+event_told events.Off events.Off tag tag' is is' kind same = (refl, place_told tag tag' [] [] (omega (arith, is.place)) (omega (arith, is'.place)) same)
+event_told events.On events.On tag tag' is is' kind same = (refl, place_told tag tag' [] [] (omega (arith, is.place)) (omega (arith, is'.place)) same)
+event_told (events.Expire flag) (events.Expire flag') tag tag' is is' kind same =
+    let fields = same_fields (flag_word flag) (flag_word flag') (decimal tag ∷ []) (decimal tag' ∷ []) same in (
+      ap events.Expire (flag_told flag flag' fields.0),
+      place_told tag tag' [] [] (omega (arith, is.place)) (omega (arith, is'.place)) fields.1,
+    )
+event_told one other tag tag' is is' kind same = cc
+
+happening_told : (one other : Happening) → IsHappening one → IsHappening other → air_kind one ≡ air_kind other
+    → happening_fields one ≡ happening_fields other → one ≡ other
+happening_told (happenings.Event event tag) (happenings.Event event' tag') is is' kind same =
+    let kinds : event_kind event ≡ event_kind event' = cc in
+    let both = event_told event event' tag tag' is is' kinds same in
+    let events_same = both.0 in
+    let tags_same = both.1 in
+    cc
+happening_told (happenings.Miss tag) (happenings.Miss tag') is is' kind same =
+    ap happenings.Miss (place_told tag tag' [] [] (omega (arith, is)) (omega (arith, is')) same)
+happening_told (happenings.Choice (choices.Pick reply)) (happenings.Choice (choices.Pick reply')) is is' kind same =
+    ap (λ n. happenings.Choice (choices.Pick n)) (place_told reply reply' [] [] (omega (arith, is)) (omega (arith, is')) same)
+happening_told (happenings.Choice choices.Silent) (happenings.Choice choices.Silent) is is' kind same = refl
+happening_told (happenings.Choice (choices.Break place)) (happenings.Choice (choices.Break place')) is is' kind same =
+    ap (λ n. happenings.Choice (choices.Break n)) (place_told place place' [] [] (omega (arith, is)) (omega (arith, is')) same)
+happening_told one (happenings.Choice choices.Silent) is is' kind same = cc
+happening_told one other is is' kind same = cc
+
+selection_told : (one other : Selection) → IsSelection one → IsSelection other → select_fields one ≡ select_fields other → one ≡ other
+selection_told one other is is' same =
+    let fields = same_5 (flag_word one.target) (decimal one.action) (mask_bank_word one.bank) (decimal one.pointer) (binary one.mask)
+    (flag_word other.target) (decimal other.action) (mask_bank_word other.bank) (decimal other.pointer) (binary other.mask) same in
+    let target = flag_told one.target other.target fields.0 in
+    let action = decimal_told one.action other.action (omega arith) (omega arith) fields.1 in
+    let bank = bank_told one.bank other.bank fields.2 in
+    let pointer = decimal_told one.pointer other.pointer (omega arith) (omega arith) fields.3 in
+    let mask = binary_told one.mask other.mask fields.4 in
+    let whole : ◌≡◌ {A = Selection} (record {
+      target = one.target;
+      action = one.action;
+      bank = one.bank;
+      pointer = one.pointer;
+      mask = one.mask;
+    }) other = rw (target, action, bank, pointer, mask) refl in
+    whole
+
+round_told : (one other : SpecValue) → IsRound one → IsRound other → round_fields one ≡ round_fields other → one ≡ other
+round_told one other is is' same =
+    let fields = same_6 (sel_text one.sel) (decimal one.session) (side_word one.target) (decimal one.q) (decimal one.c) (decimal one.limit)
+    (sel_text other.sel) (decimal other.session) (side_word other.target) (decimal other.q) (decimal other.c) (decimal other.limit) same in
+    let sel = sel_told one.sel other.sel fields.0 in
+    let session = decimal_told one.session other.session (omega arith) (omega arith) fields.1 in
+    let target = side_told one.target other.target fields.2 in
+    let q = decimal_told one.q other.q (omega arith) (omega arith) fields.3 in
+    let c = decimal_told one.c other.c (omega arith) (omega arith) fields.4 in
+    let limit = decimal_told one.limit other.limit (omega arith) (omega arith) fields.5 in
+    let whole : ◌≡◌ {A = SpecValue} (record {
+      sel = one.sel;
+      session = one.session;
+      target = one.target;
+      q = one.q;
+      c = one.c;
+      limit = one.limit;
+    }) other = rw (sel, session, target, q, c, limit) refl in
+    whole
+
+-- the fields behind one word spell at most one line
+behind_told : (one other : Line) → HasForm one → HasForm other → word_of_line one ≡ word_of_line other → other_fields one ≡ other_fields other → one ≡ other
+behind_told lines.Version lines.Version form form' word same = refl
+behind_told (lines.Link link) (lines.Link link') form form' word same = ap lines.Link (link_told link link' form form' same)
+behind_told (lines.Tag tag) (lines.Tag tag') form form' word same = ap lines.Tag (tag_told tag tag' form form' same)
+behind_told (lines.Air exchange happening) (lines.Air exchange' happening') form form' word same =
+    let first = same_fields (decimal exchange) (decimal exchange') (air_word (air_kind happening) ∷ happening_fields happening)
+    (air_word (air_kind happening') ∷ happening_fields happening') same in
+    let second = same_fields (air_word (air_kind happening)) (air_word (air_kind happening')) (happening_fields happening) (happening_fields happening') first.1 in
+    let exchanges = decimal_told exchange exchange' (omega (arith, form.0.1)) (omega (arith, form'.0.1)) first.0 in
+    let happenings_same = happening_told happening happening' form.1 form'.1 (air_word_told (air_kind happening) (air_kind happening') second.0) second.1 in
+    cc
+behind_told (lines.Select selection) (lines.Select selection') form form' word same =
+    ap lines.Select (selection_told selection selection' form form' same)
+behind_told lines.Nak lines.Nak form form' word same = refl
+behind_told (lines.Event event tag) (lines.Event event' tag') form form' word same =
+    let fields = same_fields (event_word (event_kind event)) (event_word (event_kind event')) (event_fields event tag) (event_fields event' tag') same in
+    let both = event_told event event' tag tag' form form' (event_word_told (event_kind event) (event_kind event') fields.0) fields.1 in
+    let events_same = both.0 in
+    let tags_same = both.1 in
+    cc
+behind_told (lines.Round spec) (lines.Round spec') form form' word same = ap lines.Round (round_told spec spec' form form' same)
+behind_told lines.End lines.End form form' word same = refl
+behind_told one other form form' word same = cc
+
+-- two lines whose fields are of their forms are not spelled alike, even where the fields of one don't agree with one another
+pub line_told : (one other : Line) → HasForm one → HasForm other → line_fields one ≡ line_fields other → one ≡ other
+line_told one other form form' same =
+    let fields = same_fields (word_text (word_of_line one)) (word_text (word_of_line other)) (other_fields one) (other_fields other) same in
+    behind_told one other form form' (word_told (word_of_line one) (word_of_line other) fields.0) fields.1
+
+pub spelled_told : (fields : List (List ℕ)) (one other : Line) → Spells fields one → Spells fields other → one ≡ other
+spelled_told fields one other spells spells' = line_told one other spells.is.form spells'.is.form (sym spells.spelling ∙ spells'.spelling)
