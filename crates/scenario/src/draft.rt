@@ -1,5 +1,5 @@
 //! A scenario, line by line.
-ghost use Rattle.std.specs.Prelude.{◌≡◌, ◌<◌, ◌≤◌, ◌+◌, ◌↔◌, ◌++◌, [], ◌∷◌, length, IsTrue, IfOk, IfErr, OnOk};
+ghost use Rattle.std.specs.Prelude.{◌≡◌, ◌<◌, ◌≤◌, ◌+◌, ◌^◌, ◌↔◌, ◌++◌, [], ◌∷◌, length, IsTrue, IfOk, IfErr, OnOk, OnErr};
 ghost use Rattle.text_fields.specs.Lines.{fields_of};
 ghost use Rattle.scenario.specs.Standing.{Agrees, ChoosesOnce, Follows, HasRoom, KeepsOrder, MayFollow, MayStand, NamesTag, after, entries_of, grown, last_entry, new_draft, scenario_of, size, turned, with_air, with_happening, with_step, within};
 ghost use Rattle.scenario.specs.Faults.{IsAtOddsBy, fault_of_line};
@@ -361,8 +361,11 @@ fn close(
     missed: Vec<u32>,
     choice: Option<Choice>,
 ) -> Result<(), OutOfMemory>
-    ensures { OnOk result (closed.new.items ≡ closed.old.items
+    requires events { length events.items < 2 ^ 32 }
+    requires missed { length missed.items < 2 ^ 32 }
+    ensures ok { OnOk result (closed.new.items ≡ closed.old.items
         ++ last_entry exchange (record { events = events.items; missed = missed.items; choice = choice })) }
+    ensures err { OnErr result (closed.new.items ≡ closed.old.items) }
 {
     if exchange > 0 {
         let entry = Entry {

@@ -3,7 +3,7 @@
 #![tactic(auto)]
 
 ghost use Rattle.std.specs.Prelude.{IfOk};
-ghost use Rattle.scenario_text.specs.Answer.{IsAnswer};
+ghost use Rattle.scenario_text.specs.Answers.{IsAnswer};
 
 use air_io::{Bytes, ReadEnd, StdSink, StdSource, read_to_end, write_all};
 use bit_strings::OutOfMemory;
@@ -11,12 +11,15 @@ use scenario::{ScenarioFault, fault_text, read_and_print};
 use std::alloc::{AllocError, Global};
 use std::process::ExitCode;
 
+#[cfg(test)]
+mod tests;
+
 /// The greatest length of an input, in bytes.
 const MOST_BYTES: u32 = 16_777_216;
 
 /// What is written for a text.
 #[derive(Drop)]
-enum Answer {
+enum Written {
     /// The text again, where it is that of a scenario.
     Again(Bytes),
     /// The line that reports its first faulty line.
@@ -24,14 +27,14 @@ enum Answer {
 }
 
 /// What is written for a text.
-fn answer(alloc: Global, text: &[u8]) -> Result<Answer, OutOfMemory>
+fn answer(alloc: Global, text: &[u8]) -> Result<Written, OutOfMemory>
     ensures { IfOk result (IsAnswer text.now) }
 {
     match read_and_print(alloc, text) {
-        Ok(again) => Ok(Answer::Again(again)),
+        Ok(again) => Ok(Written::Again(again)),
         Err(ScenarioFault::Line(number, fault)) => {
             let line = fault_text(alloc, number, fault)?;
-            Ok(Answer::Faulty(line))
+            Ok(Written::Faulty(line))
         }
         Err(ScenarioFault::OutOfMemory) => Err(AllocError),
     }
@@ -50,8 +53,8 @@ fn main(rt: HostRuntime) -> ExitCode {
         Err(ReadEnd::OutOfMemory) => return ExitCode::from(7),
     };
     let (written, status) = match answer(alloc, text.as_slice()) {
-        Ok(Answer::Again(again)) => (write_all(&mut output, again.as_slice()), 0),
-        Ok(Answer::Faulty(line)) => (write_all(&mut output, line.as_bytes()), 3),
+        Ok(Written::Again(again)) => (write_all(&mut output, again.as_slice()), 0),
+        Ok(Written::Faulty(line)) => (write_all(&mut output, line.as_bytes()), 3),
         Err(_) => return ExitCode::from(7),
     };
     match written {

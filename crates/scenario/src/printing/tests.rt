@@ -1,6 +1,6 @@
 //! Scenarios, written: each text has one scenario, whose one text it is.
 
-use crate::{Scenario, print_and_read, print_scenario, read_and_print, read_scenario};
+use crate::{Fault, ScenarioFault, print_and_read, print_scenario, read_and_print, read_scenario};
 use std::test::Fail;
 
 /// One tag, and a round of one slot.
@@ -41,11 +41,13 @@ fn texts_come_back(rt: HostRuntime) -> Result<(), Fail> {
         let scenario = read_scenario(rt.alloc(), text)?;
         let printed = print_scenario(rt.alloc(), &scenario)?;
         assert_eq!(rt; printed.as_slice(), text);
-        let again: Scenario = print_and_read(rt.alloc(), &scenario)?;
-        assert_eq!(rt; again.tags.len(), scenario.tags.len());
-        assert_eq!(rt; again.steps.len(), scenario.steps.len());
+        let again = print_and_read(rt.alloc(), &scenario)?;
+        let once_more = print_scenario(rt.alloc(), &again)?;
+        assert_eq!(rt; once_more.as_slice(), text);
         let same = read_and_print(rt.alloc(), text)?;
         assert_eq!(rt; same.as_slice(), text);
     }
+    let refused = read_and_print(rt.alloc(), &ONE_TAG[..7]);
+    assert!(rt; matches!(refused, Err(ScenarioFault::Line(2, Fault::End))));
     Ok(())
 }

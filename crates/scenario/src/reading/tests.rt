@@ -49,12 +49,12 @@ fn expect(
     Ok(())
 }
 
-/// Compares the answer to a scenario in which a line stands many times behind other lines.
+/// Compares the answer to a scenario in which a line stands many times behind some lines, and others stand behind it.
 fn expect_many(
     rt: &(impl Abort + Alloc<A = Global>),
     before: &str,
-    line: &str,
-    times: u32,
+    (line, times): (&str, u32),
+    behind: &str,
     wanted: Option<(u32, Fault)>,
 ) -> Result<(), AllocError> {
     let mut whole = String::new(rt.alloc());
@@ -63,12 +63,70 @@ fn expect_many(
     for _ in 0..times {
         whole.push_str(line)?;
     }
+    whole.push_str(behind)?;
     whole.push_str("end\n")?;
     assert_eq!(rt;
         answer_to(rt, whole.as_bytes()),
         wanted,
-        "on {line:?}, {times} times"
+        "on {line:?}, {times} times, then {behind:?}"
     );
+    Ok(())
+}
+
+/// The faults of a scenario of one tag, with a line left out or another in its place.
+#[test]
+fn one_tag(rt: HostRuntime) -> Result<(), Fail> {
+    let link = "link 12500 31250 50000 6250 1 fm0 0";
+    let tag = "tag 00000000 00000000 0000000000 08001234 E2000001 - A1B2";
+    let round = "round all 0 a 0 300 5";
+    // The lines, what ends each, and the answer.
+    let cases = [
+        (["gen2 1", link, tag, round, "end"], "\n", None),
+        (
+            ["gen2 1", link, tag, round, ""],
+            "\n",
+            Some((5, Fault::Word)),
+        ),
+        (
+            ["gen2 1", link, tag, round, "end"],
+            "\r\n",
+            Some((1, Fault::Version)),
+        ),
+        (
+            ["gen2 1", link, tag, "round all 0 a 16 300 5", "end"],
+            "\n",
+            Some((4, Fault::Number)),
+        ),
+        (
+            [
+                "gen2 1",
+                "link 12500 31250 30000 6250 1 fm0 0",
+                tag,
+                round,
+                "end",
+            ],
+            "\n",
+            Some((2, Fault::TrCal)),
+        ),
+    ];
+    for (lines, line_end, wanted) in cases {
+        let mut whole = String::new(rt.alloc());
+        for line in lines {
+            whole.push_str(line)?;
+            whole.push_str(line_end)?;
+        }
+        assert_eq!(rt; answer_to(&rt, whole.as_bytes()), wanted, "{lines:?}");
+    }
+    let mut without_end = String::new(rt.alloc());
+    for line in ["gen2 1", link, tag, round] {
+        without_end.push_str(line)?;
+        without_end.push('\n')?;
+    }
+    assert_eq!(rt;
+        answer_to(&rt, without_end.as_bytes()),
+        Some((5, Fault::End))
+    );
+    assert_eq!(rt; answer_to(&rt, b""), Some((1, Fault::End)));
     Ok(())
 }
 
@@ -264,6 +322,7 @@ fn air_lines(rt: HostRuntime) -> Result<(), Fail> {
         (4, "air  off 0\n", Some((4, Fault::Shape))),
         (4, "air 1 off\n", Some((4, Fault::Shape))),
         (4, "air 1 off 0 0\n", Some((4, Fault::Shape))),
+        (4, "air 0 off 0 0\n", Some((4, Fault::Shape))),
         (4, "air 0 off 0\n", Some((4, Fault::Number))),
         (4, "air 01 off 0\n", Some((4, Fault::Number))),
         (4, "air 1 off 4096\n", Some((4, Fault::Number))),
@@ -383,13 +442,28 @@ fn rounds(rt: HostRuntime) -> Result<(), Fail> {
 #[test]
 fn limits_and_cuts(rt: HostRuntime) -> Result<(), Fail> {
     let tag = "tag 00000000 00000000 0000000000 08001234 E2000001 - A1B2\n";
-    expect_many(&rt, "", tag, 256, None)?;
-    expect_many(&rt, "", tag, 257, Some((259, Fault::Limit)))?;
-    expect_many(&rt, "", "air 7 off 0\n", 1, Some((3, Fault::Tag)))?;
-    expect_many(&rt, tag, "air 7 off 0\n", 4096, None)?;
-    expect_many(&rt, tag, "air 7 off 0\n", 4097, Some((4100, Fault::Limit)))?;
-    expect_many(&rt, "", "nak\n", 1024, None)?;
-    expect_many(&rt, "", "nak\n", 1025, Some((1027, Fault::Limit)))?;
+    let air = "air 7 off 0\n";
+    // A line that is one too many is so before its shape is looked at, and where its kind is known.
+    let cases = [
+        ("", (tag, 256), "", None),
+        ("", (tag, 257), "", Some((259, Fault::Limit))),
+        ("", (tag, 256), "tag x\n", Some((259, Fault::Limit))),
+        ("", (air, 1), "", Some((3, Fault::Tag))),
+        (tag, (air, 4096), "", None),
+        (tag, (air, 4097), "", Some((4100, Fault::Limit))),
+        ("", ("nak\n", 1024), "", None),
+        ("", ("nak\n", 1025), "", Some((1027, Fault::Limit))),
+        ("", ("nak\n", 1024), "nak x\n", Some((1027, Fault::Limit))),
+        (
+            "",
+            ("nak\n", 1024),
+            "event fly 0\n",
+            Some((1027, Fault::Word)),
+        ),
+    ];
+    for (before, many, behind, wanted) in cases {
+        expect_many(&rt, before, many, behind, wanted)?;
+    }
 
     let mut whole = String::new(rt.alloc());
     for line in LINES {
@@ -425,7 +499,7 @@ fn expect_lists(
         }
     }
     line.push_str("\n")?;
-    expect_many(rt, "", line.as_str(), 1, wanted)
+    expect_many(rt, "", (line.as_str(), 1), "", wanted)
 }
 
 #[test]
@@ -451,7 +525,7 @@ fn limits_of_lists(rt: HostRuntime) -> Result<(), Fail> {
             line.push_str("1")?;
         }
         line.push_str("\n")?;
-        expect_many(&rt, "", line.as_str(), 1, wanted)?;
+        expect_many(&rt, "", (line.as_str(), 1), "", wanted)?;
     }
     Ok(())
 }

@@ -5,8 +5,8 @@ use Rattle.scenario.specs.Faults.{IsFirstFault}
 use Rattle.scenario.specs.FaultLine.{fault_line}
 use Rattle.scenario.specs.Limits.{IsText}
 use Rattle.scenario.specs.declared.fault.Fault.{Fault}
-use Rattle.scenario_text.specs.declared.Answer.{Answer}
-use Rattle.scenario_text.specs.declared.Answer.TheVariants.{Again, Faulty}
+use Rattle.scenario_text.specs.declared.Written.{Written}
+use Rattle.scenario_text.specs.declared.Written.TheVariants.{Again, Faulty}
 
 -- the line reports the first faulty line of the text
 pub record Reports (text line : List ℕ) : Type 0 where
@@ -16,6 +16,6 @@ pub record Reports (text line : List ℕ) : Type 0 where
   pub line_is : line ≡ fault_line number fault
 
 -- the text again, where it is that of a scenario, or the line that reports its first faulty line
-abbrev pub IsAnswer : List ℕ → Answer → Type 0
+abbrev pub IsAnswer : List ℕ → Written → Type 0
 IsAnswer text (Again again) = (again ≡ text) × IsText text
 IsAnswer text (Faulty line) = Reports text (string_bytes line)
