@@ -6,3 +6,5 @@ pub mod Family
 pub mod FamilyLaws
 pub mod NumberLaws
 pub mod Numbers
+pub mod WordLaws
+pub mod Words

@@ -37,6 +37,10 @@ value_of-field_of value (suc places) =
 pub value_of-field : (value width : ℕ) → value < 2 ^ width → value_of (field_of value width) ≡ value
 value_of-field value width small = value_of-field_of value width ∙ mod-eq_of_lt small
 
+-- two such numbers with one field are one number
+pub field_of-same : (n m width : ℕ) → n < 2 ^ width → m < 2 ^ width → field_of n width ≡ field_of m width → n ≡ m
+field_of-same n m width p q same = sym (value_of-field n width p) ∙ ap value_of same ∙ value_of-field m width q
+
 -- digits in front change no digit behind
 field_of-low : (a k v width : ℕ) → width ≤ k → field_of (a * 2 ^ k + v) width ≡ field_of v width
 unfolding field_of

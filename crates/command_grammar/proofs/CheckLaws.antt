@@ -1,5 +1,5 @@
 -- A check number as a field is its bits.
-use Rattle.std.proofs.Common.{◌≡◌, ℕ, List, Bool, length, ap, sym, ◌∙◌}
+use Rattle.std.proofs.Common.{◌≡◌, ℕ, List, Bool, ap, sym, ◌∙◌}
 use Rattle.bit_strings.specs.Numbers.{value_of, field_of}
 use Rattle.bit_strings.specs.NumberLaws.{field_of-value_of}
 use Rattle.gen2_crc.specs.Crc.{crc5_of, crc16_of}

@@ -6,6 +6,7 @@ use Rattle.std.proofs.lemmas.Bool.Decides.{nat_tests}
 use Rattle.bit_strings.specs.Numbers.{field_of}
 use Rattle.bit_strings.specs.NumberLaws.{length-field_of}
 use Rattle.bit_strings.specs.Ebv.{ebv_of}
+use Rattle.bit_strings.specs.Words.{bits_of_words}
 use Rattle.command_grammar.specs.declared.commands.Command.{Command}
 use Rattle.command_grammar.specs.declared.commands.Command.TheVariants as commands
 use Rattle.command_grammar.specs.declared.choices.Kind.{Kind}
@@ -19,7 +20,7 @@ use Rattle.command_grammar.specs.declared.command.Bank.TheVariants as banks
 use Rattle.command_grammar.specs.declared.command.MaskBank.TheVariants as mask_banks
 use Rattle.command_grammar.specs.declared.command.FlagName.TheVariants as flags
 use Rattle.bit_strings.specs.declared.code.Code.TheVariants as lines_of
-use Rattle.command_grammar.specs.Commands.{Part, code, plain, named, with_crc16, IsWord, bits_of_code, bits_of_sel, bits_of_side, bits_of_updn, bits_of_target, bits_of_mask_bank, bits_of_bank, bits_of_words}
+use Rattle.command_grammar.specs.Commands.{Part, code, plain, named, with_crc16, IsWord, bits_of_code, bits_of_sel, bits_of_side, bits_of_updn, bits_of_target, bits_of_mask_bank, bits_of_bank}
 use Rattle.command_grammar.specs.Reading.{Reading, ◌>>=◌, bit_at, bits_at, field_at, choice_at, count_at, words_at, ebv_at, one_zero, three_zeros, lines, selected, sides, changes, targets, masked_banks, all_banks, all_kinds, query_rep_at, ack_at, query_at, query_adjust_at, select_at, req_rn_at, read_at, write_at, kill_at, lock_at, access_at, block_write_at, block_erase_at, fields_at}
 use Rattle.command_grammar.proofs.Fields.{Reads}
 use Rattle.command_grammar.proofs.Elements.{IsNumber, reads_bit, reads_bits, reads_field, reads_count}

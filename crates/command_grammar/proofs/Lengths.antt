@@ -2,8 +2,8 @@
 use Rattle.std.proofs.Common.{◌≡◌, ℕ, ◌+◌, ◌*◌, ◌^◌, ◌<◌, ◌≤◌, Bool, List, [], ◌∷◌, length, ap, arith, length-append}
 use Rattle.std.specs.Prelude.{All}
 use Rattle.std.proofs.lemmas.List.Elements.{All-head, All-tail}
-use Rattle.bit_strings.specs.Numbers.{field_of}
 use Rattle.bit_strings.specs.NumberLaws.{length-field_of}
+use Rattle.bit_strings.specs.WordLaws.{length-bits_of_words}
 use Rattle.bit_strings.specs.Ebv.{blocks_of, ebv_of}
 use Rattle.bit_strings.specs.EbvLaws.{IsEbv-ebv_of}
 use Rattle.gen2_crc.specs.CrcLaws.{length-crc5_of, length-crc16_of}
@@ -23,7 +23,7 @@ use Rattle.command_grammar.specs.declared.command.FlagName.{FlagName}
 use Rattle.command_grammar.specs.declared.command.FlagName.TheVariants as flags
 use Rattle.command_grammar.specs.declared.commands.Command.{Command}
 use Rattle.command_grammar.specs.declared.commands.Command.TheVariants as commands
-use Rattle.command_grammar.specs.Commands.{Part, bits_of, spelling_of, parts_of, IsLegal, Spellings, bits_of_words, bits_of_code, bits_of_sel, bits_of_side, bits_of_updn, bits_of_target, bits_of_mask_bank, bits_of_bank}
+use Rattle.command_grammar.specs.Commands.{Part, bits_of, spelling_of, parts_of, IsLegal, Spellings, bits_of_code, bits_of_sel, bits_of_side, bits_of_updn, bits_of_target, bits_of_mask_bank, bits_of_bank}
 use Rattle.bit_strings.specs.Family.{Begins}
 
 length-blocks : (digits : List (List Bool)) → All (λ digit. length digit ≡ 7) digits → length (blocks_of digits) ≤ 8 * length digits
@@ -37,10 +37,6 @@ pub length-ebv_of : (number : ℕ) → number < 2 ^ 28 → length (ebv_of number
 length-ebv_of number small =
     let ebv = IsEbv-ebv_of number small in
     omega (arith, ap (λ (bits : List Bool). length bits) ebv.spelled, length-blocks ebv.digits ebv.sevens, ebv.few)
-
-pub length-bits_of_words : (words : List ℕ) → length (bits_of_words words) ≡ 16 * length words
-length-bits_of_words [] = omega arith
-length-bits_of_words (word ∷ words) = omega (arith, length-append (field_of word 16) (bits_of_words words), length-field_of word 16, length-bits_of_words words)
 
 -- the sum of the lengths of the parts
 abbrev size_of : List Part → ℕ

@@ -3,7 +3,8 @@ use Rattle.std.proofs.Common.{◌≡◌, ℕ, zero, suc, ◌^◌, ◌<◌, Bool,
 use Rattle.std.specs.Prelude.{Option}
 use Rattle.std.specs.List.{AllByRecursion}
 use Rattle.bit_strings.specs.Numbers.{field_of}
-use Rattle.command_grammar.specs.Commands.{IsWord, bits_of_words}
+use Rattle.bit_strings.specs.Words.{bits_of_words}
+use Rattle.command_grammar.specs.Commands.{IsWord}
 use Rattle.command_grammar.specs.declared.refusal.Reason.{Reason}
 use Rattle.command_grammar.specs.Reading.{◌>>=◌, field_at, words_at}
 use Rattle.command_grammar.proofs.Fields.{Reads, Pair, reads_then, reads_as, reads_map, reads_nothing}

@@ -2,6 +2,7 @@
 use Rattle.std.specs.Prelude.{◌≡◌, ℕ, ◌+◌, ◌^◌, ◌<◌, ◌≤◌, ◌==◌, Bool, true, false, List, [], ◌∷◌, ◌++◌, length, map, take, codes, Option, Some, None, Result, Ok, Err, ◌⊎◌}
 use Rattle.std.specs.List.{flat_map, AllByRecursion}
 use Rattle.bit_strings.specs.Numbers.{field_of}
+use Rattle.bit_strings.specs.Words.{bits_of_words}
 use Rattle.bit_strings.specs.Ebv.{ebv_of}
 use Rattle.bit_strings.specs.Family.{IsBadAt, IsShortAt}
 use Rattle.bit_strings.specs.declared.code.Code.{Code}
@@ -98,10 +99,6 @@ bits_of_bank banks.Reserved = false ∷ false ∷ []
 bits_of_bank banks.Epc = false ∷ true ∷ []
 bits_of_bank banks.Tid = true ∷ false ∷ []
 bits_of_bank banks.User = true ∷ true ∷ []
-
--- 16 bits a word
-abbrev pub bits_of_words : List ℕ → List Bool
-bits_of_words words = flat_map (λ word. field_of word 16) words
 
 -- Annex F: the check number stands last and is computed over the bits before it
 abbrev pub with_crc5 : List Part → List Part

@@ -3,8 +3,10 @@ use Rattle.std.proofs.Common.{◌≡◌, ℕ, ◌^◌, ◌<◌, Bool, true, fals
 use Rattle.std.specs.Prelude.{Result, Ok, Err, IfOk, IfErr}
 use Rattle.std.proofs.lemmas.List.{append_cancel_right}
 use Rattle.bit_strings.specs.Numbers.{field_of}
-use Rattle.bit_strings.specs.NumberLaws.{length-field_of}
+use Rattle.bit_strings.specs.NumberLaws.{length-field_of, field_of-same}
 use Rattle.bit_strings.specs.EbvLaws.{append_apart}
+use Rattle.bit_strings.specs.Words.{bits_of_words}
+use Rattle.bit_strings.specs.WordLaws.{bits_of_words-same}
 use Rattle.gen2_crc.specs.Crc.{crc16_of}
 use Rattle.gen2_crc.specs.CrcLaws.{length-crc16_of}
 use Rattle.reply_grammar.specs.declared.expected.Expect.{Expect}
@@ -13,8 +15,7 @@ use Rattle.reply_grammar.specs.declared.expected.Reply.{Reply}
 use Rattle.reply_grammar.specs.declared.expected.Reply.TheVariants.{Rn16, Epc, Handle, Words, Header, Error}
 use Rattle.reply_grammar.specs.declared.expected.ReplyRefusal.{ReplyRefusal}
 use Rattle.reply_grammar.specs.declared.expected.ReplyRefusal.TheVariants.{Length, Crc, Header as HeaderBit, Number}
-use Rattle.reply_grammar.specs.Table.{Answers, Suits, IsReply, AreWords, handle_of, spelling, words_of, with_check}
-use Rattle.reply_grammar.specs.WordLaws.{words_of-same, field_of-same}
+use Rattle.reply_grammar.specs.Table.{Answers, Suits, IsReply, AreWords, handle_of, spelling, with_check}
 use Rattle.reply_grammar.specs.Faults.{Faults, Passes}
 use Rattle.reply_grammar.proofs.Passing.{answers_pass}
 
@@ -29,11 +30,11 @@ unchecked xs ys same =
 one-word : (a b : ℕ) → a < 2 ^ 16 → b < 2 ^ 16 → with_check (field_of a 16) ≡ with_check (field_of b 16) → a ≡ b
 one-word a b p q same = field_of-same a b 16 p q (unchecked (field_of a 16) (field_of b 16) same)
 
-one-words : (xs ys : List ℕ) (handle : ℕ) → AreWords xs → AreWords ys → with_check (false ∷ (words_of xs ++ field_of handle 16)) ≡ with_check (false ∷ (words_of ys ++ field_of handle 16)) → xs ≡ ys
+one-words : (xs ys : List ℕ) (handle : ℕ) → AreWords xs → AreWords ys → with_check (false ∷ (bits_of_words xs ++ field_of handle 16)) ≡ with_check (false ∷ (bits_of_words ys ++ field_of handle 16)) → xs ≡ ys
 one-words xs ys handle p q same =
-    let inside = unchecked (false ∷ (words_of xs ++ field_of handle 16)) (false ∷ (words_of ys ++ field_of handle 16)) same in
-    let rest : words_of xs ++ field_of handle 16 ≡ words_of ys ++ field_of handle 16 = cc in
-    words_of-same xs ys p q (append_cancel_right (words_of xs) (words_of ys) (field_of handle 16) rest)
+    let inside = unchecked (false ∷ (bits_of_words xs ++ field_of handle 16)) (false ∷ (bits_of_words ys ++ field_of handle 16)) same in
+    let rest : bits_of_words xs ++ field_of handle 16 ≡ bits_of_words ys ++ field_of handle 16 = cc in
+    bits_of_words-same xs ys p q (append_cancel_right (bits_of_words xs) (bits_of_words ys) (field_of handle 16) rest)
 
 one-code : (a b handle : ℕ) → a < 2 ^ 8 → b < 2 ^ 8 → with_check (true ∷ (field_of a 8 ++ field_of handle 16)) ≡ with_check (true ∷ (field_of b 8 ++ field_of handle 16)) → a ≡ b
 one-code a b handle p q same =
@@ -49,19 +50,19 @@ one-spelling : (e : Expect) (r s : Reply) → Suits r e → Suits s e → IsRepl
 unfolding spelling
 one-spelling OneRn16 (Rn16 a) (Rn16 b) left right p q same = ap (λ n. Rn16 n) (field_of-same a b 16 p q same)
 one-spelling OneEpc (Epc a xs) (Epc b ys) left right p q same =
-    let found : (field_of a 16 ≡ field_of b 16) × (words_of xs ≡ words_of ys) =
-    append_apart (field_of a 16) (field_of b 16) (words_of xs) (words_of ys) (length-field_of a 16 ∙ sym (length-field_of b 16)) (unchecked (field_of a 16 ++ words_of xs) (field_of b 16 ++ words_of ys) same) in
+    let found : (field_of a 16 ≡ field_of b 16) × (bits_of_words xs ≡ bits_of_words ys) =
+    append_apart (field_of a 16) (field_of b 16) (bits_of_words xs) (bits_of_words ys) (length-field_of a 16 ∙ sym (length-field_of b 16)) (unchecked (field_of a 16 ++ bits_of_words xs) (field_of b 16 ++ bits_of_words ys) same) in
     let pc : a ≡ b = field_of-same a b 16 p.0 q.0 found.0 in
-    let epc : xs ≡ ys = words_of-same xs ys p.1 q.1 found.1 in
+    let epc : xs ≡ ys = bits_of_words-same xs ys p.1 q.1 found.1 in
     cc
 one-spelling OneHandle (Handle a) (Handle b) left right p q same = ap (λ n. Handle n) (one-word a b p q same)
 one-spelling (Same h) (Handle a) (Handle b) left right p q same = ap (λ n. Handle n) (one-word a b p q same)
 one-spelling (SomeWords n h) (Words xs) (Words ys) left right p q same = ap (λ (ws : List ℕ). Words ws) (one-words xs ys h p q same)
 one-spelling (AnyWords h) (Words xs) (Words ys) left right p q same = ap (λ (ws : List ℕ). Words ws) (one-words xs ys h p q same)
-one-spelling (SomeWords n h) (Words xs) (Error b) left right p q same = absurd (not-both (words_of xs ++ field_of h 16) (field_of b 8 ++ field_of h 16) same)
-one-spelling (AnyWords h) (Words xs) (Error b) left right p q same = absurd (not-both (words_of xs ++ field_of h 16) (field_of b 8 ++ field_of h 16) same)
-one-spelling (SomeWords n h) (Error a) (Words ys) left right p q same = absurd (not-both (words_of ys ++ field_of h 16) (field_of a 8 ++ field_of h 16) (sym same))
-one-spelling (AnyWords h) (Error a) (Words ys) left right p q same = absurd (not-both (words_of ys ++ field_of h 16) (field_of a 8 ++ field_of h 16) (sym same))
+one-spelling (SomeWords n h) (Words xs) (Error b) left right p q same = absurd (not-both (bits_of_words xs ++ field_of h 16) (field_of b 8 ++ field_of h 16) same)
+one-spelling (AnyWords h) (Words xs) (Error b) left right p q same = absurd (not-both (bits_of_words xs ++ field_of h 16) (field_of b 8 ++ field_of h 16) same)
+one-spelling (SomeWords n h) (Error a) (Words ys) left right p q same = absurd (not-both (bits_of_words ys ++ field_of h 16) (field_of a 8 ++ field_of h 16) (sym same))
+one-spelling (AnyWords h) (Error a) (Words ys) left right p q same = absurd (not-both (bits_of_words ys ++ field_of h 16) (field_of a 8 ++ field_of h 16) (sym same))
 one-spelling (SomeWords n h) (Error a) (Error b) left right p q same = ap (λ k. Error k) (one-code a b h p q same)
 one-spelling (AnyWords h) (Error a) (Error b) left right p q same = ap (λ k. Error k) (one-code a b h p q same)
 one-spelling (OneHeader h) (Error a) (Error b) left right p q same = ap (λ k. Error k) (one-code a b h p q same)

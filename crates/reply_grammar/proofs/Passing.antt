@@ -7,14 +7,15 @@ use Rattle.std.proofs.lemmas.Bool.{ne_eqb}
 use Rattle.std.proofs.lemmas.List.{take_at, drop_at, take_all, take-take, take-append-drop, take-append-le, drop-append-le}
 use Rattle.bit_strings.specs.Numbers.{value_of, field_of, part_of}
 use Rattle.bit_strings.specs.NumberLaws.{length-field_of, value_of-field, value_of-append, value_of-within}
+use Rattle.bit_strings.specs.Words.{bits_of_words}
+use Rattle.bit_strings.specs.WordLaws.{length-bits_of_words}
 use Rattle.gen2_crc.specs.Crc.{crc16_of}
 use Rattle.gen2_crc.specs.CrcLaws.{length-crc16_of}
 use Rattle.reply_grammar.specs.declared.expected.Expect.{Expect}
 use Rattle.reply_grammar.specs.declared.expected.Expect.TheVariants.{Rn16 as OneRn16, Epc as OneEpc, Handle as OneHandle, Same, Words as SomeWords, AnyWords, Header as OneHeader}
 use Rattle.reply_grammar.specs.declared.expected.Reply.{Reply}
 use Rattle.reply_grammar.specs.declared.expected.Reply.TheVariants.{Rn16, Epc, Handle, Words, Header, Error}
-use Rattle.reply_grammar.specs.Table.{Answers, Suits, IsReply, AreWords, handle_of, spelling, words_of, with_check}
-use Rattle.reply_grammar.specs.WordLaws.{length-words_of}
+use Rattle.reply_grammar.specs.Table.{Answers, Suits, IsReply, AreWords, handle_of, spelling, with_check}
 use Rattle.reply_grammar.specs.Faults.{FitsLength, EndsWithCheck, HasHeader, HasHandle, Passes}
 use Rattle.reply_grammar.proofs.Reading.{part-field, value_of-part, part-add}
 
@@ -50,9 +51,9 @@ success-header rest other = ap (λ (b : Bool). Some b) (sym (ne_eqb (length (fal
 error-header : (rest : List Bool) → length (true ∷ rest) ≡ 41 → HasHeader (true ∷ rest)
 error-header rest same = ap (λ (b : Bool). Some b) (sym (eq-eqb (length (true ∷ rest)) 41 same))
 
-length-words : (words : List ℕ) (handle : ℕ) → length (with_check (false ∷ (words_of words ++ field_of handle 16))) ≡ 33 + 16 * length words
+length-words : (words : List ℕ) (handle : ℕ) → length (with_check (false ∷ (bits_of_words words ++ field_of handle 16))) ≡ 33 + 16 * length words
 length-words words handle =
-    omega (arith, length-with_check (false ∷ (words_of words ++ field_of handle 16)), length-append (words_of words) (field_of handle 16), length-words_of words, length-field_of handle 16)
+    omega (arith, length-with_check (false ∷ (bits_of_words words ++ field_of handle 16)), length-append (bits_of_words words) (field_of handle 16), length-bits_of_words words, length-field_of handle 16)
 
 length-header : (handle : ℕ) → length (with_check (false ∷ field_of handle 16)) ≡ 33
 length-header handle = omega (arith, length-with_check (false ∷ field_of handle 16), length-field_of handle 16)
@@ -69,11 +70,11 @@ spelled-passes : (reply : Reply) (expect : Expect) → Suits reply expect → Is
 unfolding spelling
 spelled-passes (Rn16 rn) OneRn16 suits range fits = record { length_fits = length-field_of rn 16; check = tt; header = tt; number = tt }
 spelled-passes (Epc pc epc) OneEpc suits range fits =
-    let front : List Bool = field_of pc 16 ++ words_of epc in
-    let long : length (with_check front) ≡ 32 + 16 * length epc = omega (arith, length-with_check front, length-append (field_of pc 16) (words_of epc), length-field_of pc 16, length-words_of epc) in
+    let front : List Bool = field_of pc 16 ++ bits_of_words epc in
+    let long : length (with_check front) ≡ 32 + 16 * length epc = omega (arith, length-with_check front, length-append (field_of pc 16) (bits_of_words epc), length-field_of pc 16, length-bits_of_words epc) in
     let five : take 5 (with_check front) ≡ take 5 (field_of pc 16) =
-    ap (λ (b : List Bool). take 5 b) (append_assoc (field_of pc 16) (words_of epc) (crc16_of front))
-    ∙ take-append-le 5 (field_of pc 16) (words_of epc ++ crc16_of front) (omega (arith, length-field_of pc 16)) in
+    ap (λ (b : List Bool). take 5 b) (append_assoc (field_of pc 16) (bits_of_words epc) (crc16_of front))
+    ∙ take-append-le 5 (field_of pc 16) (bits_of_words epc ++ crc16_of front) (omega (arith, length-field_of pc 16)) in
     let count : value_of (take 5 (with_check front)) ≡ length epc =
     ap value_of five ∙ first-five (field_of pc 16) (length-field_of pc 16) ∙ ap (λ n. n / 2 ^ 11) (value_of-field pc 16 range.0) ∙ sym range.2 in
     record { length_fits = (omega arith, omega arith); check = ends front; header = tt; number = tt }
@@ -88,16 +89,16 @@ spelled-passes (Handle rn) (Same handle) suits range fits =
 spelled-passes (Words words) (SomeWords count handle) suits range fits =
     record {
       length_fits = inl (length-words words handle ∙ ap (λ n. 33 + 16 * n) suits);
-      check = ends (false ∷ (words_of words ++ field_of handle 16));
+      check = ends (false ∷ (bits_of_words words ++ field_of handle 16));
       header = success-header _ (λ same. omega (arith, length-words words handle));
-      number = handle-there (false ∷ words_of words) handle fits;
+      number = handle-there (false ∷ bits_of_words words) handle fits;
     }
 spelled-passes (Words words) (AnyWords handle) suits range fits =
     record {
       length_fits = inl (length words, suits.0, suits.1, length-words words handle);
-      check = ends (false ∷ (words_of words ++ field_of handle 16));
+      check = ends (false ∷ (bits_of_words words ++ field_of handle 16));
       header = success-header _ (λ same. omega (arith, length-words words handle));
-      number = handle-there (false ∷ words_of words) handle fits;
+      number = handle-there (false ∷ bits_of_words words) handle fits;
     }
 spelled-passes Header (OneHeader handle) suits range fits =
     record {
@@ -210,13 +211,13 @@ same_answers bits rn handle long check number read =
       spelled = one_word bits rn long check read;
     }
 
-pub epc_answers : (bits : List Bool) (pc : ℕ) (epc : List ℕ) → FitsLength OneEpc bits → EndsWithCheck bits → pc ≡ value_of (part_of bits 0 16) → length epc ≡ value_of (take 5 bits) → AreWords epc → words_of epc ≡ part_of bits 16 (16 * length epc) → Answers (Epc pc epc) OneEpc bits
+pub epc_answers : (bits : List Bool) (pc : ℕ) (epc : List ℕ) → FitsLength OneEpc bits → EndsWithCheck bits → pc ≡ value_of (part_of bits 0 16) → length epc ≡ value_of (take 5 bits) → AreWords epc → bits_of_words epc ≡ part_of bits 16 (16 * length epc) → Answers (Epc pc epc) OneEpc bits
 unfolding spelling
 epc_answers bits pc epc length_fits check read count range words =
     let front : List Bool = check.front in
     let size : length front ≡ 16 + 16 * length epc = omega (arith, length-front bits check, length_fits.1) in
     let first : field_of pc 16 ≡ take 16 front = part-field bits 0 16 pc (omega (arith, length_fits.1)) read ∙ part-split bits 0 16 check (omega arith) in
-    let second : words_of epc ≡ part_of front 16 (16 * length epc) = words ∙ part-split bits 16 (16 * length epc) check (omega arith) in
+    let second : bits_of_words epc ≡ part_of front 16 (16 * length epc) = words ∙ part-split bits 16 (16 * length epc) check (omega arith) in
     let whole : front ≡ take 16 front ++ part_of front 16 (16 * length epc) = sym (take_all (16 + 16 * length epc) front (omega arith)) ∙ take-add 16 (16 * length epc) front in
     let five : take 5 (take 16 bits) ≡ take 5 bits = take-take 5 16 bits (omega arith) in
     let word : length (take 16 bits) ≡ 16 = omega (arith, length-take 16 bits, length_fits.0) in
@@ -228,7 +229,7 @@ epc_answers bits pc epc length_fits check read count range words =
         count ∙ ap value_of (sym five) ∙ first-five (take 16 bits) word ∙ ap (λ n. n / 2 ^ 11) (sym read),
       );
       handle_in_range = omega arith;
-      spelled = rejoin bits (field_of pc 16 ++ words_of epc) check
+      spelled = rejoin bits (field_of pc 16 ++ bits_of_words epc) check
           (whole ∙ ap (λ (b : List Bool). b ++ part_of front 16 (16 * length epc)) (sym first) ∙ ap (λ (b : List Bool). field_of pc 16 ++ b) (sym second));
     }
 
@@ -239,10 +240,10 @@ bit-at-length bits header other = header ∙ ap (λ (b : Bool). Some b) (ne_eqb 
 bit-at-error : (bits : List Bool) → HasHeader bits → length bits ≡ 41 → slice_get bits 0 ≡ Some true
 bit-at-error bits header same = header ∙ ap (λ (b : Bool). Some b) (eq-eqb (length bits) 41 same)
 
-pub words_spelled : (bits : List Bool) (handle : ℕ) (words : List ℕ) → length bits ≡ 33 + 16 * length words → EndsWithCheck bits → HasHeader bits → HasHandle handle bits → words_of words ≡ part_of bits 1 (16 * length words) → bits ≡ spelling (Words words) handle
+pub words_spelled : (bits : List Bool) (handle : ℕ) (words : List ℕ) → length bits ≡ 33 + 16 * length words → EndsWithCheck bits → HasHeader bits → HasHandle handle bits → bits_of_words words ≡ part_of bits 1 (16 * length words) → bits ≡ spelling (Words words) handle
 unfolding spelling
 words_spelled bits handle words long check header number words_are =
-    header_row bits (words_of words) false (16 * length words) handle long check (bit-at-length bits header (λ same. omega arith)) number words_are
+    header_row bits (bits_of_words words) false (16 * length words) handle long check (bit-at-length bits header (λ same. omega arith)) number words_are
 
 pub error_spelled : (bits : List Bool) (handle code : ℕ) → length bits ≡ 41 → EndsWithCheck bits → HasHeader bits → HasHandle handle bits → code ≡ value_of (part_of bits 1 8) → bits ≡ spelling (Error code) handle
 unfolding spelling
@@ -270,12 +271,12 @@ same_passed expect bits rn handle found passes read =
     let here : Passes (Same handle) bits = subst (λ (e : Expect). Passes e bits) found passes in
     subst (λ (e : Expect). Answers (Handle rn) e bits) (sym found) (same_answers bits rn handle here.length_fits here.check here.number read)
 
-pub epc_passed : (expect : Expect) (bits : List Bool) (pc : ℕ) (epc : List ℕ) → expect ≡ OneEpc → Passes expect bits → pc ≡ value_of (part_of bits 0 16) → length epc ≡ value_of (take 5 bits) → AreWords epc → words_of epc ≡ part_of bits 16 (16 * length epc) → Answers (Epc pc epc) expect bits
+pub epc_passed : (expect : Expect) (bits : List Bool) (pc : ℕ) (epc : List ℕ) → expect ≡ OneEpc → Passes expect bits → pc ≡ value_of (part_of bits 0 16) → length epc ≡ value_of (take 5 bits) → AreWords epc → bits_of_words epc ≡ part_of bits 16 (16 * length epc) → Answers (Epc pc epc) expect bits
 epc_passed expect bits pc epc found passes read count range words =
     let here : Passes OneEpc bits = subst (λ (e : Expect). Passes e bits) found passes in
     subst (λ (e : Expect). Answers (Epc pc epc) e bits) (sym found) (epc_answers bits pc epc here.length_fits here.check read count range words)
 
-pub words_passed : (expect : Expect) (bits : List Bool) (count handle n : ℕ) (words : List ℕ) → expect ≡ SomeWords count handle → Passes expect bits → length bits ≢ 41 → n ≡ count → length words ≡ n → AreWords words → words_of words ≡ part_of bits 1 (16 * n) → Answers (Words words) expect bits
+pub words_passed : (expect : Expect) (bits : List Bool) (count handle n : ℕ) (words : List ℕ) → expect ≡ SomeWords count handle → Passes expect bits → length bits ≢ 41 → n ≡ count → length words ≡ n → AreWords words → bits_of_words words ≡ part_of bits 1 (16 * n) → Answers (Words words) expect bits
 words_passed expect bits count handle n words found passes other asked number range words_are =
     let here : Passes (SomeWords count handle) bits = subst (λ (e : Expect). Passes e bits) found passes in
     let long : length bits ≡ 33 + 16 * count = elim here.length_fits [ inl whole ↦ whole | inr error ↦ absurd (other error) ] in
@@ -287,7 +288,7 @@ words_passed expect bits count handle n words found passes other asked number ra
     } in
     subst (λ (e : Expect). Answers (Words words) e bits) (sym found) answers
 
-pub any_words_passed : (expect : Expect) (bits : List Bool) (handle n : ℕ) (words : List ℕ) → expect ≡ AnyWords handle → Passes expect bits → length bits ≢ 41 → n ≡ (length bits - 33) / 16 → length words ≡ n → AreWords words → words_of words ≡ part_of bits 1 (16 * n) → Answers (Words words) expect bits
+pub any_words_passed : (expect : Expect) (bits : List Bool) (handle n : ℕ) (words : List ℕ) → expect ≡ AnyWords handle → Passes expect bits → length bits ≢ 41 → n ≡ (length bits - 33) / 16 → length words ≡ n → AreWords words → bits_of_words words ≡ part_of bits 1 (16 * n) → Answers (Words words) expect bits
 any_words_passed expect bits handle n words found passes other asked number range words_are =
     let here : Passes (AnyWords handle) bits = subst (λ (e : Expect). Passes e bits) found passes in
     let long : (1 ≤ n) × (n ≤ 512) × (length bits ≡ 33 + 16 * n) =

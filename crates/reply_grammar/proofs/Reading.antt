@@ -6,8 +6,9 @@ use Rattle.std.proofs.lemmas.List.{drop-drop}
 use Rattle.std.proofs.lemmas.List.Elements.{All-push, All-nil}
 use Rattle.bit_strings.specs.Numbers.{value_of, field_of, part_of}
 use Rattle.bit_strings.specs.NumberLaws.{field_of-value_of, value_of-within}
-use Rattle.reply_grammar.specs.Table.{words_of, AreWords}
-use Rattle.reply_grammar.specs.WordLaws.{words_of-push}
+use Rattle.bit_strings.specs.Words.{bits_of_words}
+use Rattle.bit_strings.specs.WordLaws.{bits_of_words-push}
+use Rattle.reply_grammar.specs.Table.{AreWords}
 
 pub length-part_of : (bits : List Bool) (at width : ℕ) → at + width ≤ length bits → length (part_of bits at width) ≡ width
 length-part_of bits at width within = omega (arith, length-take width (drop at bits), length-drop at bits)
@@ -29,10 +30,9 @@ part-add bits at m n = take-add m n (drop at bits) ∙ ap (λ (b : List Bool). p
 pub record ReadTo (bits : List Bool) (from at : ℕ) (words : List ℕ) : Type 0 where
   pub place : at ≡ from + 16 * length words
   pub range : AreWords words
-  pub words_are : words_of words ≡ part_of bits from (16 * length words)
+  pub words_are : bits_of_words words ≡ part_of bits from (16 * length words)
 
 pub read_none : (bits : List Bool) (from : ℕ) → ReadTo bits from from []
-unfolding words_of
 read_none bits from = record { place = omega arith; range = All-nil (λ word. word < 2 ^ 16); words_are = refl }
 
 pub read_more : (bits : List Bool) (from at word : ℕ) (words more : List ℕ) → ReadTo bits from at words → at + 16 ≤ length bits → word ≡ value_of (part_of bits at 16) → more ≡ words ++ word ∷ [] → ReadTo bits from (at + 16) more
@@ -42,7 +42,7 @@ read_more bits from at word words more so_far within read grown =
       place = omega (arith, so_far.place);
       range = subst AreWords (sym grown) (All-push (λ word. word < 2 ^ 16) words word so_far.range (omega (arith, value_of-part bits at 16 within)));
       words_are =
-          ap words_of grown ∙ words_of-push words word
+          ap bits_of_words grown ∙ bits_of_words-push words word
           ∙ ap (λ (b : List Bool). b ++ field_of word 16) so_far.words_are
           ∙ ap (λ (b : List Bool). part_of bits from (16 * length words) ++ b) (part-field bits at 16 word within read)
           ∙ ap (λ n. part_of bits from (16 * length words) ++ part_of bits n 16) so_far.place

@@ -1,6 +1,5 @@
 -- How a reply is written part by part.
-use Rattle.std.proofs.Common.{◌≡◌, ℕ, ◌+◌, ◌^◌, ◌<◌, ◌≤◌, Bool, List, ◌++◌, length, take, get_or, refl, sym, ◌∙◌, ap, arith}
-use Rattle.std.proofs.lemmas.List.{take_more}
+use Rattle.std.proofs.Common.{◌≡◌, ℕ, ◌+◌, ◌^◌, ◌<◌, ◌≤◌, Bool, List, ◌++◌, length, refl, sym, ◌∙◌, ap, arith}
 use Rattle.bit_strings.specs.BitString.{BitString}
 use Rattle.bit_strings.specs.Numbers.{value_of, field_of}
 use Rattle.gen2_crc.specs.Crc.{crc16_of}
@@ -9,8 +8,7 @@ use Rattle.reply_grammar.specs.declared.expected.Expect.{Expect}
 use Rattle.reply_grammar.specs.declared.expected.Expect.TheVariants.{Rn16 as OneRn16, Epc as OneEpc, Handle as OneHandle, Same, Words as SomeWords, AnyWords, Header as OneHeader}
 use Rattle.reply_grammar.specs.declared.expected.Reply.{Reply}
 use Rattle.reply_grammar.specs.declared.expected.Reply.TheVariants.{Rn16, Epc, Handle, Words, Header, Error}
-use Rattle.reply_grammar.specs.Table.{Answers, Suits, Carries, IsReply, spelling, words_of, with_check}
-use Rattle.reply_grammar.specs.WordLaws.{words_of-push}
+use Rattle.reply_grammar.specs.Table.{Answers, Suits, Carries, IsReply, spelling, with_check}
 
 -- a part more behind what was written
 pub wrote : (a b : BitString) (front more : List Bool) (capacity : ℕ) → a ≡ record { items = front; capacity = capacity } → b ≡ record { items = a.items ++ more; capacity = a.capacity } → b ≡ record { items = front ++ more; capacity = capacity }
@@ -21,10 +19,6 @@ checked a b front capacity before after = after ∙ ap (λ (s : BitString). reco
 
 pub room_left : (a : BitString) (front : List Bool) (capacity n : ℕ) → a ≡ record { items = front; capacity = capacity } → length front + n ≤ capacity → length a.items + n ≤ a.capacity
 room_left a front capacity n before room = omega (arith, ap (λ (s : BitString). length s.items) before, ap (λ (s : BitString). s.capacity) before)
-
--- the words written so far
-pub words_more : (words : List ℕ) (i : ℕ) → i < length words → words_of (take (i + 1) words) ≡ words_of (take i words) ++ field_of (get_or words i 0) 16
-words_more words i within = ap words_of (take_more words i 0 within) ∙ words_of-push (take i words) (get_or words i 0)
 
 -- the check number as a field
 pub check_written : (a b : BitString) (check : ℕ) → check ≡ value_of (crc16_of a.items) → b ≡ record { items = a.items ++ field_of check 16; capacity = a.capacity } → b ≡ record { items = with_check a.items; capacity = a.capacity }

@@ -1,3 +1,3 @@
 pub mod Faults
 pub mod Table
-pub mod WordLaws
+pub use Rattle.bit_strings.specs.Words

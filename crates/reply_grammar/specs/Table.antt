@@ -1,6 +1,7 @@
 -- The replies of tags as bits (6.3.2.11 Interrogator commands and Tag replies).
-use Rattle.std.specs.Prelude.{◌≡◌, ℕ, ◌/◌, ◌^◌, ◌<◌, ◌≤◌, Bool, true, false, List, [], ◌∷◌, ◌++◌, length, All}
+use Rattle.std.specs.Prelude.{◌≡◌, ℕ, ◌/◌, ◌^◌, ◌<◌, ◌≤◌, Bool, true, false, List, ◌∷◌, ◌++◌, length, All}
 use Rattle.bit_strings.specs.Numbers.{field_of}
+use Rattle.bit_strings.specs.Words.{bits_of_words}
 use Rattle.gen2_crc.specs.Crc.{crc16_of}
 use Rattle.reply_grammar.specs.declared.expected.Expect.{Expect}
 use Rattle.reply_grammar.specs.declared.expected.Expect.TheVariants.{Rn16 as OneRn16, Epc as OneEpc, Handle as OneHandle, Same, Words as SomeWords, AnyWords, Header as OneHeader}
@@ -11,11 +12,6 @@ use Rattle.reply_grammar.specs.declared.expected.Reply.TheVariants.{Rn16, Epc, H
 abbrev pub AreWords : List ℕ → Type 0
 AreWords words = All (λ word. word < 2 ^ 16) words
 
--- words one after another, each most significant bit first
-unfoldable pub words_of : List ℕ → List Bool
-words_of [] = []
-words_of (word ∷ words) = field_of word 16 ++ words_of words
-
 -- bits and their CRC-16 behind them
 abbrev pub with_check : List Bool → List Bool
 with_check bits = bits ++ crc16_of bits
@@ -23,9 +19,9 @@ with_check bits = bits ++ crc16_of bits
 -- the bits of a reply; a header bit 0 says success, a 1 says that an error code follows
 unfoldable pub spelling : Reply → ℕ → List Bool
 spelling (Rn16 rn) handle = field_of rn 16
-spelling (Epc pc epc) handle = with_check (field_of pc 16 ++ words_of epc)
+spelling (Epc pc epc) handle = with_check (field_of pc 16 ++ bits_of_words epc)
 spelling (Handle rn) handle = with_check (field_of rn 16)
-spelling (Words words) handle = with_check (false ∷ (words_of words ++ field_of handle 16))
+spelling (Words words) handle = with_check (false ∷ (bits_of_words words ++ field_of handle 16))
 spelling Header handle = with_check (false ∷ field_of handle 16)
 spelling (Error code) handle = with_check (true ∷ (field_of code 8 ++ field_of handle 16))
 

@@ -1,7 +1,8 @@
 //! Bits to replies.
 ghost use Rattle.std.specs.Prelude.{◌≡◌, ℕ, ◌+◌, ◌*◌, ◌≤◌, ◌==◌, ◌↔◌, length, take, IsTrue, IfOk, IfErr, Ok, Err};
 ghost use Rattle.bit_strings.specs.Numbers.{value_of, part_of};
-ghost use Rattle.reply_grammar.specs.Table.{Answers, AreWords, words_of};
+ghost use Rattle.bit_strings.specs.Words.{bits_of_words};
+ghost use Rattle.reply_grammar.specs.Table.{Answers, AreWords};
 ghost use Rattle.reply_grammar.specs.Faults.{Faults, FitsLength, PassesCheck, PassesHeader, PassesNumber, EndsWithCheck, HasHeader, HasHandle, Passes};
 ghost use Rattle.reply_grammar.specs.declared.expected.Expect.TheVariants.{Epc as OneEpc};
 ghost use Rattle.reply_grammar.specs.declared.expected.Reply.{Reply};
@@ -200,7 +201,7 @@ fn epc_words(bits: &Bits) -> EpcWords
     requires { FitsLength OneEpc bits.now.items }
     ensures count { length result ≡ value_of (take 5 bits.now.items) }
     ensures range { AreWords result }
-    ensures words { words_of result ≡ part_of bits.now.items 16 (16 * length result) }
+    ensures words { bits_of_words result ≡ part_of bits.now.items 16 (16 * length result) }
 {
     let mut words = EpcWords::new();
     let end = bits.len() - 16;
@@ -218,7 +219,7 @@ fn read_words(bits: &Bits, count: u32) -> ReadWords
     requires whole { length bits.now.items ≡ 33 + 16 * count }
     ensures count { length result ≡ count }
     ensures range { AreWords result }
-    ensures words { words_of result ≡ part_of bits.now.items 1 (16 * count) }
+    ensures words { bits_of_words result ≡ part_of bits.now.items 1 (16 * count) }
 {
     let mut words = ReadWords::new();
     let end = 1 + 16 * count;

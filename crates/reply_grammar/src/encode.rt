@@ -1,7 +1,8 @@
 //! Replies to bits.
 ghost use Rattle.std.specs.Prelude.{◌≡◌, ◌+◌, ◌*◌, ◌^◌, ◌<◌, ◌≤◌, [], ◌∷◌, ◌++◌, length};
 ghost use Rattle.bit_strings.specs.Numbers.{field_of};
-ghost use Rattle.reply_grammar.specs.Table.{Answers, CanBeSent, Carries, IsReply, Suits, spelling, words_of, with_check};
+ghost use Rattle.bit_strings.specs.Words.{bits_of_words};
+ghost use Rattle.reply_grammar.specs.Table.{Answers, CanBeSent, Carries, IsReply, Suits, spelling, with_check};
 ghost use Rattle.reply_grammar.specs.declared.expected.Expect.{Expect};
 
 use crate::expected::Reply;
@@ -86,7 +87,7 @@ fn put_word(out: &mut Bits, word: u16)
 /// Adds words, for which there is room.
 fn put_words(out: &mut Bits, words: &[u16])
     requires { length out.old.items + 16 * length words.now ≤ out.old.capacity }
-    ensures { out.new ≡ record out.old { items = out.old.items ++ words_of words.now } }
+    ensures { out.new ≡ record out.old { items = out.old.items ++ bits_of_words words.now } }
 {
     for word in words {
         put_word(out, *word);

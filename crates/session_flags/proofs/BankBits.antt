@@ -1,8 +1,8 @@
 -- The bit of a bank at a place is a bit of the word that the place lies in.
-use Rattle.std.proofs.Common.{◌≡◌, ℕ, zero, suc, ◌+◌, ◌-◌, ◌*◌, ◌/◌, ◌%◌, ◌^◌, ◌<◌, ◌==◌, Bool, List, [], ◌∷◌, ◌++◌, length, Some, None, refl, arith, slice_get, length-append}
+use Rattle.std.proofs.Common.{◌≡◌, ℕ, zero, suc, ◌+◌, ◌-◌, ◌/◌, ◌%◌, ◌^◌, ◌<◌, ◌==◌, Bool, List, [], ◌∷◌, ◌++◌, length, Some, None, refl, arith, slice_get}
 use Rattle.bit_strings.specs.Numbers.{field_of}
 use Rattle.bit_strings.specs.NumberLaws.{length-field_of}
-use Rattle.command_grammar.specs.Commands.{bits_of_words}
+use Rattle.bit_strings.specs.Words.{bits_of_words}
 
 slice_get-append_left : (xs ys : List Bool) (i : ℕ) → i < length xs → slice_get (xs ++ ys) i ≡ slice_get xs i
 slice_get-append_left [] ys i inside = absurd (omega arith)
@@ -25,11 +25,6 @@ slice_get-field_of value (suc places) zero inside =
 slice_get-field_of value (suc places) (suc i) inside =
     let same : suc places - 1 - suc i ≡ places - 1 - i = omega arith in
     rw same (slice_get-field_of value places i (omega arith))
-
-pub length-bits_of_words : (words : List ℕ) → length (bits_of_words words) ≡ 16 * length words
-length-bits_of_words [] = refl
-length-bits_of_words (word ∷ words) =
-    omega (arith, length-append (field_of word 16) (bits_of_words words), length-field_of word 16, length-bits_of_words words)
 
 pub bit_within : (words : List ℕ) (at place word : ℕ) → at / 16 ≡ place → slice_get words place ≡ Some word → slice_get (bits_of_words words) at ≡ Some (word / 2 ^ (15 - at % 16) % 2 == 1)
 bit_within [] at place word quotient hit = cc

@@ -1,7 +1,7 @@
 -- 6.3.2.11.1.1 Select: the mask is compared with the bits of a whole bank, from the place of the pointer on.
 use Rattle.std.specs.Prelude.{◌≡◌, ℕ, nat_le, Bool, true, false, ◌&&◌, List, [], ◌∷◌, ◌++◌, length, drop}
 use Rattle.std.specs.Bool.{beq}
-use Rattle.command_grammar.specs.Commands.{bits_of_words}
+use Rattle.bit_strings.specs.Words.{bits_of_words}
 
 -- the list begins with the mask
 abbrev pub begins_with : List Bool → List Bool → Bool

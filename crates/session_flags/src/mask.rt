@@ -1,6 +1,6 @@
 //! The comparison of a mask with a bank.
 ghost use Rattle.std.specs.Prelude.{◌≡◌, ◌^◌, ◌<◌, ◌↔◌, IsTrue, drop, slice_get};
-ghost use Rattle.command_grammar.specs.Commands.{bits_of_words};
+ghost use Rattle.bit_strings.specs.Words.{bits_of_words};
 ghost use Rattle.session_flags.specs.MaskMatch.{begins_with, mask_match, StandsAt};
 
 use bit_strings::Pointer;

@@ -3,7 +3,6 @@ use Rattle.std.proofs.Common.{◌≡◌, ℕ, ◌+◌, ◌≤◌, ◌/◌, ◌%�
 use Rattle.bit_strings.specs.Numbers.{field_of}
 use Rattle.bit_strings.specs.NumberLaws.{field_of-more, field_of-none}
 use Rattle.gen2_crc.specs.Crc.{StandsFor}
-use Rattle.reply_grammar.specs.Table.{words_of}
 
 -- the register now has taken in the first bits of a word, and so many are left
 pub record TakenIn (before now word places : ℕ) : Type 0 where
@@ -34,7 +33,3 @@ pub all_taken : (before now word places : ℕ) → places ≡ 0 → TakenIn befo
 all_taken before now word places none taken bits stands =
     let whole : taken.front ≡ field_of word 16 = sym (append-nil taken.front) ∙ ap (λ (l : List Bool). taken.front ++ l) (sym (field_of-none word places none)) ∙ taken.parts in
     subst (λ (l : List Bool). StandsFor now (bits ++ l)) whole (taken.stands bits stands)
-
-pub words_of-none : words_of [] ≡ []
-unfolding words_of
-words_of-none = refl

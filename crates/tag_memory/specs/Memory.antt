@@ -2,8 +2,8 @@
 -- from a bank and a word's number to that word, with the sizes of the banks.
 use Rattle.std.specs.Prelude.{◌≡◌, ℕ, ◌+◌, ◌*◌, ◌/◌, ◌^◌, ◌≤◌, List, ◌∷◌, length, take, drop, slice_index}
 use Rattle.bit_strings.specs.Numbers.{value_of}
+use Rattle.bit_strings.specs.Words.{bits_of_words}
 use Rattle.gen2_crc.specs.Crc.{crc16_of}
-use Rattle.reply_grammar.specs.Table.{words_of}
 use Rattle.command_grammar.specs.declared.command.Bank.{Bank}
 use Rattle.command_grammar.specs.declared.command.Bank.TheVariants.{Reserved, Epc, Tid, User}
 use Rattle.command_grammar.specs.declared.command.MaskBank.{MaskBank}
@@ -54,7 +54,7 @@ epc_of banks = take (length_in (pc_of banks)) (drop 2 banks.epc)
 
 -- 6.3.2.1.2.1: StoredCRC is the CRC-16 of PC and of the words of the EPC
 abbrev pub stored_crc_of : Banks → ℕ
-stored_crc_of banks = value_of (crc16_of (words_of (pc_of banks ∷ epc_of banks)))
+stored_crc_of banks = value_of (crc16_of (bits_of_words (pc_of banks ∷ epc_of banks)))
 
 -- the memory with StoredCRC computed again, as at power-on, and all else as it was
 abbrev pub with_stored_crc : Banks → Banks

@@ -1,8 +1,8 @@
 //! The banks of a tag.
 ghost use Rattle.std.specs.Prelude.{◌≡◌, ◌/◌, ◌%◌, ◌^◌, ◌<◌, ◌≤◌, ◌↔◌, List, Bool, ◌++◌, length, take, true, false, Err, IsNone, IfOk, slice_get};
 ghost use Rattle.bit_strings.specs.Numbers.{field_of, value_of};
+ghost use Rattle.bit_strings.specs.Words.{bits_of_words};
 ghost use Rattle.gen2_crc.specs.Crc.{StandsFor, crc16_of};
-ghost use Rattle.reply_grammar.specs.Table.{words_of};
 ghost use Rattle.tag_memory.specs.Memory.{IsLegal, bank_of, bank_named, pc_of, epc_of, kill_word_of, access_word_of, length_in, stored_crc_of, with_stored_crc};
 ghost use Rattle.tag_memory.specs.Image.{sizes_fit, pc_fits, image_banks, banks_of};
 
@@ -75,7 +75,7 @@ fn push_word(crc: &mut Crc16, word: u16)
 
 /// The CRC-16 of words.
 fn crc16_of_words(words: &[u16]) -> u16
-    ensures { result ≡ value_of (crc16_of (words_of words.now)) }
+    ensures { result ≡ value_of (crc16_of (bits_of_words words.now)) }
 {
     let mut crc = Crc16::new();
     for word in words {

@@ -1,4 +1,4 @@
-use Rattle.std.proofs.Common.{List, ℕ, subst, arith}
+use Rattle.std.proofs.Common.{List, ℕ, subst}
 use Rattle.std.specs.List.{AllByRecursion}
 use Rattle.command_grammar.specs.Commands.{IsWord}
 use Rattle.command_grammar.proofs.spelling.put_block_write.Goals as goal

@@ -1,5 +1,5 @@
 use Rattle.std.proofs.Common.{◌≡◌, ◌+◌, ◌*◌, ◌++◌, take, length}
-use Rattle.command_grammar.specs.Commands.{bits_of_words}
+use Rattle.bit_strings.specs.Words.{bits_of_words}
 use Rattle.command_grammar.proofs.spelling.put_words.Given as goal
 
 abbrev pub invariant-loop-word : goal.invariant-loop-word

@@ -2,10 +2,11 @@ use Rattle.std.proofs.Common.{◌≡◌, ℕ, ◌++◌, List, Bool, false, [], �
 use Rattle.bit_strings.specs.BitString.{BitString}
 use Rattle.bit_strings.specs.Numbers.{field_of}
 use Rattle.bit_strings.specs.NumberLaws.{length-field_of}
+use Rattle.bit_strings.specs.Words.{bits_of_words}
+use Rattle.bit_strings.specs.WordLaws.{length-bits_of_words}
 use Rattle.reply_grammar.specs.declared.expected.Reply.{Reply}
 use Rattle.reply_grammar.specs.declared.expected.Reply.TheVariants.{Rn16, Epc, Handle, Words, Header, Error}
-use Rattle.reply_grammar.specs.Table.{words_of, spelling}
-use Rattle.reply_grammar.specs.WordLaws.{length-words_of}
+use Rattle.reply_grammar.specs.Table.{spelling}
 use Rattle.reply_grammar.proofs.Writing.{wrote, checked, room_left}
 use Rattle.reply_grammar.proofs.encode.write_reply.Goals as goal
 
@@ -14,8 +15,8 @@ spelled_as : (capacity handle : ℕ) (reply found : Reply) → reply ≡ found �
 spelled_as capacity handle reply found is = ap (λ (r : Reply). record { items = spelling r handle; capacity = capacity }) (sym is)
 
 -- a list is the words that were lent
-words_lent : (capacity : ℕ) (front : List Bool) (lent words : List ℕ) → lent ≡ words → ◌≡◌ {A = BitString} (record { items = front ++ words_of lent; capacity = capacity }) (record { items = front ++ words_of words; capacity = capacity })
-words_lent capacity front lent words same = ap (λ (ws : List ℕ). record { items = front ++ words_of ws; capacity = capacity }) same
+words_lent : (capacity : ℕ) (front : List Bool) (lent words : List ℕ) → lent ≡ words → ◌≡◌ {A = BitString} (record { items = front ++ bits_of_words lent; capacity = capacity }) (record { items = front ++ bits_of_words words; capacity = capacity })
+words_lent capacity front lent words same = ap (λ (ws : List ℕ). record { items = front ++ bits_of_words ws; capacity = capacity }) same
 
 pub put_words-requires : goal.put_words-requires
 put_words-requires c =
@@ -26,7 +27,7 @@ pub put_check-requires : goal.put_check-requires
 put_check-requires c =
     let first = wrote c.clear.new.self c.put_word-in-Epc.new.out [] _ _ c.clear.ensures c.put_word-in-Epc.ensures in
     room_left c.put_words.new.out _ _ 16 (wrote c.put_word-in-Epc.new.out c.put_words.new.out _ _ _ first c.put_words.ensures)
-    (omega (arith, length-append (field_of c.in-Epc.pc 16) (words_of c.as_slice.result.now), length-field_of c.in-Epc.pc 16, length-words_of c.as_slice.result.now, ap length c.as_slice.ensures.value, c.as_slice.ensures.most, c.requires.room))
+    (omega (arith, length-append (field_of c.in-Epc.pc 16) (bits_of_words c.as_slice.result.now), length-field_of c.in-Epc.pc 16, length-bits_of_words c.as_slice.result.now, ap length c.as_slice.ensures.value, c.as_slice.ensures.most, c.requires.room))
 
 pub put_check-requires-in-Handle : goal.put_check-requires-in-Handle
 put_check-requires-in-Handle c =
@@ -37,14 +38,14 @@ pub put_word-requires-in-Words : goal.put_word-requires-in-Words
 put_word-requires-in-Words c =
     let first = wrote c.clear.new.self c.put_bit.new.out [] _ _ c.clear.ensures c.put_bit.ensures in
     room_left c.put_words-in-Words.new.out _ _ 16 (wrote c.put_bit.new.out c.put_words-in-Words.new.out _ _ _ first c.put_words-in-Words.ensures)
-    (omega (arith, length-words_of c.as_slice-in-Words.result.now, ap length c.as_slice-in-Words.ensures.value, c.as_slice-in-Words.ensures.most, c.requires.room))
+    (omega (arith, length-bits_of_words c.as_slice-in-Words.result.now, ap length c.as_slice-in-Words.ensures.value, c.as_slice-in-Words.ensures.most, c.requires.room))
 
 pub put_check-requires-in-Words : goal.put_check-requires-in-Words
 put_check-requires-in-Words c =
     let first = wrote c.clear.new.self c.put_bit.new.out [] _ _ c.clear.ensures c.put_bit.ensures in
     let second = wrote c.put_bit.new.out c.put_words-in-Words.new.out _ _ _ first c.put_words-in-Words.ensures in
     room_left c.put_word-in-Words.new.out _ _ 16 (wrote c.put_words-in-Words.new.out c.put_word-in-Words.new.out _ _ _ second c.put_word-in-Words.ensures)
-    (omega (arith, length-append (words_of c.as_slice-in-Words.result.now) (field_of c.args.handle 16), length-field_of c.args.handle 16, length-words_of c.as_slice-in-Words.result.now, ap length c.as_slice-in-Words.ensures.value, c.as_slice-in-Words.ensures.most, c.requires.room))
+    (omega (arith, length-append (bits_of_words c.as_slice-in-Words.result.now) (field_of c.args.handle 16), length-field_of c.args.handle 16, length-bits_of_words c.as_slice-in-Words.result.now, ap length c.as_slice-in-Words.ensures.value, c.as_slice-in-Words.ensures.most, c.requires.room))
 
 pub put_check-requires-in-Header : goal.put_check-requires-in-Header
 put_check-requires-in-Header c =

@@ -1,6 +1,6 @@
 use Rattle.std.proofs.Common.{◌≡◌, ◌+◌, ◌<◌, Bool, true, false, ◌&&◌, drop, length, get_or, sym, ◌∙◌, ap, arith, slice_get, Some, None}
 use Rattle.std.specs.Bool.{beq}
-use Rattle.command_grammar.specs.Commands.{bits_of_words}
+use Rattle.bit_strings.specs.Words.{bits_of_words}
 use Rattle.session_flags.specs.MaskMatch.{begins_with}
 use Rattle.session_flags.proofs.MaskLaws.{begins_with-bit, begins_with-past}
 use Rattle.session_flags.proofs.mask.begins_at.Goals as goal

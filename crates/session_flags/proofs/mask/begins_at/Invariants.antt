@@ -1,5 +1,5 @@
 use Rattle.std.proofs.Common.{◌≡◌, ◌+◌, drop}
-use Rattle.command_grammar.specs.Commands.{bits_of_words}
+use Rattle.bit_strings.specs.Words.{bits_of_words}
 use Rattle.session_flags.specs.MaskMatch.{begins_with}
 use Rattle.session_flags.proofs.mask.begins_at.Given as goal
 

@@ -1,7 +1,7 @@
 use Rattle.std.proofs.Common.{◌≡◌, ◌<◌, ◌≤◌, false, length, drop, arith, nat_le}
 use Rattle.std.proofs.lemmas.Bool.Decides.{nat_tests}
 use Rattle.std.specs.Int.{div_ceil}
-use Rattle.command_grammar.specs.Commands.{bits_of_words}
+use Rattle.bit_strings.specs.Words.{bits_of_words}
 use Rattle.session_flags.specs.MaskMatch.{begins_with}
 use Rattle.session_flags.proofs.MaskLaws.{match_is, match_past, rounded_up, rounded_past}
 use Rattle.session_flags.proofs.mask.mask_matches.Goals as goal
