@@ -1,5 +1,5 @@
 //! The random words that a tag draws.
-ghost use Rattle.std.specs.Prelude.{◌≡◌, ◌≤◌, length, IfOk};
+ghost use Rattle.std.specs.Prelude.{◌≡◌, ◌^◌, ◌<◌, ◌≤◌, length, All, IfOk};
 
 use bit_strings::OutOfMemory;
 use std::alloc::Global;
@@ -39,6 +39,7 @@ impl DrawWords {
         ensures value { result.now ≡ self.now }
         ensures some { 1 ≤ length self.now }
         ensures few { length self.now ≤ 256 }
+        ensures small { All (λ word. word < 2 ^ 16) self.now }
     {
         self.words.as_slice()
     }

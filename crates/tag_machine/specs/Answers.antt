@@ -1,6 +1,7 @@
 -- What a tag becomes when it hears a command, and what it answers.
-use Rattle.std.specs.Prelude.{ℕ, Bool, true, false, List, [], Option, Some, None, if◌then◌else◌}
+use Rattle.std.specs.Prelude.{ℕ, ◌^◌, ◌<◌, ◌≤◌, Bool, true, false, List, [], length, Option, Some, None, if◌then◌else◌}
 use Rattle.reply_grammar.specs.declared.expected.Reply.{Reply}
+use Rattle.reply_grammar.specs.declared.expected.Reply.TheVariants.{Rn16, Epc, Handle, Words, Header, Error}
 use Rattle.reply_grammar.specs.Table.{IsReply, spelling}
 use Rattle.tag_machine.specs.TagValue.{StateValue, BodyValue, TagValue}
 
@@ -38,7 +39,16 @@ abbrev pub bits_sent : Option Sent → List Bool
 bits_sent None = []
 bits_sent (Some sent) = spelling sent.reply sent.handle
 
--- the numbers of what is sent are in their ranges, and a PC counts the words of its EPC
+-- a reply to a Read brings 1 to 512 words
+abbrev pub HasFewWords : Reply → Type 0
+HasFewWords (Rn16 rn) = Unit {0}
+HasFewWords (Epc pc epc) = Unit {0}
+HasFewWords (Handle rn) = Unit {0}
+HasFewWords (Words words) = (1 ≤ length words) × (length words ≤ 512)
+HasFewWords Header = Unit {0}
+HasFewWords (Error code) = Unit {0}
+
+-- the numbers of what is sent are in their ranges, a PC counts the words of its EPC, and a Read brings 1 to 512 words
 abbrev pub IsSent : Option Sent → Type 0
 IsSent None = Unit {0}
-IsSent (Some sent) = IsReply sent.reply
+IsSent (Some sent) = IsReply sent.reply × (sent.handle < 2 ^ 16) × HasFewWords sent.reply

@@ -11,7 +11,7 @@ ghost use Rattle.tag_machine.specs.Events.{with_expired};
 mod access;
 
 use bit_strings::{Action, Pointer, Session};
-use command_grammar::{Bank, FlagName, Mask, MaskBank, Sel, Side};
+use command_grammar::{FlagName, Mask, MaskBank, Sel, Side};
 use lock_rules::Locks;
 use reply_grammar::Reply;
 use session_flags::{DrawWords, Flags, mask_matches};
@@ -68,7 +68,7 @@ impl Body {
         ensures { IsLegalBody self.now }
     {
         let _ = self.words.words();
-        let _ = self.memory.size(Bank::Epc);
+        self.memory.audit();
         let _ = self.place;
     }
 

@@ -1,9 +1,19 @@
-//! The law of draws.
-ghost use Rattle.std.specs.Prelude.{◌≡◌, ◌%◌, ◌≤◌, ℕ};
+//! The laws of what a tag draws and answers.
+ghost use Rattle.std.specs.Prelude.{◌≡◌, ◌%◌, ◌≤◌, ℕ, Some};
+ghost use Rattle.reply_grammar.specs.declared.expected.Expect.{Expect};
+ghost use Rattle.reply_grammar.specs.Table.{Answers, Carries, Suits};
+ghost use Rattle.tag_machine.specs.Answers.{Sent, IsSent, bits_sent};
 ghost use Rattle.tag_machine.specs.Draws.{place_of_draw};
 
 /// A tag whose draws begin at place 0 draws its words one after another, and then again: the draw with the number n,
 /// counted from 0, is the word n modulo the number of words.
 pub fn draw_laws()
     ensures { (count number : ℕ) → 1 ≤ count → place_of_draw count number ≡ number % count }
+{}
+
+/// What a tag sends is a reply that is expected: there is an expectation that its bits answer, and they answer each one
+/// that suits the reply and names the handle in it, where it names one.
+pub fn answers_are_expected()
+    ensures some { (sent : Sent) → IsSent (Some sent) → (expect : Expect) × Answers sent.reply expect (bits_sent (Some sent)) }
+    ensures each { (sent : Sent) (expect : Expect) → IsSent (Some sent) → Suits sent.reply expect → Carries expect sent.handle → Answers sent.reply expect (bits_sent (Some sent)) }
 {}

@@ -2,7 +2,7 @@
 ghost use Rattle.std.specs.Prelude.{◌≡◌, ◌≤◌, Some, None, true, false};
 ghost use Rattle.reply_grammar.specs.Table.{CanBeSent};
 ghost use Rattle.tag_machine.specs.TagValue.{ReadyState, ArbitrateState};
-ghost use Rattle.tag_machine.specs.Answers.{silent, plain, extended};
+ghost use Rattle.tag_machine.specs.Answers.{silent, plain, extended, HasFewWords};
 ghost use Rattle.tag_machine.specs.Draws.{begin_reply, enter, close, back, tag_back};
 ghost use Rattle.tag_machine.specs.Hearing.{Gives, value_of};
 
@@ -12,6 +12,20 @@ use crate::states::{Arbitrate, InReply, Ready, Slot};
 use crate::tag::Tag;
 use bit_strings::{Bits, QValue, Session};
 use reply_grammar::{Reply, encode_reply};
+
+/// Changes nothing: a reply that can be sent brings 512 words at most.
+fn audit(reply: &Reply)
+    requires { CanBeSent reply.now }
+    ensures { HasFewWords reply.now }
+{
+    match reply {
+        Reply::Words(words) => {
+            let _ = words.len();
+        }
+        Reply::Rn16(_) | Reply::Epc { .. } | Reply::Handle(_) => {}
+        Reply::Header | Reply::Error(_) => {}
+    }
+}
 
 /// No answer.
 pub fn unanswered(tag: AnyTag, out: &mut Bits) -> Heard
@@ -30,6 +44,7 @@ pub fn answer(tag: AnyTag, reply: &Reply, handle: u16, out: &mut Bits) -> Heard
     requires sendable { CanBeSent reply.now }
     ensures { Gives (plain (value_of tag).state (value_of tag).body reply.now handle) result out.old out.new }
 {
+    audit(reply);
     encode_reply(reply, handle, out);
     Heard {
         tag,
@@ -43,6 +58,7 @@ pub fn answer_extended(tag: AnyTag, reply: &Reply, handle: u16, out: &mut Bits) 
     requires sendable { CanBeSent reply.now }
     ensures { Gives (extended (value_of tag).state (value_of tag).body reply.now handle) result out.old out.new }
 {
+    audit(reply);
     encode_reply(reply, handle, out);
     Heard {
         tag,

@@ -4,6 +4,7 @@ use Rattle.std.specs.Prelude.{◌≡◌, ℕ, ◌+◌, ◌*◌, ◌/◌, ◌^◌
 use Rattle.bit_strings.specs.Numbers.{value_of}
 use Rattle.bit_strings.specs.Words.{bits_of_words}
 use Rattle.gen2_crc.specs.Crc.{crc16_of}
+use Rattle.reply_grammar.specs.Table.{AreWords}
 use Rattle.command_grammar.specs.declared.command.Bank.{Bank}
 use Rattle.command_grammar.specs.declared.command.Bank.TheVariants.{Reserved, Epc, Tid, User}
 use Rattle.command_grammar.specs.declared.command.MaskBank.{MaskBank}
@@ -69,3 +70,10 @@ pub record IsLegal (banks : Banks) : Type 0 where
   pub tid_most : length banks.tid ≤ 16
   pub user_most : length banks.user ≤ 512
   pub length_fits : 2 + length_in (pc_of banks) ≤ length banks.epc
+
+-- each word of the banks is a number of 16 bits
+pub record AreBanksOfWords (banks : Banks) : Type 0 where
+  pub reserved : AreWords banks.reserved
+  pub epc : AreWords banks.epc
+  pub tid : AreWords banks.tid
+  pub user : AreWords banks.user

@@ -3,7 +3,8 @@ ghost use Rattle.std.specs.Prelude.{◌≡◌, ◌/◌, ◌%◌, ◌^◌, ◌<�
 ghost use Rattle.bit_strings.specs.Numbers.{field_of, value_of};
 ghost use Rattle.bit_strings.specs.Words.{bits_of_words};
 ghost use Rattle.gen2_crc.specs.Crc.{StandsFor, crc16_of};
-ghost use Rattle.tag_memory.specs.Memory.{IsLegal, bank_of, bank_named, pc_of, epc_of, kill_word_of, access_word_of, length_in, stored_crc_of, with_stored_crc};
+ghost use Rattle.reply_grammar.specs.Table.{AreWords};
+ghost use Rattle.tag_memory.specs.Memory.{IsLegal, AreBanksOfWords, bank_of, bank_named, pc_of, epc_of, kill_word_of, access_word_of, length_in, stored_crc_of, with_stored_crc};
 ghost use Rattle.tag_memory.specs.Image.{sizes_fit, pc_fits, image_banks, banks_of};
 
 mod access;
@@ -84,6 +85,11 @@ fn crc16_of_words(words: &[u16]) -> u16
     crc.value()
 }
 
+/// Changes nothing: each word is a number of 16 bits.
+fn audit_words(_words: &[u16])
+    ensures { AreWords _words.now }
+{}
+
 /// Whether the EPC that the PC of an image announces lies inside its bank.
 fn has_room_for_epc(image: &BankImage) -> bool
     requires { 1 ≤ length image.now.epc }
@@ -154,6 +160,17 @@ impl Memory {
             Bank::Tid => &self.tid,
             Bank::User => &self.user,
         }
+    }
+
+    /// Changes nothing: each memory is legal, and each of its words is a number of 16 bits.
+    pub fn audit(&self)
+        ensures legal { IsLegal self.now }
+        ensures words { AreBanksOfWords self.now }
+    {
+        audit_words(&self.reserved);
+        audit_words(&self.epc);
+        audit_words(&self.tid);
+        audit_words(&self.user);
     }
 
     /// The whole of a bank that a Select may name.
