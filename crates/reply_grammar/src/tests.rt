@@ -35,6 +35,29 @@ fn known_replies_are_read(rt: HostRuntime) -> Result<(), Fail> {
     Ok(())
 }
 
+/// Replies of a tag whose handle is A1B2.
+#[test]
+fn replies_to_access_commands_are_read(rt: HostRuntime) -> Result<(), Fail> {
+    let one = Count1::new(1).ok_or("no count")?;
+    let header = bits_of(&rt, "010100001101100100110110000110111")?;
+    assert!(rt; decode_reply(&header, &Expect::Header(0xa1b2)) == Ok(Reply::Header));
+    let error = bits_of(&rt, "10000010010100001101100100111010101000100")?;
+    assert!(rt; decode_reply(&error, &Expect::Header(0xa1b2)) == Ok(Reply::Error(4)));
+    assert!(rt; decode_reply(&error, &Expect::Words(one, 0xa1b2)) == Ok(Reply::Error(4)));
+    let word = bits_of(&rt, "0000100100011010010100001101100101010000000100010")?;
+    for expect in [Expect::Words(one, 0xa1b2), Expect::AnyWords(0xa1b2)] {
+        let mut words = ReadWords::new();
+        words.push(0x1234)?;
+        assert!(rt;
+            decode_reply(&word, &expect) == Ok(Reply::Words(words)),
+            "{expect:?}"
+        );
+    }
+    let handle = bits_of(&rt, "10100001101100100100101100100110")?;
+    assert!(rt; decode_reply(&handle, &Expect::Same(0xa1b2)) == Ok(Reply::Handle(0xa1b2)));
+    Ok(())
+}
+
 #[test]
 fn refusals_come_in_order(rt: HostRuntime) -> Result<(), Fail> {
     let one = Count1::new(1).ok_or("no count")?;
