@@ -1,8 +1,7 @@
 -- Each standing can end.
-use Rattle.std.proofs.Common.{true, false, List, [], ◌∷◌, refl, arith}
+use Rattle.std.proofs.Common.{true, false, [], ◌∷◌, refl, arith}
 use Rattle.bit_strings.specs.declared.code.Code.TheVariants.{Fm0}
 use Rattle.pie_line.specs.Link.{LinkValue, IsLegal}
-use Rattle.scenario_lines.specs.declared.line.Line.{Line}
 use Rattle.scenario_lines.specs.declared.line.Line.TheVariants as lines
 use Rattle.scenario_lines.specs.LineForm.{IsLine}
 use Rattle.scenario.specs.Standing.{CanEnd, DraftValue, Follows, Leads, Standing, begun, ended, new_draft, start, within}

@@ -7,3 +7,7 @@ pub mod Texts
 pub mod Reader
 pub mod Whole
 pub mod Endings
+pub mod ToldApart
+pub mod Places
+pub mod Reasons
+pub mod OneFault

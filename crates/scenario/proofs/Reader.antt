@@ -1,13 +1,12 @@
 -- How far the lines behind a link are read.
-use Rattle.std.proofs.Common.{◌≡◌, ◌≢◌, ◌==◌, ℕ, suc, ◌+◌, ◌<◌, ◌≤◌, Bool, true, false, List, [], ◌∷◌, ◌++◌, length, map, ◌⊎◌, inl, inr, refl, sym, ◌∙◌, ap, subst, arith, append_assoc}
+use Rattle.std.proofs.Common.{◌≡◌, ◌≢◌, ℕ, ◌+◌, ◌≤◌, List, [], ◌∷◌, ◌++◌, length, map, inl, inr, refl, sym, ◌∙◌, ap, subst, arith, append_assoc}
 use Rattle.std.proofs.lemmas.Bool.Decides.{eqb_tells}
-use Rattle.std.proofs.lemmas.List.{append-nil, length-append, length-map}
-use Rattle.text_fields.specs.Lines.{fields_of, line_feed, lines_of, text_with}
+use Rattle.std.proofs.lemmas.List.{length-append}
+use Rattle.text_fields.specs.Lines.{fields_of, lines_of}
 use Rattle.pie_line.specs.Link.{LinkValue}
 use Rattle.scenario_lines.specs.declared.line.Line.{Line}
 use Rattle.scenario_lines.specs.declared.line.Line.TheVariants as lines
 use Rattle.scenario_lines.specs.declared.line.Happening.{Happening}
-use Rattle.scenario_lines.specs.LineForm.{IsLine}
 use Rattle.scenario_lines.specs.Spelling.{line_text}
 use Rattle.scenario_lines.specs.LineFaults.{Spells}
 use Rattle.scenario.specs.declared.fault.Fault.{Fault}

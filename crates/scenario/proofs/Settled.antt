@@ -1,31 +1,26 @@
 -- What lines that follow one another have settled: they are the lines of what stands, and this keeps the limits.
-use Rattle.std.proofs.Common.{◌≡◌, ◌≢◌, ℕ, zero, suc, ◌+◌, ◌<◌, ◌≤◌, ◌==◌, eqb, Bool, true, false, List, [], ◌∷◌, ◌++◌, length, map, Option, Some, None, ◌⊎◌, inl, inr, refl, sym, ◌∙◌, ap, subst, arith, append_assoc, if◌then◌else◌}
+use Rattle.std.proofs.Common.{◌≡◌, ◌≢◌, ℕ, zero, suc, ◌+◌, ◌<◌, ◌≤◌, List, [], ◌∷◌, ◌++◌, length, map, None, inl, inr, refl, sym, ◌∙◌, ap, subst, arith, append_assoc}
 use Rattle.std.specs.Prelude.{All, IfSome}
-use Rattle.std.specs.List.{flat_map}
 use Rattle.std.proofs.lemmas.Bool.Decides.{eqb_tells}
 use Rattle.std.proofs.lemmas.List.{length-append, append-nil}
 use Rattle.std.proofs.lemmas.List.Concat.{flat_map-append}
 use Rattle.std.proofs.lemmas.List.Elements.{All-append, All-nil, All-push, All-weaker}
 use Rattle.air_events.specs.declared.Event.{Event}
-use Rattle.air_events.specs.declared.Choice.{Choice}
 use Rattle.air_events.specs.declared.Entry.{Entry}
 use Rattle.command_grammar.specs.declared.commands.Command.TheVariants as commands
 use Rattle.pie_line.specs.Link.{LinkValue, IsLegal}
 use Rattle.scenario_lines.specs.declared.tag.TagSpec.{TagSpec}
-use Rattle.scenario_lines.specs.declared.line.Selection.{Selection}
 use Rattle.scenario_lines.specs.declared.line.Happening.{Happening}
 use Rattle.scenario_lines.specs.declared.line.Happening.TheVariants as happenings
 use Rattle.scenario_lines.specs.declared.line.Line.{Line}
 use Rattle.scenario_lines.specs.declared.line.Line.TheVariants as lines
 use Rattle.scenario_lines.specs.TagForm.{IsTag}
-use Rattle.scenario_lines.specs.LineForm.{IsChoice, IsEvent, IsExchange, IsHappening, IsLine, IsPlace}
-use Rattle.scenario_lines.specs.Spelling.{word_of_line}
+use Rattle.scenario_lines.specs.LineForm.{IsChoice, IsEvent, IsExchange, IsHappening, IsPlace}
 use Rattle.scenario.specs.declared.values.Step.{Step}
 use Rattle.scenario.specs.declared.values.Step.TheVariants as steps
-use Rattle.scenario.specs.declared.values.Scenario.{Scenario}
-use Rattle.scenario.specs.ScenarioText.{air_lines, choice_lines, entry_lines, scenario_lines, step_line}
-use Rattle.scenario.specs.Limits.{IsEntry, IsScenario, IsStep, Rises, SaysSomething, most_air_lines, most_steps, most_tags, no_operations}
-use Rattle.scenario.specs.Standing.{Agrees, ChoosesOnce, DraftValue, Follows, HasRoom, KeepsOrder, Leads, MayFollow, MayStand, NamesTag, Standing, after, begun, ended, entries_of, grown, last_entry, new_draft, nothing_said, scenario_of, start, turned, with_air, with_happening, with_said, with_step, within}
+use Rattle.scenario.specs.ScenarioText.{air_lines, entry_lines, scenario_lines, step_line}
+use Rattle.scenario.specs.Limits.{IsEntry, IsScenario, IsStep, Rises, most_air_lines, most_steps, most_tags, no_operations}
+use Rattle.scenario.specs.Standing.{ChoosesOnce, DraftValue, Follows, Leads, MayFollow, NamesTag, Standing, after, begun, ended, entries_of, last_entry, new_draft, nothing_said, scenario_of, start, turned, with_air, with_happening, with_said, with_step, within}
 
 -- the lines of a draft, without the end
 abbrev pub draft_lines : DraftValue → List Line

@@ -1,5 +1,5 @@
 -- The lines of a scenario that keeps the limits follow one another from the start to the end, and say it.
-use Rattle.std.proofs.Common.{◌≡◌, ◌≢◌, ℕ, zero, suc, ◌+◌, ◌<◌, ◌≤◌, ◌==◌, Bool, true, false, List, [], ◌∷◌, ◌++◌, length, map, Option, Some, None, ◌⊎◌, inl, inr, refl, sym, ◌∙◌, ap, subst, arith, append_assoc, add-zero}
+use Rattle.std.proofs.Common.{◌≡◌, ◌≢◌, ℕ, zero, suc, ◌+◌, ◌<◌, ◌≤◌, ◌==◌, true, false, List, [], ◌∷◌, ◌++◌, length, map, Option, Some, None, inl, inr, refl, sym, ◌∙◌, ap, subst, arith, append_assoc, add-zero}
 use Rattle.std.specs.Prelude.{All, IfSome}
 use Rattle.std.proofs.lemmas.Bool.{eq-eqb, ne_eqb}
 use Rattle.std.proofs.lemmas.List.{length-append, length-map, append-nil}
@@ -7,7 +7,6 @@ use Rattle.std.proofs.lemmas.List.Elements.{All-head, All-tail}
 use Rattle.air_events.specs.declared.Event.{Event}
 use Rattle.air_events.specs.declared.Choice.{Choice}
 use Rattle.air_events.specs.declared.Entry.{Entry}
-use Rattle.command_grammar.specs.declared.commands.Command.{Command}
 use Rattle.command_grammar.specs.declared.commands.Command.TheVariants as commands
 use Rattle.pie_line.specs.Link.{LinkValue, IsLegal}
 use Rattle.scenario_lines.specs.declared.tag.TagSpec.{TagSpec}
@@ -16,14 +15,14 @@ use Rattle.scenario_lines.specs.declared.line.Happening.TheVariants as happening
 use Rattle.scenario_lines.specs.declared.line.Line.{Line}
 use Rattle.scenario_lines.specs.declared.line.Line.TheVariants as lines
 use Rattle.scenario_lines.specs.TagForm.{IsTag}
-use Rattle.scenario_lines.specs.LineForm.{IsChoice, IsEvent, IsExchange, IsHappening, IsLine, IsLinkForm, IsPlace}
+use Rattle.scenario_lines.specs.LineForm.{IsChoice, IsEvent, IsExchange, IsLinkForm, IsPlace}
 use Rattle.access_ops.specs.declared.OpList.{OpList}
 use Rattle.scenario.specs.declared.values.Step.{Step}
 use Rattle.scenario.specs.declared.values.Step.TheVariants as steps
 use Rattle.scenario.specs.declared.values.Scenario.{Scenario}
 use Rattle.scenario.specs.ScenarioText.{air_lines, choice_lines, entry_lines, scenario_lines, step_line}
-use Rattle.scenario.specs.Limits.{IsEntry, IsScenario, IsStep, Rises, SaysSomething, most_air_lines, most_steps, most_tags, no_operations}
-use Rattle.scenario.specs.Standing.{Agrees, ChoosesOnce, DraftValue, Follows, IsSaid, Leads, MayFollow, Standing, after, begun, draft_of, ended, entries_of, last_entry, new_draft, nothing_said, scenario_of, start, turned, with_air, with_said, with_step, within}
+use Rattle.scenario.specs.Limits.{IsEntry, IsScenario, IsStep, Rises, SaysSomething, most_air_lines, most_steps, most_tags}
+use Rattle.scenario.specs.Standing.{ChoosesOnce, DraftValue, Follows, IsSaid, Leads, Standing, after, begun, draft_of, entries_of, last_entry, start, with_said, with_step, within}
 use Rattle.scenario.proofs.Leading.{leads_on}
 
 -- a link that keeps its ranges has the form of a line's

@@ -1,6 +1,5 @@
 -- What a line does to a draft.
-use Rattle.std.proofs.Common.{◌≡◌, ◌≢◌, ℕ, List, [], ◌∷◌, Option, Some, None, refl, sym, ◌∙◌, subst}
-use Rattle.text_fields.specs.Lines.{fields_of}
+use Rattle.std.proofs.Common.{◌≡◌, ◌≢◌, ℕ, List, Some, refl}
 use Rattle.scenario_lines.specs.declared.words.Word.{Word}
 use Rattle.scenario_lines.specs.declared.words.Word.TheVariants as words
 use Rattle.scenario_lines.specs.declared.line.Line.{Line}
@@ -10,7 +9,7 @@ use Rattle.scenario_lines.specs.Spelling.{other_fields, word_of_line}
 use Rattle.scenario_lines.specs.LineFaults.{BeginsWith, HasKnownKind, Spells}
 use Rattle.scenario.specs.declared.fault.Fault.{Fault}
 use Rattle.scenario.specs.declared.fault.Fault.TheVariants.{Extra, End, Version, Word as WordFault, Limit, Shape, Number, Tari, RtCal, TrCal, Pw, Pc, Tag, Order, Twice}
-use Rattle.scenario.specs.Standing.{Agrees, DraftValue, Follows, HasRoom, MayStand, Standing, after, ended, grown, within}
+use Rattle.scenario.specs.Standing.{Agrees, DraftValue, after, ended, grown, within}
 use Rattle.scenario.specs.Faults.{IsAtOddsBy}
 
 known_kind : (said : Line) → HasKnownKind (word_of_line said) (other_fields said)

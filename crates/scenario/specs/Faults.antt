@@ -12,7 +12,7 @@ use Rattle.scenario.specs.declared.fault.Fault.{Fault}
 use Rattle.scenario.specs.declared.fault.Fault.TheVariants.{Extra, End, Version, Word as WordFault, Limit, Shape, Number, Tari, RtCal, TrCal, Pw, Pc, Tag, Order, Twice}
 use Rattle.scenario.specs.declared.fault.ScenarioFault.{ScenarioFault}
 use Rattle.scenario.specs.declared.fault.ScenarioFault.TheVariants as faults
-use Rattle.scenario.specs.Standing.{DraftValue, Standing, start, begun, within, ended, MayStand, HasRoom, NamesTag, KeepsOrder, ChoosesOnce, Leads}
+use Rattle.scenario.specs.Standing.{DraftValue, Standing, start, within, ended, MayStand, HasRoom, NamesTag, KeepsOrder, ChoosesOnce, Leads}
 
 -- the reason for a line that says nothing, whatever the lines before it say
 abbrev pub fault_of_line : LineFault → Fault

@@ -1,9 +1,7 @@
 -- Profile: which scenarios have a text.
-use Rattle.std.specs.Prelude.{◌≡◌, ◌≢◌, ℕ, ◌<◌, ◌≤◌, List, [], ◌∷◌, length, All, Option, Some, None, IfSome, ◌⊎◌}
-use Rattle.air_events.specs.declared.Event.{Event}
+use Rattle.std.specs.Prelude.{◌≡◌, ◌≢◌, ℕ, ◌<◌, ◌≤◌, List, [], ◌∷◌, length, All, None, IfSome, ◌⊎◌}
 use Rattle.air_events.specs.declared.Entry.{Entry}
 use Rattle.access_ops.specs.declared.OpList.{OpList}
-use Rattle.command_grammar.specs.declared.commands.Command.{Command}
 use Rattle.command_grammar.specs.declared.commands.Command.TheVariants as commands
 use Rattle.pie_line.specs.Link.{IsLegal}
 use Rattle.scenario_lines.specs.TagForm.{IsTag}

@@ -1,10 +1,12 @@
-//! What holds of the lines of scenarios. Each function here states one law by its contract, and does
-//! nothing.
-ghost use Rattle.std.specs.Prelude.{◌≡◌, List};
+//! What holds of the lines and the texts of scenarios. Each function here states one law by its contract,
+//! and does nothing.
+ghost use Rattle.std.specs.Prelude.{◌≡◌, ℕ, List};
 ghost use Rattle.scenario_lines.specs.declared.line.Line.{Line};
 ghost use Rattle.scenario.specs.declared.values.Scenario.{Scenario};
-ghost use Rattle.scenario.specs.ScenarioText.{scenario_lines};
+ghost use Rattle.scenario.specs.declared.fault.Fault.{Fault};
+ghost use Rattle.scenario.specs.ScenarioText.{scenario_lines, scenario_text};
 ghost use Rattle.scenario.specs.Limits.{IsScenario};
+ghost use Rattle.scenario.specs.Faults.{IsFirstFault};
 ghost use Rattle.scenario.specs.Standing.{CanEnd, DraftValue, IsSaid, Leads, ended, Standing, scenario_of, start};
 
 /// Lines that follow one another from the start to the end are the lines of a scenario that keeps the
@@ -27,4 +29,21 @@ pub fn scenarios_are_said()
 #[tactic(auto, using(crate::proofs::Endings::can_end))]
 pub fn each_standing_can_end()
     ensures { (standing : Standing) → CanEnd standing }
+{}
+
+/// Two scenarios with one text are one.
+#[tactic(auto, using(crate::proofs::ToldApart::scenario_told))]
+pub fn scenarios_are_told_apart()
+    ensures { (one other : Scenario) → IsScenario one → IsScenario other → scenario_text one ≡ scenario_text other → one ≡ other }
+{}
+
+/// The text of a scenario has no faulty line.
+pub fn scenario_texts_are_not_faulty()
+    ensures { (scenario : Scenario) (number : ℕ) (fault : Fault) → IsScenario scenario → IsFirstFault (scenario_text scenario) number fault → ⊥ }
+{}
+
+/// A text has at most one first faulty line, which has one first reason.
+pub fn texts_have_one_fault()
+    ensures { (bytes : List ℕ) (one other : ℕ) (fault reason : Fault) → IsFirstFault bytes one fault → IsFirstFault bytes other reason
+        → (one ≡ other) × (fault ≡ reason) }
 {}

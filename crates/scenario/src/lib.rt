@@ -17,7 +17,10 @@ mod values;
 pub use access_ops::{Op, OpList};
 pub use air_events::{Choice, Entry, Event};
 pub use fault::{Fault, ScenarioFault};
-pub use laws::{each_standing_can_end, lines_say_a_scenario, scenarios_are_said};
+pub use laws::{
+    each_standing_can_end, lines_say_a_scenario, scenario_texts_are_not_faulty, scenarios_are_said,
+    scenarios_are_told_apart, texts_have_one_fault,
+};
 pub use printing::print_scenario;
 pub use q_round::RoundSpec;
 pub use reading::read_scenario;

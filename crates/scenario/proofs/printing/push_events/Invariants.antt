@@ -4,7 +4,6 @@ use Rattle.text_fields.specs.Lines.{text_with}
 use Rattle.scenario_lines.specs.declared.line.Happening.TheVariants as happenings
 use Rattle.scenario_lines.specs.declared.line.Line.TheVariants as lines
 use Rattle.scenario_lines.specs.Spelling.{line_text}
-use Rattle.scenario.specs.ScenarioText.{air_lines, step_line}
 use Rattle.scenario.proofs.printing.push_events.Given as goal
 
 -- the text has gained the lines of the items so far

@@ -1,12 +1,10 @@
 -- Line by line, up to the end or the first fault.
-use Rattle.std.proofs.Common.{◌≡◌, List, [], ◌∷◌, ◌∙◌, ap, sym, subst}
+use Rattle.std.proofs.Common.{◌≡◌, [], ◌∙◌, ap}
 use Rattle.std.proofs.lemmas.Result.{IfErr-weaker, IfOk-weaker}
 use Rattle.text_fields.specs.Lines.{fields_of}
-use Rattle.scenario.specs.declared.values.Scenario.{Scenario}
 use Rattle.scenario.specs.declared.draft.Taken.TheVariants.{More, End, Faulty}
-use Rattle.scenario.specs.declared.fault.ScenarioFault.{ScenarioFault}
 use Rattle.scenario.specs.declared.fault.ScenarioFault.TheVariants as faults
-use Rattle.scenario.specs.Standing.{DraftValue, after, scenario_of, within}
+use Rattle.scenario.specs.Standing.{after, scenario_of, within}
 use Rattle.scenario.specs.Rest.{Finishes, IsExtra, IsRefusedBehind}
 use Rattle.scenario.proofs.Reader.{end_finishes, end_hoped, extra_behind, fault_here, fault_last, hopes_more, leads_as, no_extra, not_faulty, read_end, read_more, takes_as}
 use Rattle.scenario.proofs.reading.read_behind_link.Goals as goal

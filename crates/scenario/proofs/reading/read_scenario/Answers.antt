@@ -1,11 +1,10 @@
 -- The whole text of a scenario.
-use Rattle.std.proofs.Common.{◌≡◌, ◌≢◌, List, ℕ, sym, subst, rules}
-use Rattle.std.proofs.lemmas.Grind.{common_steps}
+use Rattle.std.proofs.Common.{◌≡◌, ◌≢◌, subst, rules}
 use Rattle.std.proofs.lemmas.Result.{IfErr-weaker, IfOk-weaker}
 use Rattle.scenario_lines.specs.declared.line.Line.TheVariants as lines
 use Rattle.scenario_lines.specs.Spelling.{line_text}
 use Rattle.pie_line.specs.Link.{LinkValue}
-use Rattle.scenario.specs.Standing.{DraftValue, new_draft, within}
+use Rattle.scenario.specs.Standing.{new_draft, within}
 use Rattle.scenario.specs.ScenarioText.{scenario_text}
 use Rattle.scenario.specs.Limits.{IsScenario}
 use Rattle.scenario.specs.Faults.{IsRefused}

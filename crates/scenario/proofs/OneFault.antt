@@ -1,0 +1,67 @@
+-- A text has at most one first faulty line, and the text of a scenario has none.
+use Rattle.std.proofs.Common.{◌≡◌, ℕ, ◌+◌, List, [], ◌∷◌, ◌++◌, length, map, inl, inr, refl, sym, ◌∙◌, ap, subst}
+use Rattle.text_fields.specs.Lines.{lines_of}
+use Rattle.scenario_lines.specs.declared.line.Line.{Line}
+use Rattle.scenario_lines.specs.Spelling.{line_text}
+use Rattle.scenario.specs.declared.values.Scenario.{Scenario}
+use Rattle.scenario.specs.declared.fault.Fault.{Fault}
+use Rattle.scenario.specs.ScenarioText.{scenario_lines, scenario_text}
+use Rattle.scenario.specs.Limits.{IsScenario}
+use Rattle.scenario.specs.Standing.{DraftValue, Standing, ended, start}
+use Rattle.scenario.specs.Faults.{IsFaultyBefore, IsFirstFault}
+use Rattle.scenario.proofs.Places.{IsOnePlace, compare}
+use Rattle.scenario.proofs.Reasons.{not_faulty, one_reason}
+use Rattle.scenario.proofs.Spoken.{scenario_is_said}
+use Rattle.scenario.proofs.Texts.{lines_said}
+
+-- the lines of the text, with those before the faulty one as they are spelled
+fault_cut : (bytes : List ℕ) (number : ℕ) (fault : Fault) (first : IsFirstFault bytes number fault)
+    → lines_of bytes ≡ map line_text first.settles.said ++ first.line ∷ first.behind
+fault_cut bytes number fault first =
+    first.cut ∙ ap (λ (before : List (List ℕ)). before ++ first.line ∷ first.behind) first.settles.spelling
+
+-- at one place
+faulty_there : {said said' : List Line} {line line' : List ℕ} {behind behind' : List (List ℕ)} {to to' : Standing} (fault : Fault)
+    → IsOnePlace said said' line line' behind behind' to to' → IsFaultyBefore behind to line fault → IsFaultyBefore behind' to' line' fault
+faulty_there {line' = line'} {behind = behind} {behind' = behind'} {to = to} {to' = to'} fault place faulty =
+    subst (λ (list : List (List ℕ)). IsFaultyBefore list to' line' fault) place.behind_is
+    (subst (λ (s : Standing). IsFaultyBefore behind s line' fault) place.standing
+    (subst (λ (l : List ℕ). IsFaultyBefore behind to l fault) place.line_is faulty))
+
+same_number : (before before' : List (List ℕ)) (said said' : List Line) (one other : ℕ) → before ≡ map line_text said → before' ≡ map line_text said'
+    → said ≡ said' → one ≡ length before + 1 → other ≡ length before' + 1 → one ≡ other
+same_number before before' said said' one other spelling spelling' same place place' =
+    let list = spelling ∙ ap (λ (lines : List Line). map line_text lines) same ∙ sym spelling' in
+    place ∙ ap (λ (lines : List (List ℕ)). length lines + 1) list ∙ sym place'
+
+-- a text has at most one first faulty line, which has one first reason
+pub one_fault : (bytes : List ℕ) (one other : ℕ) (fault reason : Fault) → IsFirstFault bytes one fault → IsFirstFault bytes other reason
+    → (one ≡ other) × (fault ≡ reason)
+one_fault bytes one other fault reason first second =
+    let same = sym (fault_cut bytes one fault first) ∙ fault_cut bytes other reason second in
+    elim (compare start first.standing second.standing first.settles.said second.settles.said first.line second.line first.behind second.behind
+    first.settles.leads second.settles.leads same) [
+      | inl place ↦ (
+        same_number first.before second.before first.settles.said second.settles.said one other first.settles.spelling second.settles.spelling
+            place.lines first.place second.place,
+        one_reason second.behind second.standing second.line fault reason (faulty_there fault place first.faulty) second.faulty,
+      )
+      | inr (inl goes) ↦ absurd (not_faulty first.behind first.standing first.line fault goes first.faulty)
+      | inr (inr goes) ↦ absurd (not_faulty second.behind second.standing second.line reason goes second.faulty)
+    ]
+
+-- nothing may stand behind the end, and nothing is needed there
+end_is_not_faulty : (draft : DraftValue) (fault : Fault) → IsFaultyBefore [] (ended draft) [] fault → ⊥
+end_is_not_faulty draft fault faulty = faulty.1 refl
+
+-- the text of a scenario has no faulty line
+pub scenario_is_not_faulty : (scenario : Scenario) (number : ℕ) (fault : Fault) → IsScenario scenario → IsFirstFault (scenario_text scenario) number fault → ⊥
+scenario_is_not_faulty scenario number fault is first =
+    let said = scenario_is_said scenario is in
+    let same = sym (fault_cut (scenario_text scenario) number fault first) ∙ lines_said start (ended said.draft) (scenario_lines scenario) said.leads in
+    elim (compare start first.standing (ended said.draft) first.settles.said (scenario_lines scenario) first.line [] first.behind []
+    first.settles.leads said.leads same) [
+      | inl place ↦ end_is_not_faulty said.draft fault (faulty_there fault place first.faulty)
+      | inr (inl goes) ↦ not_faulty first.behind first.standing first.line fault goes first.faulty
+      | inr (inr goes) ↦ goes.follows.stands
+    ]

@@ -1,0 +1,173 @@
+-- The first reason for which a line is faulty is one, and a line that may follow has none.
+use Rattle.std.proofs.Common.{◌≡◌, ℕ, List, [], ◌∷◌, length, refl, sym, ◌∙◌, ap, subst}
+use Rattle.text_fields.specs.Lines.{fields_of}
+use Rattle.scenario_lines.specs.declared.words.Word.{Word}
+use Rattle.scenario_lines.specs.declared.line.Line.{Line}
+use Rattle.scenario_lines.specs.declared.line.Line.TheVariants as lines
+use Rattle.scenario_lines.specs.declared.fault.LineFault.{LineFault}
+use Rattle.scenario_lines.specs.declared.fault.LineFault.TheVariants as line_faults
+use Rattle.scenario_lines.specs.Spelling.{line_text, word_of_line}
+use Rattle.scenario_lines.specs.LineFaults.{BeginsWith, Spells}
+use Rattle.scenario_lines.proofs.LineReasons.{faulty_once, spelled_not_faulty}
+use Rattle.scenario_lines.proofs.LineShapes.{begins_once}
+use Rattle.scenario_lines.proofs.ToldLines.{spelled_told}
+use Rattle.scenario.specs.declared.fault.Fault.{Fault}
+use Rattle.scenario.specs.declared.fault.Fault.TheVariants.{Word as WordFault, Limit, Shape, Number, Tari, RtCal, TrCal, Pw, Pc, Tag, Order, Twice}
+use Rattle.scenario.specs.Standing.{AgreesWith, DraftValue, Follows, HasRoom, KeepsOrder, MayStand, NamesTag, Standing, begun, ended, start, within}
+use Rattle.scenario.specs.Faults.{HasPlace, IsAtOdds, IsAtOddsBy, IsFaultyAt, IsFaultyBefore, IsTooMuch, SaysNothing, fault_of_line}
+use Rattle.scenario.proofs.Places.{GoesOn}
+use Rattle.scenario.proofs.Taken.{not_at_odds, spelled_begins}
+use Rattle.scenario.proofs.Texts.{spells_text}
+
+-- the reason for which a line doesn't agree with the lines before it, with all that is known then
+data Odds (draft : DraftValue) (line : Line) (fault : Fault) : Type 0 where
+  no_tag : fault ≡ Tag → (¬ NamesTag (length draft.tags) line) → Odds draft line fault
+  no_order : fault ≡ Order → NamesTag (length draft.tags) line → (¬ KeepsOrder draft line) → Odds draft line fault
+  twice : fault ≡ Twice → NamesTag (length draft.tags) line → KeepsOrder draft line → Odds draft line fault
+
+odds_of : (draft : DraftValue) (line : Line) (fault : Fault) → IsAtOddsBy draft line fault → Odds draft line fault
+odds_of draft line Tag odds = no_tag refl odds
+odds_of draft line Order odds = no_order refl odds.0 odds.1
+odds_of draft line Twice odds = twice refl odds.0 odds.1
+odds_of draft line fault odds = absurd odds
+
+one_odds : {draft : DraftValue} {line : Line} {fault reason : Fault} → Odds draft line fault → Odds draft line reason → fault ≡ reason
+one_odds (no_tag is none) (no_tag is' none') = is ∙ sym is'
+one_odds (no_tag is none) (no_order is' names falls) = absurd (none names)
+one_odds (no_tag is none) (twice is' names keeps) = absurd (none names)
+one_odds (no_order is names falls) (no_tag is' none) = absurd (none names)
+one_odds (no_order is names falls) (no_order is' names' falls') = is ∙ sym is'
+one_odds (no_order is names falls) (twice is' names' keeps) = absurd (falls keeps)
+one_odds (twice is names keeps) (no_tag is' none) = absurd (none names)
+one_odds (twice is names keeps) (no_order is' names' falls) = absurd (falls keeps)
+one_odds (twice is names keeps) (twice is' names' keeps') = is ∙ sym is'
+
+same_draft : {draft other : DraftValue} → within draft ≡ within other → draft ≡ other
+same_draft same = cc
+
+one_odds_at : (standing : Standing) (fields : List (List ℕ)) (fault reason : Fault) → IsAtOdds standing fields fault → IsAtOdds standing fields reason
+    → fault ≡ reason
+one_odds_at standing fields fault reason one other =
+    let draft : one.draft ≡ other.draft = same_draft (sym one.here ∙ other.here) in
+    let line = spelled_told fields one.line other.line one.spells other.spells in
+    let odds = subst (λ (l : Line). IsAtOddsBy other.draft l fault) line (subst (λ (d : DraftValue). IsAtOddsBy d one.line fault) draft one.odds) in
+    one_odds (odds_of other.draft other.line fault odds) (odds_of other.draft other.line reason other.odds)
+
+-- a line that is at odds has its place
+odds_place : (standing : Standing) (fields : List (List ℕ)) (fault : Fault) → IsAtOdds standing fields fault → HasPlace standing fields
+odds_place standing fields fault odds =
+    record { word = word_of_line odds.line; begins = spelled_begins fields odds.line odds.spells; stands = odds.stands; room = odds.room }
+
+-- the stage at which a line is refused
+data Stage (standing : Standing) (fields : List (List ℕ)) (fault : Fault) : Type 0 where
+  no_place : fault ≡ WordFault → ((word : Word) → BeginsWith fields word → ¬ MayStand standing word) → Stage standing fields fault
+  too_much : fault ≡ Limit → IsTooMuch standing fields → Stage standing fields fault
+  nothing : (line_fault : LineFault) → fault ≡ fault_of_line line_fault → SaysNothing standing fields line_fault → Stage standing fields fault
+  at_odds : IsAtOdds standing fields fault → Stage standing fields fault
+
+stage_of : (standing : Standing) (fields : List (List ℕ)) (fault : Fault) → IsFaultyAt standing fields fault → Stage standing fields fault
+stage_of standing fields WordFault faulty = no_place refl faulty
+stage_of standing fields Limit faulty = too_much refl faulty
+stage_of standing fields Shape faulty = nothing line_faults.Shape refl faulty
+stage_of standing fields Number faulty = nothing line_faults.Number refl faulty
+stage_of standing fields Tari faulty = nothing line_faults.Tari refl faulty
+stage_of standing fields RtCal faulty = nothing line_faults.RtCal refl faulty
+stage_of standing fields TrCal faulty = nothing line_faults.TrCal refl faulty
+stage_of standing fields Pw faulty = nothing line_faults.Pw refl faulty
+stage_of standing fields Pc faulty = nothing line_faults.Pc refl faulty
+stage_of standing fields Tag faulty = at_odds faulty
+stage_of standing fields Order faulty = at_odds faulty
+stage_of standing fields Twice faulty = at_odds faulty
+stage_of standing fields fault faulty = absurd faulty
+
+too_much_or_place : (standing : Standing) (fields : List (List ℕ)) → IsTooMuch standing fields → HasPlace standing fields → ⊥
+too_much_or_place standing fields much place =
+    much.no_room (subst (HasRoom standing) (begins_once fields place.word much.word place.begins much.begins) place.room)
+
+one_stage : (standing : Standing) (fields : List (List ℕ)) (fault reason : Fault) → Stage standing fields fault → Stage standing fields reason → fault ≡ reason
+one_stage standing fields fault reason (no_place is none) (no_place is' none') = is ∙ sym is'
+one_stage standing fields fault reason (no_place is none) (too_much is' much) = absurd (none much.word much.begins much.stands)
+one_stage standing fields fault reason (no_place is none) (nothing line_fault is' says) = absurd (none says.place.word says.place.begins says.place.stands)
+one_stage standing fields fault reason (no_place is none) (at_odds odds) =
+    let place = odds_place standing fields reason odds in absurd (none place.word place.begins place.stands)
+one_stage standing fields fault reason (too_much is much) (no_place is' none) = absurd (none much.word much.begins much.stands)
+one_stage standing fields fault reason (too_much is much) (too_much is' much') = is ∙ sym is'
+one_stage standing fields fault reason (too_much is much) (nothing line_fault is' says) = absurd (too_much_or_place standing fields much says.place)
+one_stage standing fields fault reason (too_much is much) (at_odds odds) =
+    absurd (too_much_or_place standing fields much (odds_place standing fields reason odds))
+one_stage standing fields fault reason (nothing line_fault is says) (no_place is' none) = absurd (none says.place.word says.place.begins says.place.stands)
+one_stage standing fields fault reason (nothing line_fault is says) (too_much is' much) = absurd (too_much_or_place standing fields much says.place)
+one_stage standing fields fault reason (nothing line_fault is says) (nothing line_fault' is' says') =
+    is ∙ ap fault_of_line (faulty_once fields line_fault line_fault' says.faulty says'.faulty) ∙ sym is'
+one_stage standing fields fault reason (nothing line_fault is says) (at_odds odds) =
+    absurd (spelled_not_faulty fields odds.line line_fault odds.spells says.faulty)
+one_stage standing fields fault reason (at_odds odds) (no_place is none) =
+    let place = odds_place standing fields fault odds in absurd (none place.word place.begins place.stands)
+one_stage standing fields fault reason (at_odds odds) (too_much is much) =
+    absurd (too_much_or_place standing fields much (odds_place standing fields fault odds))
+one_stage standing fields fault reason (at_odds odds) (nothing line_fault is says) =
+    absurd (spelled_not_faulty fields odds.line line_fault odds.spells says.faulty)
+one_stage standing fields fault reason (at_odds odds) (at_odds odds') = one_odds_at standing fields fault reason odds odds'
+
+one_reason_at : (standing : Standing) (fields : List (List ℕ)) (fault reason : Fault) → IsFaultyAt standing fields fault → IsFaultyAt standing fields reason
+    → fault ≡ reason
+one_reason_at standing fields fault reason faulty faulty' =
+    one_stage standing fields fault reason (stage_of standing fields fault faulty) (stage_of standing fields reason faulty')
+
+-- the first reason is one
+pub one_reason : (behind : List (List ℕ)) (standing : Standing) (line : List ℕ) (fault reason : Fault) → IsFaultyBefore behind standing line fault
+    → IsFaultyBefore behind standing line reason → fault ≡ reason
+one_reason behind (ended draft) line fault reason faulty faulty' = faulty.0 ∙ sym faulty'.0
+one_reason [] start line fault reason faulty faulty' = faulty ∙ sym faulty'
+one_reason [] begun line fault reason faulty faulty' = faulty ∙ sym faulty'
+one_reason [] (within draft) line fault reason faulty faulty' = faulty ∙ sym faulty'
+one_reason (next ∷ more) start line fault reason faulty faulty' = faulty.0 ∙ sym faulty'.0
+one_reason (next ∷ more) begun line fault reason faulty faulty' = one_reason_at begun (fields_of line) fault reason faulty faulty'
+one_reason (next ∷ more) (within draft) line fault reason faulty faulty' = one_reason_at (within draft) (fields_of line) fault reason faulty faulty'
+
+-- a line that may follow is not at odds with the lines before it
+not_odds : (standing : Standing) (fields : List (List ℕ)) (line : Line) (fault : Fault) → Follows standing line → Spells fields line
+    → IsAtOdds standing fields fault → ⊥
+not_odds standing fields line fault follows spells odds =
+    let same = spelled_told fields line odds.line spells odds.spells in
+    let agrees : AgreesWith (within odds.draft) odds.line =
+    subst (λ (l : Line). AgreesWith (within odds.draft) l) same (subst (λ (s : Standing). AgreesWith s line) odds.here follows.agrees) in
+    not_at_odds odds.draft odds.line fault agrees odds.odds
+
+follows_at_no_stage : (standing : Standing) (fields : List (List ℕ)) (line : Line) (fault : Fault) → Follows standing line → Spells fields line
+    → Stage standing fields fault → ⊥
+follows_at_no_stage standing fields line fault follows spells (no_place is none) =
+    none (word_of_line line) (spelled_begins fields line spells) follows.stands
+follows_at_no_stage standing fields line fault follows spells (too_much is much) =
+    too_much_or_place standing fields much
+    (record { word = word_of_line line; begins = spelled_begins fields line spells; stands = follows.stands; room = follows.room })
+follows_at_no_stage standing fields line fault follows spells (nothing line_fault is says) = spelled_not_faulty fields line line_fault spells says.faulty
+follows_at_no_stage standing fields line fault follows spells (at_odds odds) = not_odds standing fields line fault follows spells odds
+
+-- the first line is the version
+version_alone : (line : Line) → MayStand start (word_of_line line) → line ≡ lines.Version
+version_alone lines.Version stands = refl
+version_alone (lines.Link link) stands = absurd stands
+version_alone (lines.Tag tag) stands = absurd stands
+version_alone (lines.Air exchange happening) stands = absurd stands
+version_alone (lines.Select selection) stands = absurd stands
+version_alone lines.Nak stands = absurd stands
+version_alone (lines.Event event tag) stands = absurd stands
+version_alone (lines.Round spec) stands = absurd stands
+version_alone lines.End stands = absurd stands
+
+-- where the text goes on, the line is not faulty
+pub not_faulty : (behind : List (List ℕ)) (standing : Standing) (line : List ℕ) (fault : Fault) → GoesOn standing line behind
+    → IsFaultyBefore behind standing line fault → ⊥
+not_faulty behind (ended draft) line fault goes faulty = goes.follows.stands
+not_faulty [] start line fault goes faulty = goes.more refl
+not_faulty [] begun line fault goes faulty = goes.more refl
+not_faulty [] (within draft) line fault goes faulty = goes.more refl
+not_faulty (next ∷ more) start line fault goes faulty =
+    faulty.1 (goes.text ∙ ap line_text (version_alone goes.next goes.follows.stands))
+not_faulty (next ∷ more) begun line fault goes faulty =
+    follows_at_no_stage begun (fields_of line) goes.next fault goes.follows (spells_text line goes.next goes.text goes.follows.is)
+    (stage_of begun (fields_of line) fault faulty)
+not_faulty (next ∷ more) (within draft) line fault goes faulty =
+    follows_at_no_stage (within draft) (fields_of line) goes.next fault goes.follows (spells_text line goes.next goes.text goes.follows.is)
+    (stage_of (within draft) (fields_of line) fault faulty)
