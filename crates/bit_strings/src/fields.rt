@@ -46,7 +46,7 @@ impl Bits {
         if self.len() < width || self.len() - width < from {
             return None;
         }
-        Some(value_of_part(&self.as_slice()[from as usize..(from + width) as usize]))
+        Some(value_of_bits(&self.as_slice()[from as usize..(from + width) as usize]))
     }
 
     /// The word that the 16 bits from the place `from` on are. None comes exactly where fewer
@@ -60,8 +60,8 @@ impl Bits {
     }
 }
 
-/// The number that at most 31 bits are.
-fn value_of_part(bits: &[bool]) -> u32
+/// The number that at most 31 bits are, most significant bit first.
+pub fn value_of_bits(bits: &[bool]) -> u32
     requires { length bits.now ≤ 31 }
     ensures { result ≡ value_of bits.now }
 {

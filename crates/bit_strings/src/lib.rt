@@ -15,7 +15,7 @@ pub use bits::{Bits, Full, Levels, OutOfMemory};
 pub use checked::{Action, Count1, Payload, Pointer, QValue, Session};
 pub use code::Code;
 pub use ebv::Ebv;
-pub use fields::xor16;
+pub use fields::{value_of_bits, xor16};
 pub use laws::{ebv_laws, field_laws};
 pub use list::List;
 

@@ -4,10 +4,11 @@ use Rattle.std.specs.Prelude.{◌==◌, not}
 use mathlib.Core.Bool.{beq}
 use Rattle.bit_strings.specs.Numbers.{field_of}
 use Rattle.bit_strings.specs.NumberLaws.{field_of-more, field_of-none}
+use Rattle.gen2_crc.specs.Crc.{differ}
 use Rattle.command_grammar.specs.declared.refusal.Reason.{Reason}
 use Rattle.command_grammar.specs.declared.reader.Stop.{Stop}
 use Rattle.command_grammar.specs.declared.reader.Stop.TheVariants.{Bad}
-use Rattle.command_grammar.specs.Reading.{Reading, ◌>>=◌, bit_at, exactly_at, field_at, words_at, differ}
+use Rattle.command_grammar.specs.Reading.{Reading, ◌>>=◌, bit_at, exactly_at, field_at, words_at}
 
 -- words before those that are still read
 abbrev pub behind : List ℕ → Reading (List ℕ) → Reading (List ℕ)

@@ -4,7 +4,7 @@ use Rattle.std.specs.Prelude.{◌≡◌, ℕ, zero, suc, ◌+◌, ◌-◌, ◌*�
 use Rattle.bit_strings.specs.Numbers.{value_of}
 use Rattle.bit_strings.specs.declared.code.Code.{Code}
 use Rattle.bit_strings.specs.declared.code.Code.TheVariants.{Fm0, M2, M4, M8}
-use Rattle.gen2_crc.specs.Crc.{crc5_of, crc16_of}
+use Rattle.gen2_crc.specs.Crc.{crc5_of, crc16_of, differ}
 use Rattle.command_grammar.specs.declared.command.Sel.{Sel}
 use Rattle.command_grammar.specs.declared.command.Sel.TheVariants as sels
 use Rattle.command_grammar.specs.declared.command.Side.{Side}
@@ -110,11 +110,6 @@ kinds_11 = fork (fork (fork kinds_11000 kinds_11001) none) none
 
 abbrev pub all_kinds : Choice Kind
 all_kinds = fork (fork (pick kinds.QueryRep) (pick kinds.Ack)) (fork kinds_10 kinds_11)
-
--- 1 where the bits differ
-abbrev pub differ : Bool → Bool → Bool
-differ true b = not b
-differ false b = b
 
 -- these bits alone
 abbrev pub exactly_at : List Bool → Reason → List Bool → Reading (Unit {0})

@@ -16,7 +16,9 @@ pub enum Sel {
 /// The value of an inventoried flag (6.3.2.2 Sessions and inventoried flags).
 #[derive(Clone, Copy, Debug, PartialEq, Eq)]
 pub enum Side {
+    /// A, as the flags of a new tag are.
     A,
+    /// B.
     B,
 }
 
@@ -34,17 +36,24 @@ pub enum UpDn {
 /// A bank of a tag's memory (6.3.2.1 Tag memory).
 #[derive(Clone, Copy, Debug, PartialEq, Eq)]
 pub enum Bank {
+    /// The kill and access passwords (6.3.2.1.1 Reserved memory).
     Reserved,
+    /// StoredCRC, PC and the EPC (6.3.2.1.2 EPC memory).
     Epc,
+    /// What names the tag's maker and model (6.3.2.1.3 TID memory).
     Tid,
+    /// The user's own words (6.3.2.1.4 User memory).
     User,
 }
 
 /// A bank that a Select may compare its mask with (6.3.2.11.1.1 Select): every bank but Reserved.
 #[derive(Clone, Copy, Debug, PartialEq, Eq)]
 pub enum MaskBank {
+    /// The EPC bank.
     Epc,
+    /// The TID bank.
     Tid,
+    /// The User bank.
     User,
 }
 
@@ -52,9 +61,14 @@ pub enum MaskBank {
 /// or the selected flag.
 #[derive(Clone, Copy, Debug, PartialEq, Eq)]
 pub enum FlagName {
+    /// The inventoried flag of session S0.
     S0,
+    /// The inventoried flag of session S1.
     S1,
+    /// The inventoried flag of session S2.
     S2,
+    /// The inventoried flag of session S3.
     S3,
+    /// The selected flag SL.
     Sl,
 }

@@ -1,13 +1,13 @@
 //! The fields of a command, read from the front of a list of bits.
 ghost use Rattle.std.specs.Prelude.{◌≡◌, ◌≢◌, ◌+◌, ◌<◌, ◌≤◌, ◌^◌, length, IfOk, [], ◌∷◌};
-ghost use Rattle.bit_strings.specs.Numbers.{value_of, field_of};
+ghost use Rattle.bit_strings.specs.Numbers.{field_of};
 ghost use Rattle.gen2_crc.specs.Crc.{crc5_of, crc16_of};
 ghost use Rattle.command_grammar.specs.Reading.{Gives, bit_at, bits_at, field_at, choice_at, exactly_at, count_at, words_at, block_at, first_block_at, last_block_at, ebv_at, crc5_at, crc16_at, one_zero};
 ghost use Rattle.command_grammar.specs.declared.reader.Stop.TheVariants.{Bad};
 
 use crate::refusal::Reason;
 use crate::words::{BlockWords, Mask};
-use bit_strings::Count1;
+use bit_strings::{Count1, value_of_bits};
 use gen2_crc::{crc5_of_bits, crc16_of_bits};
 
 /// Why a field can't be read.
@@ -41,18 +41,6 @@ pub(crate) fn refused(rest: &[bool], reason: Reason) -> Stop
     }
 }
 
-/// The number that at most 31 bits are, most significant bit first.
-fn number_of(bits: &[bool]) -> u32
-    requires { length bits.now ≤ 31 }
-    ensures { result ≡ value_of bits.now }
-{
-    let mut value = 0;
-    for bit in bits {
-        value = 2 * value + u32::from(*bit);
-    }
-    value
-}
-
 /// The next bit, and the bits behind it.
 pub(crate) fn bit(bits: &[bool]) -> Result<(bool, &[bool]), Stop>
     ensures { Gives (λ x. (x.0, x.1.now)) result (bit_at bits.now) }
@@ -84,7 +72,7 @@ pub(crate) fn field(bits: &[bool], width: usize) -> Result<(u32, &[bool]), Stop>
         return Err(Stop::Short);
     }
     let (front, rest) = bits.split_at(width);
-    Ok((number_of(front), rest))
+    Ok((value_of_bits(front), rest))
 }
 
 /// A word of 16 bits.

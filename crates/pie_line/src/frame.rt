@@ -14,9 +14,21 @@ pub enum Lead {
 #[derive(Clone, Copy, Debug, PartialEq, Eq)]
 pub enum FrameKind {
     /// A preamble, with a data-0, RTcal and TRcal.
-    Preamble { tari: u32, rtcal: u32, trcal: u32 },
+    Preamble {
+        /// The length of the data-0 behind the delimiter.
+        tari: u32,
+        /// RTcal, the length of a data-0 and a data-1.
+        rtcal: u32,
+        /// TRcal, by which the link from the tag is set.
+        trcal: u32,
+    },
     /// A frame-sync, with a data-0 and RTcal.
-    FrameSync { tari: u32, rtcal: u32 },
+    FrameSync {
+        /// The length of the data-0 behind the delimiter.
+        tari: u32,
+        /// RTcal, the length of a data-0 and a data-1.
+        rtcal: u32,
+    },
 }
 
 impl FrameKind {

@@ -4,4 +4,4 @@ use Rattle.command_grammar.proofs.reader.field.Goals as goal
 
 pub returns-clause-small : goal.returns-clause-small
 returns-clause-small c =
-    omega (arith, c.number_of.ensures, value_of-within c.split_at.result.0.now c.args.width (omega (arith, c.split_at.ensures.front_len)))
+    omega (arith, c.value_of_bits.ensures, value_of-within c.split_at.result.0.now c.args.width (omega (arith, c.split_at.ensures.front_len)))

@@ -1,6 +1,6 @@
 use Rattle.std.proofs.Common.{get_or, false, arith}
 use Rattle.bit_strings.proofs.Digits.{value_of-take_below, digits_more, byte_small}
-use Rattle.command_grammar.proofs.reader.number_of.Goals as goal
+use Rattle.bit_strings.proofs.fields.value_of_bits.Goals as goal
 
 pub overflow_mul-value : goal.overflow_mul-value
 overflow_mul-value c = omega (arith, value_of-take_below c.args.bits.now c.loop-bit.bit-index c.requires c.loop-bit-test.true)
