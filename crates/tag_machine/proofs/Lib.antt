@@ -4,4 +4,6 @@ pub mod FlagsAfter
 pub mod HandleRules
 pub mod InRange
 pub mod Isolated
+pub mod KeepsLegal
+pub mod LegalMemory
 pub mod Places

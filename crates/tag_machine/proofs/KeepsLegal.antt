@@ -1,0 +1,545 @@
+-- A tag that hears a command, or that an event befalls, stays legal.
+use Rattle.std.proofs.Common.{ℕ, ◌+◌, ◌-◌, ◌%◌, ◌^◌, ◌<◌, ◌≤◌, ◌==◌, Bool, true, false, List, [], ◌∷◌, length, Option, Some, None, Result, Ok, Err, IfOk, if◌then◌else◌, arith, inl, inr}
+use Rattle.std.proofs.Math.Nat.{one-le-pow, pow-le-pow_right}
+use Rattle.std.proofs.lemmas.Nat.{mod_below, xor_of_16}
+use Rattle.std.proofs.lemmas.Bool.Decides.{eqb_tells}
+use Rattle.std.proofs.lemmas.List.Elements.{All-cons, All-nil, All-get_or, All-from_recursion}
+use Rattle.air_events.specs.declared.Event.{Event}
+use Rattle.air_events.specs.declared.Event.TheVariants as events
+use Rattle.command_grammar.specs.declared.command.Bank.{Bank}
+use Rattle.command_grammar.specs.declared.command.FlagName.{FlagName}
+use Rattle.command_grammar.specs.declared.command.MaskBank.{MaskBank}
+use Rattle.command_grammar.specs.declared.command.Sel.{Sel}
+use Rattle.command_grammar.specs.declared.command.Side.{Side}
+use Rattle.command_grammar.specs.declared.command.UpDn.{UpDn}
+use Rattle.command_grammar.specs.declared.command.UpDn.TheVariants.{Up, Same, Down}
+use Rattle.command_grammar.specs.declared.commands.Command.{Command}
+use Rattle.command_grammar.specs.declared.commands.Command.TheVariants as commands
+use Rattle.command_grammar.specs.Commands.{IsLegal as IsLegalCommand}
+use Rattle.lock_rules.specs.declared.locks.Locks.{Locks}
+use Rattle.lock_rules.specs.declared.terms.ErrorCode.{ErrorCode}
+use Rattle.lock_rules.specs.declared.terms.ErrorCode.TheVariants as errors
+use Rattle.lock_rules.specs.declared.terms.Level.{Level}
+use Rattle.lock_rules.specs.declared.terms.Level.TheVariants as levels
+use Rattle.lock_rules.specs.Lock.{locked}
+use Rattle.reply_grammar.specs.declared.expected.Reply.TheVariants.{Handle, Header}
+use Rattle.reply_grammar.specs.Table.{AreWords}
+use Rattle.session_flags.specs.declared.flags.Flags.{Flags}
+use Rattle.session_flags.specs.Flags.{matches, without_power, expired}
+use Rattle.tag_memory.specs.Memory.{Banks, kill_word_of, access_word_of, with_stored_crc}
+use Rattle.tag_memory.specs.Access.{words_read, written, erased}
+use Rattle.tag_machine.specs.declared.states.Half.{Half}
+use Rattle.tag_machine.specs.declared.states.Held.{Held}
+use Rattle.tag_machine.specs.declared.states.Kind.{Kind}
+use Rattle.tag_machine.specs.declared.states.Kind.TheVariants as kinds
+use Rattle.tag_machine.specs.TagValue.{StateValue, ReadyState, ArbitrateState, ReplyState, AcknowledgedState, OpenState, SecuredState, KilledState, UnpoweredState, BodyValue, IsWordOrNone, IsHalfOrNone, IsLegalHeld, IsLegalState, IsLegalBody, IsLegalTag}
+use Rattle.tag_machine.specs.Answers.{Outcome, silent, plain, extended}
+use Rattle.tag_machine.specs.Draws.{drawn, place_behind, after_draw, slot_drawn, begin_reply, enter, inverted_body, close, back}
+use Rattle.tag_machine.specs.Inventory.{take_part, closed_before, query, unless_half, end_turn, slot_below, count_down, query_rep, adjusted, query_adjust, epc_reply, ack, nak, selected_body, selected_ready, select}
+use Rattle.tag_machine.specs.Access.{held_state, first_level, new_held, give_handle, give_cover, req_rn_held, req_rn, with_handle, unless_any_half, is_kind, unless_other_half, uncover, refuse, read_answer, read_held, read, memory_changed, write_held, write, whole_of, keep_half, kill_half, kill_held, kill, has_user, locks_changed, lock, access_half, access_held, access, block_write, block_erase}
+use Rattle.tag_machine.specs.Events.{after_timeout, powered_off, after_off, after_on, with_expired, after_expiry, happens}
+use Rattle.tag_machine.specs.Step.{step}
+use Rattle.tag_machine.proofs.LegalMemory.{AreSound, written_sound, erased_sound, stored_crc_sound}
+
+abbrev IsLegalAt : StateValue → BodyValue → Type 0
+IsLegalAt state body = IsLegalTag (record { state = state; body = body })
+
+-- the tag after an outcome is legal
+abbrev Leaves : Outcome → Type 0
+Leaves outcome = IsLegalTag outcome.tag
+
+tag_is : (state : StateValue) (body : BodyValue) → IsLegalState state → IsLegalBody body → IsLegalAt state body
+tag_is state body of_state of_body = record { state = of_state; body = of_body }
+
+either : (test : Bool) (x y : Outcome) → Leaves x → Leaves y → Leaves (if test then x else y)
+either true x y of_x of_y = of_x
+either false x y of_x of_y = of_y
+
+-- what every state holds
+with_flags : (body : BodyValue) (flags : Flags) → IsLegalBody body → IsLegalBody (record body { flags = flags })
+with_flags body flags legal = record { memory = legal.memory; memory_words = legal.memory_words; words = legal.words; place = legal.place }
+
+with_locks : (body : BodyValue) (locks : Locks) → IsLegalBody body → IsLegalBody (record body { locks = locks })
+with_locks body locks legal = record { memory = legal.memory; memory_words = legal.memory_words; words = legal.words; place = legal.place }
+
+with_memory : (body : BodyValue) (memory : Banks) → IsLegalBody body → AreSound memory → IsLegalBody (record body { memory = memory })
+with_memory body memory legal sound = record { memory = sound.legal; memory_words = sound.words; words = legal.words; place = legal.place }
+
+sound_of : (body : BodyValue) → IsLegalBody body → AreSound body.memory
+sound_of body legal = record { legal = legal.memory; words = legal.memory_words }
+
+place_inside : (count place : ℕ) → place < count → place_behind count place < count
+place_inside count place inside =
+    elim (eqb_tells (place + 1) count) [
+      | inl w ↦ rw w.0 (omega arith)
+      | inr w ↦ rw w.0 (omega (arith, w.1))
+    ]
+
+behind_draw : (body : BodyValue) → IsLegalBody body → IsLegalBody (after_draw body)
+behind_draw body legal = record {
+  memory = legal.memory;
+  memory_words = legal.memory_words;
+  words = legal.words;
+  place = place_inside (length body.words) body.place legal.place;
+}
+
+word_drawn : (body : BodyValue) → IsLegalBody body → drawn body < 2 ^ 16
+word_drawn body legal = All-get_or (λ (word : ℕ). word < 2 ^ 16) body.words body.place 0 legal.place legal.words.small
+
+-- moves
+gone_back : (session q : ℕ) (body : BodyValue) → session ≤ 3 → q ≤ 15 → IsLegalBody body → Leaves (back session q body)
+gone_back session q body of_session of_q of_body = tag_is (ArbitrateState session q 0) body (of_session, of_q, omega arith) of_body
+
+closed : (session : ℕ) (body : BodyValue) → IsLegalBody body → Leaves (close session body)
+closed session body of_body = tag_is ReadyState (inverted_body session body) tt (with_flags body (inverted_body session body).flags of_body)
+
+begun : (session q : ℕ) (body : BodyValue) → session ≤ 3 → q ≤ 15 → IsLegalBody body → Leaves (begin_reply session q body)
+begun session q body of_session of_q of_body =
+    tag_is (ReplyState session q (drawn body)) (after_draw body) (of_session, of_q, word_drawn body of_body) (behind_draw body of_body)
+
+slot_small : (word q : ℕ) → q ≤ 15 → word % 2 ^ q < 2 ^ 15
+slot_small word q of_q =
+    let some : 1 ≤ 2 ^ q = one-le-pow q 2 (omega arith) in
+    let below : word % 2 ^ q < 2 ^ q = mod_below word (2 ^ q) some in
+    let grows : 2 ^ q ≤ 2 ^ 15 = pow-le-pow_right (omega arith) of_q in
+    omega (arith, below, grows)
+
+entered : (session q : ℕ) (body : BodyValue) → session ≤ 3 → q ≤ 15 → IsLegalBody body → Leaves (enter session q body)
+entered session q body of_session of_q of_body =
+    either (slot_drawn q body == 0) (begin_reply session q (after_draw body)) (silent (ArbitrateState session q (slot_drawn q body)) (after_draw body))
+    (begun session q (after_draw body) of_session of_q (behind_draw body of_body))
+    (tag_is (ArbitrateState session q (slot_drawn q body)) (after_draw body) (of_session, of_q, slot_small (drawn body) q of_q) (behind_draw body of_body))
+
+half_or : (half : Option Half) (instead outcome : Outcome) → Leaves instead → Leaves outcome → Leaves (unless_half half instead outcome)
+half_or None instead outcome of_instead given = given
+half_or (Some half) instead outcome of_instead given = of_instead
+
+turn_ended : (session : ℕ) (held : Held) (body : BodyValue) → session ≤ 3 → IsLegalHeld held → IsLegalBody body → Leaves (end_turn session held body)
+turn_ended session held body of_session of_held of_body =
+    half_or held.half (back session held.q body) (close session body) (gone_back session held.q body of_session of_held.q of_body) (closed session body of_body)
+
+-- a command of the session, or of another, which changes nothing
+of_round : (own session : ℕ) (state : StateValue) (body : BodyValue) (outcome : Outcome) → Leaves outcome → IsLegalAt state body → Leaves (if own == session then outcome else silent state body)
+of_round own session state body outcome given before = either (own == session) outcome (silent state body) given before
+
+-- Query
+took_part : (sel : Sel) (session : ℕ) (target : Side) (q : ℕ) (body : BodyValue) → session ≤ 3 → q ≤ 15 → IsLegalBody body → Leaves (take_part sel session target q body)
+took_part sel session target q body of_session of_q of_body =
+    either (matches sel session target body.flags) (enter session q body) (silent ReadyState body)
+    (entered session q body of_session of_q of_body) (tag_is ReadyState body tt of_body)
+
+body_either : (test : Bool) (x y : BodyValue) → IsLegalBody x → IsLegalBody y → IsLegalBody (if test then x else y)
+body_either true x y of_x of_y = of_x
+body_either false x y of_x of_y = of_y
+
+closed_body : (own session : ℕ) (body : BodyValue) → IsLegalBody body → IsLegalBody (closed_before own session body)
+closed_body own session body of_body =
+    body_either (own == session) (inverted_body session body) body (with_flags body (inverted_body session body).flags of_body) of_body
+
+after_query : (sel : Sel) (session : ℕ) (target : Side) (q : ℕ) (state : StateValue) (body : BodyValue) → session ≤ 3 → q ≤ 15 → IsLegalAt state body → Leaves (query sel session target q state body)
+after_query sel session target q ReadyState body of_session of_q before = took_part sel session target q body of_session of_q before.body
+after_query sel session target q (ArbitrateState own own_q slot) body of_session of_q before = took_part sel session target q body of_session of_q before.body
+after_query sel session target q (ReplyState own own_q rn) body of_session of_q before = took_part sel session target q body of_session of_q before.body
+after_query sel session target q (AcknowledgedState own own_q rn) body of_session of_q before =
+    took_part sel session target q (closed_before own session body) of_session of_q (closed_body own session body before.body)
+after_query sel session target q (OpenState held) body of_session of_q before =
+    took_part sel session target q (closed_before held.session session body) of_session of_q (closed_body held.session session body before.body)
+after_query sel session target q (SecuredState held) body of_session of_q before =
+    took_part sel session target q (closed_before held.session session body) of_session of_q (closed_body held.session session body before.body)
+after_query sel session target q KilledState body of_session of_q before = before
+after_query sel session target q UnpoweredState body of_session of_q before = before
+
+-- QueryRep
+slot_stays_small : (slot : ℕ) → slot < 2 ^ 15 → slot_below slot < 2 ^ 15
+slot_stays_small slot small =
+    elim (eqb_tells slot 0) [
+      | inl w ↦ rw w.0 (omega arith)
+      | inr w ↦ rw w.0 (omega arith)
+    ]
+
+counted_down : (session q slot : ℕ) (body : BodyValue) → session ≤ 3 → q ≤ 15 → slot < 2 ^ 15 → IsLegalBody body → Leaves (count_down session q slot body)
+counted_down session q slot body of_session of_q of_slot of_body =
+    either (slot_below slot == 0) (begin_reply session q body) (silent (ArbitrateState session q (slot_below slot)) body)
+    (begun session q body of_session of_q of_body)
+    (tag_is (ArbitrateState session q (slot_below slot)) body (of_session, of_q, slot_stays_small slot of_slot) of_body)
+
+after_query_rep : (session : ℕ) (state : StateValue) (body : BodyValue) → session ≤ 3 → IsLegalAt state body → Leaves (query_rep session state body)
+after_query_rep session ReadyState body of_session before = before
+after_query_rep session (ArbitrateState own q slot) body of_session before =
+    of_round own session (ArbitrateState own q slot) body (count_down session q slot body) (counted_down session q slot body of_session before.state.1 before.state.2 before.body) before
+after_query_rep session (ReplyState own q rn) body of_session before =
+    of_round own session (ReplyState own q rn) body (silent (ArbitrateState session q 0x7FFF) body)
+    (tag_is (ArbitrateState session q 0x7FFF) body (of_session, before.state.1, omega arith) before.body) before
+after_query_rep session (AcknowledgedState own q rn) body of_session before =
+    of_round own session (AcknowledgedState own q rn) body (close session body) (closed session body before.body) before
+after_query_rep session (OpenState held) body of_session before =
+    of_round held.session session (OpenState held) body (end_turn session held body) (turn_ended session held body of_session before.state before.body) before
+after_query_rep session (SecuredState held) body of_session before =
+    of_round held.session session (SecuredState held) body (end_turn session held body) (turn_ended session held body of_session before.state before.body) before
+after_query_rep session KilledState body of_session before = before
+after_query_rep session UnpoweredState body of_session before = before
+
+-- QueryAdjust
+q_stays_small : (updn : UpDn) (q : ℕ) → q ≤ 15 → adjusted updn q ≤ 15
+q_stays_small Up q small =
+    elim (eqb_tells q 15) [
+      | inl w ↦ rw w.0 (omega arith)
+      | inr w ↦ rw w.0 (omega (arith, w.1))
+    ]
+q_stays_small Same q small = small
+q_stays_small Down q small =
+    elim (eqb_tells q 0) [
+      | inl w ↦ rw w.0 (omega arith)
+      | inr w ↦ rw w.0 (omega arith)
+    ]
+
+after_query_adjust : (session : ℕ) (updn : UpDn) (state : StateValue) (body : BodyValue) → session ≤ 3 → IsLegalAt state body → Leaves (query_adjust session updn state body)
+after_query_adjust session updn ReadyState body of_session before = before
+after_query_adjust session updn (ArbitrateState own q slot) body of_session before =
+    of_round own session (ArbitrateState own q slot) body (enter session (adjusted updn q) body) (entered session (adjusted updn q) body of_session (q_stays_small updn q before.state.1) before.body) before
+after_query_adjust session updn (ReplyState own q rn) body of_session before =
+    of_round own session (ReplyState own q rn) body (enter session (adjusted updn q) body) (entered session (adjusted updn q) body of_session (q_stays_small updn q before.state.1) before.body) before
+after_query_adjust session updn (AcknowledgedState own q rn) body of_session before =
+    of_round own session (AcknowledgedState own q rn) body (close session body) (closed session body before.body) before
+after_query_adjust session updn (OpenState held) body of_session before =
+    of_round held.session session (OpenState held) body (end_turn session held body) (turn_ended session held body of_session before.state before.body) before
+after_query_adjust session updn (SecuredState held) body of_session before =
+    of_round held.session session (SecuredState held) body (end_turn session held body) (turn_ended session held body of_session before.state before.body) before
+after_query_adjust session updn KilledState body of_session before = before
+after_query_adjust session updn UnpoweredState body of_session before = before
+
+-- ACK, NAK and Select
+acked : (test : Bool) (state : StateValue) (session q : ℕ) (body : BodyValue) → session ≤ 3 → q ≤ 15 → IsLegalAt state body → Leaves (if test then plain state body (epc_reply body) 0 else back session q body)
+acked test state session q body of_session of_q before =
+    either test (plain state body (epc_reply body) 0) (back session q body) before (gone_back session q body of_session of_q before.body)
+
+acked_held : (state : StateValue) (rn : ℕ) (held : Held) (body : BodyValue) → IsLegalHeld held → IsLegalAt state body → Leaves (unless_half held.half (back held.session held.q body) (if held.handle == rn then plain state body (epc_reply body) 0 else back held.session held.q body))
+acked_held state rn held body of_held before =
+    half_or held.half (back held.session held.q body) (if held.handle == rn then plain state body (epc_reply body) 0 else back held.session held.q body)
+    (gone_back held.session held.q body of_held.session of_held.q before.body)
+    (acked (held.handle == rn) state held.session held.q body of_held.session of_held.q before)
+
+after_ack : (rn : ℕ) (state : StateValue) (body : BodyValue) → IsLegalAt state body → Leaves (ack rn state body)
+after_ack rn ReadyState body before = before
+after_ack rn (ArbitrateState session q slot) body before = before
+after_ack rn (ReplyState session q own) body before =
+    acked (own == rn) (AcknowledgedState session q own) session q body before.state.0 before.state.1 (tag_is (AcknowledgedState session q own) body before.state before.body)
+after_ack rn (AcknowledgedState session q own) body before = acked (own == rn) (AcknowledgedState session q own) session q body before.state.0 before.state.1 before
+after_ack rn (OpenState held) body before = acked_held (OpenState held) rn held body before.state before
+after_ack rn (SecuredState held) body before = acked_held (SecuredState held) rn held body before.state before
+after_ack rn KilledState body before = before
+after_ack rn UnpoweredState body before = before
+
+after_nak : (state : StateValue) (body : BodyValue) → IsLegalAt state body → Leaves (nak state body)
+after_nak ReadyState body before = before
+after_nak (ArbitrateState session q slot) body before = before
+after_nak (ReplyState session q rn) body before = gone_back session q body before.state.0 before.state.1 before.body
+after_nak (AcknowledgedState session q rn) body before = gone_back session q body before.state.0 before.state.1 before.body
+after_nak (OpenState held) body before = gone_back held.session held.q body before.state.session before.state.q before.body
+after_nak (SecuredState held) body before = gone_back held.session held.q body before.state.session before.state.q before.body
+after_nak KilledState body before = before
+after_nak UnpoweredState body before = before
+
+after_selected : (target : FlagName) (action : ℕ) (bank : MaskBank) (pointer : ℕ) (mask : List Bool) (body : BodyValue) → IsLegalBody body → Leaves (selected_ready target action bank pointer mask body)
+after_selected target action bank pointer mask body of_body =
+    let after = selected_body target action bank pointer mask body in
+    tag_is ReadyState after tt (with_flags body after.flags of_body)
+
+after_select : (target : FlagName) (action : ℕ) (bank : MaskBank) (pointer : ℕ) (mask : List Bool) (state : StateValue) (body : BodyValue) → IsLegalAt state body → Leaves (select target action bank pointer mask state body)
+after_select target action bank pointer mask ReadyState body before = after_selected target action bank pointer mask body before.body
+after_select target action bank pointer mask (ArbitrateState session q slot) body before = after_selected target action bank pointer mask body before.body
+after_select target action bank pointer mask (ReplyState session q rn) body before = after_selected target action bank pointer mask body before.body
+after_select target action bank pointer mask (AcknowledgedState session q rn) body before = after_selected target action bank pointer mask body before.body
+after_select target action bank pointer mask (OpenState held) body before =
+    half_or held.half (back held.session held.q body) (selected_ready target action bank pointer mask body)
+    (gone_back held.session held.q body before.state.session before.state.q before.body) (after_selected target action bank pointer mask body before.body)
+after_select target action bank pointer mask (SecuredState held) body before =
+    half_or held.half (back held.session held.q body) (selected_ready target action bank pointer mask body)
+    (gone_back held.session held.q body before.state.session before.state.q before.body) (after_selected target action bank pointer mask body before.body)
+after_select target action bank pointer mask KilledState body before = before
+after_select target action bank pointer mask UnpoweredState body before = before
+
+-- what open and secured hold
+held_tag : (level : Level) (held : Held) (body : BodyValue) → IsLegalHeld held → IsLegalBody body → IsLegalAt (held_state level held) body
+held_tag levels.Opened held body of_held of_body = tag_is (OpenState held) body of_held of_body
+held_tag levels.Secured held body of_held of_body = tag_is (SecuredState held) body of_held of_body
+
+with_cover : (held : Held) (cover : Option ℕ) → IsLegalHeld held → IsWordOrNone cover → IsLegalHeld (record held { cover = cover })
+with_cover held cover legal small = record { session = legal.session; q = legal.q; handle = legal.handle; cover = small; half = legal.half }
+
+with_half : (held : Held) (half : Option Half) → IsLegalHeld held → IsHalfOrNone half → IsLegalHeld (record held { half = half })
+with_half held half legal small = record { session = legal.session; q = legal.q; handle = legal.handle; cover = legal.cover; half = small }
+
+held_back : (held : Held) (body : BodyValue) → IsLegalHeld held → IsLegalBody body → Leaves (back held.session held.q body)
+held_back held body of_held of_body = gone_back held.session held.q body of_held.session of_held.q of_body
+
+handled : (level : Level) (rn : ℕ) (held : Held) (body : BodyValue) (outcome : Outcome) → IsLegalHeld held → IsLegalBody body → Leaves outcome → Leaves (with_handle level rn held body outcome)
+handled level rn held body outcome of_held of_body given =
+    either (held.handle == rn) outcome (silent (held_state level held) body) given (held_tag level held body of_held of_body)
+
+-- a command of another kind than any half, with what it does where it has the handle and no half stands before it
+heard : (level : Level) (rn : ℕ) (held : Held) (body : BodyValue) (outcome : Outcome) → IsLegalHeld held → IsLegalBody body → Leaves outcome → Leaves (with_handle level rn held body (unless_any_half held body outcome))
+heard level rn held body outcome of_held of_body given =
+    handled level rn held body (unless_any_half held body outcome) of_held of_body
+    (half_or held.half (back held.session held.q body) outcome (held_back held body of_held of_body) given)
+
+other_half_or : (kind : Kind) (half : Option Half) (instead outcome : Outcome) → Leaves instead → Leaves outcome → Leaves (unless_other_half kind half instead outcome)
+other_half_or kind None instead outcome of_instead given = given
+other_half_or kind (Some half) instead outcome of_instead given = either (is_kind kind half.kind) outcome instead given of_instead
+
+uncovered : (level : Level) (held : Held) (body : BodyValue) (covered : ℕ) (cover : Option ℕ) (follows : Held → ℕ → Outcome) → IsLegalHeld held → IsLegalBody body → covered < 2 ^ 16 → IsWordOrNone cover → ((bare : Held) (value : ℕ) → IsLegalHeld bare → value < 2 ^ 16 → Leaves (follows bare value)) → Leaves (uncover level held body covered cover follows)
+uncovered level held body covered None follows of_held of_body small of_cover given = held_tag level held body of_held of_body
+uncovered level held body covered (Some cover) follows of_held of_body small of_cover given =
+    given _ _ (with_cover held None of_held tt) (xor_of_16 covered cover small of_cover)
+
+memory_after : (level : Level) (held : Held) (body : BodyValue) (change : Result Banks ErrorCode) → IsLegalHeld held → IsLegalBody body → IfOk change AreSound → Leaves (memory_changed level held body change)
+memory_after level held body (Ok memory) of_held of_body sound = held_tag level held (record body { memory = memory }) of_held (with_memory body memory of_body sound)
+memory_after level held body (Err code) of_held of_body sound = held_tag level held body of_held of_body
+
+locks_after : (held : Held) (body : BodyValue) (change : Result Locks ErrorCode) → IsLegalHeld held → IsLegalBody body → Leaves (locks_changed held body change)
+locks_after held body (Ok locks) of_held of_body = tag_is (SecuredState held) (record body { locks = locks }) of_held (with_locks body locks of_body)
+locks_after held body (Err code) of_held of_body = tag_is (SecuredState held) body of_held of_body
+
+-- Req_RN
+handle_given : (session q : ℕ) (body : BodyValue) → session ≤ 3 → q ≤ 15 → IsLegalBody body → Leaves (give_handle session q body)
+handle_given session q body of_session of_q of_body =
+    held_tag (first_level body) (new_held session q (drawn body)) (after_draw body)
+    (record { session = of_session; q = of_q; handle = word_drawn body of_body; cover = tt; half = tt }) (behind_draw body of_body)
+
+req_rn_at : (level : Level) (rn : ℕ) (held : Held) (body : BodyValue) → IsLegalHeld held → IsLegalBody body → Leaves (req_rn_held level rn held body)
+req_rn_at level rn held body of_held of_body =
+    either (held.handle == rn) (give_cover level held body) (silent (held_state level held) body)
+    (held_tag level (record held { cover = Some (drawn body) }) (after_draw body) (with_cover held (Some (drawn body)) of_held (word_drawn body of_body)) (behind_draw body of_body))
+    (held_tag level held body of_held of_body)
+
+after_req_rn : (rn : ℕ) (state : StateValue) (body : BodyValue) → IsLegalAt state body → Leaves (req_rn rn state body)
+after_req_rn rn ReadyState body before = before
+after_req_rn rn (ArbitrateState session q slot) body before = before
+after_req_rn rn (ReplyState session q own) body before = gone_back session q body before.state.0 before.state.1 before.body
+after_req_rn rn (AcknowledgedState session q own) body before =
+    either (own == rn) (give_handle session q body) (silent (AcknowledgedState session q own) body) (handle_given session q body before.state.0 before.state.1 before.body) before
+after_req_rn rn (OpenState held) body before = req_rn_at levels.Opened rn held body before.state before.body
+after_req_rn rn (SecuredState held) body before = req_rn_at levels.Secured rn held body before.state before.body
+after_req_rn rn KilledState body before = before
+after_req_rn rn UnpoweredState body before = before
+
+-- Read
+read_at : (level : Level) (bank : Bank) (pointer count rn : ℕ) (held : Held) (body : BodyValue) → IsLegalHeld held → IsLegalBody body → Leaves (read_held level bank pointer count rn held body)
+read_at level bank pointer count rn held body of_held of_body =
+    heard level rn held body (plain (held_state level held) body (read_answer (words_read body.memory body.locks level bank pointer count)) held.handle) of_held of_body
+    (held_tag level held body of_held of_body)
+
+after_read : (bank : Bank) (pointer count rn : ℕ) (state : StateValue) (body : BodyValue) → IsLegalAt state body → Leaves (read bank pointer count rn state body)
+after_read bank pointer count rn ReadyState body before = before
+after_read bank pointer count rn (ArbitrateState session q slot) body before = before
+after_read bank pointer count rn (ReplyState session q own) body before = gone_back session q body before.state.0 before.state.1 before.body
+after_read bank pointer count rn (AcknowledgedState session q own) body before = gone_back session q body before.state.0 before.state.1 before.body
+after_read bank pointer count rn (OpenState held) body before = read_at levels.Opened bank pointer count rn held body before.state before.body
+after_read bank pointer count rn (SecuredState held) body before = read_at levels.Secured bank pointer count rn held body before.state before.body
+after_read bank pointer count rn KilledState body before = before
+after_read bank pointer count rn UnpoweredState body before = before
+
+-- Write
+write_at : (level : Level) (bank : Bank) (pointer covered rn : ℕ) (held : Held) (body : BodyValue) → covered < 2 ^ 16 → IsLegalHeld held → IsLegalBody body → Leaves (write_held level bank pointer covered rn held body)
+write_at level bank pointer covered rn held body small of_held of_body =
+    let change = λ (word : ℕ). written body.memory body.locks level bank pointer (word ∷ []) in
+    let follows = λ (bare : Held) (word : ℕ). memory_changed level bare body (change word) in
+    heard level rn held body (uncover level held body covered held.cover follows) of_held of_body
+    (uncovered level held body covered held.cover follows of_held of_body small of_held.cover
+    (λ bare word of_bare of_word.
+    memory_after level bare body (change word) of_bare of_body
+    (written_sound body.memory body.locks level bank pointer (word ∷ []) (sound_of body of_body)
+    (All-cons (λ (w : ℕ). w < 2 ^ 16) word [] of_word (All-nil (λ (w : ℕ). w < 2 ^ 16))))))
+
+after_write : (bank : Bank) (pointer covered rn : ℕ) (state : StateValue) (body : BodyValue) → covered < 2 ^ 16 → IsLegalAt state body → Leaves (write bank pointer covered rn state body)
+after_write bank pointer covered rn ReadyState body small before = before
+after_write bank pointer covered rn (ArbitrateState session q slot) body small before = before
+after_write bank pointer covered rn (ReplyState session q own) body small before = gone_back session q body before.state.0 before.state.1 before.body
+after_write bank pointer covered rn (AcknowledgedState session q own) body small before = gone_back session q body before.state.0 before.state.1 before.body
+after_write bank pointer covered rn (OpenState held) body small before = write_at levels.Opened bank pointer covered rn held body small before.state before.body
+after_write bank pointer covered rn (SecuredState held) body small before = write_at levels.Secured bank pointer covered rn held body small before.state before.body
+after_write bank pointer covered rn KilledState body small before = before
+after_write bank pointer covered rn UnpoweredState body small before = before
+
+-- Kill
+half_kept : (level : Level) (kind : Kind) (value : ℕ) (held : Held) (body : BodyValue) → value < 2 ^ 16 → IsLegalHeld held → IsLegalBody body → Leaves (keep_half level kind value held body)
+half_kept level kind value held body small of_held of_body =
+    let half = Some (record { kind = kind; value = value }) in
+    held_tag level (record held { half = half }) body (with_half held half of_held small) of_body
+
+half_killed : (level : Level) (half : Option Half) (value : ℕ) (held : Held) (body : BodyValue) → value < 2 ^ 16 → IsLegalHeld held → IsLegalBody body → Leaves (kill_half level half value held body)
+half_killed level None value held body small of_held of_body = half_kept level kinds.Kill value held body small of_held of_body
+half_killed level (Some half) value held body small of_held of_body =
+    let bare = record held { half = None } in
+    let killed = extended KilledState body Header held.handle in
+    let gone = back held.session held.q body in
+    either (kill_word_of body.memory == 0) (refuse level bare body errors.Other) (if kill_word_of body.memory == whole_of half.value value then killed else gone)
+    (held_tag level bare body (with_half held None of_held tt) of_body)
+    (either (kill_word_of body.memory == whole_of half.value value) killed gone (tag_is KilledState body tt of_body) (held_back held body of_held of_body))
+
+kill_at : (level : Level) (covered rn : ℕ) (held : Held) (body : BodyValue) → covered < 2 ^ 16 → IsLegalHeld held → IsLegalBody body → Leaves (kill_held level covered rn held body)
+kill_at level covered rn held body small of_held of_body =
+    let gone = back held.session held.q body in
+    let follows = λ (bare : Held) (value : ℕ). kill_half level bare.half value bare body in
+    let rest = uncover level held body covered held.cover follows in
+    handled level rn held body (unless_other_half kinds.Kill held.half gone rest) of_held of_body
+    (other_half_or kinds.Kill held.half gone rest (held_back held body of_held of_body)
+    (uncovered level held body covered held.cover follows of_held of_body small of_held.cover
+    (λ bare value of_bare of_value. half_killed level bare.half value bare body of_value of_bare of_body)))
+
+after_kill : (covered rn : ℕ) (state : StateValue) (body : BodyValue) → covered < 2 ^ 16 → IsLegalAt state body → Leaves (kill covered rn state body)
+after_kill covered rn ReadyState body small before = before
+after_kill covered rn (ArbitrateState session q slot) body small before = before
+after_kill covered rn (ReplyState session q own) body small before = gone_back session q body before.state.0 before.state.1 before.body
+after_kill covered rn (AcknowledgedState session q own) body small before = gone_back session q body before.state.0 before.state.1 before.body
+after_kill covered rn (OpenState held) body small before = kill_at levels.Opened covered rn held body small before.state before.body
+after_kill covered rn (SecuredState held) body small before = kill_at levels.Secured covered rn held body small before.state before.body
+after_kill covered rn KilledState body small before = before
+after_kill covered rn UnpoweredState body small before = before
+
+-- Lock
+after_lock : (payload rn : ℕ) (state : StateValue) (body : BodyValue) → IsLegalAt state body → Leaves (lock payload rn state body)
+after_lock payload rn ReadyState body before = before
+after_lock payload rn (ArbitrateState session q slot) body before = before
+after_lock payload rn (ReplyState session q own) body before = gone_back session q body before.state.0 before.state.1 before.body
+after_lock payload rn (AcknowledgedState session q own) body before = gone_back session q body before.state.0 before.state.1 before.body
+after_lock payload rn (OpenState held) body before = heard levels.Opened rn held body (silent (OpenState held) body) before.state before.body before
+after_lock payload rn (SecuredState held) body before =
+    let change = locked body.locks payload (has_user body) in
+    heard levels.Secured rn held body (locks_changed held body change) before.state before.body (locks_after held body change before.state before.body)
+after_lock payload rn KilledState body before = before
+after_lock payload rn UnpoweredState body before = before
+
+-- Access
+half_accessed : (level : Level) (half : Option Half) (value : ℕ) (held : Held) (body : BodyValue) → value < 2 ^ 16 → IsLegalHeld held → IsLegalBody body → Leaves (access_half level half value held body)
+half_accessed level None value held body small of_held of_body = half_kept level kinds.Access value held body small of_held of_body
+half_accessed level (Some half) value held body small of_held of_body =
+    let bare = record held { half = None } in
+    either (access_word_of body.memory == whole_of half.value value) (plain (SecuredState bare) body (Handle held.handle) 0) (back held.session held.q body)
+    (tag_is (SecuredState bare) body (with_half held None of_held tt) of_body) (held_back held body of_held of_body)
+
+access_at : (level : Level) (covered rn : ℕ) (held : Held) (body : BodyValue) → covered < 2 ^ 16 → IsLegalHeld held → IsLegalBody body → Leaves (access_held level covered rn held body)
+access_at level covered rn held body small of_held of_body =
+    let gone = back held.session held.q body in
+    let follows = λ (bare : Held) (value : ℕ). access_half level bare.half value bare body in
+    let rest = uncover level held body covered held.cover follows in
+    handled level rn held body (unless_other_half kinds.Access held.half gone rest) of_held of_body
+    (other_half_or kinds.Access held.half gone rest (held_back held body of_held of_body)
+    (uncovered level held body covered held.cover follows of_held of_body small of_held.cover
+    (λ bare value of_bare of_value. half_accessed level bare.half value bare body of_value of_bare of_body)))
+
+after_access : (covered rn : ℕ) (state : StateValue) (body : BodyValue) → covered < 2 ^ 16 → IsLegalAt state body → Leaves (access covered rn state body)
+after_access covered rn ReadyState body small before = before
+after_access covered rn (ArbitrateState session q slot) body small before = before
+after_access covered rn (ReplyState session q own) body small before = gone_back session q body before.state.0 before.state.1 before.body
+after_access covered rn (AcknowledgedState session q own) body small before = gone_back session q body before.state.0 before.state.1 before.body
+after_access covered rn (OpenState held) body small before = access_at levels.Opened covered rn held body small before.state before.body
+after_access covered rn (SecuredState held) body small before = access_at levels.Secured covered rn held body small before.state before.body
+after_access covered rn KilledState body small before = before
+after_access covered rn UnpoweredState body small before = before
+
+-- BlockWrite and BlockErase
+changed_at : (level : Level) (rn : ℕ) (held : Held) (body : BodyValue) (change : Result Banks ErrorCode) → IsLegalHeld held → IsLegalBody body → IfOk change AreSound → Leaves (with_handle level rn held body (unless_any_half held body (memory_changed level held body change)))
+changed_at level rn held body change of_held of_body sound =
+    heard level rn held body (memory_changed level held body change) of_held of_body (memory_after level held body change of_held of_body sound)
+
+after_block_write : (bank : Bank) (pointer : ℕ) (words : List ℕ) (rn : ℕ) (state : StateValue) (body : BodyValue) → AreWords words → IsLegalAt state body → Leaves (block_write bank pointer words rn state body)
+after_block_write bank pointer words rn ReadyState body small before = before
+after_block_write bank pointer words rn (ArbitrateState session q slot) body small before = before
+after_block_write bank pointer words rn (ReplyState session q own) body small before = gone_back session q body before.state.0 before.state.1 before.body
+after_block_write bank pointer words rn (AcknowledgedState session q own) body small before = gone_back session q body before.state.0 before.state.1 before.body
+after_block_write bank pointer words rn (OpenState held) body small before =
+    changed_at levels.Opened rn held body (written body.memory body.locks levels.Opened bank pointer words) before.state before.body
+    (written_sound body.memory body.locks levels.Opened bank pointer words (sound_of body before.body) small)
+after_block_write bank pointer words rn (SecuredState held) body small before =
+    changed_at levels.Secured rn held body (written body.memory body.locks levels.Secured bank pointer words) before.state before.body
+    (written_sound body.memory body.locks levels.Secured bank pointer words (sound_of body before.body) small)
+after_block_write bank pointer words rn KilledState body small before = before
+after_block_write bank pointer words rn UnpoweredState body small before = before
+
+after_block_erase : (bank : Bank) (pointer count rn : ℕ) (state : StateValue) (body : BodyValue) → IsLegalAt state body → Leaves (block_erase bank pointer count rn state body)
+after_block_erase bank pointer count rn ReadyState body before = before
+after_block_erase bank pointer count rn (ArbitrateState session q slot) body before = before
+after_block_erase bank pointer count rn (ReplyState session q own) body before = gone_back session q body before.state.0 before.state.1 before.body
+after_block_erase bank pointer count rn (AcknowledgedState session q own) body before = gone_back session q body before.state.0 before.state.1 before.body
+after_block_erase bank pointer count rn (OpenState held) body before =
+    changed_at levels.Opened rn held body (erased body.memory body.locks levels.Opened bank pointer count) before.state before.body
+    (erased_sound body.memory body.locks levels.Opened bank pointer count (sound_of body before.body))
+after_block_erase bank pointer count rn (SecuredState held) body before =
+    changed_at levels.Secured rn held body (erased body.memory body.locks levels.Secured bank pointer count) before.state before.body
+    (erased_sound body.memory body.locks levels.Secured bank pointer count (sound_of body before.body))
+after_block_erase bank pointer count rn KilledState body before = before
+after_block_erase bank pointer count rn UnpoweredState body before = before
+
+pub step_keeps : (command : Command) (state : StateValue) (body : BodyValue) → IsLegalCommand command → IsLegalAt state body → IsLegalTag (step command state body).tag
+step_keeps (commands.QueryRep session) state body legal before = after_query_rep session state body legal before
+step_keeps (commands.Ack rn) state body legal before = after_ack rn state body before
+step_keeps (commands.Query dr line_code trext sel session target q) state body legal before = after_query sel session target q state body legal.0 legal.1 before
+step_keeps (commands.QueryAdjust session updn) state body legal before = after_query_adjust session updn state body legal before
+step_keeps (commands.Select target action bank pointer mask) state body legal before = after_select target action bank pointer mask state body before
+step_keeps commands.Nak state body legal before = after_nak state body before
+step_keeps (commands.ReqRn rn) state body legal before = after_req_rn rn state body before
+step_keeps (commands.Read bank pointer count rn) state body legal before = after_read bank pointer count rn state body before
+step_keeps (commands.Write bank pointer covered rn) state body legal before = after_write bank pointer covered rn state body legal.1 before
+step_keeps (commands.Kill covered rn) state body legal before = after_kill covered rn state body legal.0 before
+step_keeps (commands.Lock payload rn) state body legal before = after_lock payload rn state body before
+step_keeps (commands.Access covered rn) state body legal before = after_access covered rn state body legal.0 before
+step_keeps (commands.BlockWrite bank pointer words rn) state body legal before =
+    after_block_write bank pointer words rn state body (All-from_recursion (λ (w : ℕ). w < 2 ^ 16) words legal.3) before
+step_keeps (commands.BlockErase bank pointer count rn) state body legal before = after_block_erase bank pointer count rn state body before
+
+-- events
+timed_out : (state : StateValue) (body : BodyValue) → IsLegalAt state body → IsLegalTag (after_timeout state body)
+timed_out ReadyState body before = before
+timed_out (ArbitrateState session q slot) body before = before
+timed_out (ReplyState session q rn) body before = gone_back session q body before.state.0 before.state.1 before.body
+timed_out (AcknowledgedState session q rn) body before = gone_back session q body before.state.0 before.state.1 before.body
+timed_out (OpenState held) body before = before
+timed_out (SecuredState held) body before = before
+timed_out KilledState body before = before
+timed_out UnpoweredState body before = before
+
+without : (body : BodyValue) → IsLegalBody body → IsLegalTag (powered_off body)
+without body of_body = tag_is UnpoweredState (record body { flags = without_power body.flags }) tt (with_flags body (without_power body.flags) of_body)
+
+turned_off : (state : StateValue) (body : BodyValue) → IsLegalAt state body → IsLegalTag (after_off state body)
+turned_off ReadyState body before = without body before.body
+turned_off (ArbitrateState session q slot) body before = without body before.body
+turned_off (ReplyState session q rn) body before = without body before.body
+turned_off (AcknowledgedState session q rn) body before = without body before.body
+turned_off (OpenState held) body before = without body before.body
+turned_off (SecuredState held) body before = without body before.body
+turned_off KilledState body before = before
+turned_off UnpoweredState body before = without body before.body
+
+turned_on : (state : StateValue) (body : BodyValue) → IsLegalAt state body → IsLegalTag (after_on state body)
+turned_on ReadyState body before = before
+turned_on (ArbitrateState session q slot) body before = before
+turned_on (ReplyState session q rn) body before = before
+turned_on (AcknowledgedState session q rn) body before = before
+turned_on (OpenState held) body before = before
+turned_on (SecuredState held) body before = before
+turned_on KilledState body before = before
+turned_on UnpoweredState body before =
+    let memory = with_stored_crc body.memory in
+    tag_is ReadyState (record body { memory = memory }) tt (with_memory body memory before.body (stored_crc_sound body.memory (sound_of body before.body)))
+
+flag_ended : (flag : FlagName) (powered takes_part : Bool) (state : StateValue) (body : BodyValue) → IsLegalAt state body → IsLegalAt state (with_expired flag powered takes_part body)
+flag_ended flag powered takes_part state body before =
+    tag_is state (with_expired flag powered takes_part body) before.state (with_flags body (expired body.flags flag powered takes_part) before.body)
+
+expiry_keeps : (flag : FlagName) (state : StateValue) (body : BodyValue) → IsLegalAt state body → IsLegalTag (after_expiry flag state body)
+expiry_keeps flag ReadyState body before = flag_ended flag true false ReadyState body before
+expiry_keeps flag (ArbitrateState session q slot) body before = flag_ended flag true true (ArbitrateState session q slot) body before
+expiry_keeps flag (ReplyState session q rn) body before = flag_ended flag true true (ReplyState session q rn) body before
+expiry_keeps flag (AcknowledgedState session q rn) body before = flag_ended flag true true (AcknowledgedState session q rn) body before
+expiry_keeps flag (OpenState held) body before = flag_ended flag true true (OpenState held) body before
+expiry_keeps flag (SecuredState held) body before = flag_ended flag true true (SecuredState held) body before
+expiry_keeps flag KilledState body before = before
+expiry_keeps flag UnpoweredState body before = flag_ended flag false false UnpoweredState body before
+
+pub event_keeps : (event : Event) (state : StateValue) (body : BodyValue) → IsLegalAt state body → IsLegalTag (happens event state body)
+event_keeps events.Timeout state body before = timed_out state body before
+event_keeps events.Off state body before = turned_off state body before
+event_keeps events.On state body before = turned_on state body before
+event_keeps (events.Expire flag) state body before = expiry_keeps flag state body before
