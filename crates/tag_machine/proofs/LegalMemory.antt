@@ -11,7 +11,8 @@ use Rattle.command_grammar.specs.declared.command.Bank.TheVariants.{Reserved, Ep
 use Rattle.lock_rules.specs.declared.locks.Locks.{Locks}
 use Rattle.lock_rules.specs.declared.terms.ErrorCode.TheVariants.{Overrun, Locked}
 use Rattle.lock_rules.specs.declared.terms.Level.{Level}
-use Rattle.reply_grammar.specs.Table.{words_of, AreWords}
+use Rattle.bit_strings.specs.Words.{bits_of_words}
+use Rattle.reply_grammar.specs.Table.{AreWords}
 use Rattle.tag_memory.specs.Memory.{Banks, IsLegal, AreBanksOfWords, bank_of, pc_of, epc_of, length_in, stored_crc_of, with_stored_crc}
 use Rattle.tag_memory.specs.Access.{may_write_word, all_words, replaced, replaced_in, length_fits, written, erased}
 
@@ -85,7 +86,7 @@ pub stored_crc_sound : (banks : Banks) → AreSound banks → AreSound (with_sto
 stored_crc_sound banks sound =
     let legal = sound.legal in
     let small = sound.words in
-    let check = crc16_of (words_of (pc_of banks ∷ epc_of banks)) in
+    let check = crc16_of (bits_of_words (pc_of banks ∷ epc_of banks)) in
     let behind = length-drop 1 banks.epc in
     let same : pc_of (with_stored_crc banks) ≡ pc_of banks = get_or-drop 1 banks.epc 0 0 in
     record {
@@ -100,7 +101,7 @@ stored_crc_sound banks sound =
       };
       words = record {
         reserved = small.reserved;
-        epc = All-cons IsWord (stored_crc_of banks) (drop 1 banks.epc) (value_of-within check 16 (omega (arith, length-crc16_of (words_of (pc_of banks ∷ epc_of banks))))) (All-drop IsWord 1 banks.epc small.epc);
+        epc = All-cons IsWord (stored_crc_of banks) (drop 1 banks.epc) (value_of-within check 16 (omega (arith, length-crc16_of (bits_of_words (pc_of banks ∷ epc_of banks))))) (All-drop IsWord 1 banks.epc small.epc);
         tid = small.tid;
         user = small.user;
       };
