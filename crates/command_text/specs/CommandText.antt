@@ -4,7 +4,7 @@ use Rattle.std.specs.Fmt.{decimal}
 use Rattle.text_fields.specs.Lines.{line_with}
 use Rattle.text_fields.specs.Binary.{binary, binary_digit}
 use Rattle.text_fields.specs.Hexadecimal.{hex_digit, hex_word, hex_words}
-use Rattle.line_codes.specs.Names.{code_word}
+use Rattle.text_fields.specs.CodeNames.{code_word}
 use Rattle.command_grammar.specs.declared.command.Sel.{Sel}
 use Rattle.command_grammar.specs.declared.command.Sel.TheVariants as sels
 use Rattle.command_grammar.specs.declared.command.Side.{Side}

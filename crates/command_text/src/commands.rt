@@ -2,10 +2,10 @@
 ghost use Rattle.std.specs.Prelude.{◌≡◌, ◌++◌, ◌∷◌, [], codes, OnOk};
 ghost use Rattle.std.specs.String.{string_bytes};
 ghost use Rattle.std.specs.Fmt.{decimal};
-ghost use Rattle.line_codes.specs.Names.{code_word};
 ghost use Rattle.text_fields.specs.Lines.{line_with, space};
 ghost use Rattle.text_fields.specs.Binary.{binary, binary_digit};
 ghost use Rattle.text_fields.specs.Hexadecimal.{hex_word, hex_words};
+ghost use Rattle.text_fields.specs.CodeNames.{code_word};
 ghost use Rattle.command_text.specs.CommandText.{bank_word, command_line, flag_word, mask_bank_word, payload_digits, sel_word, side_word, updn_word};
 
 use crate::fields::{next_mask, next_name, next_number, next_payload, next_word, next_words};
@@ -14,7 +14,7 @@ use crate::names::{
 };
 use bit_strings::{Action, Code, OutOfMemory, Payload, Pointer, QValue, Session};
 use command_grammar::{Bank, BlockWords, Command, FlagName, Mask, MaskBank, Sel, Side, UpDn};
-use line_codes::name_of;
+use text_fields::name_of;
 
 /// Writes a command at the end of the text, without a line feed. After an error the text may hold a part
 /// of it.

@@ -4,12 +4,12 @@ use Rattle.std.specs.Prelude.{codes}
 use Rattle.std.specs.Str.{bytes_eq}
 use Rattle.std.proofs.lemmas.List.Elements.{All-nil, All-cons, All-head, All-tail}
 use Rattle.std.proofs.lemmas.List.{length-map}
-use Rattle.line_codes.specs.Names.{code_word}
 use Rattle.reply_text.specs.ReplyText.{expect_word}
 use Rattle.reply_text.proofs.Fields.{expect_word_is_field_text}
 use Rattle.std.specs.List.{AllZip, All}
 use Rattle.text_fields.specs.Lines.{fields_of}
 use Rattle.text_fields.specs.Binary.{binary, binary_digit}
+use Rattle.text_fields.specs.CodeNames.{code_word}
 use Rattle.bit_strings.specs.declared.code.Code.{Code}
 use Rattle.bit_strings.specs.declared.code.Code.TheVariants.{Fm0, M2, M4, M8}
 use Rattle.hex.specs.Hex.{decode_of}

@@ -4,8 +4,8 @@ use Rattle.std.specs.List.{All}
 use Rattle.std.specs.Fmt.{decimal}
 use Rattle.std.proofs.lemmas.List.Elements.{All-head, All-tail}
 use Rattle.text_fields.specs.Binary.{binary, binary_digit}
+use Rattle.text_fields.specs.CodeNames.{code_word}
 use Rattle.text_fields.proofs.Told.{decimal_told, binary_told}
-use Rattle.line_codes.specs.Names.{code_word}
 use Rattle.bit_strings.specs.declared.code.Code.{Code}
 use Rattle.reply_text.specs.ReplyText.{expect_word}
 use Rattle.reply_text.proofs.Told.{expect_told}

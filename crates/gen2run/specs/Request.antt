@@ -5,7 +5,7 @@ use Rattle.std.specs.Fmt.{decimal}
 use Rattle.hex.specs.Hex.{decode_of}
 use Rattle.text_fields.specs.Lines.{fields_of}
 use Rattle.text_fields.specs.Binary.{binary, binary_digit}
-use Rattle.line_codes.specs.Names.{code_word}
+use Rattle.text_fields.specs.CodeNames.{code_word}
 use Rattle.reply_text.specs.ReplyText.{expect_word, IsExpect}
 use Rattle.gen2run.specs.declared.decode.request.Kind.{Kind}
 use Rattle.gen2run.specs.declared.decode.request.Kind.TheVariants.{Stream as StreamKind, Samples as SamplesKind, Reply as ReplyKind, Heard as HeardKind, Pie as PieKind, Command as CommandKind}

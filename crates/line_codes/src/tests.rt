@@ -1,7 +1,7 @@
 //! Streams of the four codes, with both pilots, written and read.
 ghost use Rattle.std.specs.Prelude.{◌≡◌, ◌≤◌, length};
 
-use crate::{Code, LineRefusal, code_named, decode_levels, encode_bits, name_of};
+use crate::{Code, LineRefusal, decode_levels, encode_bits};
 use bit_strings::{Bits, Levels};
 use std::alloc::Global;
 use std::test::Fail;
@@ -186,18 +186,4 @@ fn the_longest_reply_is_written_and_read(rt: HostRuntime) -> Result<(), Fail> {
     assert_eq!(rt; decode_levels(Code::M8, true, &levels, &mut read), Ok(()));
     assert_eq!(rt; read.as_slice(), bits.as_slice());
     Ok(())
-}
-
-#[test]
-fn codes_have_names(rt: HostRuntime) {
-    for (name, code) in [
-        ("fm0", Code::Fm0),
-        ("m2", Code::M2),
-        ("m4", Code::M4),
-        ("m8", Code::M8),
-    ] {
-        assert_eq!(rt; code_named(name.as_bytes()), Some(code));
-        assert_eq!(rt; name_of(code), name);
-    }
-    assert_eq!(rt; code_named(b"m16"), None);
 }

@@ -3,7 +3,7 @@ use Rattle.std.proofs.Common.{◌≡◌, ℕ, Bool, true, false, List, get_or, a
 use Rattle.bit_strings.specs.declared.code.Code.{Code}
 use Rattle.bit_strings.specs.declared.code.Code.TheVariants as line_codes
 use Rattle.text_fields.specs.Binary.{binary_digit}
-use Rattle.line_codes.specs.Names.{code_word}
+use Rattle.text_fields.specs.CodeNames.{code_word}
 use Rattle.command_text.specs.CommandText.{flag_word, mask_bank_word, side_word}
 use Rattle.command_grammar.specs.declared.command.FlagName.{FlagName}
 use Rattle.command_grammar.specs.declared.command.FlagName.TheVariants as flags

@@ -4,7 +4,7 @@ use Rattle.std.specs.Fmt.{decimal}
 use Rattle.text_fields.specs.Lines.{line_with}
 use Rattle.text_fields.specs.Binary.{binary, binary_digit}
 use Rattle.text_fields.specs.Hexadecimal.{hex_word, hex_words}
-use Rattle.line_codes.specs.Names.{code_word}
+use Rattle.text_fields.specs.CodeNames.{code_word}
 use Rattle.command_text.specs.CommandText.{flag_word, mask_bank_word, side_word}
 use Rattle.air_events.specs.declared.Event.{Event}
 use Rattle.air_events.specs.declared.Event.TheVariants as events

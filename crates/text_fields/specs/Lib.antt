@@ -3,3 +3,4 @@ pub mod Decimal
 pub mod Binary
 pub mod Hexadecimal
 pub mod WordLists
+pub mod CodeNames

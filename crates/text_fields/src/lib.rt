@@ -1,10 +1,11 @@
 //! The pieces that every text of the program is made of: lines, the fields of a line, and numbers,
-//! binary digits and hexadecimal digits as fields.
+//! binary digits, hexadecimal digits and the names of the line codes as fields.
 //!
 //! A text that is read is a slice of bytes, and nothing here copies it. A text that is written is a
 //! `String`, which is all that takes memory.
 #![tactic(auto)]
 
+mod code_names;
 mod digit_lists;
 mod digits;
 mod exact;
@@ -20,6 +21,7 @@ mod tests;
 mod word_lists;
 mod words;
 
+pub use code_names::{code_named, name_of};
 pub use digit_lists::list_digits;
 pub use digits::{Digits, HYPHEN, push_bits};
 pub use exact::{four_fields, is_at_end, next_filled, one_field, three_fields, two_fields};

@@ -1,5 +1,5 @@
 use crate::*;
-use bit_strings::Bits;
+use bit_strings::{Bits, Code};
 use std::test::Fail;
 
 #[test]
@@ -177,4 +177,18 @@ fn bytes_are_read_in_either_case(rt: HostRuntime) -> Result<(), Fail> {
         assert_eq!(rt; HexBytes::new(field, most).is_some(), wanted);
     }
     Ok(())
+}
+
+#[test]
+fn codes_have_names(rt: HostRuntime) {
+    for (name, code) in [
+        ("fm0", Code::Fm0),
+        ("m2", Code::M2),
+        ("m4", Code::M4),
+        ("m8", Code::M8),
+    ] {
+        assert_eq!(rt; code_named(name.as_bytes()), Some(code));
+        assert_eq!(rt; name_of(code), name);
+    }
+    assert_eq!(rt; code_named(b"m16"), None);
 }

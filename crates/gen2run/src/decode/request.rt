@@ -4,12 +4,12 @@ ghost use Rattle.text_fields.specs.Lines.{fields_of};
 ghost use Rattle.gen2run.specs.Request.{kind_word, NamesNoCode, Spells, AsksBehind, AreFaulty, IsFaulty};
 
 use bit_strings::Code;
-use line_codes::code_named;
 use pie_text::{NotNumbers, Numbers};
 use reply_grammar::Expect;
 use reply_text::expect_of;
 use text_fields::{
-    Digits, Fields, HexBytes, flag, four_fields, number, one_field, three_fields, two_fields,
+    Digits, Fields, HexBytes, code_named, flag, four_fields, number, one_field, three_fields,
+    two_fields,
 };
 
 /// The greatest number of levels in a line.

@@ -3,14 +3,14 @@ ghost use Rattle.std.specs.Prelude.{◌≡◌, ◌++◌, [], ◌∷◌, codes, O
 ghost use Rattle.std.specs.String.{string_bytes};
 ghost use Rattle.std.specs.Fmt.{decimal};
 ghost use Rattle.text_fields.specs.Lines.{line_feed, line_with, space};
-ghost use Rattle.line_codes.specs.Names.{code_word};
+ghost use Rattle.text_fields.specs.CodeNames.{code_word};
 ghost use Rattle.scenario_lines.specs.Spelling.{flag_text, line_text};
 ghost use Rattle.scenario_lines.specs.declared.line.Line.TheVariants as lines;
 
 use bit_strings::OutOfMemory;
 use command_text::{bit_name, next_name, next_number};
-use line_codes::name_of;
 use pie_line::Link;
+use text_fields::name_of;
 
 /// Writes `link` and the four lengths of a link, in nanoseconds.
 fn push_lengths(text: &mut String, link: &Link) -> Result<(), OutOfMemory>

@@ -3,9 +3,8 @@
 use super::*;
 use crate::{Happening, TagSpec};
 use air_events::{Choice, Event};
-use bit_strings::{List, QValue, Session};
+use bit_strings::{Code, List, QValue, Session};
 use command_grammar::{FlagName, Sel, Side};
-use line_codes::Code;
 use lock_rules::Locks;
 use pie_line::Link;
 use q_round::RoundSpec;

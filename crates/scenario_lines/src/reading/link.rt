@@ -8,9 +8,8 @@ ghost use Rattle.scenario_lines.specs.Reading.{Misreads, MisreadsLink, link_faul
 
 use crate::LineFault;
 use bit_strings::Code;
-use line_codes::code_named;
 use pie_line::{Link, LinkRefusal};
-use text_fields::{Fields, flag, number, seven_fields};
+use text_fields::{Fields, code_named, flag, number, seven_fields};
 
 /// The greatest length of time in a line, in nanoseconds.
 const MOST_NANOSECONDS: u32 = 999_999;

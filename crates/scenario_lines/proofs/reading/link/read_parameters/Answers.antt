@@ -1,7 +1,7 @@
 -- Seven fields spell a link, or none.
 use Rattle.std.proofs.Common.{arith}
 use Rattle.std.specs.Fmt.{decimal}
-use Rattle.line_codes.specs.Names.{code_word}
+use Rattle.text_fields.specs.CodeNames.{code_word}
 use Rattle.scenario_lines.specs.Spelling.{flag_text}
 use Rattle.scenario_lines.proofs.Filled.{code_text_is, flag_text_is, number_text}
 use Rattle.scenario_lines.proofs.Counted.{have_7}

@@ -1,6 +1,6 @@
 //! The names of the line codes in the program's texts.
 ghost use Rattle.std.specs.Prelude.{◌≡◌, IfSome, Some};
-ghost use Rattle.line_codes.specs.Names.{code_word};
+ghost use Rattle.text_fields.specs.CodeNames.{code_word};
 
 use bit_strings::Code;
 
