@@ -30,7 +30,7 @@ pub fn receive(
     requires few { length stream.now.items ≤ 4000000000 }
     ensures received { IsReceived (table_of code) trext expect.now stream.now.items result }
     ensures only { (answer : Received) → IsReceived (table_of code) trext expect.now stream.now.items answer → result ≡ answer }
-    ensures only_whole { (reply : Reply) (sent : List Bool) → IsStream (table_of code) trext sent stream.now.items → Answers reply expect.now sent → result ≡ Whole reply }
+    ensures only_whole { (reply : Reply) (sent : List Bool) → IsStream (table_of code) trext sent stream.now.items → Answers reply expect.now sent → (result ≡ Whole reply) × (bits.new.items ≡ sent) }
     ensures whole { (reply : Reply) → result ≡ Whole reply → IsStream (table_of code) trext bits.new.items stream.now.items × Answers reply expect.now bits.new.items }
     ensures refused { (place : ℕ) → result ≡ Refused place → bits.new.items ≡ [] }
     ensures capacity { bits.new.capacity ≡ bits.old.capacity }
