@@ -1,11 +1,11 @@
 //! Levels to replies.
-ghost use Rattle.std.specs.Prelude.{◌≡◌, ◌≤◌, List, Bool, [], length};
-ghost use Rattle.line_code.specs.Stream.{IsStream, Streams};
+ghost use Rattle.std.specs.Prelude.{◌≡◌, ℕ, ◌≤◌, List, Bool, [], length};
+ghost use Rattle.line_code.specs.Stream.{IsStream};
 ghost use Rattle.line_codes.specs.Codes.{table_of};
 ghost use Rattle.reply_grammar.specs.Table.{Answers};
 ghost use Rattle.reply_grammar.specs.declared.expected.Reply.{Reply};
 ghost use Rattle.reply_grammar.specs.declared.expected.Received.{Received};
-ghost use Rattle.reply_grammar.specs.declared.expected.Received.TheVariants.{Whole};
+ghost use Rattle.reply_grammar.specs.declared.expected.Received.TheVariants.{Whole, Refused};
 ghost use Rattle.air_channel.specs.Received.{IsReceived};
 
 use bit_strings::{Bits, Levels};
@@ -17,9 +17,8 @@ use reply_grammar::{Expect, Received, decode_reply};
 /// where the levels stop being a stream, or the number of levels where they begin a stream and are
 /// none, or where they are one, and its bits no reply that is expected.
 ///
-/// `bits` is a buffer with room for as many bits as there are levels. It holds the bits of the stream
-/// afterwards, without the dummy at the end, whether or not they are a reply that is expected, and it
-/// is empty where the levels are no stream. No memory is taken.
+/// `bits` is a buffer with room for as many bits as there are levels. After a whole reply it holds the
+/// bits of the stream, without the dummy at the end. After a refusal it is empty. No memory is taken.
 pub fn receive(
     stream: &Levels,
     code: Code,
@@ -31,15 +30,18 @@ pub fn receive(
     requires few { length stream.now.items ≤ 4000000000 }
     ensures received { IsReceived (table_of code) trext expect.now stream.now.items result }
     ensures only { (answer : Received) → IsReceived (table_of code) trext expect.now stream.now.items answer → result ≡ answer }
-    ensures only_whole { (reply : Reply) (sent : List Bool) → IsStream (table_of code) trext sent stream.now.items → Answers reply expect.now sent → result ≡ Whole reply }
-    ensures bits { (sent : List Bool) → IsStream (table_of code) trext sent stream.now.items → bits.new.items ≡ sent }
-    ensures no_bits { (¬ Streams (table_of code) trext stream.now.items) → bits.new.items ≡ [] }
+    ensures only_whole { (reply : Reply) (sent : List Bool) → IsStream (table_of code) trext sent stream.now.items → Answers reply expect.now sent → (result ≡ Whole reply) × (bits.new.items ≡ sent) }
+    ensures whole { (reply : Reply) → result ≡ Whole reply → IsStream (table_of code) trext bits.new.items stream.now.items × Answers reply expect.now bits.new.items }
+    ensures refused { (place : ℕ) → result ≡ Refused place → bits.new.items ≡ [] }
     ensures capacity { bits.new.capacity ≡ bits.old.capacity }
 {
     match decode_levels(code, trext, stream, bits) {
         Ok(()) => match decode_reply(bits, expect) {
             Ok(reply) => Received::Whole(reply),
-            Err(_) => Received::Refused(stream.len()),
+            Err(_) => {
+                bits.clear();
+                Received::Refused(stream.len())
+            }
         },
         Err(LineRefusal::Invalid(place)) => Received::Refused(place),
         Err(LineRefusal::Unfinished(count)) => Received::Refused(count),
