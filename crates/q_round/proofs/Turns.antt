@@ -18,10 +18,7 @@ pub turn-is : (spec : SpecValue) (outcomes : List Outcome) (outcome : Outcome) (
     turn_of spec (outcome ∷ outcomes) ≡ turn_after spec.limit (length outcomes + 1) next.qfp next.q next.slots next.silent
 turn-is spec outcomes outcome frame s = rw (s.q, s.qfp, s.slots, s.silent, add-one (length (frame_of spec outcomes)))
 
--- its first two lines
-pub turn-quiet : (most sent qfp q slots : ℕ) (silent : Bool) → (slots == 2 ^ q && silent) ≡ true → turn_after most sent qfp q slots silent ≡ quiet
-turn-quiet most sent qfp q slots silent h = rw h
-
+-- its second line
 pub turn-limit : (most sent qfp q slots : ℕ) (silent : Bool) → (slots == 2 ^ q && silent) ≡ false → sent ≡ most → turn_after most sent qfp q slots silent ≡ limit
 turn-limit most sent qfp q slots silent h e = rw (h, eq-eqb sent most e)
 

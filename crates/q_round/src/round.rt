@@ -1,5 +1,5 @@
 //! A round, which takes the outcome of one slot at a time.
-ghost use Rattle.std.specs.Prelude.{◌≡◌, ◌+◌, ◌≤◌, Bool, true, false, List, [], ◌∷◌};
+ghost use Rattle.std.specs.Prelude.{◌≡◌, ◌+◌, ◌≤◌, true, false, List, [], ◌∷◌};
 
 use crate::frame::Frame;
 use crate::{Outcome, RoundSpec};
@@ -48,7 +48,6 @@ impl Model for Round {
 }
 
 impl Round {
-    ghost use Rattle.pie_line.specs.Link.{LinkValue};
     ghost use Rattle.q_round.specs.declared.frame.Outcome.{Outcome};
     ghost use Rattle.q_round.specs.declared.round.Next.TheVariants.{Send};
     ghost use Rattle.q_round.specs.SpecValue.{SpecValue};
