@@ -33,6 +33,12 @@ pub record WritesFront (T : List ℕ → List ℕ → Type 0) (left left' writte
   pub named : T bytes (front ++ rest)
   pub added : Adds written written' front
 
+-- no more than the limit was read
+pub record ReadsWithin (old new : Option (List ℕ)) : Type 0 where
+  pub bytes : List ℕ
+  pub reads : Reads old new bytes
+  pub within : length bytes ≤ input_limit
+
 -- more than the limit was read: one byte more
 pub record ReadsTooMuch (old new : Option (List ℕ)) : Type 0 where
   pub bytes : List ℕ
@@ -44,8 +50,9 @@ pub record ReadsTooMuch (old new : Option (List ℕ)) : Type 0 where
 abbrev pub Tells : (left left' written written' : Option (List ℕ)) → (reads reads' writes writes' : ℕ) → (untouched : Type 0) → Status → Type 0
 Tells left left' written written' reads reads' writes writes' untouched Done = WritesWhole Decodes left left' written written'
 Tells left left' written written' reads reads' writes writes' untouched BadInput = WritesWhole Refuses left left' written written'
-Tells left left' written written' reads reads' writes writes' untouched ReadFault = FaultsRose reads reads' × untouched
+Tells left left' written written' reads reads' writes writes' untouched ReadFault = FaultsRose reads reads' × ReadsWithin left left' × untouched
 Tells left left' written written' reads reads' writes writes' untouched WriteFault = FaultsRose writes writes' × WritesFront Defines left left' written written'
 Tells left left' written written' reads reads' writes writes' untouched TooLong = ReadsTooMuch left left' × untouched
-Tells left left' written written' reads reads' writes writes' untouched OutOfMemory = (written' ≡ written) ⊎ WritesFront Defines left left' written written'
+Tells left left' written written' reads reads' writes writes' untouched OutOfMemory =
+    (ReadsWithin left left' × (written' ≡ written)) ⊎ WritesFront Defines left left' written written'
 Tells left left' written written' reads reads' writes writes' untouched BadWords = ⊥

@@ -2,7 +2,7 @@
 ghost use Rattle.std.specs.Prelude.{◌≡◌, ◌≤◌, ◌↔◌, ◌⊎◌, ℕ, List, length, Some};
 ghost use Rattle.air_io.specs.Flow.{FaultsRose};
 ghost use Rattle.gen2run.specs.Form.{texts, HasForm};
-ghost use Rattle.gen2run.specs.Outcome.{input_limit, WritesWhole, WritesFront, ReadsTooMuch, Tells};
+ghost use Rattle.gen2run.specs.Outcome.{input_limit, WritesWhole, WritesFront, ReadsWithin, ReadsTooMuch, Tells};
 ghost use Rattle.gen2run.specs.DecodeLines.{Decodes, Refuses, Defines, IsGrammatical};
 
 use crate::decode::lines::{Decoded, decode_input};
@@ -35,17 +35,20 @@ pub fn gen2run<I: Source, O: Sink>(
     ensures bad_input { result ≡ Status.BadInput
         → WritesWhole Refuses (I.left input.old) (I.left input.new) (O.written output.old) (O.written output.new) }
 
-    // ReadFault comes only where the source's count of faults rose, and then nothing is written.
-    ensures read_fault { result ≡ Status.ReadFault
-        → FaultsRose (I.faults input.old) (I.faults input.new) × (output.new ≡ output.old) }
+    // ReadFault comes only where the source's count of faults rose and no more than the limit was read, and then
+    // nothing is written.
+    ensures read_fault { result ≡ Status.ReadFault → FaultsRose (I.faults input.old) (I.faults input.new)
+        × ReadsWithin (I.left input.old) (I.left input.new) × (output.new ≡ output.old) }
     // WriteFault comes only where the sink's count of faults rose, and a front of the defined text was added.
     ensures write_fault { result ≡ Status.WriteFault → FaultsRose (O.faults output.old) (O.faults output.new)
         × WritesFront Defines (I.left input.old) (I.left input.new) (O.written output.old) (O.written output.new) }
-    // TooLong comes only where more than the limit was read, and then nothing is written.
+    // TooLong comes only where more than the limit was read, which no other status allows, and then nothing is written.
     ensures too_long { result ≡ Status.TooLong
         → ReadsTooMuch (I.left input.old) (I.left input.new) × (output.new ≡ output.old) }
-    // OutOfMemory: nothing was written, or a front of the defined text of the input, which was read to its end.
-    ensures out_of_memory { result ≡ Status.OutOfMemory → (O.written output.new ≡ O.written output.old)
+    // OutOfMemory: no more than the limit was read and nothing was written, or the input was read to its end, and a
+    // front of its defined text was added.
+    ensures out_of_memory { result ≡ Status.OutOfMemory
+        → (ReadsWithin (I.left input.old) (I.left input.new) × (O.written output.new ≡ O.written output.old))
         ⊎ WritesFront Defines (I.left input.old) (I.left input.new) (O.written output.old) (O.written output.new) }
 
     // A grammatical input within the limit is decoded, unless a device fails or memory runs out.

@@ -12,14 +12,14 @@ pub enum Status {
     /// The input was read to its end, and its first faulty line was reported: the one line
     /// `fault LINE REASON` was written.
     BadInput = 3,
-    /// A read failed. Nothing was written.
+    /// A read failed, and no more than 16,777,216 bytes were read. Nothing was written.
     ReadFault = 4,
     /// A write failed. A part of the defined text from its beginning on was written, maybe none.
     WriteFault = 5,
     /// More than 16,777,216 bytes were read. Nothing was written.
     TooLong = 6,
-    /// There was no memory. Nothing was written, or the input was read to its end and a part of the
-    /// defined text from its beginning on was written.
+    /// There was no memory. No more than 16,777,216 bytes were read and nothing was written, or the input
+    /// was read to its end and a part of the defined text from its beginning on was written.
     OutOfMemory = 7,
 }
 

@@ -1,7 +1,7 @@
 //! The program from its words and input to its status and output, over memory.
 
 use crate::{Status, gen2run};
-use air_io::{MemSink, MemSource, SureSink, SureSource};
+use air_io::{MemSink, MemSource, SureSource};
 use std::alloc::{AllocError, Global};
 use std::process::Abort;
 use std::test::Fail;
@@ -271,34 +271,76 @@ fn failing_devices(rt: HostRuntime) -> Result<(), Fail> {
 fn long_inputs(rt: HostRuntime) -> Result<(), Fail> {
     let alloc = rt.alloc();
     let words = words(alloc, &["decode"])?;
-    for (length, status) in [
-        (16_777_216usize, Status::BadInput),
-        (16_777_217, Status::TooLong),
+    for (length, status, output) in [
+        (16_777_216usize, Status::BadInput, "fault 1 end\n"),
+        (16_777_217, Status::TooLong, ""),
     ] {
         let bytes = long_input(alloc, length)?;
         let mut source = SureSource::new(bytes);
-        let mut sink = SureSink::new();
+        let mut sink = MemSink::new(alloc, ROOM, Vec::new(alloc))?;
         assert_eq!(rt; gen2run(alloc, &words, &mut source, &mut sink), status);
+        assert_eq!(rt; sink.as_slice(), output.as_bytes());
     }
     Ok(())
 }
 
-/// A `reply` or `command` line has at most 8,240 bits.
+/// Lines with as many levels, samples, intervals or bits as a line may have.
 #[test]
-fn many_bits(rt: HostRuntime) -> Result<(), Fail> {
-    let alloc = rt.alloc();
-    for (count, status, output) in [
-        (8_240usize, Status::Done, "refused length\n"),
-        (8_241, Status::BadInput, "fault 1 number\n"),
+fn longest_lines(rt: HostRuntime) -> Result<(), Fail> {
+    for (front, piece, count, output) in [
+        (
+            "fm0 0 110100100011",
+            "01",
+            65_994usize,
+            "unfinished 132000\n",
+        ),
+        (
+            "heard fm0 0 rn16 110100100011",
+            "01",
+            65_994,
+            "refused 132000\n",
+        ),
+        ("samples 128 64 ", "FF", 132_000, "rest 131968\n"),
+        (
+            "pie 12500 6250 6250 25000 6250",
+            " 6250",
+            19_995,
+            "unfinished 20000\n",
+        ),
+        ("reply rn16 ", "0", 8_240, "refused length\n"),
+        ("command ", "0", 8_240, "refused 4 extra\n"),
     ] {
-        let mut line = String::from_str(alloc, "reply rn16 ")?;
-        for _ in 0..count {
-            line.push('0')?;
-        }
-        line.push('\n')?;
-        expect_lines(&rt, line.as_str(), status, output)?;
+        let line = long_line(rt.alloc(), front, piece, count)?;
+        expect_lines(&rt, line.as_str(), Status::Done, output)?;
     }
     Ok(())
+}
+
+/// Lines with one more of them.
+#[test]
+fn too_long_lines(rt: HostRuntime) -> Result<(), Fail> {
+    for (front, piece, count, output) in [
+        ("fm0 0 ", "0", 132_001usize, "fault 1 number\n"),
+        ("heard fm0 0 rn16 ", "0", 132_001, "fault 1 number\n"),
+        ("samples 128 64 ", "FF", 132_001, "fault 1 number\n"),
+        ("pie", " 6250", 20_001, "fault 1 shape\n"),
+        ("reply rn16 ", "0", 8_241, "fault 1 number\n"),
+        ("command ", "0", 8_241, "fault 1 number\n"),
+    ] {
+        let line = long_line(rt.alloc(), front, piece, count)?;
+        expect_lines(&rt, line.as_str(), Status::BadInput, output)?;
+    }
+    Ok(())
+}
+
+/// A line that begins so, and ends with so many of a piece.
+fn long_line(alloc: Global, front: &str, piece: &str, count: usize) -> Result<String, AllocError> {
+    let mut line = String::from_str(alloc, front)?;
+    for _ in 0..count {
+        line.push_str(piece)?;
+    }
+    line.push('\n')?;
+    Ok(line)
 }
 
 /// As many bytes as wanted, none of them a line feed.

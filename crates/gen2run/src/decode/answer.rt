@@ -19,7 +19,8 @@ use sample_slicer::{SliceRefusal, slice_levels};
 use std::alloc::Global;
 use text_fields::{Digits, HexBytes, push_bits, push_number};
 
-/// Room for the longest line, taken once for all lines.
+/// Room for the levels, bits and intervals of the longest line, taken once for all lines. The samples of
+/// a line and the text of the answers take memory of their own.
 #[derive(Drop)]
 pub struct Workspace {
     alloc: Global,
@@ -32,7 +33,7 @@ pub struct Workspace {
 }
 
 impl Workspace {
-    /// Takes the memory that the answers to all lines need.
+    /// Takes the room for levels, bits and intervals.
     pub fn new(alloc: Global) -> Result<Workspace, OutOfMemory> {
         let levels = Levels::new(alloc, MOST_LEVELS)?;
         let bits = Bits::new(alloc, MOST_LEVELS)?;
@@ -89,7 +90,7 @@ impl Workspace {
         push_outcome(text, outcome, &self.bits)
     }
 
-    /// Adds the levels of samples, or the place at which they are none.
+    /// Adds the levels of samples, or the place at which they are none. Each line takes memory for its samples.
     fn answer_samples(
         &mut self,
         threshold: u8,
