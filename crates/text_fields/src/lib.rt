@@ -5,7 +5,6 @@
 //! `String`, which is all that takes memory.
 #![tactic(auto)]
 
-mod digit_lists;
 mod digits;
 mod exact;
 mod fields;
@@ -20,17 +19,16 @@ mod tests;
 mod word_lists;
 mod words;
 
-pub use digit_lists::list_digits;
-pub use digits::{Digits, HYPHEN, push_bits};
-pub use exact::{four_fields, is_at_end, next_filled, one_field, three_fields, two_fields};
-pub use fields::{Fields, SPACE};
+pub use digits::{Digits, list_digits, push_bits};
+pub use exact::{four_fields, is_at_end, one_field, three_fields, two_fields};
+pub use fields::Fields;
 pub use flags::flag;
 pub use hex_bytes::HexBytes;
 pub use laws::{
     bits_are_told_apart, fields_come_back, lines_come_back, numbers_are_told_apart,
     spellings_are_field_texts, word_lists_are_told_apart, words_are_told_apart,
 };
-pub use lines::{LINE_FEED, split_line};
+pub use lines::split_line;
 pub use more_fields::{five_fields, seven_fields, six_fields};
 pub use numbers::{number, push_number};
 pub use word_lists::Words;
