@@ -104,13 +104,13 @@ const PART: usize = 64;
 
 /// Writes bits in binary digits, or a hyphen for none, at the end of the text. After an error the
 /// text may hold a part of them.
-pub fn push_bits(text: &mut String, bits: &Bits) -> Result<(), OutOfMemory>
-    ensures { OnOk result (string_bytes text.new ≡ string_bytes text.old ++ binary bits.now.items) }
+pub fn push_bits(text: &mut String, bits: &[bool]) -> Result<(), OutOfMemory>
+    ensures { OnOk result (string_bytes text.new ≡ string_bytes text.old ++ binary bits.now) }
 {
     if bits.is_empty() {
         return text.push('-');
     }
-    push_digits(text, bits.as_slice())
+    push_digits(text, bits)
 }
 
 /// Writes bits in binary digits at the end of the text.
