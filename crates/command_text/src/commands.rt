@@ -8,13 +8,15 @@ ghost use Rattle.text_fields.specs.Hexadecimal.{hex_word, hex_words};
 ghost use Rattle.text_fields.specs.CodeNames.{code_word};
 ghost use Rattle.command_text.specs.CommandText.{bank_word, command_line, flag_word, mask_bank_word, payload_digits, sel_word, side_word, updn_word};
 
-use crate::fields::{next_mask, next_name, next_number, next_payload, next_word, next_words};
 use crate::names::{
     bank_name, bit_name, flag_name, mask_bank_name, sel_name, side_name, updn_name,
 };
 use bit_strings::{Action, Code, OutOfMemory, Payload, Pointer, QValue, Session};
 use command_grammar::{Bank, BlockWords, Command, FlagName, Mask, MaskBank, Sel, Side, UpDn};
-use text_fields::name_of;
+use text_fields::{
+    name_of, next_bits, next_name, next_number, next_word, next_words, push_hex_digit,
+    push_named_number, push_named_word, push_word,
+};
 
 /// Writes a command at the end of the text, without a line feed. After an error the text may hold a part
 /// of it.
@@ -85,16 +87,7 @@ pub fn push_command(text: &mut String, command: &Command) -> Result<(), OutOfMem
 fn push_session(text: &mut String, name: &str, session: &Session) -> Result<(), OutOfMemory>
     ensures { OnOk result (string_bytes text.new ≡ string_bytes text.old ++ line_with (name.now ∷ decimal session.now ∷ [])) }
 {
-    text.push_str(name)?;
-    next_number(text, u32::from(session.get()))
-}
-
-/// Writes the name of a command and the tag's number.
-fn push_named_word(text: &mut String, name: &str, rn: u16) -> Result<(), OutOfMemory>
-    ensures { OnOk result (string_bytes text.new ≡ string_bytes text.old ++ line_with (name.now ∷ hex_word rn ∷ [])) }
-{
-    text.push_str(name)?;
-    next_word(text, rn)
+    push_named_number(text, name, u32::from(session.get()))
 }
 
 /// Writes the front of a Query: what it says of the replies.
@@ -151,7 +144,7 @@ fn push_select(
     next_number(text, u32::from(action.get()))?;
     next_name(text, mask_bank_name(bank))?;
     next_number(text, pointer.get())?;
-    next_mask(text, mask)
+    next_bits(text, mask.as_slice())
 }
 
 /// Writes the name of a command, the bank, and the place of the first word.
@@ -206,9 +199,18 @@ fn push_write(
 fn push_half(text: &mut String, name: &str, covered: u16, rn: u16) -> Result<(), OutOfMemory>
     ensures { OnOk result (string_bytes text.new ≡ string_bytes text.old ++ line_with (name.now ∷ hex_word covered ∷ hex_word rn ∷ [])) }
 {
-    text.push_str(name)?;
-    next_word(text, covered)?;
+    push_named_word(text, name, covered)?;
     next_word(text, rn)
+}
+
+/// Writes the payload of a Lock as the next field, in hexadecimal digits.
+fn next_payload(text: &mut String, payload: &Payload) -> Result<(), OutOfMemory>
+    ensures { OnOk result (string_bytes text.new ≡ string_bytes text.old ++ space ∷ payload_digits payload.now) }
+{
+    let number = payload.get();
+    text.push(' ')?;
+    push_hex_digit(text, (number / 65536) as u8)?;
+    push_word(text, (number % 65536) as u16)
 }
 
 /// Writes a Lock.
@@ -232,6 +234,6 @@ fn push_block_write(
         ++ line_with (codes "blockwrite" ∷ bank_word bank ∷ decimal pointer.now ∷ hex_words words.now ∷ hex_word rn ∷ [])) }
 {
     push_place(text, "blockwrite", bank, pointer)?;
-    next_words(text, words)?;
+    next_words(text, words.as_slice())?;
     next_word(text, rn)
 }

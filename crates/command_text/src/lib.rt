@@ -2,13 +2,11 @@
 #![tactic(auto)]
 
 mod commands;
-mod fields;
 mod names;
 mod refusals;
 #[cfg(test)]
 mod tests;
 
 pub use commands::push_command;
-pub use fields::{next_name, next_number};
 pub use names::{bit_name, flag_name, side_name};
 pub use refusals::push_command_refusal;

@@ -3,10 +3,10 @@ ghost use Rattle.std.specs.Prelude.{◌≡◌, ◌++◌, OnOk};
 ghost use Rattle.std.specs.String.{string_bytes};
 ghost use Rattle.command_text.specs.CommandText.{command_refusal_line};
 
-use crate::fields::{next_name, next_number};
 use crate::names::reason_name;
 use bit_strings::OutOfMemory;
 use command_grammar::CommandRefusal;
+use text_fields::{next_name, push_named_number};
 
 /// Writes why bits are no command at the end of the text, without a line feed. After an error the text
 /// may hold a part of it.
@@ -18,13 +18,9 @@ pub fn push_command_refusal(text: &mut String, refusal: CommandRefusal) -> Resul
 {
     match refusal {
         CommandRefusal::At(place, reason) => {
-            text.push_str("refused")?;
-            next_number(text, place)?;
+            push_named_number(text, "refused", place)?;
             next_name(text, reason_name(reason))
         }
-        CommandRefusal::Short(count) => {
-            text.push_str("short")?;
-            next_number(text, count)
-        }
+        CommandRefusal::Short(count) => push_named_number(text, "short", count),
     }
 }

@@ -9,4 +9,4 @@ mod tests;
 
 pub use expectation::expect_of;
 pub use laws::{expectations_are_field_texts, expectations_are_told_apart};
-pub use printing::{push_refusal, push_reply};
+pub use printing::{push_reply, push_reply_refusal};

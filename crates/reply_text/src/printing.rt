@@ -1,12 +1,11 @@
 //! Replies, and why bits are none that is expected, as lines of a text.
 ghost use Rattle.std.specs.Prelude.{◌≡◌, ◌++◌, OnOk};
 ghost use Rattle.std.specs.String.{string_bytes};
-ghost use Rattle.text_fields.specs.Hexadecimal.{hex_word};
 ghost use Rattle.reply_text.specs.ReplyText.{refusal_line, reply_line};
 
 use bit_strings::OutOfMemory;
 use reply_grammar::{Reply, ReplyRefusal};
-use text_fields::{push_byte_hex, push_word, push_words};
+use text_fields::{next_words, push_byte_hex, push_named_word};
 
 /// Writes a reply at the end of the text, without a line feed. After an error the text may hold a part
 /// of it.
@@ -18,17 +17,15 @@ pub fn push_reply(text: &mut String, reply: &Reply) -> Result<(), OutOfMemory>
     ensures { OnOk result (string_bytes text.new ≡ string_bytes text.old ++ reply_line reply.now) }
 {
     match reply {
-        Reply::Rn16(rn) => push_named_word(text, "rn16 ", *rn),
+        Reply::Rn16(rn) => push_named_word(text, "rn16", *rn),
         Reply::Epc { pc, epc } => {
-            text.push_str("epc ")?;
-            push_word(text, *pc)?;
-            text.push(' ')?;
-            push_words(text, epc.as_slice())
+            push_named_word(text, "epc", *pc)?;
+            next_words(text, epc.as_slice())
         }
-        Reply::Handle(rn) => push_named_word(text, "handle ", *rn),
+        Reply::Handle(rn) => push_named_word(text, "handle", *rn),
         Reply::Words(words) => {
-            text.push_str("words ")?;
-            push_words(text, words.as_slice())
+            text.push_str("words")?;
+            next_words(text, words.as_slice())
         }
         Reply::Header => text.push_str("header"),
         Reply::Error(code) => {
@@ -38,19 +35,11 @@ pub fn push_reply(text: &mut String, reply: &Reply) -> Result<(), OutOfMemory>
     }
 }
 
-/// Writes a name and a word behind it.
-fn push_named_word(text: &mut String, name: &str, word: u16) -> Result<(), OutOfMemory>
-    ensures { OnOk result (string_bytes text.new ≡ string_bytes text.old ++ (name.now ++ hex_word word)) }
-{
-    text.push_str(name)?;
-    push_word(text, word)
-}
-
 /// Writes why bits are no reply that is expected at the end of the text, without a line feed. After an
 /// error the text may hold a part of it.
 ///
 /// Profile: `refused length`, `refused crc`, `refused header` and `refused number`.
-pub fn push_refusal(text: &mut String, refusal: ReplyRefusal) -> Result<(), OutOfMemory>
+pub fn push_reply_refusal(text: &mut String, refusal: ReplyRefusal) -> Result<(), OutOfMemory>
     ensures { OnOk result (string_bytes text.new ≡ string_bytes text.old ++ refusal_line refusal) }
 {
     text.push_str(match refusal {

@@ -92,7 +92,7 @@ fn replies_and_refusals_are_written(rt: HostRuntime) -> Result<(), Fail> {
         (ReplyRefusal::Number, "refused number"),
     ] {
         let mut text = String::new(rt.alloc());
-        push_refusal(&mut text, refusal)?;
+        push_reply_refusal(&mut text, refusal)?;
         assert_eq!(rt; text.as_str(), wanted);
     }
     Ok(())

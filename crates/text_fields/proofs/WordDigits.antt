@@ -1,12 +1,12 @@
 -- Lists of words and their digits.
-use Rattle.std.proofs.Common.{◌≡◌, ◌≢◌, ◌<◌, ◌≤◌, ◌^◌, ◌/◌, ◌%◌, ◌+◌, ◌*◌, ℕ, Bool, true, false, List, [], ◌∷◌, ◌++◌, length, arith, ap, sym, ◌∙◌, refl}
+use Rattle.std.proofs.Common.{◌≡◌, ◌≢◌, ◌<◌, ◌^◌, ◌/◌, ◌%◌, ◌+◌, ◌*◌, ℕ, true, List, [], ◌∷◌, ◌++◌, length, take, drop, arith, ap, sym, ◌∙◌, refl}
 use Rattle.std.specs.Prelude.{All}
-use Rattle.std.specs.List.{AllPass, flat_map}
+use Rattle.std.specs.List.{AllPass, IsSplitAt, flat_map}
 use Rattle.std.proofs.lemmas.Bool.Decides.{nat_tests}
 use Rattle.std.proofs.lemmas.List.Elements.{All-head, All-tail, All-cons, All-nil}
 use Rattle.text_fields.specs.Binary.{hyphen}
 use Rattle.text_fields.specs.Hexadecimal.{hex_digit, hex_word}
-use Rattle.text_fields.specs.WordLists.{digit_number, is_upper_hex_digit, word_number, words_of_digits}
+use Rattle.text_fields.specs.WordLists.{AreWordDigits, digit_number, is_upper_hex_digit, word_number, words_of_digits}
 
 -- the fact of `AllPass is_upper_hex_digit`
 abbrev IsDigit : ℕ → Type 0
@@ -91,6 +91,23 @@ pub words_back : (words : List ℕ) → All (λ word. word < 2 ^ 16) words → w
 words_back [] small = refl
 words_back (word ∷ words) small =
     rw (word_back word (All-head IsSmall word words small), words_back words (All-tail IsSmall word words small)) refl
+
+-- digits that spell words begin with those of the first word, and the others spell the others
+pub first_word : (digits front behind : List ℕ) → IsSplitAt digits 4 front behind → AreWordDigits digits
+    → (word : ℕ) × (word < 2 ^ 16) × (front ≡ hex_word word) × (words_of_digits digits ≡ word ∷ words_of_digits behind) × AreWordDigits behind
+first_word [] front behind cut are = absurd (omega (arith, cut.0))
+first_word (a ∷ []) front behind cut are = absurd (omega (arith, cut.0))
+first_word (a ∷ b ∷ []) front behind cut are = absurd (omega (arith, cut.0))
+first_word (a ∷ b ∷ c ∷ []) front behind cut are = absurd (omega (arith, cut.0))
+first_word (a ∷ b ∷ c ∷ d ∷ digits) front behind cut are =
+    let others : AreWordDigits digits =
+    record { spelling = ap (λ (list : List ℕ). drop 4 list) are.spelling; countable = omega (arith, are.countable) } in (
+      word_number a b c d,
+      word_small a b c d,
+      cut.1 ∙ ap (λ (list : List ℕ). take 4 list) are.spelling,
+      rw cut.2 refl,
+      rw cut.2 others,
+    )
 
 pub digits_length : (words : List ℕ) → length (flat_map hex_word words) ≡ 4 * length words
 digits_length [] = refl

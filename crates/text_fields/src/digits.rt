@@ -8,7 +8,7 @@ use bit_strings::{Bits, OutOfMemory};
 use std::marker::Model;
 
 /// What stands for a list without items.
-pub const HYPHEN: u8 = b'-';
+const HYPHEN: u8 = b'-';
 
 /// A list of bits that a field spells: its digits 0 and 1, the first bit first, or a hyphen for no
 /// bits. A contract sees it as the list of these bits.
@@ -48,10 +48,11 @@ fn is_binary(digits: &[u8]) -> bool
     binary
 }
 
-/// What a field spells of a list: nothing where it is a hyphen. None exactly where the field is empty.
-pub(crate) fn without_hyphen(field: &[u8]) -> Option<&[u8]>
-    ensures value { IfSome result (λ spelling. field.now ≡ or_hyphen spelling.now) }
-    ensures only { (spelling : List ℕ) → spelling ≢ hyphen ∷ [] → field.now ≡ or_hyphen spelling → IsSomeAnd result (λ it. it.now ≡ spelling) }
+/// The digits that a field spells a list with, which are none where the field is a hyphen. None exactly
+/// where the field is empty.
+pub fn list_digits(field: &[u8]) -> Option<&[u8]>
+    ensures value { IfSome result (λ digits. field.now ≡ or_hyphen digits.now) }
+    ensures only { (digits : List ℕ) → digits ≢ hyphen ∷ [] → field.now ≡ or_hyphen digits → IsSomeAnd result (λ it. it.now ≡ digits) }
 {
     match field {
         [] => None,
@@ -67,7 +68,7 @@ impl<'a> Digits<'a> {
         ensures value { IfSome result (λ bits. (field.now ≡ binary bits) × (length bits ≤ most)) }
         ensures only { (bits : List Bool) → length bits ≤ most → field.now ≡ binary bits → IsSomeAnd result (λ it. it ≡ bits) }
     {
-        let digits = without_hyphen(field)?;
+        let digits = list_digits(field)?;
         if digits.len() > most as usize || !is_binary(digits) {
             return None;
         }
@@ -103,13 +104,13 @@ const PART: usize = 64;
 
 /// Writes bits in binary digits, or a hyphen for none, at the end of the text. After an error the
 /// text may hold a part of them.
-pub fn push_bits(text: &mut String, bits: &Bits) -> Result<(), OutOfMemory>
-    ensures { OnOk result (string_bytes text.new ≡ string_bytes text.old ++ binary bits.now.items) }
+pub fn push_bits(text: &mut String, bits: &[bool]) -> Result<(), OutOfMemory>
+    ensures { OnOk result (string_bytes text.new ≡ string_bytes text.old ++ binary bits.now) }
 {
     if bits.is_empty() {
         return text.push('-');
     }
-    push_digits(text, bits.as_slice())
+    push_digits(text, bits)
 }
 
 /// Writes bits in binary digits at the end of the text.

@@ -4,7 +4,7 @@ ghost use Rattle.std.specs.Prelude.{◌≡◌, ◌≢◌, ◌↔◌, ℕ, List, 
 use crate::fields::Fields;
 
 /// The next field, where one is left and it is not empty. After none no more is known of what is left.
-pub fn next_filled<'a>(fields: &mut Fields<'a>) -> Option<&'a [u8]>
+pub(crate) fn next_filled<'a>(fields: &mut Fields<'a>) -> Option<&'a [u8]>
     ensures value { IfSome result (λ field. (fields.old ≡ field.now ∷ fields.new) × (field.now ≢ [])) }
     ensures only { (field : List ℕ) → (rest : List (List ℕ)) → fields.old ≡ field ∷ rest → field ≢ []
         → IsSomeAnd result (λ it. it.now ≡ field) × (fields.new ≡ rest) }

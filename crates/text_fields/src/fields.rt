@@ -7,7 +7,7 @@ use crate::lines::split_at_first;
 use std::marker::Model;
 
 /// The byte that separates two fields.
-pub const SPACE: u8 = b' ';
+const SPACE: u8 = b' ';
 
 /// The fields of a line that are left, in order. A contract sees it as the list of these fields.
 #[derive(Drop)]

@@ -6,7 +6,6 @@
 #![tactic(auto)]
 
 mod code_names;
-mod digit_lists;
 mod digits;
 mod exact;
 mod fields;
@@ -15,6 +14,7 @@ mod hex_bytes;
 mod laws;
 mod lines;
 mod more_fields;
+mod next_fields;
 mod numbers;
 #[cfg(test)]
 mod tests;
@@ -22,18 +22,20 @@ mod word_lists;
 mod words;
 
 pub use code_names::{code_named, name_of};
-pub use digit_lists::list_digits;
-pub use digits::{Digits, HYPHEN, push_bits};
-pub use exact::{four_fields, is_at_end, next_filled, one_field, three_fields, two_fields};
-pub use fields::{Fields, SPACE};
+pub use digits::{Digits, list_digits, push_bits};
+pub use exact::{four_fields, is_at_end, one_field, three_fields, two_fields};
+pub use fields::Fields;
 pub use flags::flag;
 pub use hex_bytes::HexBytes;
 pub use laws::{
     bits_are_told_apart, fields_come_back, lines_come_back, numbers_are_told_apart,
     spellings_are_field_texts, word_lists_are_told_apart, words_are_told_apart,
 };
-pub use lines::{LINE_FEED, split_line};
+pub use lines::split_line;
 pub use more_fields::{five_fields, seven_fields, six_fields};
+pub use next_fields::{
+    next_bits, next_name, next_number, next_word, next_words, push_named_number, push_named_word,
+};
 pub use numbers::{number, push_number};
 pub use word_lists::Words;
 pub use words::{push_byte_hex, push_hex_digit, push_word, push_words, word};

@@ -5,7 +5,7 @@ ghost use Rattle.text_fields.specs.Lines.{line_feed, lines_of, pieces_between, L
 use memchr::memchr;
 
 /// The byte that ends a line.
-pub const LINE_FEED: u8 = b'\n';
+const LINE_FEED: u8 = b'\n';
 
 /// The first place of the byte, counted from 0; none exactly where it stands nowhere.
 fn first_place(text: &[u8], byte: u8) -> Option<usize>

@@ -81,13 +81,31 @@ fn bits_are_read_and_written(rt: HostRuntime) -> Result<(), Fail> {
             Some(digits) => {
                 assert!(rt; digits.len() <= bits.capacity());
                 digits.copy_to(&mut bits);
-                push_bits(&mut text, &bits)?;
+                push_bits(&mut text, bits.as_slice())?;
                 Some(text.as_str())
             }
             None => None,
         };
         assert_eq!(rt; read, wanted);
     }
+    Ok(())
+}
+
+#[test]
+fn next_fields_are_written(rt: HostRuntime) -> Result<(), Fail> {
+    let mut text = String::new(rt.alloc());
+    push_named_number(&mut text, "lock", 7)?;
+    next_name(&mut text, "epc")?;
+    next_number(&mut text, 4294967295)?;
+    next_word(&mut text, 0x0A9F)?;
+    next_words(&mut text, &[0x3000, 0x00EF])?;
+    next_words(&mut text, &[])?;
+    next_bits(&mut text, &[true, false])?;
+    next_bits(&mut text, &[])?;
+    assert_eq!(rt; text.as_str(), "lock 7 epc 4294967295 0A9F 300000EF - 10 -");
+    let mut text = String::new(rt.alloc());
+    push_named_word(&mut text, "ack", 0x001D)?;
+    assert_eq!(rt; text.as_str(), "ack 001D");
     Ok(())
 }
 

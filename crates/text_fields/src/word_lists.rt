@@ -1,11 +1,12 @@
 //! Lists of words as fields.
-ghost use Rattle.std.specs.Prelude.{◌≡◌, ◌≢◌, ◌≤◌, ◌<◌, ◌^◌, ◌%◌, ℕ, ◌↔◌, List, [], ◌∷◌, length, slice_get, All, IsTrue, IfOk, IfSome, IsSomeAnd};
+ghost use Rattle.std.specs.Prelude.{◌≡◌, ◌≢◌, ◌≤◌, ◌<◌, ◌^◌, ◌%◌, ℕ, ◌↔◌, List, [], ◌∷◌, ◌++◌, length, slice_get, All, IsTrue, IfOk, IfSome, IfNone, IsSomeAnd};
 ghost use Rattle.std.specs.List.{AllPass};
 ghost use Rattle.text_fields.specs.Binary.{hyphen, or_hyphen};
-ghost use Rattle.text_fields.specs.Hexadecimal.{hex_words};
-ghost use Rattle.text_fields.specs.WordLists.{digit_number, is_upper_hex_digit, word_number};
+ghost use Rattle.text_fields.specs.Hexadecimal.{hex_word, hex_words};
+ghost use Rattle.text_fields.specs.WordLists.{AreWordDigits, is_upper_hex_digit, words_of_digits};
 
-use crate::digits::without_hyphen;
+use crate::digits::list_digits;
+use crate::words::word;
 use bit_strings::OutOfMemory;
 use std::alloc::Global;
 use std::marker::Model;
@@ -37,25 +38,17 @@ fn is_upper_hexadecimal(digits: &[u8]) -> bool
         .all(|digit| matches!(*digit, b'0'..=b'9' | b'A'..=b'F'))
 }
 
-/// The number of an upper-case hexadecimal digit, and 0 for each other byte.
-fn digit_value(digit: u8) -> u16
-    ensures value { result ≡ digit_number digit }
-    ensures small { result < 16 }
+/// The first word of digits that spell words, and the digits behind it; none exactly where there are no
+/// words.
+fn split_word(digits: &[u8]) -> Option<(u16, &[u8])>
+    requires { AreWordDigits digits.now }
+    ensures cut { IfSome result (λ it. digits.now ≡ hex_word it.0 ++ it.1.now) }
+    ensures words { IfSome result (λ it. words_of_digits digits.now ≡ it.0 ∷ words_of_digits it.1.now) }
+    ensures left { IfSome result (λ it. AreWordDigits it.1.now) }
+    ensures none { IfNone result (words_of_digits digits.now ≡ []) }
 {
-    match digit {
-        b'0'..=b'9' => u16::from(digit - b'0'),
-        b'A'..=b'F' => u16::from(digit - b'A' + 10),
-        _ => 0,
-    }
-}
-
-/// The word of four digits.
-fn word_of(first: u8, second: u8, third: u8, fourth: u8) -> u16
-    ensures { result ≡ word_number first second third fourth }
-{
-    let high = digit_value(first) * 16 + digit_value(second);
-    let low = digit_value(third) * 16 + digit_value(fourth);
-    high * 256 + low
+    let (first, behind) = digits.split_at_checked(4)?;
+    Some((word(first)?, behind))
 }
 
 impl<'a> Words<'a> {
@@ -66,7 +59,7 @@ impl<'a> Words<'a> {
         ensures only { (words : List ℕ) → All (λ word. word < 2 ^ 16) words → length words ≤ most → field.now ≡ hex_words words
             → IsSomeAnd result (λ it. it ≡ words) }
     {
-        let digits = without_hyphen(field)?;
+        let digits = list_digits(field)?;
         let is_short = digits.len() / 4 <= most as usize;
         if digits.len() % 4 != 0 || !is_short || !is_upper_hexadecimal(digits) {
             return None;
@@ -92,12 +85,8 @@ impl<'a> Words<'a> {
     pub fn first(&self) -> Option<u16>
         ensures { result ≡ slice_get self.now 0 }
     {
-        match self.digits {
-            [first, second, third, fourth, ..] => {
-                Some(word_of(*first, *second, *third, *fourth))
-            }
-            _ => None,
-        }
+        let (word, _) = split_word(self.digits)?;
+        Some(word)
     }
 
     /// The words, in memory of their own.
@@ -106,8 +95,8 @@ impl<'a> Words<'a> {
     {
         let mut words = Vec::with_capacity(alloc, self.digits.len() / 4)?;
         let mut rest = self.digits;
-        while let [first, second, third, fourth, behind @ ..] = rest {
-            words.push(word_of(*first, *second, *third, *fourth))?;
+        while let Some((word, behind)) = split_word(rest) {
+            words.push(word)?;
             rest = behind;
         }
         Ok(words)

@@ -14,7 +14,7 @@ use line_codes::{LineRefusal, decode_levels};
 use pie_line::{FrameKind, Intervals, PieRefusal, decode_frame};
 use pie_text::{Numbers, push_frame, push_pie_refusal};
 use reply_grammar::{Expect, Received, Reply, ReplyRefusal, decode_reply};
-use reply_text::{push_refusal, push_reply};
+use reply_text::{push_reply, push_reply_refusal};
 use sample_slicer::{SliceRefusal, slice_levels};
 use std::alloc::Global;
 use text_fields::{Digits, HexBytes, push_bits, push_number};
@@ -170,7 +170,7 @@ fn push_outcome(
     match outcome {
         Ok(()) => {
             text.push_str("bits ")?;
-            push_bits(text, bits)?;
+            push_bits(text, bits.as_slice())?;
         }
         Err(LineRefusal::Invalid(place)) => {
             text.push_str("invalid ")?;
@@ -195,7 +195,7 @@ fn push_slicing(
     match outcome {
         Ok(()) => {
             text.push_str("levels ")?;
-            push_bits(text, levels)?;
+            push_bits(text, levels.as_slice())?;
         }
         Err(SliceRefusal::Mixed(place)) => {
             text.push_str("mixed ")?;
@@ -215,7 +215,7 @@ fn push_replied(text: &mut String, outcome: &Result<Reply, ReplyRefusal>) -> Res
 {
     match outcome {
         Ok(reply) => push_reply(text, reply)?,
-        Err(refusal) => push_refusal(text, *refusal)?,
+        Err(refusal) => push_reply_refusal(text, *refusal)?,
     }
     text.push_str("\n")
 }

@@ -10,7 +10,8 @@ ghost use Rattle.scenario_lines.specs.declared.line.Line.TheVariants as lines;
 use crate::Happening;
 use air_events::{Choice, Event};
 use bit_strings::OutOfMemory;
-use command_text::{flag_name, next_name, next_number};
+use command_text::flag_name;
+use text_fields::{next_name, next_number};
 
 /// The kind of an event.
 fn event_name(event: Event) -> &'static str

@@ -8,9 +8,9 @@ ghost use Rattle.scenario_lines.specs.Spelling.{flag_text, line_text};
 ghost use Rattle.scenario_lines.specs.declared.line.Line.TheVariants as lines;
 
 use bit_strings::OutOfMemory;
-use command_text::{bit_name, next_name, next_number};
+use command_text::bit_name;
 use pie_line::Link;
-use text_fields::name_of;
+use text_fields::{name_of, next_name, next_number};
 
 /// Writes `link` and the four lengths of a link, in nanoseconds.
 fn push_lengths(text: &mut String, link: &Link) -> Result<(), OutOfMemory>

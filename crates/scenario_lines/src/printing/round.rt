@@ -10,8 +10,9 @@ ghost use Rattle.scenario_lines.specs.declared.line.Line.TheVariants as lines;
 
 use bit_strings::OutOfMemory;
 use command_grammar::Sel;
-use command_text::{next_name, next_number, side_name};
+use command_text::side_name;
 use q_round::RoundSpec;
+use text_fields::{next_name, next_number};
 
 /// The word for the tags that a round speaks to. The code 01, which means all as well, has none.
 fn sel_name(sel: Sel) -> &'static str

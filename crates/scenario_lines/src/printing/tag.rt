@@ -11,7 +11,7 @@ use bit_strings::OutOfMemory;
 use command_text::bit_name;
 use lock_rules::{Locks, Pair};
 use tag_memory::BankImage;
-use text_fields::{push_word, push_words};
+use text_fields::{next_words, push_word};
 
 /// Writes a password as the next field, in two words.
 fn next_password(text: &mut String, password: u32) -> Result<(), OutOfMemory>
@@ -39,14 +39,6 @@ fn push_locks(text: &mut String, locks: &Locks) -> Result<(), OutOfMemory>
     push_pair(text, locks.epc)?;
     push_pair(text, locks.tid)?;
     push_pair(text, locks.user)
-}
-
-/// Writes words as the next field, or a hyphen for none.
-fn next_words(text: &mut String, words: &[u16]) -> Result<(), OutOfMemory>
-    ensures { OnOk result (string_bytes text.new ≡ string_bytes text.old ++ space ∷ hex_words words.now) }
-{
-    text.push(' ')?;
-    push_words(text, words)
 }
 
 /// Writes `tag`, the passwords and the locks.

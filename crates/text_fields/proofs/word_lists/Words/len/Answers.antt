@@ -1,4 +1,4 @@
-use Rattle.std.proofs.Common.{◌≡◌, ◌/◌, length, arith, ap, ◌∙◌, sym}
+use Rattle.std.proofs.Common.{arith, sym}
 use Rattle.text_fields.proofs.WordDigits.{words_length}
 use Rattle.text_fields.proofs.word_lists.Words.len.Goals as goal
 

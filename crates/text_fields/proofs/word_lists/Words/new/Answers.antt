@@ -1,5 +1,4 @@
-use Rattle.std.proofs.Common.{◌≡◌, ◌%◌, ◌<◌, ◌^◌, ℕ, List, length, ap, arith, ◌∙◌, sym, rules}
-use Rattle.std.specs.Prelude.{All}
+use Rattle.std.proofs.Common.{◌≡◌, ◌%◌, length, ap, arith, ◌∙◌, rules}
 use Rattle.std.specs.List.{AllPass, flat_map}
 use Rattle.std.proofs.lemmas.Grind.{common_steps}
 use Rattle.text_fields.specs.Binary.{or_hyphen}

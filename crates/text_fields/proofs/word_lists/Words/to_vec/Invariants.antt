@@ -1,10 +1,10 @@
 use Rattle.std.proofs.Common.{◌≡◌, ◌++◌, length}
-use Rattle.text_fields.specs.WordLists.{words_of_digits}
+use Rattle.text_fields.specs.WordLists.{AreWordDigits, words_of_digits}
 use Rattle.text_fields.proofs.word_lists.Words.to_vec.Given as goal
 
--- the words so far, and those of the digits that are left
-abbrev pub invariant-loop-rest : goal.invariant-loop-rest
-invariant-loop-rest l = l.self ≡ l.words.items ++ words_of_digits l.rest
+-- the words so far, and those of the digits that are left, which spell words
+abbrev pub invariant-loop-word : goal.invariant-loop-word
+invariant-loop-word l = (l.self ≡ l.words.items ++ words_of_digits l.rest) × AreWordDigits l.rest
 
-abbrev pub decreases-loop-rest : goal.decreases-loop-rest
-decreases-loop-rest l = length l.rest
+abbrev pub decreases-loop-word : goal.decreases-loop-word
+decreases-loop-word l = length l.rest
