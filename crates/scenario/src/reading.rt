@@ -50,7 +50,8 @@ fn link_of(line: &[u8]) -> Result<Link, Fault>
     };
     match said {
         Line::Link(link) => Ok(link),
-        _ => Err(Fault::Word),
+        // A line of another kind begins with another word.
+        _ => unreachable!(),
     }
 }
 
