@@ -1,10 +1,11 @@
 -- Each standing can end.
-use Rattle.std.proofs.Common.{true, false, [], ◌∷◌, refl, arith}
+use Rattle.std.proofs.Common.{true, false, List, [], ◌∷◌, refl, arith}
 use Rattle.bit_strings.specs.declared.code.Code.TheVariants.{Fm0}
 use Rattle.pie_line.specs.Link.{LinkValue, IsLegal}
+use Rattle.scenario_lines.specs.declared.line.Line.{Line}
 use Rattle.scenario_lines.specs.declared.line.Line.TheVariants as lines
 use Rattle.scenario_lines.specs.LineForm.{IsLine}
-use Rattle.scenario.specs.Standing.{CanEnd, DraftValue, Follows, Leads, Standing, begun, ended, new_draft, start, within}
+use Rattle.scenario.specs.Standing.{DraftValue, Follows, Leads, Standing, begun, ended, new_draft, start, within}
 
 -- some link
 some_link : LinkValue
@@ -32,6 +33,12 @@ end_follows draft =
 
 link_ends : Leads begun (lines.Link some_link ∷ lines.End ∷ []) (ended (new_draft some_link))
 link_ends = (record { is = some_link_is_line; stands = tt; room = tt; agrees = tt }, (end_follows (new_draft some_link), refl))
+
+-- some lines lead from here to the end
+pub record CanEnd (standing : Standing) : Type 0 where
+  pub more : List Line
+  pub draft : DraftValue
+  pub leads : Leads standing more (ended draft)
 
 pub can_end : (standing : Standing) → CanEnd standing
 can_end start = record {

@@ -11,3 +11,4 @@ pub mod ToldApart
 pub mod Places
 pub mod Reasons
 pub mod OneFault
+pub mod FirstLines

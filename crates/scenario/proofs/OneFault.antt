@@ -1,14 +1,16 @@
 -- A text has at most one first faulty line, and the text of a scenario has none.
-use Rattle.std.proofs.Common.{◌≡◌, ℕ, ◌+◌, List, [], ◌∷◌, ◌++◌, length, map, inl, inr, refl, sym, ◌∙◌, ap, subst}
+use Rattle.std.proofs.Common.{◌≡◌, ℕ, ◌+◌, List, [], ◌∷◌, ◌++◌, length, map, ◌⊎◌, inl, inr, refl, sym, ◌∙◌, ap, ap₂, subst}
 use Rattle.text_fields.specs.Lines.{lines_of}
 use Rattle.scenario_lines.specs.declared.line.Line.{Line}
 use Rattle.scenario_lines.specs.Spelling.{line_text}
 use Rattle.scenario.specs.declared.values.Scenario.{Scenario}
 use Rattle.scenario.specs.declared.fault.Fault.{Fault}
+use Rattle.scenario.specs.declared.fault.ScenarioFault.{ScenarioFault}
+use Rattle.scenario.specs.declared.fault.ScenarioFault.TheVariants as faults
 use Rattle.scenario.specs.ScenarioText.{scenario_lines, scenario_text}
 use Rattle.scenario.specs.Limits.{IsScenario}
 use Rattle.scenario.specs.Standing.{DraftValue, Standing, ended, start}
-use Rattle.scenario.specs.Faults.{IsFaultyBefore, IsFirstFault}
+use Rattle.scenario.specs.Faults.{IsFaultyBefore, IsFirstFault, IsRefused}
 use Rattle.scenario.proofs.Places.{IsOnePlace, compare}
 use Rattle.scenario.proofs.Reasons.{not_faulty, one_reason}
 use Rattle.scenario.proofs.Spoken.{scenario_is_said}
@@ -65,3 +67,16 @@ scenario_is_not_faulty scenario number fault is first =
       | inr (inl goes) ↦ not_faulty first.behind first.standing first.line fault goes first.faulty
       | inr (inr goes) ↦ goes.follows.stands
     ]
+
+-- where there is a first faulty line, a refusal tells it, or there was no memory
+pub told_exactly : (bytes : List ℕ) (refusal : ScenarioFault) (number : ℕ) (fault : Fault) → IsRefused bytes refusal → IsFirstFault bytes number fault
+    → (refusal ≡ faults.Line number fault) ⊎ (refusal ≡ faults.OutOfMemory)
+told_exactly bytes (faults.Line other reason) number fault refused first =
+    let both = one_fault bytes other number reason fault refused first in inl (ap₂ (λ n f. faults.Line n f) both.0 both.1)
+told_exactly bytes faults.OutOfMemory number fault refused first = inr refl
+
+-- ... and no scenario is read
+pub none_is_read : (bytes : List ℕ) (scenario : Scenario) (number : ℕ) (fault : Fault) → IsScenario scenario × (bytes ≡ scenario_text scenario)
+    → IsFirstFault bytes number fault → ⊥
+none_is_read bytes scenario number fault read first =
+    scenario_is_not_faulty scenario number fault read.0 (subst (λ (text : List ℕ). IsFirstFault text number fault) read.1 first)

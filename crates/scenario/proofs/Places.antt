@@ -19,7 +19,7 @@ pub record IsOnePlace (said said' : List Line) (line line' : List ℕ) (behind b
   pub behind_is : behind ≡ behind'
   pub standing : to ≡ to'
 
-some_behind : (front behind : List (List ℕ)) (line : List ℕ) → front ++ line ∷ behind ≢ []
+pub some_behind : (front behind : List (List ℕ)) (line : List ℕ) → front ++ line ∷ behind ≢ []
 some_behind [] behind line none = cc
 some_behind (first ∷ front) behind line none = cc
 

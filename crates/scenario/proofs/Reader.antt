@@ -33,16 +33,10 @@ pub record SoFar (link : LinkValue) (text rest : List ℕ) (draft : DraftValue) 
   pub leads : Leads (within (new_draft link)) said (within draft)
 
 -- where the whole text says something, what is left says the rest of it
-abbrev pub Hopes : LinkValue → List ℕ → List ℕ → DraftValue → Type 0
-Hopes link text rest draft =
+abbrev pub StillSays : LinkValue → List ℕ → List ℕ → DraftValue → Type 0
+StillSays link text rest draft =
     (whole : List Line) (last : DraftValue) → AreLeft text (within (new_draft link)) whole last
     → (todo : List Line) × AreLeft rest (within draft) todo last
-
-pub none_read : (link : LinkValue) (text : List ℕ) → SoFar link text text (new_draft link)
-none_read link text = record { said = []; cut = refl; leads = refl }
-
-pub all_hoped : (link : LinkValue) (text : List ℕ) → Hopes link text text (new_draft link)
-all_hoped link text = λ whole last left. (whole, left)
 
 size_air : (draft : DraftValue) (number : ℕ) (happening : Happening) → size (with_air draft number happening) ≡ size draft + 1
 size_air draft number happening =
@@ -124,23 +118,17 @@ next_left rest line behind draft last (next ∷ todo) first left =
       cut = others;
     }
 
--- where no line is left, nothing is left to say
-pub none_left : (rest : List ℕ) (draft last : DraftValue) (todo : List Line) → lines_of rest ≡ rest ∷ [] → AreLeft rest (within draft) todo last → ⊥
-none_left rest draft last [] one left = let leads = left.leads in cc
-none_left rest draft last (next ∷ []) one left = let same = sym one ∙ left.cut in cc
-none_left rest draft last (next ∷ other ∷ todo) one left = let same = sym one ∙ left.cut in cc
-
 -- behind the end nothing is left to say
 pub ended_left : (draft last : DraftValue) (todo : List Line) → Leads (ended draft) todo (ended last) → (draft ≡ last) × (todo ≡ [])
 ended_left draft last [] leads = (cc, refl)
 ended_left draft last (next ∷ todo) leads = absurd leads.0.stands
 
-pub hopes_more : (link : LinkValue) (text rest line behind : List ℕ) (draft draft' : DraftValue) → Hopes link text rest draft
+pub says_more : (link : LinkValue) (text rest line behind : List ℕ) (draft draft' : DraftValue) → StillSays link text rest draft
     → lines_of rest ≡ line ∷ lines_of behind
     → ((said : Line) → Spells (fields_of line) said → Follows (within draft) said → after (within draft) said ≡ within draft')
-    → Hopes link text behind draft'
-hopes_more link text rest line behind draft draft' hopes first only = λ whole last left.
-    let here = hopes whole last left in
+    → StillSays link text behind draft'
+says_more link text rest line behind draft draft' still_says first only = λ whole last left.
+    let here = still_says whole last left in
     let next = next_left rest line behind draft last here.0 first here.1 in
     let leads = subst (λ (s : Standing). Leads s next.todo (ended last)) (only next.next next.spells next.follows) next.leads in
     (next.todo, record { cut = next.cut; leads = leads })
@@ -258,22 +246,22 @@ no_extra behind draft (scenario_faults.Line number fault) nothing extra = absurd
 no_extra behind draft scenario_faults.OutOfMemory nothing extra = refl
 
 -- where what is left ends here, it says this draft, and nothing stands behind
-pub end_hoped : (link : LinkValue) (text rest line behind : List ℕ) (draft draft' last : DraftValue) (whole : List Line) → Hopes link text rest draft
+pub end_said : (link : LinkValue) (text rest line behind : List ℕ) (draft draft' last : DraftValue) (whole : List Line) → StillSays link text rest draft
     → lines_of rest ≡ line ∷ lines_of behind → AreLeft text (within (new_draft link)) whole last
     → ((said : Line) → Spells (fields_of line) said → Follows (within draft) said → after (within draft) said ≡ ended draft')
     → (draft' ≡ last) × (behind ≡ [])
-end_hoped link text rest line behind draft draft' last whole hopes first left only =
-    let here = hopes whole last left in
+end_said link text rest line behind draft draft' last whole still_says first left only =
+    let here = still_says whole last left in
     let next = next_left rest line behind draft last here.0 first here.1 in
     let leads = subst (λ (s : Standing). Leads s next.todo (ended last)) (only next.next next.spells next.follows) next.leads in
     let both = ended_left draft' last next.todo leads in
     (both.0, nothing_left behind (next.cut ∙ ap (λ (list : List Line). map line_text list ++ [] ∷ []) both.1))
 
 -- where what is left says something, the next line is not faulty
-pub not_faulty : (link : LinkValue) (text rest line behind : List ℕ) (draft last : DraftValue) (whole : List Line) → Hopes link text rest draft
+pub not_faulty : (link : LinkValue) (text rest line behind : List ℕ) (draft last : DraftValue) (whole : List Line) → StillSays link text rest draft
     → lines_of rest ≡ line ∷ lines_of behind → AreLeft text (within (new_draft link)) whole last
     → ((said : Line) → Spells (fields_of line) said → Follows (within draft) said → ⊥) → ⊥
-not_faulty link text rest line behind draft last whole hopes first left none =
-    let here = hopes whole last left in
+not_faulty link text rest line behind draft last whole still_says first left none =
+    let here = still_says whole last left in
     let next = next_left rest line behind draft last here.0 first here.1 in
     none next.next next.spells next.follows

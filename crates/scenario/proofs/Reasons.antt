@@ -14,56 +14,56 @@ use Rattle.scenario_lines.proofs.ToldLines.{spelled_told}
 use Rattle.scenario.specs.declared.fault.Fault.{Fault}
 use Rattle.scenario.specs.declared.fault.Fault.TheVariants.{Word as WordFault, Limit, Shape, Number, Tari, RtCal, TrCal, Pw, Pc, Tag, Order, Twice}
 use Rattle.scenario.specs.Standing.{AgreesWith, DraftValue, Follows, HasRoom, KeepsOrder, MayStand, NamesTag, Standing, begun, ended, start, within}
-use Rattle.scenario.specs.Faults.{HasPlace, IsAtOdds, IsAtOddsBy, IsFaultyAt, IsFaultyBefore, IsTooMuch, SaysNothing, fault_of_line}
+use Rattle.scenario.specs.Faults.{Disagrees, DisagreesBy, HasPlace, IsFaultyAt, IsFaultyBefore, IsTooMuch, SaysNothing, fault_of_line}
 use Rattle.scenario.proofs.Places.{GoesOn}
-use Rattle.scenario.proofs.Taken.{not_at_odds, spelled_begins}
+use Rattle.scenario.proofs.Taken.{no_disagreement, spelled_begins}
 use Rattle.scenario.proofs.Texts.{spells_text}
 
 -- the reason for which a line doesn't agree with the lines before it, with all that is known then
-data Odds (draft : DraftValue) (line : Line) (fault : Fault) : Type 0 where
-  no_tag : fault ≡ Tag → (¬ NamesTag (length draft.tags) line) → Odds draft line fault
-  no_order : fault ≡ Order → NamesTag (length draft.tags) line → (¬ KeepsOrder draft line) → Odds draft line fault
-  twice : fault ≡ Twice → NamesTag (length draft.tags) line → KeepsOrder draft line → Odds draft line fault
+data Disagreement (draft : DraftValue) (line : Line) (fault : Fault) : Type 0 where
+  no_tag : fault ≡ Tag → (¬ NamesTag (length draft.tags) line) → Disagreement draft line fault
+  no_order : fault ≡ Order → NamesTag (length draft.tags) line → (¬ KeepsOrder draft line) → Disagreement draft line fault
+  twice : fault ≡ Twice → NamesTag (length draft.tags) line → KeepsOrder draft line → Disagreement draft line fault
 
-odds_of : (draft : DraftValue) (line : Line) (fault : Fault) → IsAtOddsBy draft line fault → Odds draft line fault
-odds_of draft line Tag odds = no_tag refl odds
-odds_of draft line Order odds = no_order refl odds.0 odds.1
-odds_of draft line Twice odds = twice refl odds.0 odds.1
-odds_of draft line fault odds = absurd odds
+disagreement_of : (draft : DraftValue) (line : Line) (fault : Fault) → DisagreesBy draft line fault → Disagreement draft line fault
+disagreement_of draft line Tag disagrees = no_tag refl disagrees
+disagreement_of draft line Order disagrees = no_order refl disagrees.0 disagrees.1
+disagreement_of draft line Twice disagrees = twice refl disagrees.0 disagrees.1
+disagreement_of draft line fault disagrees = absurd disagrees
 
-one_odds : {draft : DraftValue} {line : Line} {fault reason : Fault} → Odds draft line fault → Odds draft line reason → fault ≡ reason
-one_odds (no_tag is none) (no_tag is' none') = is ∙ sym is'
-one_odds (no_tag is none) (no_order is' names falls) = absurd (none names)
-one_odds (no_tag is none) (twice is' names keeps) = absurd (none names)
-one_odds (no_order is names falls) (no_tag is' none) = absurd (none names)
-one_odds (no_order is names falls) (no_order is' names' falls') = is ∙ sym is'
-one_odds (no_order is names falls) (twice is' names' keeps) = absurd (falls keeps)
-one_odds (twice is names keeps) (no_tag is' none) = absurd (none names)
-one_odds (twice is names keeps) (no_order is' names' falls) = absurd (falls keeps)
-one_odds (twice is names keeps) (twice is' names' keeps') = is ∙ sym is'
+one_disagreement : {draft : DraftValue} {line : Line} {fault reason : Fault} → Disagreement draft line fault → Disagreement draft line reason → fault ≡ reason
+one_disagreement (no_tag is none) (no_tag is' none') = is ∙ sym is'
+one_disagreement (no_tag is none) (no_order is' names falls) = absurd (none names)
+one_disagreement (no_tag is none) (twice is' names keeps) = absurd (none names)
+one_disagreement (no_order is names falls) (no_tag is' none) = absurd (none names)
+one_disagreement (no_order is names falls) (no_order is' names' falls') = is ∙ sym is'
+one_disagreement (no_order is names falls) (twice is' names' keeps) = absurd (falls keeps)
+one_disagreement (twice is names keeps) (no_tag is' none) = absurd (none names)
+one_disagreement (twice is names keeps) (no_order is' names' falls) = absurd (falls keeps)
+one_disagreement (twice is names keeps) (twice is' names' keeps') = is ∙ sym is'
 
 same_draft : {draft other : DraftValue} → within draft ≡ within other → draft ≡ other
 same_draft same = cc
 
-one_odds_at : (standing : Standing) (fields : List (List ℕ)) (fault reason : Fault) → IsAtOdds standing fields fault → IsAtOdds standing fields reason
+one_disagreement_at : (standing : Standing) (fields : List (List ℕ)) (fault reason : Fault) → Disagrees standing fields fault → Disagrees standing fields reason
     → fault ≡ reason
-one_odds_at standing fields fault reason one other =
+one_disagreement_at standing fields fault reason one other =
     let draft : one.draft ≡ other.draft = same_draft (sym one.here ∙ other.here) in
     let line = spelled_told fields one.line other.line one.spells other.spells in
-    let odds = subst (λ (l : Line). IsAtOddsBy other.draft l fault) line (subst (λ (d : DraftValue). IsAtOddsBy d one.line fault) draft one.odds) in
-    one_odds (odds_of other.draft other.line fault odds) (odds_of other.draft other.line reason other.odds)
+    let disagrees = subst (λ (l : Line). DisagreesBy other.draft l fault) line (subst (λ (d : DraftValue). DisagreesBy d one.line fault) draft one.disagrees) in
+    one_disagreement (disagreement_of other.draft other.line fault disagrees) (disagreement_of other.draft other.line reason other.disagrees)
 
--- a line that is at odds has its place
-odds_place : (standing : Standing) (fields : List (List ℕ)) (fault : Fault) → IsAtOdds standing fields fault → HasPlace standing fields
-odds_place standing fields fault odds =
-    record { word = word_of_line odds.line; begins = spelled_begins fields odds.line odds.spells; stands = odds.stands; room = odds.room }
+-- a line that disagrees has its place
+disagreement_place : (standing : Standing) (fields : List (List ℕ)) (fault : Fault) → Disagrees standing fields fault → HasPlace standing fields
+disagreement_place standing fields fault disagrees =
+    record { word = word_of_line disagrees.line; begins = spelled_begins fields disagrees.line disagrees.spells; stands = disagrees.stands; room = disagrees.room }
 
 -- the stage at which a line is refused
 data Stage (standing : Standing) (fields : List (List ℕ)) (fault : Fault) : Type 0 where
   no_place : fault ≡ WordFault → ((word : Word) → BeginsWith fields word → ¬ MayStand standing word) → Stage standing fields fault
   too_much : fault ≡ Limit → IsTooMuch standing fields → Stage standing fields fault
   nothing : (line_fault : LineFault) → fault ≡ fault_of_line line_fault → SaysNothing standing fields line_fault → Stage standing fields fault
-  at_odds : IsAtOdds standing fields fault → Stage standing fields fault
+  disagreeing : Disagrees standing fields fault → Stage standing fields fault
 
 stage_of : (standing : Standing) (fields : List (List ℕ)) (fault : Fault) → IsFaultyAt standing fields fault → Stage standing fields fault
 stage_of standing fields WordFault faulty = no_place refl faulty
@@ -75,9 +75,9 @@ stage_of standing fields RtCal faulty = nothing line_faults.RtCal refl faulty
 stage_of standing fields TrCal faulty = nothing line_faults.TrCal refl faulty
 stage_of standing fields Pw faulty = nothing line_faults.Pw refl faulty
 stage_of standing fields Pc faulty = nothing line_faults.Pc refl faulty
-stage_of standing fields Tag faulty = at_odds faulty
-stage_of standing fields Order faulty = at_odds faulty
-stage_of standing fields Twice faulty = at_odds faulty
+stage_of standing fields Tag faulty = disagreeing faulty
+stage_of standing fields Order faulty = disagreeing faulty
+stage_of standing fields Twice faulty = disagreeing faulty
 stage_of standing fields fault faulty = absurd faulty
 
 too_much_or_place : (standing : Standing) (fields : List (List ℕ)) → IsTooMuch standing fields → HasPlace standing fields → ⊥
@@ -88,26 +88,26 @@ one_stage : (standing : Standing) (fields : List (List ℕ)) (fault reason : Fau
 one_stage standing fields fault reason (no_place is none) (no_place is' none') = is ∙ sym is'
 one_stage standing fields fault reason (no_place is none) (too_much is' much) = absurd (none much.word much.begins much.stands)
 one_stage standing fields fault reason (no_place is none) (nothing line_fault is' says) = absurd (none says.place.word says.place.begins says.place.stands)
-one_stage standing fields fault reason (no_place is none) (at_odds odds) =
-    let place = odds_place standing fields reason odds in absurd (none place.word place.begins place.stands)
+one_stage standing fields fault reason (no_place is none) (disagreeing disagrees) =
+    let place = disagreement_place standing fields reason disagrees in absurd (none place.word place.begins place.stands)
 one_stage standing fields fault reason (too_much is much) (no_place is' none) = absurd (none much.word much.begins much.stands)
 one_stage standing fields fault reason (too_much is much) (too_much is' much') = is ∙ sym is'
 one_stage standing fields fault reason (too_much is much) (nothing line_fault is' says) = absurd (too_much_or_place standing fields much says.place)
-one_stage standing fields fault reason (too_much is much) (at_odds odds) =
-    absurd (too_much_or_place standing fields much (odds_place standing fields reason odds))
+one_stage standing fields fault reason (too_much is much) (disagreeing disagrees) =
+    absurd (too_much_or_place standing fields much (disagreement_place standing fields reason disagrees))
 one_stage standing fields fault reason (nothing line_fault is says) (no_place is' none) = absurd (none says.place.word says.place.begins says.place.stands)
 one_stage standing fields fault reason (nothing line_fault is says) (too_much is' much) = absurd (too_much_or_place standing fields much says.place)
 one_stage standing fields fault reason (nothing line_fault is says) (nothing line_fault' is' says') =
     is ∙ ap fault_of_line (faulty_once fields line_fault line_fault' says.faulty says'.faulty) ∙ sym is'
-one_stage standing fields fault reason (nothing line_fault is says) (at_odds odds) =
-    absurd (spelled_not_faulty fields odds.line line_fault odds.spells says.faulty)
-one_stage standing fields fault reason (at_odds odds) (no_place is none) =
-    let place = odds_place standing fields fault odds in absurd (none place.word place.begins place.stands)
-one_stage standing fields fault reason (at_odds odds) (too_much is much) =
-    absurd (too_much_or_place standing fields much (odds_place standing fields fault odds))
-one_stage standing fields fault reason (at_odds odds) (nothing line_fault is says) =
-    absurd (spelled_not_faulty fields odds.line line_fault odds.spells says.faulty)
-one_stage standing fields fault reason (at_odds odds) (at_odds odds') = one_odds_at standing fields fault reason odds odds'
+one_stage standing fields fault reason (nothing line_fault is says) (disagreeing disagrees) =
+    absurd (spelled_not_faulty fields disagrees.line line_fault disagrees.spells says.faulty)
+one_stage standing fields fault reason (disagreeing disagrees) (no_place is none) =
+    let place = disagreement_place standing fields fault disagrees in absurd (none place.word place.begins place.stands)
+one_stage standing fields fault reason (disagreeing disagrees) (too_much is much) =
+    absurd (too_much_or_place standing fields much (disagreement_place standing fields fault disagrees))
+one_stage standing fields fault reason (disagreeing disagrees) (nothing line_fault is says) =
+    absurd (spelled_not_faulty fields disagrees.line line_fault disagrees.spells says.faulty)
+one_stage standing fields fault reason (disagreeing disagrees) (disagreeing disagrees') = one_disagreement_at standing fields fault reason disagrees disagrees'
 
 one_reason_at : (standing : Standing) (fields : List (List ℕ)) (fault reason : Fault) → IsFaultyAt standing fields fault → IsFaultyAt standing fields reason
     → fault ≡ reason
@@ -125,14 +125,14 @@ one_reason (next ∷ more) start line fault reason faulty faulty' = faulty.0 ∙
 one_reason (next ∷ more) begun line fault reason faulty faulty' = one_reason_at begun (fields_of line) fault reason faulty faulty'
 one_reason (next ∷ more) (within draft) line fault reason faulty faulty' = one_reason_at (within draft) (fields_of line) fault reason faulty faulty'
 
--- a line that may follow is not at odds with the lines before it
-not_odds : (standing : Standing) (fields : List (List ℕ)) (line : Line) (fault : Fault) → Follows standing line → Spells fields line
-    → IsAtOdds standing fields fault → ⊥
-not_odds standing fields line fault follows spells odds =
-    let same = spelled_told fields line odds.line spells odds.spells in
-    let agrees : AgreesWith (within odds.draft) odds.line =
-    subst (λ (l : Line). AgreesWith (within odds.draft) l) same (subst (λ (s : Standing). AgreesWith s line) odds.here follows.agrees) in
-    not_at_odds odds.draft odds.line fault agrees odds.odds
+-- a line that may follow doesn't disagree with the lines before it
+no_disagreement_at : (standing : Standing) (fields : List (List ℕ)) (line : Line) (fault : Fault) → Follows standing line → Spells fields line
+    → Disagrees standing fields fault → ⊥
+no_disagreement_at standing fields line fault follows spells disagrees =
+    let same = spelled_told fields line disagrees.line spells disagrees.spells in
+    let agrees : AgreesWith (within disagrees.draft) disagrees.line =
+    subst (λ (l : Line). AgreesWith (within disagrees.draft) l) same (subst (λ (s : Standing). AgreesWith s line) disagrees.here follows.agrees) in
+    no_disagreement disagrees.draft disagrees.line fault agrees disagrees.disagrees
 
 follows_at_no_stage : (standing : Standing) (fields : List (List ℕ)) (line : Line) (fault : Fault) → Follows standing line → Spells fields line
     → Stage standing fields fault → ⊥
@@ -142,7 +142,7 @@ follows_at_no_stage standing fields line fault follows spells (too_much is much)
     too_much_or_place standing fields much
     (record { word = word_of_line line; begins = spelled_begins fields line spells; stands = follows.stands; room = follows.room })
 follows_at_no_stage standing fields line fault follows spells (nothing line_fault is says) = spelled_not_faulty fields line line_fault spells says.faulty
-follows_at_no_stage standing fields line fault follows spells (at_odds odds) = not_odds standing fields line fault follows spells odds
+follows_at_no_stage standing fields line fault follows spells (disagreeing disagrees) = no_disagreement_at standing fields line fault follows spells disagrees
 
 -- the first line is the version
 version_alone : (line : Line) → MayStand start (word_of_line line) → line ≡ lines.Version

@@ -10,7 +10,7 @@ use Rattle.scenario_lines.specs.LineFaults.{BeginsWith, HasKnownKind, Spells}
 use Rattle.scenario.specs.declared.fault.Fault.{Fault}
 use Rattle.scenario.specs.declared.fault.Fault.TheVariants.{Extra, End, Version, Word as WordFault, Limit, Shape, Number, Tari, RtCal, TrCal, Pw, Pc, Tag, Order, Twice}
 use Rattle.scenario.specs.Standing.{Agrees, DraftValue, after, ended, grown, within}
-use Rattle.scenario.specs.Faults.{IsAtOddsBy}
+use Rattle.scenario.specs.Faults.{DisagreesBy}
 
 known_kind : (said : Line) → HasKnownKind (word_of_line said) (other_fields said)
 known_kind lines.Version = tt
@@ -54,20 +54,20 @@ after_grown draft (lines.Event event tag) other = refl
 after_grown draft (lines.Round spec) other = refl
 after_grown draft lines.End other = absurd (other refl)
 
--- a line that agrees with the lines before it is not at odds with them
-pub not_at_odds : (draft : DraftValue) (said : Line) (fault : Fault) → Agrees draft said → IsAtOddsBy draft said fault → ⊥
-not_at_odds draft said Tag agrees odds = odds agrees.names
-not_at_odds draft said Order agrees odds = odds.1 agrees.order
-not_at_odds draft said Twice agrees odds = odds.2 agrees.once
-not_at_odds draft said Extra agrees odds = odds
-not_at_odds draft said End agrees odds = odds
-not_at_odds draft said Version agrees odds = odds
-not_at_odds draft said WordFault agrees odds = odds
-not_at_odds draft said Limit agrees odds = odds
-not_at_odds draft said Shape agrees odds = odds
-not_at_odds draft said Number agrees odds = odds
-not_at_odds draft said Tari agrees odds = odds
-not_at_odds draft said RtCal agrees odds = odds
-not_at_odds draft said TrCal agrees odds = odds
-not_at_odds draft said Pw agrees odds = odds
-not_at_odds draft said Pc agrees odds = odds
+-- a line that agrees with the lines before it doesn't disagree with them
+pub no_disagreement : (draft : DraftValue) (said : Line) (fault : Fault) → Agrees draft said → DisagreesBy draft said fault → ⊥
+no_disagreement draft said Tag agrees disagrees = disagrees agrees.names
+no_disagreement draft said Order agrees disagrees = disagrees.1 agrees.order
+no_disagreement draft said Twice agrees disagrees = disagrees.2 agrees.once
+no_disagreement draft said Extra agrees disagrees = disagrees
+no_disagreement draft said End agrees disagrees = disagrees
+no_disagreement draft said Version agrees disagrees = disagrees
+no_disagreement draft said WordFault agrees disagrees = disagrees
+no_disagreement draft said Limit agrees disagrees = disagrees
+no_disagreement draft said Shape agrees disagrees = disagrees
+no_disagreement draft said Number agrees disagrees = disagrees
+no_disagreement draft said Tari agrees disagrees = disagrees
+no_disagreement draft said RtCal agrees disagrees = disagrees
+no_disagreement draft said TrCal agrees disagrees = disagrees
+no_disagreement draft said Pw agrees disagrees = disagrees
+no_disagreement draft said Pc agrees disagrees = disagrees

@@ -45,21 +45,21 @@ pub record SaysNothing (standing : Standing) (fields : List (List ℕ)) (fault :
   pub faulty : IsFaulty fields fault
 
 -- the first reason for which a line that may stand here doesn't agree with the lines before it
-abbrev pub IsAtOddsBy : DraftValue → Line → Fault → Type 0
-IsAtOddsBy draft line Tag = ¬ NamesTag (length draft.tags) line
-IsAtOddsBy draft line Order = NamesTag (length draft.tags) line × (¬ KeepsOrder draft line)
-IsAtOddsBy draft line Twice = NamesTag (length draft.tags) line × KeepsOrder draft line × (¬ ChoosesOnce draft line)
-IsAtOddsBy draft line fault = ⊥
+abbrev pub DisagreesBy : DraftValue → Line → Fault → Type 0
+DisagreesBy draft line Tag = ¬ NamesTag (length draft.tags) line
+DisagreesBy draft line Order = NamesTag (length draft.tags) line × (¬ KeepsOrder draft line)
+DisagreesBy draft line Twice = NamesTag (length draft.tags) line × KeepsOrder draft line × (¬ ChoosesOnce draft line)
+DisagreesBy draft line fault = ⊥
 
 -- the line has its place and says something, which doesn't agree with the lines before it
-pub record IsAtOdds (standing : Standing) (fields : List (List ℕ)) (fault : Fault) : Type 0 where
+pub record Disagrees (standing : Standing) (fields : List (List ℕ)) (fault : Fault) : Type 0 where
   pub draft : DraftValue
   pub here : standing ≡ within draft
   pub line : Line
   pub spells : Spells fields line
   pub stands : MayStand standing (word_of_line line)
   pub room : HasRoom standing (word_of_line line)
-  pub odds : IsAtOddsBy draft line fault
+  pub disagrees : DisagreesBy draft line fault
 
 -- the first reason for which a line with its line feed is faulty, where another than the first is needed
 abbrev pub IsFaultyAt : Standing → List (List ℕ) → Fault → Type 0
@@ -72,9 +72,9 @@ IsFaultyAt standing fields RtCal = SaysNothing standing fields line_faults.RtCal
 IsFaultyAt standing fields TrCal = SaysNothing standing fields line_faults.TrCal
 IsFaultyAt standing fields Pw = SaysNothing standing fields line_faults.Pw
 IsFaultyAt standing fields Pc = SaysNothing standing fields line_faults.Pc
-IsFaultyAt standing fields Tag = IsAtOdds standing fields Tag
-IsFaultyAt standing fields Order = IsAtOdds standing fields Order
-IsFaultyAt standing fields Twice = IsAtOdds standing fields Twice
+IsFaultyAt standing fields Tag = Disagrees standing fields Tag
+IsFaultyAt standing fields Order = Disagrees standing fields Order
+IsFaultyAt standing fields Twice = Disagrees standing fields Twice
 IsFaultyAt standing fields fault = ⊥
 
 -- The first reason for which a line is faulty, by the lines behind it: a line with none behind it has no line feed, and is

@@ -5,6 +5,7 @@ pub mod Faults
 pub mod FaultLine
 pub mod Taking
 pub mod Rest
+pub mod Beginnings
 pub use Rattle.scenario_lines.specs.Spelling
 pub use Rattle.scenario_lines.specs.LineForm
 pub use Rattle.scenario_lines.specs.LineFaults

@@ -205,9 +205,3 @@ pub record IsSaid (scenario : Scenario) (said : List Line) : Type 0 where
   pub draft : DraftValue
   pub leads : Leads start said (ended draft)
   pub says : scenario_of draft ≡ scenario
-
--- some lines lead from here to the end
-pub record CanEnd (standing : Standing) : Type 0 where
-  pub more : List Line
-  pub draft : DraftValue
-  pub leads : Leads standing more (ended draft)

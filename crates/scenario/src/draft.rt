@@ -2,7 +2,7 @@
 ghost use Rattle.std.specs.Prelude.{◌≡◌, ◌<◌, ◌≤◌, ◌+◌, ◌^◌, ◌↔◌, ◌++◌, [], ◌∷◌, length, IsTrue, IfOk, IfErr, OnOk, OnErr};
 ghost use Rattle.text_fields.specs.Lines.{fields_of};
 ghost use Rattle.scenario.specs.Standing.{Agrees, ChoosesOnce, Follows, HasRoom, KeepsOrder, MayFollow, MayStand, NamesTag, after, entries_of, grown, last_entry, new_draft, scenario_of, size, turned, with_air, with_happening, with_step, within};
-ghost use Rattle.scenario.specs.Faults.{IsAtOddsBy, fault_of_line};
+ghost use Rattle.scenario.specs.Faults.{DisagreesBy, fault_of_line};
 ghost use Rattle.scenario_lines.specs.declared.line.Line.{Line};
 ghost use Rattle.scenario_lines.specs.LineFaults.{Spells};
 ghost use Rattle.scenario_lines.specs.Spelling.{word_of_line};
@@ -201,7 +201,7 @@ impl Draft {
     /// The first reason for which it doesn't: `Tag`, `Order` or `Twice`.
     fn agree(&self, line: &Line) -> Result<(), Fault>
         ensures ok { OnOk result (Agrees self.now line.now) }
-        ensures odds { IfErr result (IsAtOddsBy self.now line.now) }
+        ensures disagrees { IfErr result (DisagreesBy self.now line.now) }
     {
         if !self.names_tag(line) {
             return Err(Fault::Tag);

@@ -1,13 +1,14 @@
 //! What holds of the lines and the texts of scenarios. Each function here states one law by its contract,
 //! and does nothing.
-ghost use Rattle.std.specs.Prelude.{◌≡◌, ℕ, List};
+ghost use Rattle.std.specs.Prelude.{◌≡◌, ℕ, ◌<◌, List};
 ghost use Rattle.scenario_lines.specs.declared.line.Line.{Line};
 ghost use Rattle.scenario.specs.declared.values.Scenario.{Scenario};
 ghost use Rattle.scenario.specs.declared.fault.Fault.{Fault};
 ghost use Rattle.scenario.specs.ScenarioText.{scenario_lines, scenario_text};
 ghost use Rattle.scenario.specs.Limits.{IsScenario};
 ghost use Rattle.scenario.specs.Faults.{IsFirstFault};
-ghost use Rattle.scenario.specs.Standing.{CanEnd, DraftValue, IsSaid, Leads, ended, Standing, scenario_of, start};
+ghost use Rattle.scenario.specs.Beginnings.{BeginsScenario, FirstLinesBegin};
+ghost use Rattle.scenario.specs.Standing.{DraftValue, IsSaid, Leads, ended, Standing, scenario_of, start};
 
 /// Lines that follow one another from the start to the end are the lines of a scenario that keeps the
 /// limits.
@@ -24,11 +25,11 @@ pub fn scenarios_are_said()
     ensures { (scenario : Scenario) → IsScenario scenario → IsSaid scenario (scenario_lines scenario) }
 {}
 
-/// Lines that follow one another from the start are the first lines of some scenario's text, wherever
-/// they lead.
-#[tactic(auto, using(crate::proofs::Endings::can_end))]
-pub fn each_standing_can_end()
-    ensures { (standing : Standing) → CanEnd standing }
+/// Lines that follow one another from the start are the first lines of some scenario that keeps the
+/// limits, wherever they lead.
+#[tactic(auto, using(crate::proofs::FirstLines::said_begins))]
+pub fn lines_begin_a_scenario()
+    ensures { (said : List Line) (standing : Standing) → Leads start said standing → BeginsScenario said }
 {}
 
 /// Two scenarios with one text are one.
@@ -46,4 +47,11 @@ pub fn scenario_texts_are_not_faulty()
 pub fn texts_have_one_fault()
     ensures { (bytes : List ℕ) (one other : ℕ) (fault reason : Fault) → IsFirstFault bytes one fault → IsFirstFault bytes other reason
         → (one ≡ other) × (fault ≡ reason) }
+{}
+
+/// The number of the first faulty line is the least one for which so many first lines begin no
+/// scenario's text, where a missing or an unended line counts as a line.
+pub fn faulty_lines_begin_no_text()
+    ensures before { (bytes : List ℕ) (number : ℕ) (fault : Fault) (below : ℕ) → IsFirstFault bytes number fault → below < number → FirstLinesBegin bytes below }
+    ensures faulty { (bytes : List ℕ) (number : ℕ) (fault : Fault) → IsFirstFault bytes number fault → ¬ FirstLinesBegin bytes number }
 {}

@@ -18,8 +18,9 @@ pub use access_ops::{Op, OpList};
 pub use air_events::{Choice, Entry, Event};
 pub use fault::{Fault, ScenarioFault};
 pub use laws::{
-    each_standing_can_end, lines_say_a_scenario, scenario_texts_are_not_faulty, scenarios_are_said,
-    scenarios_are_told_apart, texts_have_one_fault,
+    faulty_lines_begin_no_text, lines_begin_a_scenario, lines_say_a_scenario,
+    scenario_texts_are_not_faulty, scenarios_are_said, scenarios_are_told_apart,
+    texts_have_one_fault,
 };
 pub use printing::print_scenario;
 pub use q_round::RoundSpec;

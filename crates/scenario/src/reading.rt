@@ -1,11 +1,11 @@
 //! A scenario, read from its text.
-ghost use Rattle.std.specs.Prelude.{◌≡◌, ◌↔◌, [], List, IsTrue, IfOk, IfErr, IsOkAnd};
+ghost use Rattle.std.specs.Prelude.{◌≡◌, ◌↔◌, ◌⊎◌, ℕ, [], List, IsTrue, IfOk, IfErr, IsOkAnd};
 ghost use Rattle.scenario.specs.declared.values.Scenario.{Scenario};
 ghost use Rattle.scenario_lines.specs.declared.line.Line.{Line};
 ghost use Rattle.scenario.specs.Limits.{IsScenario};
 ghost use Rattle.scenario.specs.ScenarioText.{scenario_text};
 ghost use Rattle.scenario.specs.Standing.{DraftValue, Follows, begun, new_draft, scenario_of, within};
-ghost use Rattle.scenario.specs.Faults.{IsFaultyAt, IsRefused};
+ghost use Rattle.scenario.specs.Faults.{IsFaultyAt, IsFirstFault, IsRefused};
 ghost use Rattle.scenario.specs.Rest.{AreLeft, Finishes, IsExtra, IsRefusedBehind};
 ghost use Rattle.text_fields.specs.Lines.{fields_of};
 ghost use Rattle.scenario_lines.specs.Spelling.{line_text};
@@ -50,7 +50,8 @@ fn link_of(line: &[u8]) -> Result<Link, Fault>
     };
     match said {
         Line::Link(link) => Ok(link),
-        _ => Err(Fault::Word),
+        // A line of another kind begins with another word.
+        _ => unreachable!(),
     }
 }
 
@@ -101,6 +102,9 @@ pub fn read_scenario(alloc: Global, text: &[u8]) -> Result<Scenario, ScenarioFau
         → IfOk result (λ scenario. scenario ≡ said) × IfErr result (λ fault. fault ≡ ScenarioFault.OutOfMemory) }
     // Which line is faulty, and why.
     ensures refused { IfErr result (IsRefused text.now) }
+    // A text with a first faulty line is refused with its number and its reason, unless memory runs out.
+    ensures exact { (number : ℕ) (fault : Fault) → IsFirstFault text.now number fault
+        → IfErr result (λ refusal. (refusal ≡ ScenarioFault.Line number fault) ⊎ (refusal ≡ ScenarioFault.OutOfMemory)) × IfOk result (λ scenario. ⊥) }
 {
     let Some((version, behind)) = split_line(text) else {
         return Err(ScenarioFault::Line(1, Fault::End));

@@ -24,6 +24,7 @@ pub enum Step {
 /// What a run is made of.
 #[derive(Drop)]
 pub struct Scenario {
+    /// The parameters of the link.
     pub link: Link,
     /// The tags, numbered from 0.
     pub tags: List<TagSpec>,
