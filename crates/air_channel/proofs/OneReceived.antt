@@ -1,13 +1,13 @@
 -- That levels are received in one way alone.
 use Rattle.std.proofs.Common.{◌≡◌, ℕ, ◌+◌, inl, inr, Bool, List, sym, ap, ◌∙◌, subst}
+use Rattle.bit_strings.specs.FamilyLaws.{bad-one as same_place}
 use Rattle.bit_strings.specs.declared.code.Code.{Code}
 use Rattle.bit_strings.specs.declared.code.Code.TheVariants.{Fm0, M2, M4, M8}
 use Rattle.line_code.specs.Table.{Table}
 use Rattle.line_code.specs.Laws.{IsEven, TellsBits}
 use Rattle.line_code.specs.Stream.{IsStream, Streams}
+use Rattle.line_code.specs.StreamLaws.{begins_front, one_stream, refused_is_none}
 use Rattle.line_code.specs.declared.refusal.LineRefusal.TheVariants.{Invalid, Unfinished}
-use Rattle.line_code.proofs.Whole.{one_stream, refused_is_none}
-use Rattle.line_code.proofs.Existence.{begins_front, same_place}
 use Rattle.fm0_line.specs.Fm0Laws.{fm0_even, fm0_tells_bits}
 use Rattle.miller_line.specs.MillerLaws.{two, four, eight, miller_even, miller_tells_bits}
 use Rattle.line_codes.specs.Codes.{table_of, chips_of}

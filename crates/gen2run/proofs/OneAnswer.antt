@@ -2,9 +2,8 @@
 use Rattle.std.proofs.Common.{◌≡◌, ◌≤◌, ℕ, Bool, List, Result, Ok, Err, refl, ap}
 use Rattle.bit_strings.specs.declared.code.Code.{Code}
 use Rattle.line_code.specs.Stream.{Streams}
+use Rattle.line_code.specs.StreamLaws.{refused_is_none, same_answer as same_stream_answer}
 use Rattle.line_code.specs.declared.refusal.LineRefusal.{LineRefusal}
-use Rattle.line_code.proofs.Whole.{refused_is_none}
-use Rattle.line_code.proofs.Existence.{same_answer as same_stream_answer}
 use Rattle.line_codes.specs.Codes.{table_of}
 use Rattle.sample_slicer.specs.declared.slicer.SliceRefusal.{SliceRefusal}
 use Rattle.sample_slicer.proofs.OneAnswer.{same_answer as same_samples_answer}
