@@ -6,7 +6,7 @@ use Rattle.line_code.specs.StreamLaws.{refused_is_none, same_answer as same_stre
 use Rattle.line_code.specs.declared.refusal.LineRefusal.{LineRefusal}
 use Rattle.line_codes.specs.Codes.{table_of}
 use Rattle.sample_slicer.specs.declared.slicer.SliceRefusal.{SliceRefusal}
-use Rattle.sample_slicer.proofs.OneAnswer.{same_answer as same_samples_answer}
+use Rattle.sample_slicer.specs.SampleLaws.{same_answer as same_samples_answer}
 use Rattle.reply_grammar.specs.declared.expected.Expect.{Expect}
 use Rattle.reply_grammar.specs.declared.expected.Reply.{Reply}
 use Rattle.reply_grammar.specs.declared.expected.ReplyRefusal.{ReplyRefusal}
