@@ -16,7 +16,7 @@ use Rattle.reply_grammar.proofs.OneReply.{one_reply, one_fault, passes_apart}
 use Rattle.air_channel.proofs.OneReceived.{same_bits, same_received}
 use Rattle.pie_line.specs.declared.frame.FrameKind.{FrameKind}
 use Rattle.pie_line.specs.declared.frame.PieRefusal.{PieRefusal}
-use Rattle.pie_line.proofs.FrameLaws.{frame-one, refuses-no_frame}
+use Rattle.pie_line.specs.FrameLaws.{frame-one, refuses-no_frame}
 use Rattle.pie_line.proofs.FrameAnswers.{one-answer}
 use Rattle.command_grammar.specs.declared.commands.Command.{Command}
 use Rattle.command_grammar.specs.declared.refusal.CommandRefusal.{CommandRefusal}
