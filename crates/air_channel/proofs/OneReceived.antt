@@ -13,8 +13,8 @@ use Rattle.miller_line.specs.MillerLaws.{two, four, eight, miller_even, miller_t
 use Rattle.line_codes.specs.Codes.{table_of, chips_of}
 use Rattle.reply_grammar.specs.Table.{Answers}
 use Rattle.reply_grammar.specs.Faults.{Faults}
-use Rattle.reply_grammar.proofs.Passing.{answers_pass}
-use Rattle.reply_grammar.proofs.OneReply.{one_reply, passes_apart}
+use Rattle.reply_grammar.specs.PassingLaws.{answers_pass}
+use Rattle.reply_grammar.specs.ReplyLaws.{one_reply, passes_apart}
 use Rattle.reply_grammar.specs.declared.expected.Expect.{Expect}
 use Rattle.reply_grammar.specs.declared.expected.Reply.{Reply}
 use Rattle.reply_grammar.specs.declared.expected.ReplyRefusal.{ReplyRefusal}
