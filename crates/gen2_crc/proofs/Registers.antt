@@ -8,7 +8,7 @@ use Rattle.std.proofs.lemmas.Nat.{xor_lt, shr-shr}
 use Rattle.std.proofs.lemmas.Nat.Bits.{bit_at_xor}
 use Rattle.std.proofs.lemmas.List.{take_more, take_all, length-map}
 use Rattle.bit_strings.specs.Numbers.{value_of, field_of}
-use Rattle.bit_strings.specs.NumberLaws.{value_of-field, value_of-within, field_of-value_of, field_of-mod, same_from_value}
+use Rattle.bit_strings.specs.NumberLaws.{value_of-field, field_of-value_of, field_of-mod, same_from_value}
 use Rattle.gen2_crc.specs.Crc.{differ, minus, divide, remainder_of, others5, preset5, others16, preset16, crc5_of, register_of, crc16_of, residue, StandsFor}
 use Rattle.gen2_crc.specs.CrcLaws.{length-register_of, length-crc5_of}
 use Rattle.gen2_crc.specs.Division.{one-bit, left_of, left_of-true, left_of-false, remainder_of-append}
@@ -173,9 +173,6 @@ stands_all bits i register past stands = subst (StandsFor register) (take_all i 
 pub crc5_of-none : 9 ≡ value_of (crc5_of [])
 unfolding crc5_of divide
 crc5_of-none = refl
-
-pub crc5_of-below : (bits : List Bool) → value_of (crc5_of bits) < 32
-crc5_of-below bits = value_of-within (crc5_of bits) 5 (omega (arith, length-crc5_of bits))
 
 pub crc5_next : (bits : List Bool) (i register result : ℕ) → i < length bits → register ≡ value_of (crc5_of (take i bits)) → result < 32 → field_of result 5 ≡ remainder_of (field_of register 5) others5 (get_or bits i false ∷ []) → result ≡ value_of (crc5_of (take (i + 1) bits))
 unfolding crc5_of

@@ -2,22 +2,21 @@
 use Rattle.std.proofs.Common.{◌≡◌, ◌≤◌, ℕ, Bool, List, Result, Ok, Err, refl, ap}
 use Rattle.bit_strings.specs.declared.code.Code.{Code}
 use Rattle.line_code.specs.Stream.{Streams}
+use Rattle.line_code.specs.StreamLaws.{refused_is_none, same_answer as same_stream_answer}
 use Rattle.line_code.specs.declared.refusal.LineRefusal.{LineRefusal}
-use Rattle.line_code.proofs.Whole.{refused_is_none}
-use Rattle.line_code.proofs.Existence.{same_answer as same_stream_answer}
 use Rattle.line_codes.specs.Codes.{table_of}
 use Rattle.sample_slicer.specs.declared.slicer.SliceRefusal.{SliceRefusal}
-use Rattle.sample_slicer.proofs.OneAnswer.{same_answer as same_samples_answer}
+use Rattle.sample_slicer.specs.SampleLaws.{same_answer as same_samples_answer}
 use Rattle.reply_grammar.specs.declared.expected.Expect.{Expect}
 use Rattle.reply_grammar.specs.declared.expected.Reply.{Reply}
 use Rattle.reply_grammar.specs.declared.expected.ReplyRefusal.{ReplyRefusal}
 use Rattle.reply_grammar.specs.declared.expected.Received.{Received}
-use Rattle.reply_grammar.proofs.Passing.{answers_pass}
-use Rattle.reply_grammar.proofs.OneReply.{one_reply, one_fault, passes_apart}
-use Rattle.air_channel.proofs.OneReceived.{same_bits, same_received}
+use Rattle.reply_grammar.specs.PassingLaws.{answers_pass}
+use Rattle.reply_grammar.specs.ReplyLaws.{one_reply, one_fault, passes_apart}
+use Rattle.air_channel.specs.ReceivedLaws.{same_bits, same_received}
 use Rattle.pie_line.specs.declared.frame.FrameKind.{FrameKind}
 use Rattle.pie_line.specs.declared.frame.PieRefusal.{PieRefusal}
-use Rattle.pie_line.proofs.FrameLaws.{frame-one, refuses-no_frame}
+use Rattle.pie_line.specs.FrameLaws.{frame-one, refuses-no_frame}
 use Rattle.pie_line.proofs.FrameAnswers.{one-answer}
 use Rattle.command_grammar.specs.declared.commands.Command.{Command}
 use Rattle.command_grammar.specs.declared.refusal.CommandRefusal.{CommandRefusal}

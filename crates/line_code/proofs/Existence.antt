@@ -1,10 +1,10 @@
--- That each list of levels has an answer, and one alone.
-use Rattle.std.proofs.Common.{◌≡◌, ◌≢◌, ◌≤◌, ◌<◌, ℕ, zero, suc, ◌+◌, ◌⊎◌, inl, inr, ◌↔◌, Bool, true, false, ◌&&◌, List, [], ◌∷◌, ◌++◌, length, take, drop, append_assoc, get_or, Option, Some, None, IsTrue, slice_get, Result, Ok, Err, refl, sym, ap, ◌∙◌, subst, arith, add-one}
+-- That each list of levels has an answer.
+use Rattle.std.proofs.Common.{◌≡◌, ◌≢◌, ◌≤◌, ◌<◌, ℕ, zero, suc, ◌+◌, ◌⊎◌, inl, inr, ◌↔◌, Bool, true, false, ◌&&◌, List, [], ◌∷◌, ◌++◌, length, take, get_or, Option, Some, None, IsTrue, slice_get, Result, Ok, Err, refl, sym, ap, ◌∙◌, subst, arith, add-one}
 use mathlib.Core.Bool.{beq}
-use Rattle.std.proofs.lemmas.Bool.{cases_lt, cases_eq, cases_order, both_ways, and_parts, and_from}
-use Rattle.std.proofs.lemmas.List.{take_all, take-take, take-append-drop, nil_from_length}
+use Rattle.std.proofs.lemmas.Bool.{cases_lt, cases_eq, both_ways, and_parts, and_from}
+use Rattle.std.proofs.lemmas.List.{take_all, nil_from_length}
 use Rattle.std.proofs.lemmas.Option.{slice_get-get_or, same_Some}
-use Rattle.bit_strings.specs.Family.{Begins, IsBadAt}
+use Rattle.bit_strings.specs.Family.{IsBadAt}
 use Rattle.line_code.specs.Table.{Table}
 use Rattle.line_code.specs.Stream.{Streams}
 use Rattle.line_code.specs.Laws.{IsEven, TellsBits}
@@ -16,7 +16,7 @@ use Rattle.line_code.proofs.LeadLevels.{seeks_more, seeks_size, seeks_bad, seeks
 use Rattle.line_code.proofs.Reading.{reads_none, reads_bad, reads_more, reads_bit, reads_short, reads_whole, further, behind}
 use Rattle.line_code.proofs.Answered.{each_bit, chosen}
 use Rattle.line_code.proofs.Steps.{one_more}
-use Rattle.line_code.proofs.Whole.{bad_in_front, refused_is_none}
+use Rattle.line_code.proofs.Whole.{bad_in_front}
 
 -- how far the levels go: some level of the whole list is refused, or those so far are in the lead, or in the data
 pub data Progress (t : Table) (trext : Bool) (levels front : List Bool) : Type 0 where
@@ -162,31 +162,3 @@ some_answer t chips even tells trext levels =
     let P : List Bool → Type 0 = λ ls. Progress t trext levels ls in
     let all = take_all (length levels) levels (omega arith) in
     ends t chips even tells trext levels (subst P all (goes t chips even tells trext levels (length levels) (omega arith)))
-
-pub begins_front : (X : List Bool → Type 0) (levels : List Bool) (n : ℕ) → Begins X levels → Begins X (take n levels)
-begins_front X levels n (more, member) =
-    (drop n levels ++ more, subst X (sym (sym (append_assoc (take n levels) (drop n levels) more) ∙ ap (λ ls. ls ++ more) (take-append-drop n levels))) member)
-
--- no place is before another
-pub no_earlier : (X : List Bool → Type 0) (levels : List Bool) (p q : ℕ) → IsBadAt X levels p → IsBadAt X levels q → p < q → ⊥
-no_earlier X levels p q bad later l =
-    let begins = begins_front X (take q levels) (p + 1) later.begins in
-    let front = take-take (p + 1) q levels (omega arith) in
-    bad.stops (rw front at begins)
-
-pub same_place : (X : List Bool → Type 0) (levels : List Bool) (p q : ℕ) → IsBadAt X levels p → IsBadAt X levels q → p ≡ q
-same_place X levels p q left right =
-    elim (cases_order p q) [
-      | inl same ↦ same
-      | inr apart ↦ elim apart [ inl before ↦ absurd (no_earlier X levels p q left right before) | inr behind ↦ absurd (no_earlier X levels q p right left behind) ]
-    ]
-
-pub same_answer : (t : Table) (trext : Bool) (levels : List Bool) (left right : Result (Unit {0}) LineRefusal)
-    → IsAnswer t trext levels left → IsAnswer t trext levels right → left ≡ right
-same_answer t trext levels (Ok a) (Ok b) l r = refl
-same_answer t trext levels (Ok a) (Err e) l r = absurd (refused_is_none (Streams t trext) levels e r l)
-same_answer t trext levels (Err e) (Ok b) l r = absurd (refused_is_none (Streams t trext) levels e l r)
-same_answer t trext levels (Err (Invalid p)) (Err (Invalid q)) l r = ap (λ n. Err (Invalid n)) (same_place (Streams t trext) levels p q l r)
-same_answer t trext levels (Err (Invalid p)) (Err (Unfinished n)) l r = absurd (l.stops (begins_front (Streams t trext) levels (p + 1) r.begins))
-same_answer t trext levels (Err (Unfinished n)) (Err (Invalid q)) l r = absurd (r.stops (begins_front (Streams t trext) levels (q + 1) l.begins))
-same_answer t trext levels (Err (Unfinished n)) (Err (Unfinished m)) l r = ap (λ k. Err (Unfinished k)) (l.whole ∙ sym r.whole)

@@ -6,7 +6,8 @@ use Rattle.line_code.specs.Table.{Context, Table}
 use Rattle.line_code.specs.Stream.{blocks, IsStream, Streams}
 use Rattle.line_code.specs.States.{InsideValue, context_after, fits_of, LastIs, Reads}
 use Rattle.line_code.specs.Laws.{IsEven, TellsBits}
-use Rattle.line_code.proofs.Splits.{blocks-append, context_after-push, blocks_split, front_of, front_more}
+use Rattle.line_code.specs.StreamLaws.{blocks_split}
+use Rattle.line_code.proofs.Splits.{blocks-append, context_after-push, front_of, front_more}
 
 -- what stands behind the blocks read, where the levels and more are a stream
 pub record Rest (t : Table) (context : Context) (bits part more : List Bool) : Type 0 where

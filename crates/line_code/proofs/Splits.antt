@@ -1,12 +1,10 @@
 -- How blocks and fronts of blocks join and part.
-use Rattle.std.proofs.Common.{◌≡◌, ℕ, ◌+◌, ◌<◌, ◌↔◌, Bool, true, false, List, [], ◌∷◌, ◌++◌, length, take, get_or, Some, IsTrue, slice_get, refl, sym, ap, ◌∙◌, arith, append_assoc, length-append}
+use Rattle.std.proofs.Common.{◌≡◌, ℕ, ◌+◌, ◌<◌, ◌↔◌, Bool, true, false, List, [], ◌∷◌, ◌++◌, length, take, get_or, Some, IsTrue, slice_get, refl, sym, ap, ◌∙◌, arith, append_assoc}
 use Rattle.std.proofs.lemmas.List.{length-take-le, take_more, same_from_push}
 use Rattle.std.proofs.lemmas.Option.{get_or_from_slice_get, slice_get-get_or}
 use Rattle.line_code.specs.Table.{Context, Table}
 use Rattle.line_code.specs.Stream.{blocks}
 use Rattle.line_code.specs.States.{context_after}
-use Rattle.line_code.specs.Laws.{IsEven, TellsBits}
-use Rattle.line_code.specs.Flips.{parts_same, told}
 
 -- the blocks of two lists of bits, one behind the other
 pub blocks-append : (t : Table) (xs ys : List Bool) (c : Context) → blocks t c (xs ++ ys) ≡ blocks t c xs ++ blocks t (context_after t c xs) ys
@@ -17,30 +15,6 @@ blocks-append t (x ∷ xs) ys c =
 pub context_after-push : (t : Table) (bits : List Bool) (bit : Bool) (c : Context) → context_after t c (bits ++ bit ∷ []) ≡ t.next (context_after t c bits) bit
 context_after-push t [] bit c = refl
 context_after-push t (x ∷ xs) bit c = context_after-push t xs bit (t.next c x)
-
-cons_same : (x z : Bool) (xs ys zs : List Bool) → x ≡ z → zs ≡ xs ++ ys → z ∷ zs ≡ x ∷ (xs ++ ys)
-cons_same x z xs ys zs same e = ap (λ ls. z ∷ ls) e ∙ ap (λ b. b ∷ (xs ++ ys)) (sym same)
-
--- blocks that begin with the blocks of these bits are those of more bits
-pub blocks_split : (t : Table) (chips : ℕ) → IsEven t chips → TellsBits t → (xs zs rest : List Bool) (c : Context)
-    → blocks t c xs ++ rest ≡ blocks t c zs
-    → (ys : List Bool) × (zs ≡ xs ++ ys) × (rest ≡ blocks t (context_after t c xs) ys)
-blocks_split t chips even tells [] zs rest c e = (zs, refl, e)
-blocks_split t chips even tells (x ∷ xs) [] rest c e =
-    let least = even.least in
-    let size : length (t.block c x) ≡ chips = even.blocks_even c x in
-    let inner = length-append (t.block c x) (blocks t (t.next c x) xs) in
-    let whole = length-append (t.block c x ++ blocks t (t.next c x) xs) rest in
-    let none = ap length e in
-    absurd (omega arith)
-blocks_split t chips even tells (x ∷ xs) (z ∷ zs) rest c e =
-    let size_x : length (t.block c x) ≡ chips = even.blocks_even c x in
-    let size_z : length (t.block c z) ≡ chips = even.blocks_even c z in
-    let joined = sym (append_assoc (t.block c x) (blocks t (t.next c x) xs) rest) ∙ e in
-    let parts = parts_same (t.block c x) (t.block c z) (blocks t (t.next c x) xs ++ rest) (blocks t (t.next c z) zs) (omega arith) joined in
-    let same : x ≡ z = told t tells c x z parts.0 in
-    let more = blocks_split t chips even tells xs zs rest (t.next c x) (parts.1 ∙ ap (λ b. blocks t (t.next c b) zs) (sym same)) in
-    (more.0, cons_same x z xs more.0 zs same more.1, more.2)
 
 -- where one list begins with a part and one more item, and also with a longer list, the part is that list's front
 pub front_of : (part block more rest : List Bool) (level : Bool) → length part < length block

@@ -1,15 +1,14 @@
--- From one place of the levels to the whole list, and that the answer is one.
-use Rattle.std.proofs.Common.{◌<◌, ◌≡◌, ℕ, ◌+◌, ◌≤◌, Bool, true, List, [], ◌∷◌, ◌++◌, length, take, drop, Result, Ok, Err, IsOk, IsErr, OnOk, IfErr, refl, sym, ap, ◌∙◌, subst, arith, length-append, length-take}
-use Rattle.std.proofs.lemmas.List.{append-nil, append_cancel_left, same_from_push, take-take, take-append-drop}
+-- From one place of the levels to the whole list, and what a decoder may then answer.
+use Rattle.std.proofs.Common.{◌<◌, ◌≡◌, ℕ, ◌+◌, ◌≤◌, Bool, true, List, [], ◌∷◌, ◌++◌, length, take, Result, Ok, Err, IsOk, IsErr, OnOk, IfErr, refl, sym, ap, ◌∙◌, subst, arith, length-append, length-take}
+use Rattle.std.proofs.lemmas.List.{take-take}
 use Rattle.bit_strings.specs.Family.{IsBadAt}
 use Rattle.line_code.specs.Table.{Context, Table}
 use Rattle.line_code.specs.Stream.{blocks, IsStream, Streams}
-use Rattle.line_code.specs.States.{InsideValue, Reads, context_after}
+use Rattle.line_code.specs.States.{InsideValue, Reads}
 use Rattle.line_code.specs.Laws.{IsEven, TellsBits, RefusesFlips, HidesLead, flipped}
 use Rattle.line_code.specs.Refusal.{Refuses}
+use Rattle.line_code.specs.StreamLaws.{one_stream, refused_is_none}
 use Rattle.line_code.specs.declared.refusal.LineRefusal.{LineRefusal}
-use Rattle.line_code.specs.declared.refusal.LineRefusal.TheVariants.{Invalid, Unfinished}
-use Rattle.line_code.proofs.Splits.{blocks_split}
 
 -- a front that is refused at a place refuses the whole list there
 pub bad_in_front : (X : List Bool → Type 0) (levels : List Bool) (n place : ℕ) → IsBadAt X (take n levels) place → IsBadAt X levels place
@@ -21,32 +20,6 @@ bad_in_front X levels n place bad =
       begins = rw (← take-take place n levels (omega arith)) bad.begins;
       stops = rw (← take-take (place + 1) n levels (omega arith)) bad.stops;
     }
-
--- what is refused is no member
-pub refused_is_none : (X : List Bool → Type 0) (levels : List Bool) (refusal : LineRefusal) → Refuses X levels refusal → ¬ X levels
-refused_is_none X levels (Invalid place) bad member = bad.stops (drop (place + 1) levels, subst X (sym (take-append-drop (place + 1) levels)) member)
-refused_is_none X levels (Unfinished count) short member = short.no_member member
-
-pub no_bits : (t : Table) (chips : ℕ) → IsEven t chips → (bits : List Bool) (c : Context) → [] ≡ blocks t c bits → bits ≡ []
-no_bits t chips even [] c e = refl
-no_bits t chips even (bit ∷ bits) c e =
-    let least = even.least in
-    let size = even.blocks_even c bit in
-    let joined = length-append (t.block c bit) (blocks t (t.next c bit) bits) in
-    let none : 0 ≡ length (blocks t c (bit ∷ bits)) = ap length e in
-    absurd (omega arith)
-
--- one list is the stream of at most one list of bits
-pub one_stream : (t : Table) (chips : ℕ) → IsEven t chips → TellsBits t → (trext : Bool) (xs ys levels : List Bool)
-    → IsStream t trext xs levels → IsStream t trext ys levels → xs ≡ ys
-one_stream t chips even tells trext xs ys levels e f =
-    let ours = blocks t t.start (xs ++ true ∷ []) in
-    let theirs = blocks t t.start (ys ++ true ∷ []) in
-    let same : ours ≡ theirs = append_cancel_left (t.lead trext) ours theirs (sym e ∙ f) in
-    let there = blocks_split t chips even tells (xs ++ true ∷ []) (ys ++ true ∷ []) [] t.start (append-nil ours ∙ same) in
-    let none = no_bits t chips even there.0 (context_after t t.start (xs ++ true ∷ [])) there.2 in
-    let whole : ys ++ true ∷ [] ≡ xs ++ true ∷ [] = there.1 ∙ ap (λ ls. (xs ++ true ∷ []) ++ ls) none ∙ append-nil (xs ++ true ∷ []) in
-    sym (same_from_push ys xs true true whole).0
 
 -- no more bits than levels
 pub length-blocks : (t : Table) (chips : ℕ) → IsEven t chips → (bits : List Bool) (c : Context) → length bits ≤ length (blocks t c bits)

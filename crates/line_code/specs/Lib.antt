@@ -10,5 +10,6 @@ pub mod AfterSeeking
 pub mod AfterInside
 pub mod AfterEnd
 pub mod Answer
+pub mod StreamLaws
 pub use Rattle.bit_strings.specs.BitString
 pub use Rattle.bit_strings.specs.Family

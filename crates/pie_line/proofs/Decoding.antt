@@ -8,10 +8,10 @@ use Rattle.bit_strings.specs.BitString.{BitString}
 use Rattle.pie_line.specs.declared.frame.FrameKind.{FrameKind}
 use Rattle.pie_line.specs.declared.frame.PieRefusal.{PieRefusal}
 use Rattle.pie_line.specs.Pie.{IsFrame, Frames}
+use Rattle.pie_line.specs.FrameLaws.{refuses-no_frame}
 use Rattle.pie_line.specs.Refusal.{IsRefusedAt, Refuses}
 use Rattle.pie_line.specs.Edges.{EdgesValue, StandsFor, Answers}
 use Rattle.pie_line.specs.declared.edges.Edge.TheVariants.{Refused}
-use Rattle.pie_line.proofs.FrameLaws.{refuses-no_frame}
 use Rattle.pie_line.proofs.Leads.{refused-more}
 use Rattle.pie_line.proofs.Standings.{stands-refused}
 

@@ -1,20 +1,17 @@
 -- Each list of intervals has an answer.
-use Rattle.std.proofs.Common.{◌≡◌, ℕ, ◌⊎◌, Bool, List, [], ◌∷◌, ◌++◌, length, refl, sym, ◌∙◌, ap, subst, inl, inr, append_assoc}
+use Rattle.std.proofs.Common.{ℕ, ◌⊎◌, Bool, List, [], ◌∷◌, ◌++◌, length, refl, sym, subst, inl, inr, append_assoc}
 use Rattle.std.proofs.lemmas.List.{append-nil}
-use Rattle.std.specs.Prelude.{slice_index}
 use Rattle.std.specs.Option.{option_to_list}
 use Rattle.bit_strings.specs.Family.{IsBadAt, IsShortAt}
 use Rattle.pie_line.specs.declared.frame.FrameKind.{FrameKind}
 use Rattle.pie_line.specs.declared.frame.FrameKind.TheVariants.{Preamble, FrameSync}
-use Rattle.pie_line.specs.declared.frame.PieRefusal.{PieRefusal}
-use Rattle.pie_line.specs.declared.frame.PieRefusal.TheVariants.{Unfinished}
 use Rattle.pie_line.specs.declared.place.Place.{Place}
 use Rattle.pie_line.specs.declared.place.Place.TheVariants.{Delimiter, TariHigh, TariLow, RtCalHigh, RtCalLow, FirstHigh, FirstLow, High, Low}
 use Rattle.pie_line.specs.Pie.{HasSums, IsFrame, Frames}
 use Rattle.pie_line.specs.Place.{IsSound, Completes, rtcal_of}
-use Rattle.pie_line.specs.Refusal.{Refuses, refusal_at}
 use Rattle.pie_line.specs.Edges.{LeadsTo}
 use Rattle.pie_line.specs.FrameAnswer.{HasOneAnswer}
+use Rattle.pie_line.specs.FrameLaws.{refusal-one}
 use Rattle.pie_line.proofs.Completions.{no_symbols, sync}
 use Rattle.pie_line.proofs.Decisions.{moves-or_stops}
 use Rattle.bit_strings.specs.FamilyLaws.{bad-more, bad-last, bad-one, member-not_bad, short-not_bad}
@@ -76,15 +73,6 @@ answer xs = goes_on Delimiter [] [] xs record {
   only = λ kind all rest f. (all, refl, f);
   back = λ kind more rest c. c;
 }
-
--- the refusal is that of the place or of the length
-refusal-one : (xs : List ℕ) (refusal other : PieRefusal) → Refuses refusal xs → Refuses other xs → refusal ≡ other
-refusal-one xs refusal other (inl r) (inl q) =
-    let e = bad-one Frames xs r.0 q.0 r.1.bad q.1.bad in
-    r.1.named ∙ ap (λ place. refusal_at place (slice_index xs place)) e ∙ sym q.1.named
-refusal-one xs refusal other (inr r) (inr q) = r.1.named ∙ ap Unfinished (r.1.short.whole ∙ sym q.1.short.whole) ∙ sym q.1.named
-refusal-one xs refusal other (inl r) (inr q) = absurd (short-not_bad Frames xs q.0 r.0 q.1.short r.1.bad)
-refusal-one xs refusal other (inr r) (inl q) = absurd (short-not_bad Frames xs r.0 q.0 r.1.short q.1.bad)
 
 pub one-answer : (xs : List ℕ) → HasOneAnswer xs
 one-answer xs = record {

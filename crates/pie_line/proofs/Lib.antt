@@ -3,7 +3,6 @@ pub mod Completions
 pub mod Decisions
 pub mod Decoding
 pub mod FrameAnswers
-pub mod FrameLaws
 pub mod Leads
 pub mod Standings
 pub mod Symbols

@@ -1,5 +1,6 @@
 pub mod Edges
 pub mod FrameAnswer
+pub mod FrameLaws
 pub mod IntervalList
 pub mod Link
 pub mod LinkRefusal

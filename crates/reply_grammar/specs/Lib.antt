@@ -1,3 +1,5 @@
 pub mod Faults
+pub mod PassingLaws
+pub mod ReplyLaws
 pub mod Table
 pub use Rattle.bit_strings.specs.Words

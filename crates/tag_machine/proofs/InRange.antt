@@ -5,7 +5,7 @@ use Rattle.reply_grammar.specs.declared.expected.Expect.TheVariants as expects
 use Rattle.reply_grammar.specs.declared.expected.Reply.{Reply}
 use Rattle.reply_grammar.specs.declared.expected.Reply.TheVariants.{Rn16, Epc, Handle, Words, Header, Error}
 use Rattle.reply_grammar.specs.Table.{Answers, Carries, IsReply, Suits}
-use Rattle.reply_grammar.proofs.Writing.{answers_from}
+use Rattle.reply_grammar.specs.ReplyLaws.{answers_from}
 use Rattle.tag_machine.specs.Answers.{Sent, HasFewWords, IsSent, bits_sent}
 
 pub is_reply : (reply : Reply) (handle : ℕ) (bits : List Bool) → ((expect : Expect) → Suits reply expect → Carries expect handle → Answers reply expect bits) → IsReply reply

@@ -1,5 +1,6 @@
 use Rattle.std.proofs.Common.{take, arith}
-use Rattle.gen2_crc.proofs.Registers.{crc5_of-none, crc5_of-below, crc5_next, crc5_all}
+use Rattle.gen2_crc.specs.CrcLaws.{crc5_of-below}
+use Rattle.gen2_crc.proofs.Registers.{crc5_of-none, crc5_next, crc5_all}
 use Rattle.gen2_crc.proofs.crc5_of_bits.Goals as goal
 
 pub loop-bit-init : goal.loop-bit-init

@@ -5,7 +5,7 @@ use Rattle.line_code.specs.declared.refusal.LineRefusal.{LineRefusal}
 use Rattle.line_codes.specs.Codes.{table_of}
 use Rattle.reply_grammar.specs.declared.expected.Received.TheVariants.{Whole, Refused}
 use Rattle.air_channel.specs.Received.{IsWhole, IsUnexpected}
-use Rattle.air_channel.proofs.OneReceived.{same_received}
+use Rattle.air_channel.specs.ReceivedLaws.{same_received}
 use Rattle.air_channel.proofs.receive_reply.receive.Goals as goal
 
 pub returns-in-Ok-decode_reply-clause-only : goal.returns-in-Ok-decode_reply-clause-only

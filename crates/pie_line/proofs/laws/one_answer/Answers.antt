@@ -1,5 +1,5 @@
+use Rattle.pie_line.specs.FrameLaws.{frame-one}
 use Rattle.pie_line.proofs.FrameAnswers.{one-answer}
-use Rattle.pie_line.proofs.FrameLaws.{frame-one}
 use Rattle.pie_line.proofs.laws.one_answer.Goals as goal
 
 pub returns : goal.returns

@@ -1,4 +1,4 @@
-use Rattle.reply_grammar.proofs.Writing.{answers_from}
+use Rattle.reply_grammar.specs.ReplyLaws.{answers_from}
 use Rattle.reply_grammar.proofs.encode.encode_reply.Goals as goal
 
 pub returns-clause-answers : goal.returns-clause-answers

@@ -1,4 +1,4 @@
-use Rattle.sample_slicer.proofs.OneAnswer.{same_answer}
+use Rattle.sample_slicer.specs.SampleLaws.{same_answer}
 use Rattle.sample_slicer.proofs.laws.one_answer.Goals as goal
 
 pub returns : goal.returns

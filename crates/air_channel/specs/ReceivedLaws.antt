@@ -1,20 +1,20 @@
 -- That levels are received in one way alone.
 use Rattle.std.proofs.Common.{◌≡◌, ℕ, ◌+◌, inl, inr, Bool, List, sym, ap, ◌∙◌, subst}
+use Rattle.bit_strings.specs.FamilyLaws.{bad-one as same_place}
 use Rattle.bit_strings.specs.declared.code.Code.{Code}
 use Rattle.bit_strings.specs.declared.code.Code.TheVariants.{Fm0, M2, M4, M8}
 use Rattle.line_code.specs.Table.{Table}
 use Rattle.line_code.specs.Laws.{IsEven, TellsBits}
 use Rattle.line_code.specs.Stream.{IsStream, Streams}
+use Rattle.line_code.specs.StreamLaws.{begins_front, one_stream, refused_is_none}
 use Rattle.line_code.specs.declared.refusal.LineRefusal.TheVariants.{Invalid, Unfinished}
-use Rattle.line_code.proofs.Whole.{one_stream, refused_is_none}
-use Rattle.line_code.proofs.Existence.{begins_front, same_place}
 use Rattle.fm0_line.specs.Fm0Laws.{fm0_even, fm0_tells_bits}
 use Rattle.miller_line.specs.MillerLaws.{two, four, eight, miller_even, miller_tells_bits}
 use Rattle.line_codes.specs.Codes.{table_of, chips_of}
 use Rattle.reply_grammar.specs.Table.{Answers}
 use Rattle.reply_grammar.specs.Faults.{Faults}
-use Rattle.reply_grammar.proofs.Passing.{answers_pass}
-use Rattle.reply_grammar.proofs.OneReply.{one_reply, passes_apart}
+use Rattle.reply_grammar.specs.PassingLaws.{answers_pass}
+use Rattle.reply_grammar.specs.ReplyLaws.{one_reply, passes_apart}
 use Rattle.reply_grammar.specs.declared.expected.Expect.{Expect}
 use Rattle.reply_grammar.specs.declared.expected.Reply.{Reply}
 use Rattle.reply_grammar.specs.declared.expected.ReplyRefusal.{ReplyRefusal}
