@@ -5,7 +5,7 @@ use Rattle.std.specs.Str.{bytes_eq}
 use Rattle.std.proofs.lemmas.List.Elements.{All-nil, All-cons, All-head, All-tail}
 use Rattle.std.proofs.lemmas.List.{length-map}
 use Rattle.reply_text.specs.ReplyText.{expect_word}
-use Rattle.reply_text.proofs.Fields.{expect_word_is_field_text}
+use Rattle.reply_text.specs.FieldTextLaws.{expect_word_is_field_text}
 use Rattle.std.specs.List.{AllZip, All}
 use Rattle.text_fields.specs.Lines.{fields_of}
 use Rattle.text_fields.specs.Binary.{binary, binary_digit}
@@ -15,7 +15,7 @@ use Rattle.bit_strings.specs.declared.code.Code.TheVariants.{Fm0, M2, M4, M8}
 use Rattle.hex.specs.Hex.{decode_of}
 use Rattle.hex.proofs.OnLiterals.{hex_on_literals}
 use Rattle.std.specs.Fmt.{decimal}
-use Rattle.text_fields.proofs.Visible.{IsFieldText-decimal, IsFieldText-binary}
+use Rattle.text_fields.specs.FieldTextLaws.{IsFieldText-decimal, IsFieldText-binary}
 use Rattle.gen2run.specs.Request.{kind_word, HasShape, request_kind, AreSpelled, IsWithinLimits, AsksBehind, Spells, AreFaulty, IsFaulty}
 use Rattle.gen2run.specs.DecodeLines.{IsGrammatical, IsFaultyBefore, IsFirstFault}
 use Rattle.gen2run.specs.declared.decode.request.Kind.{Kind}

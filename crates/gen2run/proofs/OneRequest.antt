@@ -5,10 +5,10 @@ use Rattle.std.specs.Fmt.{decimal}
 use Rattle.std.proofs.lemmas.List.Elements.{All-head, All-tail}
 use Rattle.text_fields.specs.Binary.{binary, binary_digit}
 use Rattle.text_fields.specs.CodeNames.{code_word}
-use Rattle.text_fields.proofs.Told.{decimal_told, binary_told}
+use Rattle.text_fields.specs.ToldApart.{decimal_told, binary_told}
 use Rattle.bit_strings.specs.declared.code.Code.{Code}
 use Rattle.reply_text.specs.ReplyText.{expect_word}
-use Rattle.reply_text.proofs.Told.{expect_told}
+use Rattle.reply_text.specs.ToldApart.{expect_told}
 use Rattle.gen2run.specs.Request.{request_kind, AreSpelled, IsWithinLimits, Spells}
 use Rattle.gen2run.specs.declared.decode.request.Kind.TheVariants.{Stream as StreamKind}
 use Rattle.gen2run.specs.declared.decode.request.Request.{Request}

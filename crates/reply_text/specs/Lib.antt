@@ -1,1 +1,4 @@
 pub mod ReplyText
+pub mod ToldApart
+pub mod FieldTextLaws
+pub mod Cuts

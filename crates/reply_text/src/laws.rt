@@ -6,7 +6,7 @@ ghost use Rattle.reply_grammar.specs.declared.expected.Expect.{Expect};
 ghost use Rattle.reply_text.specs.ReplyText.{IsExpect, expect_word};
 
 /// Each spelling of an expectation may stand as a field.
-#[tactic(auto, using(crate::proofs::Fields::expect_word_is_field_text))]
+#[tactic(auto, using(crate::specs::FieldTextLaws::expect_word_is_field_text))]
 pub fn expectations_are_field_texts()
     ensures { (expect : Expect) → IsExpect expect → IsFieldText (expect_word expect) }
 {}

@@ -8,7 +8,7 @@ use Rattle.text_fields.specs.Lines.{IsFieldText, line_feed, space}
 use Rattle.text_fields.specs.Binary.{binary, binary_digit}
 use Rattle.text_fields.specs.Hexadecimal.{hex_word, hex_words}
 use Rattle.text_fields.specs.CodeNames.{code_word}
-use Rattle.text_fields.proofs.Visible.{IsFieldText-binary, IsFieldText-decimal, IsFieldText-hex_word, IsFieldText-hex_words}
+use Rattle.text_fields.specs.FieldTextLaws.{IsFieldText-binary, IsFieldText-decimal, IsFieldText-hex_word, IsFieldText-hex_words}
 use Rattle.command_text.specs.CommandText.{flag_word, mask_bank_word, side_word}
 use Rattle.command_grammar.specs.declared.command.FlagName.{FlagName}
 use Rattle.command_grammar.specs.declared.command.FlagName.TheVariants as flags

@@ -1,7 +1,7 @@
 -- A list of fields spells at most one line.
 use Rattle.std.proofs.Common.{◌≡◌, ◌≤◌, ℕ, List, [], ◌∷◌, ap, arith, refl, sym, ◌∙◌}
 use Rattle.std.specs.Fmt.{decimal}
-use Rattle.text_fields.proofs.Told.{binary_told, decimal_told, hex_words_told}
+use Rattle.text_fields.specs.ToldApart.{binary_told, decimal_told, hex_words_told}
 use Rattle.text_fields.specs.Binary.{binary}
 use Rattle.text_fields.specs.Hexadecimal.{hex_words}
 use Rattle.text_fields.specs.CodeNames.{code_word}

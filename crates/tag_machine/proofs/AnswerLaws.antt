@@ -28,7 +28,7 @@ use Rattle.tag_machine.specs.TagValue.{StateValue, ReadyState, ArbitrateState, R
 use Rattle.tag_machine.specs.Answers.{Sent, Outcome, silent, plain, extended}
 use Rattle.tag_machine.specs.Draws.{drawn, after_draw, slot_drawn, begin_reply, enter, inverted_body, close, back}
 use Rattle.tag_machine.specs.Inventory.{take_part, closed_before, query, unless_half, end_turn, slot_below, count_down, query_rep, adjusted, query_adjust, epc_reply, ack, nak, selected_body, select}
-use Rattle.tag_machine.specs.Access.{held_state, first_level, new_held, req_rn_held, req_rn, with_handle, unless_any_half, is_kind, unless_other_half, uncover, refuse, read_answer, read_held, read, memory_changed, write_held, write, whole_of, keep_half, kill_whole, kill_half, kill_held, kill, has_user, locks_changed, lock, access_whole, access_half, access_held, access, block_write_held, block_write, block_erase_held, block_erase}
+use Rattle.tag_machine.specs.Access.{held_state, first_level, new_held, req_rn_held, req_rn, with_handle, unless_any_half, is_kind, unless_other_half, uncover, refuse, read_answer, read_held, read, memory_changed, write_held, write, whole_of, kill_half, kill_held, kill, has_user, locks_changed, lock, access_half, access_held, access, block_write, block_erase}
 use Rattle.tag_machine.specs.Extended.{has_half, is_extended}
 use Rattle.tag_machine.specs.Step.{step}
 use Rattle.tag_machine.specs.declared.any_tag.Answered.{Answered}

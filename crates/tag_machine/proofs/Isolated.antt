@@ -1,15 +1,15 @@
 -- Each command changes those flags alone that it may change.
-use Rattle.std.proofs.Common.{◌≡◌, ◌≢◌, ℕ, zero, suc, ◌<◌, refl, arith, ap, ◌∙◌}
+use Rattle.std.proofs.Common.{◌≡◌, ◌≢◌, ℕ, zero, suc, ◌<◌, refl, arith, ap}
 use Rattle.std.proofs.lemmas.Bool.Decides.{nat_tests}
 use Rattle.command_grammar.specs.declared.commands.Command.{Command}
 use Rattle.command_grammar.specs.declared.commands.Command.TheVariants as commands
 use Rattle.session_flags.specs.declared.flags.Flags.{Flags}
 use Rattle.session_flags.specs.Flags.{side_of, inverted}
 use Rattle.session_flags.specs.Actions.{effect_of}
-use Rattle.session_flags.specs.FlagLaws.{flag_of, side_of-changed, side_of-inverted, sl-changed, sl-inverted}
+use Rattle.session_flags.specs.FlagLaws.{side_of-changed, side_of-inverted, sl-changed, sl-inverted}
 use Rattle.tag_machine.specs.TagValue.{StateValue, BodyValue}
 use Rattle.tag_machine.specs.Step.{step}
-use Rattle.tag_machine.specs.Isolation.{MayChange, MayChangeSl, IsIsolated}
+use Rattle.tag_machine.specs.Isolation.{IsIsolated}
 use Rattle.tag_machine.proofs.FlagsAfter.{after_query, after_query_rep, after_query_adjust, after_ack, after_nak, after_select, after_req_rn, after_read, after_write, after_kill, after_lock, after_access, after_block_write, after_block_erase}
 
 -- flags as they were are isolated

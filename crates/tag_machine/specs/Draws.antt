@@ -5,7 +5,6 @@ use Rattle.reply_grammar.specs.declared.expected.Reply.TheVariants.{Rn16}
 use Rattle.session_flags.specs.Flags.{inverted}
 use Rattle.tag_machine.specs.TagValue.{StateValue, ReadyState, ArbitrateState, ReplyState, AcknowledgedState, OpenState, SecuredState, KilledState, UnpoweredState, BodyValue, TagValue}
 use Rattle.tag_machine.specs.Answers.{Outcome, silent, plain}
-use Rattle.tag_machine.specs.declared.states.Held.{Held}
 
 -- a draw is the word at the tag's place
 abbrev pub drawn : BodyValue → ℕ

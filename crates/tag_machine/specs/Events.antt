@@ -8,7 +8,6 @@ use Rattle.lock_rules.specs.declared.locks.Locks.{Locks}
 use Rattle.tag_memory.specs.Memory.{Banks, with_stored_crc}
 use Rattle.air_events.specs.declared.Event.{Event}
 use Rattle.air_events.specs.declared.Event.TheVariants as events
-use Rattle.tag_machine.specs.declared.states.Held.{Held}
 use Rattle.tag_machine.specs.TagValue.{StateValue, ReadyState, ArbitrateState, ReplyState, AcknowledgedState, OpenState, SecuredState, KilledState, UnpoweredState, BodyValue, TagValue}
 
 abbrev pub tag_at : StateValue → BodyValue → TagValue

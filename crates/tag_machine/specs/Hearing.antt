@@ -1,5 +1,5 @@
 -- What a contract sees of the tags that stand in one of the states, and of what a tag gives when it heard a command.
-use Rattle.std.specs.Prelude.{◌≡◌, Bool, true, false, List, Option, Some, None, if◌then◌else◌}
+use Rattle.std.specs.Prelude.{◌≡◌, Option, Some, None, if◌then◌else◌}
 use Rattle.bit_strings.specs.BitString.{BitString}
 use Rattle.tag_machine.specs.declared.any_tag.AnyTag.{AnyTag}
 use Rattle.tag_machine.specs.declared.any_tag.AnyTag.TheVariants as tags

@@ -1,7 +1,7 @@
 -- 6.3.2.8 Inventorying Tag populations, 6.3.2.11.1 Select and 6.3.2.11.2 Inventory commands; Annex B and Annex C: what
 -- each of these commands does in each state. A state that a command doesn't name stays as it is, without a reply. A
 -- session in an effect is the command's, which is the tag's where the two are compared.
-use Rattle.std.specs.Prelude.{ℕ, zero, suc, ◌+◌, ◌-◌, ◌==◌, Bool, true, false, List, Option, Some, None, if◌then◌else◌}
+use Rattle.std.specs.Prelude.{ℕ, ◌+◌, ◌-◌, ◌==◌, Bool, List, Option, Some, None, if◌then◌else◌}
 use Rattle.command_grammar.specs.declared.command.FlagName.{FlagName}
 use Rattle.command_grammar.specs.declared.command.MaskBank.{MaskBank}
 use Rattle.command_grammar.specs.declared.command.Sel.{Sel}

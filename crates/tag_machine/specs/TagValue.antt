@@ -1,6 +1,6 @@
 -- 6.3.2.4 Tag states and slot counter: what a tag is at one moment, a state with the numbers that it holds, and what every
 -- state holds besides. The state of a tag without power is profile.
-use Rattle.std.specs.Prelude.{◌≡◌, ℕ, ◌^◌, ◌<◌, ◌≤◌, Bool, true, false, List, length, Option, Some, None}
+use Rattle.std.specs.Prelude.{ℕ, ◌^◌, ◌<◌, ◌≤◌, Bool, true, false, List, length, Option, Some, None}
 use Rattle.lock_rules.specs.declared.locks.Locks.{Locks}
 use Rattle.session_flags.specs.declared.flags.Flags.{Flags}
 use Rattle.session_flags.specs.DrawList.{IsDrawList}

@@ -4,3 +4,7 @@ pub mod Binary
 pub mod Hexadecimal
 pub mod WordLists
 pub mod CodeNames
+pub mod FieldTextLaws
+pub mod ToldApart
+pub mod LineLaws
+pub mod BinaryLaws

@@ -4,7 +4,7 @@ use Rattle.std.proofs.lemmas.List.{take_all}
 use Rattle.std.proofs.lemmas.List.Sums.{AllPass-from_list_all, list_all-from_AllPass}
 use Rattle.std.specs.List.{list_all}
 use Rattle.text_fields.specs.Binary.{is_binary_digit}
-use Rattle.text_fields.proofs.BinaryDigits.{list_all-more}
+use Rattle.text_fields.specs.BinaryLaws.{list_all-more}
 use Rattle.text_fields.proofs.digits.is_binary.Goals as goal
 
 pub loop-digit-preserved : goal.loop-digit-preserved

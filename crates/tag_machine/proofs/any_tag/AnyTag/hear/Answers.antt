@@ -1,9 +1,7 @@
-use Rattle.std.proofs.Common.{◌≡◌, ◌∙◌, ap}
-use Rattle.session_flags.specs.declared.flags.Flags.{Flags}
+use Rattle.std.proofs.Common.{◌∙◌, ap}
 use Rattle.tag_machine.specs.TagValue.{TagValue}
 use Rattle.tag_machine.specs.Answers.{Outcome}
 use Rattle.tag_machine.specs.Hearing.{value_of, mark_of}
-use Rattle.tag_machine.specs.Isolation.{IsIsolated}
 use Rattle.tag_machine.proofs.Absent.{absent}
 use Rattle.tag_machine.proofs.AnswerLaws.{answers_as, marked}
 use Rattle.tag_machine.proofs.Isolated.{isolated}

@@ -5,7 +5,7 @@ use Rattle.std.specs.Fmt.{decimal}
 use Rattle.std.proofs.lemmas.List.Elements.{All-append, All-cons, All-nil}
 use Rattle.text_fields.specs.Lines.{IsFieldText, line_feed, space}
 use Rattle.text_fields.specs.Hexadecimal.{hex_word}
-use Rattle.text_fields.proofs.Visible.{IsFieldText-decimal, IsFieldText-hex_word}
+use Rattle.text_fields.specs.FieldTextLaws.{IsFieldText-decimal, IsFieldText-hex_word}
 use Rattle.reply_grammar.specs.declared.expected.Expect.{Expect}
 use Rattle.reply_grammar.specs.declared.expected.Expect.TheVariants.{Rn16, Epc, Handle, Same, Words, AnyWords, Header}
 use Rattle.reply_text.specs.ReplyText.{IsExpect, expect_word}
