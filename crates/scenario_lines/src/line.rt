@@ -13,6 +13,7 @@ use q_round::RoundSpec;
 pub enum Happening {
     /// Something befalls a tag before the command.
     Event {
+        /// What befalls it.
         event: Event,
         /// The number of the tag.
         tag: u32,
@@ -26,10 +27,15 @@ pub enum Happening {
 /// What the Select of a step names (6.3.2.11.1.1 Select).
 #[derive(Drop)]
 pub struct Selection {
+    /// The flag.
     pub target: FlagName,
+    /// What matching and other tags do with it.
     pub action: Action,
+    /// The bank that has the mask.
     pub bank: MaskBank,
+    /// The place of the mask's first bit in the bank, in bits.
     pub pointer: Pointer,
+    /// The bits.
     pub mask: Mask,
 }
 
@@ -68,6 +74,7 @@ pub enum Line<'a> {
     Air {
         /// The number of the exchange, counted from 1 over the whole run.
         exchange: u32,
+        /// What the line says of it.
         happening: Happening,
     },
     /// `select TARGET ACTION BANK POINTER MASK`
@@ -76,6 +83,7 @@ pub enum Line<'a> {
     Nak,
     /// `event KIND FIELDS`
     Event {
+        /// What befalls the tag.
         event: Event,
         /// The number of the tag.
         tag: u32,

@@ -26,9 +26,13 @@ pub enum Word {
 /// The kind of an event of a tag.
 #[derive(Clone, Copy, Debug, PartialEq, Eq)]
 pub enum EventKind {
+    /// `timeout`: the time T2 passes in which the tag waits for its interrogator.
     Timeout,
+    /// `off`: the tag loses power.
     Off,
+    /// `on`: the tag gets power.
     On,
+    /// `expire`: the persistence of a flag ends.
     Expire,
 }
 
