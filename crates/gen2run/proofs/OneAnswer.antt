@@ -16,8 +16,7 @@ use Rattle.reply_grammar.specs.ReplyLaws.{one_reply, one_fault, passes_apart}
 use Rattle.air_channel.specs.ReceivedLaws.{same_bits, same_received}
 use Rattle.pie_line.specs.declared.frame.FrameKind.{FrameKind}
 use Rattle.pie_line.specs.declared.frame.PieRefusal.{PieRefusal}
-use Rattle.pie_line.specs.FrameLaws.{frame-one, refuses-no_frame}
-use Rattle.pie_line.proofs.FrameAnswers.{one-answer}
+use Rattle.pie_line.specs.FrameLaws.{frame-one, refusal-one, refuses-no_frame}
 use Rattle.command_grammar.specs.declared.commands.Command.{Command}
 use Rattle.command_grammar.specs.declared.refusal.CommandRefusal.{CommandRefusal}
 use Rattle.command_grammar.proofs.SpellingLaws.{one_outcome}
@@ -68,7 +67,7 @@ same_framed : (intervals : List ℕ) (one : Result (FrameKind × List Bool) PieR
 same_framed intervals (Ok one) (framed (Ok other)) left right = same_frame one other (frame-one one.0 other.0 one.1 other.1 intervals left right)
 same_framed intervals (Ok one) (framed (Err other)) left right = absurd (refuses-no_frame other intervals right (one.0, one.1, left))
 same_framed intervals (Err one) (framed (Ok other)) left right = absurd (refuses-no_frame one intervals left (other.0, other.1, right))
-same_framed intervals (Err one) (framed (Err other)) left right = ap (λ (refusal : PieRefusal). framed (Err refusal)) ((one-answer intervals).one_refusal one other left right)
+same_framed intervals (Err one) (framed (Err other)) left right = ap (λ (refusal : PieRefusal). framed (Err refusal)) (refusal-one intervals one other left right)
 same_framed intervals one other left right = absurd right
 
 same_commanded : (bits : List Bool) (one : Result Command CommandRefusal) (other : Answer)
