@@ -1,4 +1,4 @@
--- A request within its limits has one answer at most.
+-- A request within its limits has one answer at most, where each list of bits has one outcome as a command.
 use Rattle.std.proofs.Common.{◌≡◌, ◌≤◌, ℕ, Bool, List, Result, Ok, Err, refl, ap}
 use Rattle.bit_strings.specs.declared.code.Code.{Code}
 use Rattle.line_code.specs.Stream.{Streams}
@@ -16,11 +16,10 @@ use Rattle.reply_grammar.specs.ReplyLaws.{one_reply, one_fault, passes_apart}
 use Rattle.air_channel.specs.ReceivedLaws.{same_bits, same_received}
 use Rattle.pie_line.specs.declared.frame.FrameKind.{FrameKind}
 use Rattle.pie_line.specs.declared.frame.PieRefusal.{PieRefusal}
-use Rattle.pie_line.specs.FrameLaws.{frame-one, refuses-no_frame}
-use Rattle.pie_line.proofs.FrameAnswers.{one-answer}
+use Rattle.pie_line.specs.FrameLaws.{frame-one, refusal-one, refuses-no_frame}
+use Rattle.command_grammar.specs.Commands.{Finishes}
 use Rattle.command_grammar.specs.declared.commands.Command.{Command}
 use Rattle.command_grammar.specs.declared.refusal.CommandRefusal.{CommandRefusal}
-use Rattle.command_grammar.proofs.SpellingLaws.{one_outcome}
 use Rattle.gen2run.specs.Request.{IsWithinLimits}
 use Rattle.gen2run.specs.Answer.{Answer, IsAnswer, streamed, sliced, replied, heard, framed, commanded}
 use Rattle.gen2run.specs.declared.decode.request.Request.{Request}
@@ -68,20 +67,24 @@ same_framed : (intervals : List ℕ) (one : Result (FrameKind × List Bool) PieR
 same_framed intervals (Ok one) (framed (Ok other)) left right = same_frame one other (frame-one one.0 other.0 one.1 other.1 intervals left right)
 same_framed intervals (Ok one) (framed (Err other)) left right = absurd (refuses-no_frame other intervals right (one.0, one.1, left))
 same_framed intervals (Err one) (framed (Ok other)) left right = absurd (refuses-no_frame one intervals left (other.0, other.1, right))
-same_framed intervals (Err one) (framed (Err other)) left right = ap (λ (refusal : PieRefusal). framed (Err refusal)) ((one-answer intervals).one_refusal one other left right)
+same_framed intervals (Err one) (framed (Err other)) left right = ap (λ (refusal : PieRefusal). framed (Err refusal)) (refusal-one intervals one other left right)
 same_framed intervals one other left right = absurd right
 
-same_commanded : (bits : List Bool) (one : Result Command CommandRefusal) (other : Answer)
+-- what command_grammar's law of outcomes says
+abbrev pub HasOneOutcome : Type 0
+HasOneOutcome = (bits : List Bool) (one other : Result Command CommandRefusal) → Finishes one bits → Finishes other bits → one ≡ other
+
+same_commanded : HasOneOutcome → (bits : List Bool) (one : Result Command CommandRefusal) (other : Answer)
     → IsAnswer (CommandLine bits) (commanded one) → IsAnswer (CommandLine bits) other → commanded one ≡ other
-same_commanded bits one (commanded other) left right = ap commanded (one_outcome bits one other left right)
-same_commanded bits one other left right = absurd right
+same_commanded one_outcome bits one (commanded other) left right = ap commanded (one_outcome bits one other left right)
+same_commanded one_outcome bits one other left right = absurd right
 
 -- a request within its limits has one answer: samples need a level that has samples
-pub same_answer : (request : Request) (one other : Answer) → IsWithinLimits request → IsAnswer request one → IsAnswer request other → one ≡ other
-same_answer (Stream code trext levels) (streamed one) other within left right = same_streamed code trext levels one other left right
-same_answer (Samples threshold per_level samples) (sliced one) other within left right = same_sliced threshold per_level samples within.1 one other left right
-same_answer (ReplyLine expect bits) (replied one) other within left right = same_replied expect bits one other left right
-same_answer (Heard code trext expect levels) (heard one) other within left right = same_heard code trext expect levels one other left right
-same_answer (Pie intervals) (framed one) other within left right = same_framed intervals one other left right
-same_answer (CommandLine bits) (commanded one) other within left right = same_commanded bits one other left right
-same_answer request one other within left right = absurd left
+pub same_answer : HasOneOutcome → (request : Request) (one other : Answer) → IsWithinLimits request → IsAnswer request one → IsAnswer request other → one ≡ other
+same_answer one_outcome (Stream code trext levels) (streamed one) other within left right = same_streamed code trext levels one other left right
+same_answer one_outcome (Samples threshold per_level samples) (sliced one) other within left right = same_sliced threshold per_level samples within.1 one other left right
+same_answer one_outcome (ReplyLine expect bits) (replied one) other within left right = same_replied expect bits one other left right
+same_answer one_outcome (Heard code trext expect levels) (heard one) other within left right = same_heard code trext expect levels one other left right
+same_answer one_outcome (Pie intervals) (framed one) other within left right = same_framed intervals one other left right
+same_answer one_outcome (CommandLine bits) (commanded one) other within left right = same_commanded one_outcome bits one other left right
+same_answer one_outcome request one other within left right = absurd left

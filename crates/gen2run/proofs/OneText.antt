@@ -1,4 +1,4 @@
--- An input has one defined text at most.
+-- An input has one defined text at most, where each list of bits has one outcome as a command.
 use Rattle.std.proofs.Common.{◌≡◌, ℕ, ◌+◌, List, [], ◌∷◌, ◌++◌, length, refl, sym, ◌∙◌, ap, subst, suc, inl, inr}
 use Rattle.std.specs.List.{AllZip, flat_map}
 use Rattle.std.proofs.lemmas.List.{append_cancel_right}
@@ -13,7 +13,7 @@ use Rattle.gen2run.specs.declared.decode.request.Reason.TheVariants.{End, Word, 
 use Rattle.gen2run.specs.declared.decode.request.Fault.{Fault}
 use Rattle.gen2run.proofs.OneReading.{kind_word-injective, same_fields, spelled_not_faulty, grammatical_not_faulty}
 use Rattle.gen2run.proofs.OneRequest.{same_request}
-use Rattle.gen2run.proofs.OneAnswer.{same_answer}
+use Rattle.gen2run.proofs.OneAnswer.{HasOneOutcome, same_answer}
 
 -- the answer is one to what the line asks for
 record Answered (line : List ℕ) (answer : Answer) : Type 0 where
@@ -21,10 +21,10 @@ record Answered (line : List ℕ) (answer : Answer) : Type 0 where
   asks : Spells line request
   right : IsAnswer request answer
 
-same_answered : (line : List ℕ) (one other : Answer) → Answered line one → Answered line other → one ≡ other
-same_answered line one other left right =
+same_answered : HasOneOutcome → (line : List ℕ) (one other : Answer) → Answered line one → Answered line other → one ≡ other
+same_answered one_outcome line one other left right =
     let requests : right.request ≡ left.request = same_request line right.request left.request right.asks left.asks in
-    same_answer left.request one other left.asks.asks.limits left.right (subst (λ request. IsAnswer request other) requests right.right)
+    same_answer one_outcome left.request one other left.asks.asks.limits left.right (subst (λ request. IsAnswer request other) requests right.right)
 
 -- each line has its answer
 answered_lines : (lines : List (List ℕ)) (asked : List Request) (answers : List Answer) → AllZip Spells lines asked → AllZip IsAnswer asked answers → AllZip Answered lines answers
@@ -37,25 +37,25 @@ answered_lines (l ∷ lines) (r ∷ asked) (a ∷ answers) asks right =
     (record { request = r; asks = asks.0; right = right.0 }, answered_lines lines asked answers asks.1 right.1)
 
 -- lines have one list of answers
-same_answers : (lines : List (List ℕ)) (one other : List Answer) → AllZip Answered lines one → AllZip Answered lines other → one ≡ other
-same_answers [] [] [] left right = refl
-same_answers [] [] (b ∷ other) left right = absurd right
-same_answers [] (a ∷ one) other left right = absurd left
-same_answers (l ∷ lines) [] other left right = absurd left
-same_answers (l ∷ lines) (a ∷ one) [] left right = absurd right
-same_answers (l ∷ lines) (a ∷ one) (b ∷ other) left right =
-    let first : a ≡ b = same_answered l a b left.0 right.0 in
-    let rest : one ≡ other = same_answers lines one other left.1 right.1 in
+same_answers : HasOneOutcome → (lines : List (List ℕ)) (one other : List Answer) → AllZip Answered lines one → AllZip Answered lines other → one ≡ other
+same_answers one_outcome [] [] [] left right = refl
+same_answers one_outcome [] [] (b ∷ other) left right = absurd right
+same_answers one_outcome [] (a ∷ one) other left right = absurd left
+same_answers one_outcome (l ∷ lines) [] other left right = absurd left
+same_answers one_outcome (l ∷ lines) (a ∷ one) [] left right = absurd right
+same_answers one_outcome (l ∷ lines) (a ∷ one) (b ∷ other) left right =
+    let first : a ≡ b = same_answered one_outcome l a b left.0 right.0 in
+    let rest : one ≡ other = same_answers one_outcome lines one other left.1 right.1 in
     cc
 
 -- an input has one text of answers
-same_decoded : (bytes one other : List ℕ) → Decodes bytes one → Decodes bytes other → one ≡ other
-same_decoded bytes one other left right =
+same_decoded : HasOneOutcome → (bytes one other : List ℕ) → Decodes bytes one → Decodes bytes other → one ≡ other
+same_decoded one_outcome bytes one other left right =
     let lines : right.asks.lines ≡ left.asks.lines = append_cancel_right right.asks.lines left.asks.lines ([] ∷ []) (sym right.asks.cut ∙ left.asks.cut) in
     let mine = answered_lines left.asks.lines left.requests left.answers.answers left.asks.each left.answers.each in
     let yours = answered_lines right.asks.lines right.requests right.answers.answers right.asks.each right.answers.each in
     let answers : left.answers.answers ≡ right.answers.answers =
-    same_answers left.asks.lines left.answers.answers right.answers.answers mine (subst (λ each. AllZip Answered each right.answers.answers) lines yours) in
+    same_answers one_outcome left.asks.lines left.answers.answers right.answers.answers mine (subst (λ each. AllZip Answered each right.answers.answers) lines yours) in
     left.answers.lines ∙ ap (λ all. flat_map answer_line all) answers ∙ sym right.answers.lines
 
 -- where a first field is read in two ways, the fields have the shape of both or of none
@@ -136,8 +136,8 @@ same_refused bytes one other left right =
 pub texts_apart : (bytes one other : List ℕ) → Decodes bytes one → Refuses bytes other → ⊥
 texts_apart bytes one other decodes refuses = grammatical_not_faulty bytes refuses.fault (decodes.requests, decodes.asks) refuses.first
 
-pub same_text : (bytes one other : List ℕ) → Defines bytes one → Defines bytes other → one ≡ other
-same_text bytes one other (inl left) (inl right) = same_decoded bytes one other left right
-same_text bytes one other (inl left) (inr right) = absurd (texts_apart bytes one other left right)
-same_text bytes one other (inr left) (inl right) = absurd (texts_apart bytes other one right left)
-same_text bytes one other (inr left) (inr right) = same_refused bytes one other left right
+pub same_text : HasOneOutcome → (bytes one other : List ℕ) → Defines bytes one → Defines bytes other → one ≡ other
+same_text one_outcome bytes one other (inl left) (inl right) = same_decoded one_outcome bytes one other left right
+same_text one_outcome bytes one other (inl left) (inr right) = absurd (texts_apart bytes one other left right)
+same_text one_outcome bytes one other (inr left) (inl right) = absurd (texts_apart bytes other one right left)
+same_text one_outcome bytes one other (inr left) (inr right) = same_refused bytes one other left right
