@@ -8,6 +8,7 @@ use Rattle.scenario.specs.declared.fault.Fault.{Fault}
 use Rattle.scenario.specs.ScenarioText.{scenario_lines}
 use Rattle.scenario.specs.Standing.{Leads, Standing, ended, scenario_of, start}
 use Rattle.scenario.specs.Faults.{IsFirstFault, Settles}
+use Rattle.scenario.specs.LineLaws.{LineLaws}
 use Rattle.scenario.specs.Beginnings.{BeginsScenario, BeginsText, FirstLinesBegin}
 use Rattle.scenario.proofs.Endings.{can_end}
 use Rattle.scenario.proofs.Leading.{leads_on}
@@ -63,8 +64,8 @@ upto_fault bytes number fault first =
     ∙ take-append-le number upto first.behind (omega (arith, count)) ∙ take_all number upto (omega (arith, count))
 
 -- the lines up to the faulty one begin no scenario's text, or the faulty one has no line feed
-pub lines_upto : (bytes : List ℕ) (number : ℕ) (fault : Fault) → IsFirstFault bytes number fault → ¬ FirstLinesBegin bytes number
-lines_upto bytes number fault first = λ upto.
+pub lines_upto : LineLaws → (bytes : List ℕ) (number : ℕ) (fault : Fault) → IsFirstFault bytes number fault → ¬ FirstLinesBegin bytes number
+lines_upto laws bytes number fault first = λ upto.
     let some : first.behind ≢ [] = λ none. omega (arith, upto.ended, first.place, lines_there bytes number fault first, ap length none) in
     let begins = upto.begins in
     let said = first.settles.said in
@@ -76,9 +77,9 @@ lines_upto bytes number fault first = λ upto.
     ∙ ap (λ (before : List (List ℕ)). before ++ first.line ∷ begins.more) first.settles.spelling in
     let same : map line_text said ++ first.line ∷ (begins.more ++ [] ∷ []) ≡ map line_text lines ++ [] ∷ [] =
     sym (append_assoc (map line_text said) (first.line ∷ begins.more) ([] ∷ [])) ∙ ap (λ (front : List (List ℕ)). front ++ [] ∷ []) (sym texts) in
-    elim (compare start first.standing (ended spoken.draft) said lines first.line [] (begins.more ++ [] ∷ []) [] first.settles.leads spoken.leads same) [
+    elim (compare laws start first.standing (ended spoken.draft) said lines first.line [] (begins.more ++ [] ∷ []) [] first.settles.leads spoken.leads same) [
       | inl place ↦ some_behind begins.more [] [] place.behind_is
-      | inr (inl goes) ↦ not_faulty first.behind first.standing first.line fault
+      | inr (inl goes) ↦ not_faulty laws first.behind first.standing first.line fault
           (record { next = goes.next; text = goes.text; follows = goes.follows; more = some }) first.faulty
       | inr (inr goes) ↦ goes.follows.stands
     ]

@@ -9,6 +9,7 @@ use Rattle.scenario.specs.declared.fault.ScenarioFault.{ScenarioFault}
 use Rattle.scenario.specs.declared.fault.ScenarioFault.TheVariants as faults
 use Rattle.scenario.specs.ScenarioText.{scenario_lines, scenario_text}
 use Rattle.scenario.specs.Limits.{IsScenario}
+use Rattle.scenario.specs.LineLaws.{LineLaws}
 use Rattle.scenario.specs.Standing.{DraftValue, Standing, ended, start}
 use Rattle.scenario.specs.Faults.{IsFaultyBefore, IsFirstFault, IsRefused}
 use Rattle.scenario.proofs.Places.{IsOnePlace, compare}
@@ -37,19 +38,19 @@ same_number before before' said said' one other spelling spelling' same place pl
     place ∙ ap (λ (lines : List (List ℕ)). length lines + 1) list ∙ sym place'
 
 -- a text has at most one first faulty line, which has one first reason
-pub one_fault : (bytes : List ℕ) (one other : ℕ) (fault reason : Fault) → IsFirstFault bytes one fault → IsFirstFault bytes other reason
+pub one_fault : LineLaws → (bytes : List ℕ) (one other : ℕ) (fault reason : Fault) → IsFirstFault bytes one fault → IsFirstFault bytes other reason
     → (one ≡ other) × (fault ≡ reason)
-one_fault bytes one other fault reason first second =
+one_fault laws bytes one other fault reason first second =
     let same = sym (fault_cut bytes one fault first) ∙ fault_cut bytes other reason second in
-    elim (compare start first.standing second.standing first.settles.said second.settles.said first.line second.line first.behind second.behind
+    elim (compare laws start first.standing second.standing first.settles.said second.settles.said first.line second.line first.behind second.behind
     first.settles.leads second.settles.leads same) [
       | inl place ↦ (
         same_number first.before second.before first.settles.said second.settles.said one other first.settles.spelling second.settles.spelling
             place.lines first.place second.place,
-        one_reason second.behind second.standing second.line fault reason (faulty_there fault place first.faulty) second.faulty,
+        one_reason laws second.behind second.standing second.line fault reason (faulty_there fault place first.faulty) second.faulty,
       )
-      | inr (inl goes) ↦ absurd (not_faulty first.behind first.standing first.line fault goes first.faulty)
-      | inr (inr goes) ↦ absurd (not_faulty second.behind second.standing second.line reason goes second.faulty)
+      | inr (inl goes) ↦ absurd (not_faulty laws first.behind first.standing first.line fault goes first.faulty)
+      | inr (inr goes) ↦ absurd (not_faulty laws second.behind second.standing second.line reason goes second.faulty)
     ]
 
 -- nothing may stand behind the end, and nothing is needed there
@@ -57,26 +58,27 @@ end_is_not_faulty : (draft : DraftValue) (fault : Fault) → IsFaultyBefore [] (
 end_is_not_faulty draft fault faulty = faulty.1 refl
 
 -- the text of a scenario has no faulty line
-pub scenario_is_not_faulty : (scenario : Scenario) (number : ℕ) (fault : Fault) → IsScenario scenario → IsFirstFault (scenario_text scenario) number fault → ⊥
-scenario_is_not_faulty scenario number fault is first =
+pub scenario_is_not_faulty : LineLaws → (scenario : Scenario) (number : ℕ) (fault : Fault) → IsScenario scenario
+    → IsFirstFault (scenario_text scenario) number fault → ⊥
+scenario_is_not_faulty laws scenario number fault is first =
     let said = scenario_is_said scenario is in
-    let same = sym (fault_cut (scenario_text scenario) number fault first) ∙ lines_said start (ended said.draft) (scenario_lines scenario) said.leads in
-    elim (compare start first.standing (ended said.draft) first.settles.said (scenario_lines scenario) first.line [] first.behind []
+    let same = sym (fault_cut (scenario_text scenario) number fault first) ∙ lines_said laws start (ended said.draft) (scenario_lines scenario) said.leads in
+    elim (compare laws start first.standing (ended said.draft) first.settles.said (scenario_lines scenario) first.line [] first.behind []
     first.settles.leads said.leads same) [
       | inl place ↦ end_is_not_faulty said.draft fault (faulty_there fault place first.faulty)
-      | inr (inl goes) ↦ not_faulty first.behind first.standing first.line fault goes first.faulty
+      | inr (inl goes) ↦ not_faulty laws first.behind first.standing first.line fault goes first.faulty
       | inr (inr goes) ↦ goes.follows.stands
     ]
 
 -- where there is a first faulty line, a refusal tells it, or there was no memory
-pub told_exactly : (bytes : List ℕ) (refusal : ScenarioFault) (number : ℕ) (fault : Fault) → IsRefused bytes refusal → IsFirstFault bytes number fault
+pub told_exactly : LineLaws → (bytes : List ℕ) (refusal : ScenarioFault) (number : ℕ) (fault : Fault) → IsRefused bytes refusal → IsFirstFault bytes number fault
     → (refusal ≡ faults.Line number fault) ⊎ (refusal ≡ faults.OutOfMemory)
-told_exactly bytes (faults.Line other reason) number fault refused first =
-    let both = one_fault bytes other number reason fault refused first in inl (ap₂ (λ n f. faults.Line n f) both.0 both.1)
-told_exactly bytes faults.OutOfMemory number fault refused first = inr refl
+told_exactly laws bytes (faults.Line other reason) number fault refused first =
+    let both = one_fault laws bytes other number reason fault refused first in inl (ap₂ (λ n f. faults.Line n f) both.0 both.1)
+told_exactly laws bytes faults.OutOfMemory number fault refused first = inr refl
 
 -- ... and no scenario is read
-pub none_is_read : (bytes : List ℕ) (scenario : Scenario) (number : ℕ) (fault : Fault) → IsScenario scenario × (bytes ≡ scenario_text scenario)
+pub none_is_read : LineLaws → (bytes : List ℕ) (scenario : Scenario) (number : ℕ) (fault : Fault) → IsScenario scenario × (bytes ≡ scenario_text scenario)
     → IsFirstFault bytes number fault → ⊥
-none_is_read bytes scenario number fault read first =
-    scenario_is_not_faulty scenario number fault read.0 (subst (λ (text : List ℕ). IsFirstFault text number fault) read.1 first)
+none_is_read laws bytes scenario number fault read first =
+    scenario_is_not_faulty laws scenario number fault read.0 (subst (λ (text : List ℕ). IsFirstFault text number fault) read.1 first)

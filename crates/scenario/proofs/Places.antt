@@ -2,6 +2,7 @@
 use Rattle.std.proofs.Common.{◌≡◌, ◌≢◌, ℕ, List, [], ◌∷◌, ◌++◌, map, ◌⊎◌, inl, inr, refl, sym, ◌∙◌, subst}
 use Rattle.scenario_lines.specs.declared.line.Line.{Line}
 use Rattle.scenario_lines.specs.Spelling.{line_text}
+use Rattle.scenario.specs.LineLaws.{LineLaws}
 use Rattle.scenario.specs.Standing.{Follows, Leads, Standing, after}
 use Rattle.scenario.proofs.ToldApart.{line_told}
 
@@ -37,21 +38,21 @@ goes_on from to next said line line' behind behind' leads follows same =
     }
 
 -- two places are one, or the text goes on at one of them
-pub compare : (from to to' : Standing) (said said' : List Line) (line line' : List ℕ) (behind behind' : List (List ℕ)) → Leads from said to
+pub compare : LineLaws → (from to to' : Standing) (said said' : List Line) (line line' : List ℕ) (behind behind' : List (List ℕ)) → Leads from said to
     → Leads from said' to' → map line_text said ++ line ∷ behind ≡ map line_text said' ++ line' ∷ behind'
     → IsOnePlace said said' line line' behind behind' to to' ⊎ GoesOn to line behind ⊎ GoesOn to' line' behind'
-compare from to to' [] [] line line' behind behind' leads leads' same =
+compare laws from to to' [] [] line line' behind behind' leads leads' same =
     inl (record { lines = refl; line_is = cc; behind_is = cc; standing = sym leads ∙ leads' })
-compare from to to' [] (next ∷ said') line line' behind behind' leads leads' same =
+compare laws from to to' [] (next ∷ said') line line' behind behind' leads leads' same =
     inr (inl (goes_on from to next said' line line' behind behind' leads leads'.0 same))
-compare from to to' (next ∷ said) [] line line' behind behind' leads leads' same =
+compare laws from to to' (next ∷ said) [] line line' behind behind' leads leads' same =
     inr (inr (goes_on from to' next said line' line behind' behind leads' leads.0 (sym same)))
-compare from to to' (next ∷ said) (next' ∷ said') line line' behind behind' leads leads' same =
+compare laws from to to' (next ∷ said) (next' ∷ said') line line' behind behind' leads leads' same =
     let text : line_text next ≡ line_text next' = cc in
     let texts : map line_text said ++ line ∷ behind ≡ map line_text said' ++ line' ∷ behind' = cc in
-    let first = line_told next next' leads.0.is leads'.0.is text in
+    let first = line_told laws next next' leads.0.is leads'.0.is text in
     let rest : Leads (after from next) said' to' = subst (λ (l : Line). Leads (after from l) said' to') (sym first) leads'.1 in
-    elim (compare (after from next) to to' said said' line line' behind behind' leads.1 rest texts) [
+    elim (compare laws (after from next) to to' said said' line line' behind behind' leads.1 rest texts) [
       | inl place ↦ inl (record { lines = cc; line_is = place.line_is; behind_is = place.behind_is; standing = place.standing })
       | inr goes ↦ inr goes
     ]

@@ -14,6 +14,7 @@ use Rattle.scenario.specs.declared.fault.Fault.TheVariants.{Extra, End}
 use Rattle.scenario.specs.Standing.{DraftValue, Follows, Leads, Standing, after, ended, grown, new_draft, scenario_of, size, with_air, with_step, within}
 use Rattle.scenario.specs.Faults.{IsFaultyAt, IsFaultyBefore}
 use Rattle.scenario.specs.Limits.{no_operations}
+use Rattle.scenario.specs.LineLaws.{LineLaws}
 use Rattle.scenario.specs.declared.values.Step.{Step}
 use Rattle.scenario.specs.declared.values.Step.TheVariants as steps
 use Rattle.command_grammar.specs.declared.commands.Command.TheVariants as commands
@@ -100,19 +101,19 @@ pub record NextLeft (line behind : List ℕ) (draft last : DraftValue) : Type 0 
   pub leads : Leads (after (within draft) next) todo (ended last)
   pub cut : lines_of behind ≡ map line_text todo ++ [] ∷ []
 
-pub next_left : (rest line behind : List ℕ) (draft last : DraftValue) (todo : List Line) → lines_of rest ≡ line ∷ lines_of behind
+pub next_left : LineLaws → (rest line behind : List ℕ) (draft last : DraftValue) (todo : List Line) → lines_of rest ≡ line ∷ lines_of behind
     → AreLeft rest (within draft) todo last → NextLeft line behind draft last
-next_left rest line behind draft last [] first left =
+next_left laws rest line behind draft last [] first left =
     let none : lines_of behind ≡ [] = let same = sym first ∙ left.cut in cc in
     absurd (omega (arith, some_line behind, ap length none))
-next_left rest line behind draft last (next ∷ todo) first left =
+next_left laws rest line behind draft last (next ∷ todo) first left =
     let same = sym first ∙ left.cut in
     let text : line ≡ line_text next = cc in
     let others : lines_of behind ≡ map line_text todo ++ [] ∷ [] = cc in
     record {
       next = next;
       todo = todo;
-      spells = spells_text line next text left.leads.0.is;
+      spells = spells_text laws line next text left.leads.0.is;
       follows = left.leads.0;
       leads = left.leads.1;
       cut = others;
@@ -123,13 +124,13 @@ pub ended_left : (draft last : DraftValue) (todo : List Line) → Leads (ended d
 ended_left draft last [] leads = (cc, refl)
 ended_left draft last (next ∷ todo) leads = absurd leads.0.stands
 
-pub says_more : (link : LinkValue) (text rest line behind : List ℕ) (draft draft' : DraftValue) → StillSays link text rest draft
+pub says_more : LineLaws → (link : LinkValue) (text rest line behind : List ℕ) (draft draft' : DraftValue) → StillSays link text rest draft
     → lines_of rest ≡ line ∷ lines_of behind
     → ((said : Line) → Spells (fields_of line) said → Follows (within draft) said → after (within draft) said ≡ within draft')
     → StillSays link text behind draft'
-says_more link text rest line behind draft draft' still_says first only = λ whole last left.
+says_more laws link text rest line behind draft draft' still_says first only = λ whole last left.
     let here = still_says whole last left in
-    let next = next_left rest line behind draft last here.0 first here.1 in
+    let next = next_left laws rest line behind draft last here.0 first here.1 in
     let leads = subst (λ (s : Standing). Leads s next.todo (ended last)) (only next.next next.spells next.follows) next.leads in
     (next.todo, record { cut = next.cut; leads = leads })
 
@@ -246,22 +247,22 @@ no_extra behind draft (scenario_faults.Line number fault) nothing extra = absurd
 no_extra behind draft scenario_faults.OutOfMemory nothing extra = refl
 
 -- where what is left ends here, it says this draft, and nothing stands behind
-pub end_said : (link : LinkValue) (text rest line behind : List ℕ) (draft draft' last : DraftValue) (whole : List Line) → StillSays link text rest draft
-    → lines_of rest ≡ line ∷ lines_of behind → AreLeft text (within (new_draft link)) whole last
+pub end_said : LineLaws → (link : LinkValue) (text rest line behind : List ℕ) (draft draft' last : DraftValue) (whole : List Line)
+    → StillSays link text rest draft → lines_of rest ≡ line ∷ lines_of behind → AreLeft text (within (new_draft link)) whole last
     → ((said : Line) → Spells (fields_of line) said → Follows (within draft) said → after (within draft) said ≡ ended draft')
     → (draft' ≡ last) × (behind ≡ [])
-end_said link text rest line behind draft draft' last whole still_says first left only =
+end_said laws link text rest line behind draft draft' last whole still_says first left only =
     let here = still_says whole last left in
-    let next = next_left rest line behind draft last here.0 first here.1 in
+    let next = next_left laws rest line behind draft last here.0 first here.1 in
     let leads = subst (λ (s : Standing). Leads s next.todo (ended last)) (only next.next next.spells next.follows) next.leads in
     let both = ended_left draft' last next.todo leads in
     (both.0, nothing_left behind (next.cut ∙ ap (λ (list : List Line). map line_text list ++ [] ∷ []) both.1))
 
 -- where what is left says something, the next line is not faulty
-pub not_faulty : (link : LinkValue) (text rest line behind : List ℕ) (draft last : DraftValue) (whole : List Line) → StillSays link text rest draft
+pub not_faulty : LineLaws → (link : LinkValue) (text rest line behind : List ℕ) (draft last : DraftValue) (whole : List Line) → StillSays link text rest draft
     → lines_of rest ≡ line ∷ lines_of behind → AreLeft text (within (new_draft link)) whole last
     → ((said : Line) → Spells (fields_of line) said → Follows (within draft) said → ⊥) → ⊥
-not_faulty link text rest line behind draft last whole still_says first left none =
+not_faulty laws link text rest line behind draft last whole still_says first left none =
     let here = still_says whole last left in
-    let next = next_left rest line behind draft last here.0 first here.1 in
+    let next = next_left laws rest line behind draft last here.0 first here.1 in
     none next.next next.spells next.follows

@@ -8,12 +8,10 @@ use Rattle.scenario_lines.specs.declared.fault.LineFault.{LineFault}
 use Rattle.scenario_lines.specs.declared.fault.LineFault.TheVariants as line_faults
 use Rattle.scenario_lines.specs.Spelling.{line_text, word_of_line}
 use Rattle.scenario_lines.specs.LineFaults.{BeginsWith, Spells}
-use Rattle.scenario_lines.proofs.LineReasons.{faulty_once, spelled_not_faulty}
-use Rattle.scenario_lines.proofs.LineShapes.{begins_once}
-use Rattle.scenario_lines.proofs.ToldLines.{spelled_told}
 use Rattle.scenario.specs.declared.fault.Fault.{Fault}
 use Rattle.scenario.specs.declared.fault.Fault.TheVariants.{Word as WordFault, Limit, Shape, Number, Tari, RtCal, TrCal, Pw, Pc, Tag, Order, Twice}
 use Rattle.scenario.specs.Standing.{AgreesWith, DraftValue, Follows, HasRoom, KeepsOrder, MayStand, NamesTag, Standing, begun, ended, start, within}
+use Rattle.scenario.specs.LineLaws.{LineLaws}
 use Rattle.scenario.specs.Faults.{Disagrees, DisagreesBy, HasPlace, IsFaultyAt, IsFaultyBefore, IsTooMuch, SaysNothing, fault_of_line}
 use Rattle.scenario.proofs.Places.{GoesOn}
 use Rattle.scenario.proofs.Taken.{no_disagreement, spelled_begins}
@@ -45,11 +43,11 @@ one_disagreement (twice is names keeps) (twice is' names' keeps') = is ∙ sym i
 same_draft : {draft other : DraftValue} → within draft ≡ within other → draft ≡ other
 same_draft same = cc
 
-one_disagreement_at : (standing : Standing) (fields : List (List ℕ)) (fault reason : Fault) → Disagrees standing fields fault → Disagrees standing fields reason
-    → fault ≡ reason
-one_disagreement_at standing fields fault reason one other =
+one_disagreement_at : LineLaws → (standing : Standing) (fields : List (List ℕ)) (fault reason : Fault) → Disagrees standing fields fault
+    → Disagrees standing fields reason → fault ≡ reason
+one_disagreement_at laws standing fields fault reason one other =
     let draft : one.draft ≡ other.draft = same_draft (sym one.here ∙ other.here) in
-    let line = spelled_told fields one.line other.line one.spells other.spells in
+    let line = laws.lines_are_told_apart fields one.line other.line one.spells other.spells in
     let disagrees = subst (λ (l : Line). DisagreesBy other.draft l fault) line (subst (λ (d : DraftValue). DisagreesBy d one.line fault) draft one.disagrees) in
     one_disagreement (disagreement_of other.draft other.line fault disagrees) (disagreement_of other.draft other.line reason other.disagrees)
 
@@ -80,69 +78,73 @@ stage_of standing fields Order faulty = disagreeing faulty
 stage_of standing fields Twice faulty = disagreeing faulty
 stage_of standing fields fault faulty = absurd faulty
 
-too_much_or_place : (standing : Standing) (fields : List (List ℕ)) → IsTooMuch standing fields → HasPlace standing fields → ⊥
-too_much_or_place standing fields much place =
-    much.no_room (subst (HasRoom standing) (begins_once fields place.word much.word place.begins much.begins) place.room)
+too_much_or_place : LineLaws → (standing : Standing) (fields : List (List ℕ)) → IsTooMuch standing fields → HasPlace standing fields → ⊥
+too_much_or_place laws standing fields much place =
+    much.no_room (subst (HasRoom standing) (laws.lines_begin_with_one_word fields place.word much.word place.begins much.begins) place.room)
 
-one_stage : (standing : Standing) (fields : List (List ℕ)) (fault reason : Fault) → Stage standing fields fault → Stage standing fields reason → fault ≡ reason
-one_stage standing fields fault reason (no_place is none) (no_place is' none') = is ∙ sym is'
-one_stage standing fields fault reason (no_place is none) (too_much is' much) = absurd (none much.word much.begins much.stands)
-one_stage standing fields fault reason (no_place is none) (nothing line_fault is' says) = absurd (none says.place.word says.place.begins says.place.stands)
-one_stage standing fields fault reason (no_place is none) (disagreeing disagrees) =
-    let place = disagreement_place standing fields reason disagrees in absurd (none place.word place.begins place.stands)
-one_stage standing fields fault reason (too_much is much) (no_place is' none) = absurd (none much.word much.begins much.stands)
-one_stage standing fields fault reason (too_much is much) (too_much is' much') = is ∙ sym is'
-one_stage standing fields fault reason (too_much is much) (nothing line_fault is' says) = absurd (too_much_or_place standing fields much says.place)
-one_stage standing fields fault reason (too_much is much) (disagreeing disagrees) =
-    absurd (too_much_or_place standing fields much (disagreement_place standing fields reason disagrees))
-one_stage standing fields fault reason (nothing line_fault is says) (no_place is' none) = absurd (none says.place.word says.place.begins says.place.stands)
-one_stage standing fields fault reason (nothing line_fault is says) (too_much is' much) = absurd (too_much_or_place standing fields much says.place)
-one_stage standing fields fault reason (nothing line_fault is says) (nothing line_fault' is' says') =
-    is ∙ ap fault_of_line (faulty_once fields line_fault line_fault' says.faulty says'.faulty) ∙ sym is'
-one_stage standing fields fault reason (nothing line_fault is says) (disagreeing disagrees) =
-    absurd (spelled_not_faulty fields disagrees.line line_fault disagrees.spells says.faulty)
-one_stage standing fields fault reason (disagreeing disagrees) (no_place is none) =
-    let place = disagreement_place standing fields fault disagrees in absurd (none place.word place.begins place.stands)
-one_stage standing fields fault reason (disagreeing disagrees) (too_much is much) =
-    absurd (too_much_or_place standing fields much (disagreement_place standing fields fault disagrees))
-one_stage standing fields fault reason (disagreeing disagrees) (nothing line_fault is says) =
-    absurd (spelled_not_faulty fields disagrees.line line_fault disagrees.spells says.faulty)
-one_stage standing fields fault reason (disagreeing disagrees) (disagreeing disagrees') = one_disagreement_at standing fields fault reason disagrees disagrees'
-
-one_reason_at : (standing : Standing) (fields : List (List ℕ)) (fault reason : Fault) → IsFaultyAt standing fields fault → IsFaultyAt standing fields reason
+one_stage : LineLaws → (standing : Standing) (fields : List (List ℕ)) (fault reason : Fault) → Stage standing fields fault → Stage standing fields reason
     → fault ≡ reason
-one_reason_at standing fields fault reason faulty faulty' =
-    one_stage standing fields fault reason (stage_of standing fields fault faulty) (stage_of standing fields reason faulty')
+one_stage laws standing fields fault reason (no_place is none) (no_place is' none') = is ∙ sym is'
+one_stage laws standing fields fault reason (no_place is none) (too_much is' much) = absurd (none much.word much.begins much.stands)
+one_stage laws standing fields fault reason (no_place is none) (nothing line_fault is' says) = absurd (none says.place.word says.place.begins says.place.stands)
+one_stage laws standing fields fault reason (no_place is none) (disagreeing disagrees) =
+    let place = disagreement_place standing fields reason disagrees in absurd (none place.word place.begins place.stands)
+one_stage laws standing fields fault reason (too_much is much) (no_place is' none) = absurd (none much.word much.begins much.stands)
+one_stage laws standing fields fault reason (too_much is much) (too_much is' much') = is ∙ sym is'
+one_stage laws standing fields fault reason (too_much is much) (nothing line_fault is' says) = absurd (too_much_or_place laws standing fields much says.place)
+one_stage laws standing fields fault reason (too_much is much) (disagreeing disagrees) =
+    absurd (too_much_or_place laws standing fields much (disagreement_place standing fields reason disagrees))
+one_stage laws standing fields fault reason (nothing line_fault is says) (no_place is' none) = absurd (none says.place.word says.place.begins says.place.stands)
+one_stage laws standing fields fault reason (nothing line_fault is says) (too_much is' much) = absurd (too_much_or_place laws standing fields much says.place)
+one_stage laws standing fields fault reason (nothing line_fault is says) (nothing line_fault' is' says') =
+    is ∙ ap fault_of_line (laws.lines_have_one_fault fields line_fault line_fault' says.faulty says'.faulty) ∙ sym is'
+one_stage laws standing fields fault reason (nothing line_fault is says) (disagreeing disagrees) =
+    absurd (laws.spelled_lines_are_not_faulty fields disagrees.line line_fault disagrees.spells says.faulty)
+one_stage laws standing fields fault reason (disagreeing disagrees) (no_place is none) =
+    let place = disagreement_place standing fields fault disagrees in absurd (none place.word place.begins place.stands)
+one_stage laws standing fields fault reason (disagreeing disagrees) (too_much is much) =
+    absurd (too_much_or_place laws standing fields much (disagreement_place standing fields fault disagrees))
+one_stage laws standing fields fault reason (disagreeing disagrees) (nothing line_fault is says) =
+    absurd (laws.spelled_lines_are_not_faulty fields disagrees.line line_fault disagrees.spells says.faulty)
+one_stage laws standing fields fault reason (disagreeing disagrees) (disagreeing disagrees') =
+    one_disagreement_at laws standing fields fault reason disagrees disagrees'
+
+one_reason_at : LineLaws → (standing : Standing) (fields : List (List ℕ)) (fault reason : Fault) → IsFaultyAt standing fields fault
+    → IsFaultyAt standing fields reason → fault ≡ reason
+one_reason_at laws standing fields fault reason faulty faulty' =
+    one_stage laws standing fields fault reason (stage_of standing fields fault faulty) (stage_of standing fields reason faulty')
 
 -- the first reason is one
-pub one_reason : (behind : List (List ℕ)) (standing : Standing) (line : List ℕ) (fault reason : Fault) → IsFaultyBefore behind standing line fault
+pub one_reason : LineLaws → (behind : List (List ℕ)) (standing : Standing) (line : List ℕ) (fault reason : Fault) → IsFaultyBefore behind standing line fault
     → IsFaultyBefore behind standing line reason → fault ≡ reason
-one_reason behind (ended draft) line fault reason faulty faulty' = faulty.0 ∙ sym faulty'.0
-one_reason [] start line fault reason faulty faulty' = faulty ∙ sym faulty'
-one_reason [] begun line fault reason faulty faulty' = faulty ∙ sym faulty'
-one_reason [] (within draft) line fault reason faulty faulty' = faulty ∙ sym faulty'
-one_reason (next ∷ more) start line fault reason faulty faulty' = faulty.0 ∙ sym faulty'.0
-one_reason (next ∷ more) begun line fault reason faulty faulty' = one_reason_at begun (fields_of line) fault reason faulty faulty'
-one_reason (next ∷ more) (within draft) line fault reason faulty faulty' = one_reason_at (within draft) (fields_of line) fault reason faulty faulty'
+one_reason laws behind (ended draft) line fault reason faulty faulty' = faulty.0 ∙ sym faulty'.0
+one_reason laws [] start line fault reason faulty faulty' = faulty ∙ sym faulty'
+one_reason laws [] begun line fault reason faulty faulty' = faulty ∙ sym faulty'
+one_reason laws [] (within draft) line fault reason faulty faulty' = faulty ∙ sym faulty'
+one_reason laws (next ∷ more) start line fault reason faulty faulty' = faulty.0 ∙ sym faulty'.0
+one_reason laws (next ∷ more) begun line fault reason faulty faulty' = one_reason_at laws begun (fields_of line) fault reason faulty faulty'
+one_reason laws (next ∷ more) (within draft) line fault reason faulty faulty' = one_reason_at laws (within draft) (fields_of line) fault reason faulty faulty'
 
 -- a line that may follow doesn't disagree with the lines before it
-no_disagreement_at : (standing : Standing) (fields : List (List ℕ)) (line : Line) (fault : Fault) → Follows standing line → Spells fields line
+no_disagreement_at : LineLaws → (standing : Standing) (fields : List (List ℕ)) (line : Line) (fault : Fault) → Follows standing line → Spells fields line
     → Disagrees standing fields fault → ⊥
-no_disagreement_at standing fields line fault follows spells disagrees =
-    let same = spelled_told fields line disagrees.line spells disagrees.spells in
+no_disagreement_at laws standing fields line fault follows spells disagrees =
+    let same = laws.lines_are_told_apart fields line disagrees.line spells disagrees.spells in
     let agrees : AgreesWith (within disagrees.draft) disagrees.line =
     subst (λ (l : Line). AgreesWith (within disagrees.draft) l) same (subst (λ (s : Standing). AgreesWith s line) disagrees.here follows.agrees) in
     no_disagreement disagrees.draft disagrees.line fault agrees disagrees.disagrees
 
-follows_at_no_stage : (standing : Standing) (fields : List (List ℕ)) (line : Line) (fault : Fault) → Follows standing line → Spells fields line
+follows_at_no_stage : LineLaws → (standing : Standing) (fields : List (List ℕ)) (line : Line) (fault : Fault) → Follows standing line → Spells fields line
     → Stage standing fields fault → ⊥
-follows_at_no_stage standing fields line fault follows spells (no_place is none) =
+follows_at_no_stage laws standing fields line fault follows spells (no_place is none) =
     none (word_of_line line) (spelled_begins fields line spells) follows.stands
-follows_at_no_stage standing fields line fault follows spells (too_much is much) =
-    too_much_or_place standing fields much
+follows_at_no_stage laws standing fields line fault follows spells (too_much is much) =
+    too_much_or_place laws standing fields much
     (record { word = word_of_line line; begins = spelled_begins fields line spells; stands = follows.stands; room = follows.room })
-follows_at_no_stage standing fields line fault follows spells (nothing line_fault is says) = spelled_not_faulty fields line line_fault spells says.faulty
-follows_at_no_stage standing fields line fault follows spells (disagreeing disagrees) = no_disagreement_at standing fields line fault follows spells disagrees
+follows_at_no_stage laws standing fields line fault follows spells (nothing line_fault is says) =
+    laws.spelled_lines_are_not_faulty fields line line_fault spells says.faulty
+follows_at_no_stage laws standing fields line fault follows spells (disagreeing disagrees) =
+    no_disagreement_at laws standing fields line fault follows spells disagrees
 
 -- the first line is the version
 version_alone : (line : Line) → MayStand start (word_of_line line) → line ≡ lines.Version
@@ -157,17 +159,17 @@ version_alone (lines.Round spec) stands = absurd stands
 version_alone lines.End stands = absurd stands
 
 -- where the text goes on, the line is not faulty
-pub not_faulty : (behind : List (List ℕ)) (standing : Standing) (line : List ℕ) (fault : Fault) → GoesOn standing line behind
+pub not_faulty : LineLaws → (behind : List (List ℕ)) (standing : Standing) (line : List ℕ) (fault : Fault) → GoesOn standing line behind
     → IsFaultyBefore behind standing line fault → ⊥
-not_faulty behind (ended draft) line fault goes faulty = goes.follows.stands
-not_faulty [] start line fault goes faulty = goes.more refl
-not_faulty [] begun line fault goes faulty = goes.more refl
-not_faulty [] (within draft) line fault goes faulty = goes.more refl
-not_faulty (next ∷ more) start line fault goes faulty =
+not_faulty laws behind (ended draft) line fault goes faulty = goes.follows.stands
+not_faulty laws [] start line fault goes faulty = goes.more refl
+not_faulty laws [] begun line fault goes faulty = goes.more refl
+not_faulty laws [] (within draft) line fault goes faulty = goes.more refl
+not_faulty laws (next ∷ more) start line fault goes faulty =
     faulty.1 (goes.text ∙ ap line_text (version_alone goes.next goes.follows.stands))
-not_faulty (next ∷ more) begun line fault goes faulty =
-    follows_at_no_stage begun (fields_of line) goes.next fault goes.follows (spells_text line goes.next goes.text goes.follows.is)
+not_faulty laws (next ∷ more) begun line fault goes faulty =
+    follows_at_no_stage laws begun (fields_of line) goes.next fault goes.follows (spells_text laws line goes.next goes.text goes.follows.is)
     (stage_of begun (fields_of line) fault faulty)
-not_faulty (next ∷ more) (within draft) line fault goes faulty =
-    follows_at_no_stage (within draft) (fields_of line) goes.next fault goes.follows (spells_text line goes.next goes.text goes.follows.is)
+not_faulty laws (next ∷ more) (within draft) line fault goes faulty =
+    follows_at_no_stage laws (within draft) (fields_of line) goes.next fault goes.follows (spells_text laws line goes.next goes.text goes.follows.is)
     (stage_of (within draft) (fields_of line) fault faulty)

@@ -10,7 +10,7 @@ use Rattle.scenario_lines.specs.declared.line.Line.{Line}
 use Rattle.scenario_lines.specs.LineForm.{IsLine}
 use Rattle.scenario_lines.specs.Spelling.{line_fields, line_text}
 use Rattle.scenario_lines.specs.LineFaults.{Spells}
-use Rattle.scenario_lines.proofs.LineTexts.{line_texts}
+use Rattle.scenario.specs.LineLaws.{LineLaws}
 use Rattle.scenario.specs.Standing.{Leads, Standing, after}
 
 -- a text has at least one line
@@ -18,16 +18,17 @@ pub some_line : (text : List ℕ) → 1 ≤ length (lines_of text)
 some_line text = omega (arith, length-slice_split (λ byte. byte == line_feed) text)
 
 -- the fields of a line that is spelled
-pub fields_spelled : (said : Line) → IsLine said → fields_of (line_text said) ≡ line_fields said
-fields_spelled said is =
-    fields_come_back (line_fields said) (λ none. cc) (All-weaker IsFieldText (Lacks space) (λ field text. text.no_space) (line_fields said) (line_texts said is))
+pub fields_spelled : LineLaws → (said : Line) → IsLine said → fields_of (line_text said) ≡ line_fields said
+fields_spelled laws said is =
+    fields_come_back (line_fields said) (λ none. cc)
+    (All-weaker IsFieldText (Lacks space) (λ field text. text.no_space) (line_fields said) (laws.lines_are_field_texts said is))
 
 -- a line that spells something is its text
 pub text_spelled : (line : List ℕ) (said : Line) → Spells (fields_of line) said → line ≡ line_text said
 text_spelled line said spells = sym (join_with_byte-slice_split space line) ∙ ap line_with spells.spelling
 
-pub spells_text : (line : List ℕ) (said : Line) → line ≡ line_text said → IsLine said → Spells (fields_of line) said
-spells_text line said same is = record { spelling = ap fields_of same ∙ fields_spelled said is; is = is }
+pub spells_text : LineLaws → (line : List ℕ) (said : Line) → line ≡ line_text said → IsLine said → Spells (fields_of line) said
+spells_text laws line said same is = record { spelling = ap fields_of same ∙ fields_spelled laws said is; is = is }
 
 join_lacks : (fields : List (List ℕ)) → All (Lacks line_feed) fields → Lacks line_feed (line_with fields)
 join_lacks [] are = All-nil (λ each. each ≢ line_feed)
@@ -37,18 +38,20 @@ join_lacks (field ∷ next ∷ fields) are =
     (All-cons (λ each. each ≢ line_feed) space (line_with (next ∷ fields)) (λ same. omega (arith, same))
     (join_lacks (next ∷ fields) (All-tail (Lacks line_feed) field (next ∷ fields) are)))
 
-line_lacks : (said : Line) → IsLine said → Lacks line_feed (line_text said)
-line_lacks said is =
-    join_lacks (line_fields said) (All-weaker IsFieldText (Lacks line_feed) (λ field text. text.no_line_feed) (line_fields said) (line_texts said is))
+line_lacks : LineLaws → (said : Line) → IsLine said → Lacks line_feed (line_text said)
+line_lacks laws said is =
+    join_lacks (line_fields said)
+    (All-weaker IsFieldText (Lacks line_feed) (λ field text. text.no_line_feed) (line_fields said) (laws.lines_are_field_texts said is))
 
-leads_lack : (from to : Standing) (said : List Line) → Leads from said to → All (Lacks line_feed) (map line_text said)
-leads_lack from to [] leads = All-nil (Lacks line_feed)
-leads_lack from to (line ∷ said) leads =
-    All-cons (Lacks line_feed) (line_text line) (map line_text said) (line_lacks line leads.0.is) (leads_lack (after from line) to said leads.1)
+leads_lack : LineLaws → (from to : Standing) (said : List Line) → Leads from said to → All (Lacks line_feed) (map line_text said)
+leads_lack laws from to [] leads = All-nil (Lacks line_feed)
+leads_lack laws from to (line ∷ said) leads =
+    All-cons (Lacks line_feed) (line_text line) (map line_text said) (line_lacks laws line leads.0.is) (leads_lack laws (after from line) to said leads.1)
 
 -- the lines of a text of lines that follow one another
-pub lines_said : (from to : Standing) (said : List Line) → Leads from said to → lines_of (text_with (map line_text said)) ≡ map line_text said ++ [] ∷ []
-lines_said from to said leads = lines_come_back (map line_text said) (leads_lack from to said leads)
+pub lines_said : LineLaws → (from to : Standing) (said : List Line) → Leads from said to
+    → lines_of (text_with (map line_text said)) ≡ map line_text said ++ [] ∷ []
+lines_said laws from to said leads = lines_come_back (map line_text said) (leads_lack laws from to said leads)
 
 join_lines : (lines : List (List ℕ)) → join_with_byte line_feed (lines ++ [] ∷ []) ≡ text_with lines
 join_lines [] = refl

@@ -5,30 +5,31 @@ use Rattle.text_fields.specs.Lines.{fields_of, lines_of}
 use Rattle.scenario_lines.specs.declared.line.Line.{Line}
 use Rattle.scenario_lines.specs.LineForm.{IsLine}
 use Rattle.scenario_lines.specs.Spelling.{line_text}
-use Rattle.scenario_lines.proofs.ToldLines.{spelled_told}
 use Rattle.scenario.specs.declared.values.Scenario.{Scenario}
 use Rattle.scenario.specs.ScenarioText.{scenario_lines, scenario_text}
 use Rattle.scenario.specs.Limits.{IsScenario}
+use Rattle.scenario.specs.LineLaws.{LineLaws}
 use Rattle.scenario.specs.Standing.{DraftValue, Leads, Standing, after, ended, scenario_of, start}
 use Rattle.scenario.proofs.Spoken.{scenario_is_said}
 use Rattle.scenario.proofs.Texts.{lines_said, spells_text}
 
 -- two lines with one text are one
-pub line_told : (one other : Line) → IsLine one → IsLine other → line_text one ≡ line_text other → one ≡ other
-line_told one other is is' same =
-    spelled_told (fields_of (line_text one)) one other (spells_text (line_text one) one refl is) (spells_text (line_text one) other same is')
+pub line_told : LineLaws → (one other : Line) → IsLine one → IsLine other → line_text one ≡ line_text other → one ≡ other
+line_told laws one other is is' same =
+    laws.lines_are_told_apart (fields_of (line_text one)) one other (spells_text laws (line_text one) one refl is)
+    (spells_text laws (line_text one) other same is')
 
 -- lines that follow one another are told apart by their texts
-said_told : (from to from' to' : Standing) (said said' : List Line) → Leads from said to → Leads from' said' to'
+said_told : LineLaws → (from to from' to' : Standing) (said said' : List Line) → Leads from said to → Leads from' said' to'
     → map line_text said ≡ map line_text said' → said ≡ said'
-said_told from to from' to' [] [] leads leads' same = refl
-said_told from to from' to' [] (other ∷ others) leads leads' same = cc
-said_told from to from' to' (line ∷ said) [] leads leads' same = cc
-said_told from to from' to' (line ∷ said) (other ∷ others) leads leads' same =
+said_told laws from to from' to' [] [] leads leads' same = refl
+said_told laws from to from' to' [] (other ∷ others) leads leads' same = cc
+said_told laws from to from' to' (line ∷ said) [] leads leads' same = cc
+said_told laws from to from' to' (line ∷ said) (other ∷ others) leads leads' same =
     let text : line_text line ≡ line_text other = cc in
     let texts : map line_text said ≡ map line_text others = cc in
-    let first = line_told line other leads.0.is leads'.0.is text in
-    let rest = said_told (after from line) to (after from' other) to' said others leads.1 leads'.1 texts in
+    let first = line_told laws line other leads.0.is leads'.0.is text in
+    let rest = said_told laws (after from line) to (after from' other) to' said others leads.1 leads'.1 texts in
     cc
 
 -- lines lead to one standing
@@ -40,16 +41,16 @@ same_draft : {draft other : DraftValue} → ended draft ≡ ended other → draf
 same_draft same = cc
 
 -- two scenarios with one text are one
-pub scenario_told : (one other : Scenario) → IsScenario one → IsScenario other → scenario_text one ≡ scenario_text other → one ≡ other
-scenario_told one other is is' same =
+pub scenario_told : LineLaws → (one other : Scenario) → IsScenario one → IsScenario other → scenario_text one ≡ scenario_text other → one ≡ other
+scenario_told laws one other is is' same =
     let first = scenario_is_said one is in
     let second = scenario_is_said other is' in
     let lines = scenario_lines one in
     let others = scenario_lines other in
     let texts : map line_text lines ≡ map line_text others =
     append_cancel_right (map line_text lines) (map line_text others) ([] ∷ [])
-    (sym (lines_said start (ended first.draft) lines first.leads) ∙ ap lines_of same ∙ lines_said start (ended second.draft) others second.leads) in
-    let said = said_told start (ended first.draft) start (ended second.draft) lines others first.leads second.leads texts in
+    (sym (lines_said laws start (ended first.draft) lines first.leads) ∙ ap lines_of same ∙ lines_said laws start (ended second.draft) others second.leads) in
+    let said = said_told laws start (ended first.draft) start (ended second.draft) lines others first.leads second.leads texts in
     let leads = subst (λ (list : List Line). Leads start list (ended first.draft)) said first.leads in
     let draft = same_draft (one_standing start (ended first.draft) (ended second.draft) others leads second.leads) in
     sym first.says ∙ ap scenario_of draft ∙ second.says

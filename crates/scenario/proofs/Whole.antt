@@ -16,6 +16,7 @@ use Rattle.scenario.specs.declared.fault.ScenarioFault.{ScenarioFault}
 use Rattle.scenario.specs.declared.fault.ScenarioFault.TheVariants as faults
 use Rattle.scenario.specs.ScenarioText.{scenario_lines, scenario_text}
 use Rattle.scenario.specs.Limits.{IsScenario}
+use Rattle.scenario.specs.LineLaws.{LineLaws}
 use Rattle.scenario.specs.Standing.{DraftValue, Follows, Leads, Standing, begun, ended, new_draft, scenario_of, start, within}
 use Rattle.scenario.specs.Faults.{IsFaultyAt, IsFaultyBefore, IsFirstFault, IsRefused, Settles}
 use Rattle.scenario.specs.Rest.{AreLeft, Finishes, IsFirstFaultBehind, IsRefusedBehind}
@@ -166,13 +167,13 @@ pub record Opens (text : List ℕ) (scenario : Scenario) : Type 0 where
   pub leads : Leads (within (new_draft scenario.link)) todo (ended draft)
   pub says : scenario_of draft ≡ scenario
 
-pub opens : (text : List ℕ) (scenario : Scenario) → IsScenario scenario → text ≡ scenario_text scenario → Opens text scenario
-opens text scenario is same =
+pub opens : LineLaws → (text : List ℕ) (scenario : Scenario) → IsScenario scenario → text ≡ scenario_text scenario → Opens text scenario
+opens laws text scenario is same =
     let spoken = scenario_is_said scenario is in
     record {
       todo = _;
       draft = spoken.draft;
-      cut = ap lines_of same ∙ lines_said start (ended spoken.draft) (scenario_lines scenario) spoken.leads;
+      cut = ap lines_of same ∙ lines_said laws start (ended spoken.draft) (scenario_lines scenario) spoken.leads;
       is = spoken.leads.1.0.is;
       leads = spoken.leads.1.1;
       says = spoken.says;
@@ -187,14 +188,14 @@ second_is_there text version behind scenario opened cut one =
     omega (arith, count, length-append (map line_text opened.todo) ([] ∷ []))
 
 -- ... which is the link's
-pub second_is_link : (text version behind line rest : List ℕ) (scenario : Scenario) (opened : Opens text scenario) → lines_of text ≡ version ∷ lines_of behind
-    → lines_of behind ≡ line ∷ lines_of rest
+pub second_is_link : LineLaws → (text version behind line rest : List ℕ) (scenario : Scenario) (opened : Opens text scenario)
+    → lines_of text ≡ version ∷ lines_of behind → lines_of behind ≡ line ∷ lines_of rest
     → Spells (fields_of line) (lines.Link scenario.link) × AreLeft rest (within (new_draft scenario.link)) opened.todo opened.draft
-second_is_link text version behind line rest scenario opened cut cut' =
+second_is_link laws text version behind line rest scenario opened cut cut' =
     let same = sym (cut ∙ ap (λ (list : List (List ℕ)). version ∷ list) cut') ∙ opened.cut in
     let link : line ≡ line_text (lines.Link scenario.link) = cc in
     let others : lines_of rest ≡ map line_text opened.todo ++ [] ∷ [] = cc in
-    (spells_text line (lines.Link scenario.link) link opened.is, record { cut = others; leads = opened.leads })
+    (spells_text laws line (lines.Link scenario.link) link opened.is, record { cut = others; leads = opened.leads })
 
 -- the one scenario that is read, or no memory
 pub is_the_one : (result : Result Scenario ScenarioFault) (scenario said : Scenario) → scenario ≡ said

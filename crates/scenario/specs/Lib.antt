@@ -6,6 +6,7 @@ pub mod FaultLine
 pub mod Taking
 pub mod Rest
 pub mod Beginnings
+pub mod LineLaws
 pub use Rattle.scenario_lines.specs.Spelling
 pub use Rattle.scenario_lines.specs.LineForm
 pub use Rattle.scenario_lines.specs.LineFaults

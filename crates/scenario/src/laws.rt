@@ -1,14 +1,31 @@
 //! What holds of the lines and the texts of scenarios. Each function here states one law by its contract,
-//! and does nothing.
+//! and does nothing but call the laws that it follows from.
 ghost use Rattle.std.specs.Prelude.{◌≡◌, ℕ, ◌<◌, List};
 ghost use Rattle.scenario_lines.specs.declared.line.Line.{Line};
 ghost use Rattle.scenario.specs.declared.values.Scenario.{Scenario};
 ghost use Rattle.scenario.specs.declared.fault.Fault.{Fault};
 ghost use Rattle.scenario.specs.ScenarioText.{scenario_lines, scenario_text};
 ghost use Rattle.scenario.specs.Limits.{IsScenario};
+ghost use Rattle.scenario.specs.LineLaws.{LineLaws};
 ghost use Rattle.scenario.specs.Faults.{IsFirstFault};
 ghost use Rattle.scenario.specs.Beginnings.{BeginsScenario, FirstLinesBegin};
 ghost use Rattle.scenario.specs.Standing.{DraftValue, IsSaid, Leads, ended, Standing, scenario_of, start};
+
+use scenario_lines::{
+    lines_are_field_texts, lines_are_told_apart, lines_begin_with_one_word, lines_have_one_fault,
+    spelled_lines_are_not_faulty,
+};
+
+/// What the laws of single lines say, together.
+pub(crate) fn line_laws()
+    ensures { LineLaws }
+{
+    lines_are_field_texts();
+    lines_are_told_apart();
+    lines_begin_with_one_word();
+    spelled_lines_are_not_faulty();
+    lines_have_one_fault();
+}
 
 /// Lines that follow one another from the start to the end are the lines of a scenario that keeps the
 /// limits.
@@ -33,25 +50,32 @@ pub fn lines_begin_a_scenario()
 {}
 
 /// Two scenarios with one text are one.
-#[tactic(auto, using(crate::proofs::ToldApart::scenario_told))]
 pub fn scenarios_are_told_apart()
     ensures { (one other : Scenario) → IsScenario one → IsScenario other → scenario_text one ≡ scenario_text other → one ≡ other }
-{}
+{
+    line_laws();
+}
 
 /// The text of a scenario has no faulty line.
 pub fn scenario_texts_are_not_faulty()
     ensures { (scenario : Scenario) (number : ℕ) (fault : Fault) → IsScenario scenario → IsFirstFault (scenario_text scenario) number fault → ⊥ }
-{}
+{
+    line_laws();
+}
 
 /// A text has at most one first faulty line, which has one first reason.
 pub fn texts_have_one_fault()
     ensures { (bytes : List ℕ) (one other : ℕ) (fault reason : Fault) → IsFirstFault bytes one fault → IsFirstFault bytes other reason
         → (one ≡ other) × (fault ≡ reason) }
-{}
+{
+    line_laws();
+}
 
 /// The number of the first faulty line is the least one for which so many first lines begin no
 /// scenario's text, where a missing or an unended line counts as a line.
 pub fn faulty_lines_begin_no_text()
     ensures before { (bytes : List ℕ) (number : ℕ) (fault : Fault) (below : ℕ) → IsFirstFault bytes number fault → below < number → FirstLinesBegin bytes below }
     ensures faulty { (bytes : List ℕ) (number : ℕ) (fault : Fault) → IsFirstFault bytes number fault → ¬ FirstLinesBegin bytes number }
-{}
+{
+    line_laws();
+}

@@ -12,6 +12,7 @@ ghost use Rattle.scenario_lines.specs.Spelling.{line_text};
 ghost use Rattle.scenario_lines.specs.LineFaults.{Spells};
 
 use crate::draft::{Draft, Taken, fault_of};
+use crate::laws::line_laws;
 use crate::{Fault, Scenario, ScenarioFault};
 use pie_line::Link;
 use scenario_lines::{Line, Word, read_line, word_of};
@@ -73,6 +74,8 @@ fn read_behind_link(alloc: Global, link: Link, text: &[u8]) -> Result<Scenario, 
         → IfOk result (λ scenario. scenario ≡ scenario_of draft) × IfErr result (λ fault. fault ≡ ScenarioFault.OutOfMemory) }
     ensures refused { IfErr result (IsRefusedBehind link text.now) }
 {
+    // By the laws of lines, the text of a line is cut into the fields that spell it.
+    line_laws();
     let mut draft = Draft::new(alloc, link);
     let mut rest = text;
     loop {
@@ -106,6 +109,8 @@ pub fn read_scenario(alloc: Global, text: &[u8]) -> Result<Scenario, ScenarioFau
     ensures exact { (number : ℕ) (fault : Fault) → IsFirstFault text.now number fault
         → IfErr result (λ refusal. (refusal ≡ ScenarioFault.Line number fault) ⊎ (refusal ≡ ScenarioFault.OutOfMemory)) × IfOk result (λ scenario. ⊥) }
 {
+    // By the laws of lines, the text of a scenario has no faulty line, and no text two first faults.
+    line_laws();
     let Some((version, behind)) = split_line(text) else {
         return Err(ScenarioFault::Line(1, Fault::End));
     };

@@ -6,4 +6,4 @@ pub returns-clause-before : goal.returns-clause-before
 returns-clause-before c = lines_before
 
 pub returns-clause-faulty : goal.returns-clause-faulty
-returns-clause-faulty c = lines_upto
+returns-clause-faulty c = lines_upto c.line_laws.ensures

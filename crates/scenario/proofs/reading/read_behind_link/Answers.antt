@@ -19,8 +19,8 @@ loop-line-preserved c = record {
   so_far = read_more c.args.link c.args.text.now c.loop-line.rest.now c.in-Some.line.now c.in-Some.behind.now c.loop-line.draft c.take.new.self
       c.loop-line.invariant.so_far c.in-Some.ensures.lines
       (takes_as (fields_of c.in-Some.line.now) c.loop-line.draft c.take.new.self c.in_ok-take.field-0 More c.in-More.is c.in_ok-take.ensures.taken);
-  still_says = says_more c.args.link c.args.text.now c.loop-line.rest.now c.in-Some.line.now c.in-Some.behind.now c.loop-line.draft c.take.new.self
-      c.loop-line.invariant.still_says c.in-Some.ensures.lines
+  still_says = says_more c.line_laws.ensures c.args.link c.args.text.now c.loop-line.rest.now c.in-Some.line.now c.in-Some.behind.now c.loop-line.draft
+      c.take.new.self c.loop-line.invariant.still_says c.in-Some.ensures.lines
       (λ said spells follows. leads_as (after (within c.loop-line.draft) said) c.take.new.self c.in_ok-take.field-0 More c.in-More.is
       (c.in_ok-take.ensures.only said spells follows));
 }
@@ -43,8 +43,8 @@ returns-in-End-clause-refused c =
 
 pub returns-in-End-clause-only : goal.returns-in-End-clause-only
 returns-in-End-clause-only c = λ whole last left.
-    let both = end_said c.args.link c.args.text.now c.loop-line.rest.now c.in-Some.line.now c.in-Some.behind.now c.loop-line.draft c.take.new.self last whole
-    c.loop-line.invariant.still_says c.in-Some.ensures.lines left
+    let both = end_said c.line_laws.ensures c.args.link c.args.text.now c.loop-line.rest.now c.in-Some.line.now c.in-Some.behind.now c.loop-line.draft c.take.new.self
+    last whole c.loop-line.invariant.still_says c.in-Some.ensures.lines left
     (λ said spells follows. leads_as (after (within c.loop-line.draft) said) c.take.new.self c.in_ok-take.field-0 End c.in-End.is
     (c.in_ok-take.ensures.only said spells follows)) in (
       IfOk-weaker c.finish.result (λ scenario. (scenario ≡ scenario_of c.take.new.self) × (c.in-Some.behind.now ≡ []))
@@ -55,7 +55,7 @@ returns-in-End-clause-only c = λ whole last left.
 
 pub returns-in-Faulty-clause-only : goal.returns-in-Faulty-clause-only
 returns-in-Faulty-clause-only c = λ whole last left.
-    absurd (not_faulty c.args.link c.args.text.now c.loop-line.rest.now c.in-Some.line.now c.in-Some.behind.now c.loop-line.draft last whole
+    absurd (not_faulty c.line_laws.ensures c.args.link c.args.text.now c.loop-line.rest.now c.in-Some.line.now c.in-Some.behind.now c.loop-line.draft last whole
     c.loop-line.invariant.still_says c.in-Some.ensures.lines left
     (λ said spells follows. leads_as (after (within c.loop-line.draft) said) c.take.new.self c.in_ok-take.field-0 (Faulty c.in-Faulty.fault) c.in-Faulty.is
     (c.in_ok-take.ensures.only said spells follows)))

@@ -20,7 +20,7 @@ returns-in_default-clause-refused c = first_unended c.args.text.now c.in_default
 
 pub returns-in_default-clause-exact : goal.returns-in_default-clause-exact
 returns-in_default-clause-exact c = λ number fault first.
-    (told_exactly c.args.text.now (faults.Line 1 End) number fault (returns-in_default-clause-refused c) first, tt)
+    (told_exactly c.line_laws.ensures c.args.text.now (faults.Line 1 End) number fault (returns-in_default-clause-refused c) first, tt)
 
 pub returns-then-not-is_version-clause-refused : goal.returns-then-not-is_version-clause-refused
 returns-then-not-is_version-clause-refused c =
@@ -29,12 +29,12 @@ returns-then-not-is_version-clause-refused c =
 
 pub returns-then-not-is_version-clause-exact : goal.returns-then-not-is_version-clause-exact
 returns-then-not-is_version-clause-exact c = λ number fault first.
-    (told_exactly c.args.text.now (faults.Line 1 Version) number fault (returns-then-not-is_version-clause-refused c) first, tt)
+    (told_exactly c.line_laws.ensures c.args.text.now (faults.Line 1 Version) number fault (returns-then-not-is_version-clause-refused c) first, tt)
 
 pub returns-in_default-split_line-clause-only : goal.returns-in_default-split_line-clause-only
 returns-in_default-split_line-clause-only c = λ said is text.
-    absurd (second_is_there c.args.text.now c.in-Some.version.now c.in-Some.behind.now said (opens c.args.text.now said is text) c.in-Some.ensures.lines
-    c.in_default-split_line.ensures.whole)
+    absurd (second_is_there c.args.text.now c.in-Some.version.now c.in-Some.behind.now said
+    (opens c.line_laws.ensures c.args.text.now said is text) c.in-Some.ensures.lines c.in_default-split_line.ensures.whole)
 
 pub returns-in_default-split_line-clause-refused : goal.returns-in_default-split_line-clause-refused
 returns-in_default-split_line-clause-refused c =
@@ -43,13 +43,13 @@ returns-in_default-split_line-clause-refused c =
 
 pub returns-in_default-split_line-clause-exact : goal.returns-in_default-split_line-clause-exact
 returns-in_default-split_line-clause-exact c = λ number fault first.
-    (told_exactly c.args.text.now (faults.Line 2 End) number fault (returns-in_default-split_line-clause-refused c) first, tt)
+    (told_exactly c.line_laws.ensures c.args.text.now (faults.Line 2 End) number fault (returns-in_default-split_line-clause-refused c) first, tt)
 
 pub returns-in-Err-clause-only : goal.returns-in-Err-clause-only
 returns-in-Err-clause-only c = λ said is text.
-    let opened = opens c.args.text.now said is text in
-    let second = second_is_link c.args.text.now c.in-Some.version.now c.in-Some.behind.now c.in-Some-split_line.line.now c.in-Some-split_line.rest.now said
-    opened c.in-Some.ensures.lines c.in-Some-split_line.ensures.lines in
+    let opened = opens c.line_laws.ensures c.args.text.now said is text in
+    let second = second_is_link c.line_laws.ensures c.args.text.now c.in-Some.version.now c.in-Some.behind.now c.in-Some-split_line.line.now
+    c.in-Some-split_line.rest.now said opened c.in-Some.ensures.lines c.in-Some-split_line.ensures.lines in
     absurd (c.in-Err.ensures.only (lines.Link said.link) second.0 (link_follows said.link opened.is))
 
 pub returns-in-Err-clause-refused : goal.returns-in-Err-clause-refused
@@ -60,7 +60,7 @@ returns-in-Err-clause-refused c =
 
 pub returns-in-Err-clause-exact : goal.returns-in-Err-clause-exact
 returns-in-Err-clause-exact c = λ number fault first.
-    (told_exactly c.args.text.now (faults.Line 2 c.in-Err.fault) number fault (returns-in-Err-clause-refused c) first, tt)
+    (told_exactly c.line_laws.ensures c.args.text.now (faults.Line 2 c.in-Err.fault) number fault (returns-in-Err-clause-refused c) first, tt)
 
 pub returns-in-Ok-clause-ok : goal.returns-in-Ok-clause-ok
 returns-in-Ok-clause-ok c =
@@ -74,9 +74,9 @@ returns-in-Ok-clause-ok c =
 
 pub returns-in-Ok-clause-only : goal.returns-in-Ok-clause-only
 returns-in-Ok-clause-only c = λ said is text.
-    let opened = opens c.args.text.now said is text in
-    let second = second_is_link c.args.text.now c.in-Some.version.now c.in-Some.behind.now c.in-Some-split_line.line.now c.in-Some-split_line.rest.now said
-    opened c.in-Some.ensures.lines c.in-Some-split_line.ensures.lines in
+    let opened = opens c.line_laws.ensures c.args.text.now said is text in
+    let second = second_is_link c.line_laws.ensures c.args.text.now c.in-Some.version.now c.in-Some.behind.now c.in-Some-split_line.line.now
+    c.in-Some-split_line.rest.now said opened c.in-Some.ensures.lines c.in-Some-split_line.ensures.lines in
     let link = same_link (c.in-Ok.ensures.only (lines.Link said.link) second.0 (link_follows said.link opened.is)) in
     let left = subst (λ (l : LinkValue). AreLeft c.in-Some-split_line.rest.now (within (new_draft l)) opened.todo opened.draft) link second.1 in
     is_the_one c.read_behind_link.result _ said opened.says (c.read_behind_link.ensures.only opened.todo opened.draft left)
@@ -94,7 +94,7 @@ pub returns-in-Ok-clause-exact : goal.returns-in-Ok-clause-exact
 returns-in-Ok-clause-exact c = λ number fault first. (
   IfErr-weaker c.read_behind_link.result (IsRefused c.args.text.now)
       (λ refusal. (refusal ≡ faults.Line number fault) ⊎ (refusal ≡ faults.OutOfMemory))
-      (λ refusal refused. told_exactly c.args.text.now refusal number fault refused first) (returns-in-Ok-clause-refused c),
+      (λ refusal refused. told_exactly c.line_laws.ensures c.args.text.now refusal number fault refused first) (returns-in-Ok-clause-refused c),
   IfOk-weaker c.read_behind_link.result (λ scenario. IsScenario scenario × (c.args.text.now ≡ scenario_text scenario)) (λ scenario. ⊥)
-      (λ scenario read. none_is_read c.args.text.now scenario number fault read first) (returns-in-Ok-clause-ok c),
+      (λ scenario read. none_is_read c.line_laws.ensures c.args.text.now scenario number fault read first) (returns-in-Ok-clause-ok c),
 )
