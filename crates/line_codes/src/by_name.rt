@@ -1,5 +1,6 @@
 //! Encoding and decoding in the code that is named.
-ghost use Rattle.std.specs.Prelude.{◌≡◌, ◌+◌, ◌*◌, ◌≤◌, List, Bool, [], length, OnOk, OnErr, IfErr, IsOk};
+ghost use Rattle.std.specs.Prelude.{◌≡◌, ℕ, ◌+◌, ◌*◌, ◌<◌, ◌≤◌, List, Bool, [], length, OnOk, OnErr, IfErr, IsOk, IsErr};
+ghost use Rattle.line_code.specs.Laws.{flipped};
 ghost use Rattle.line_code.specs.Stream.{IsStream, Streams};
 ghost use Rattle.line_code.specs.Refusal.{Refuses};
 ghost use Rattle.line_code.specs.Table.{Table};
@@ -30,6 +31,7 @@ pub fn decode_levels(
     ensures err { OnErr result (out.new.items ≡ []) }
     ensures capacity { out.new.capacity ≡ out.old.capacity }
     ensures only { (bits : List Bool) → IsStream (table_of code) trext bits levels.now.items → IsOk result × (out.new.items ≡ bits) }
+    ensures flip { (bits : List Bool) (whole : List Bool) (at : ℕ) → IsStream (table_of code) trext bits whole → at < length whole → levels.now.items ≡ flipped whole at → IsErr result }
 {
     match code {
         Code::Fm0 => decode::<Fm0>(trext, levels, out),
@@ -44,6 +46,9 @@ pub fn decode_levels(
 pub fn encode_bits(code: Code, trext: bool, bits: &Bits, out: &mut Levels)
     requires { length ((table_of code).lead trext) + chips_of code * (length bits.now.items + 1) ≤ out.old.capacity }
     ensures stream { IsStream (table_of code) trext bits.now.items out.new.items }
+    ensures least { 1 ≤ length out.new.items }
+    ensures exact { length out.new.items ≡ length ((table_of code).lead trext) + chips_of code * (length bits.now.items + 1) }
+    ensures most { length out.new.items ≤ 352 + 16 * (length bits.now.items + 1) }
     ensures capacity { out.new.capacity ≡ out.old.capacity }
 {
     match code {

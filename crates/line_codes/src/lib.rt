@@ -2,9 +2,11 @@
 #![tactic(auto)]
 
 mod by_name;
+mod laws;
 #[cfg(test)]
 mod tests;
 
 pub use bit_strings::Code;
 pub use by_name::{decode_levels, encode_bits};
+pub use laws::{code_laws, stream_length};
 pub use line_code::LineRefusal;

@@ -1,0 +1,11 @@
+use Rattle.line_codes.specs.CodeLaws.{code_even, code_has_lead, code_tells, code_refuses_flips, code_hides_lead}
+use Rattle.line_codes.proofs.laws.code_laws.Goals as goal
+
+pub returns : goal.returns
+returns c = record {
+  even = code_even;
+  has_lead = code_has_lead;
+  tells_bits = code_tells;
+  refuses_flips = code_refuses_flips;
+  hides_lead = code_hides_lead;
+}

@@ -1,0 +1,27 @@
+//! What holds of the four codes, and of the lengths of their streams.
+ghost use Rattle.std.specs.Prelude.{◌≡◌, ℕ, ◌+◌, ◌*◌, ◌≤◌, Bool, List, length};
+ghost use Rattle.bit_strings.specs.declared.code.Code.{Code};
+ghost use Rattle.line_code.specs.Laws.{IsEven, HasLead, TellsBits, RefusesFlips, HidesLead};
+ghost use Rattle.line_code.specs.Stream.{stream_of};
+ghost use Rattle.line_codes.specs.Codes.{table_of, chips_of};
+
+/// The laws of each of the four codes: its blocks have one length, a lead stands before the data, the
+/// blocks of 0 and of 1 differ, no stream with one level inverted is a stream, and no blocks of data
+/// begin with the lead.
+pub fn code_laws()
+    ensures even { (code : Code) → IsEven (table_of code) (chips_of code) }
+    ensures has_lead { (code : Code) → HasLead (table_of code) }
+    ensures tells_bits { (code : Code) → TellsBits (table_of code) }
+    ensures refuses_flips { (code : Code) → RefusesFlips (table_of code) }
+    ensures hides_lead { (code : Code) → HidesLead (table_of code) }
+{}
+
+/// How many levels a stream has: those of the lead, and a block for each bit and for the dummy. So there
+/// is one at least, and there are no more than the 352 of the longest lead and 16 a block.
+pub fn stream_length()
+    ensures exact { (code : Code) (trext : Bool) (bits : List Bool)
+        → length (stream_of (table_of code) trext bits) ≡ length ((table_of code).lead trext) + chips_of code * (length bits + 1) }
+    ensures lead { (code : Code) (trext : Bool) → length ((table_of code).lead trext) ≤ 352 }
+    ensures least { (code : Code) (trext : Bool) (bits : List Bool) → 1 ≤ length (stream_of (table_of code) trext bits) }
+    ensures most { (code : Code) (trext : Bool) (bits : List Bool) → length (stream_of (table_of code) trext bits) ≤ 352 + 16 * (length bits + 1) }
+{}
