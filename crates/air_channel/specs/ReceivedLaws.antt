@@ -2,14 +2,11 @@
 use Rattle.std.proofs.Common.{◌≡◌, ℕ, ◌+◌, inl, inr, Bool, List, sym, ap, ◌∙◌, subst}
 use Rattle.bit_strings.specs.FamilyLaws.{bad-one as same_place}
 use Rattle.bit_strings.specs.declared.code.Code.{Code}
-use Rattle.bit_strings.specs.declared.code.Code.TheVariants.{Fm0, M2, M4, M8}
 use Rattle.line_code.specs.Table.{Table}
-use Rattle.line_code.specs.Laws.{IsEven, TellsBits}
 use Rattle.line_code.specs.Stream.{IsStream, Streams}
 use Rattle.line_code.specs.StreamLaws.{begins_front, one_stream, refused_is_none}
 use Rattle.line_code.specs.declared.refusal.LineRefusal.TheVariants.{Invalid, Unfinished}
-use Rattle.fm0_line.specs.Fm0Laws.{fm0_even, fm0_tells_bits}
-use Rattle.miller_line.specs.MillerLaws.{two, four, eight, miller_even, miller_tells_bits}
+use Rattle.line_codes.specs.CodeLaws.{code_even, code_tells}
 use Rattle.line_codes.specs.Codes.{table_of, chips_of}
 use Rattle.reply_grammar.specs.Table.{Answers}
 use Rattle.reply_grammar.specs.Faults.{Faults}
@@ -21,18 +18,6 @@ use Rattle.reply_grammar.specs.declared.expected.ReplyRefusal.{ReplyRefusal}
 use Rattle.reply_grammar.specs.declared.expected.Received.{Received}
 use Rattle.reply_grammar.specs.declared.expected.Received.TheVariants.{Whole, Refused}
 use Rattle.air_channel.specs.Received.{IsReceived}
-
-code_even : (code : Code) → IsEven (table_of code) (chips_of code)
-code_even Fm0 = fm0_even
-code_even M2 = miller_even 2 two
-code_even M4 = miller_even 4 four
-code_even M8 = miller_even 8 eight
-
-code_tells : (code : Code) → TellsBits (table_of code)
-code_tells Fm0 = fm0_tells_bits
-code_tells M2 = miller_tells_bits 2 two
-code_tells M4 = miller_tells_bits 4 four
-code_tells M8 = miller_tells_bits 8 eight
 
 -- a stream is that of one list of bits
 pub same_bits : (code : Code) (trext : Bool) (xs ys levels : List Bool) → IsStream (table_of code) trext xs levels → IsStream (table_of code) trext ys levels → xs ≡ ys

@@ -1,5 +1,6 @@
 //! Levels to replies.
-ghost use Rattle.std.specs.Prelude.{◌≡◌, ℕ, ◌≤◌, List, Bool, [], length};
+ghost use Rattle.std.specs.Prelude.{◌≡◌, ℕ, ◌<◌, ◌≤◌, List, Bool, [], length};
+ghost use Rattle.line_code.specs.Laws.{flipped};
 ghost use Rattle.line_code.specs.Stream.{IsStream};
 ghost use Rattle.line_codes.specs.Codes.{table_of};
 ghost use Rattle.reply_grammar.specs.Table.{Answers};
@@ -32,6 +33,7 @@ pub fn receive(
     ensures only { (answer : Received) → IsReceived (table_of code) trext expect.now stream.now.items answer → result ≡ answer }
     ensures only_whole { (reply : Reply) (sent : List Bool) → IsStream (table_of code) trext sent stream.now.items → Answers reply expect.now sent → (result ≡ Whole reply) × (bits.new.items ≡ sent) }
     ensures whole { (reply : Reply) → result ≡ Whole reply → IsStream (table_of code) trext bits.new.items stream.now.items × Answers reply expect.now bits.new.items }
+    ensures flip { (sent whole : List Bool) (at : ℕ) → IsStream (table_of code) trext sent whole → at < length whole → stream.now.items ≡ flipped whole at → (place : ℕ) × (result ≡ Refused place) }
     ensures refused { (place : ℕ) → result ≡ Refused place → bits.new.items ≡ [] }
     ensures capacity { bits.new.capacity ≡ bits.old.capacity }
 {

@@ -1,4 +1,4 @@
-use Rattle.std.proofs.Common.{inl, inr, subst}
+use Rattle.std.proofs.Common.{inl, inr, refl, sym, subst, true≢false}
 use Rattle.line_code.specs.Stream.{Streams}
 use Rattle.line_code.specs.Refusal.{Refuses}
 use Rattle.line_code.specs.declared.refusal.LineRefusal.{LineRefusal}
@@ -29,3 +29,15 @@ pub returns-in-Err-Unfinished-clause-only : goal.returns-in-Err-Unfinished-claus
 returns-in-Err-Unfinished-clause-only c = λ answer is.
     let short = subst (λ (r : LineRefusal). Refuses (Streams (table_of c.args.code) c.args.trext) c.args.stream.now.items r) c.in-Err-Unfinished.field-0-is c.in-Err-Unfinished.ensures.refused in
     same_received c.args.code c.args.trext c.args.expect.now c.args.stream.now.items (Refused c.in-Err-Unfinished.count) answer (inr (inl short)) is
+
+pub returns-in-Ok-decode_reply-clause-flip : goal.returns-in-Ok-decode_reply-clause-flip
+returns-in-Ok-decode_reply-clause-flip c = λ sent whole at stream below is. absurd (true≢false (sym (c.in-Ok.ensures.flip sent whole at stream below is)))
+
+pub returns-in-Err-clause-flip : goal.returns-in-Err-clause-flip
+returns-in-Err-clause-flip c = λ sent whole at stream below is. (c.len.result, refl)
+
+pub returns-in-Err-Invalid-clause-flip : goal.returns-in-Err-Invalid-clause-flip
+returns-in-Err-Invalid-clause-flip c = λ sent whole at stream below is. (c.in-Err-Invalid.place, refl)
+
+pub returns-in-Err-Unfinished-clause-flip : goal.returns-in-Err-Unfinished-clause-flip
+returns-in-Err-Unfinished-clause-flip c = λ sent whole at stream below is. (c.in-Err-Unfinished.count, refl)
