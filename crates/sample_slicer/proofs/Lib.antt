@@ -1,1 +1,2 @@
 pub mod SlicedSoFar
+pub mod SomeAnswer

@@ -3,8 +3,10 @@ ghost use Rattle.std.specs.Prelude.{◌≡◌, ◌≤◌, ℕ, Bool, List, Resul
 ghost use Rattle.sample_slicer.specs.Samples.{IsAnswer};
 ghost use Rattle.sample_slicer.specs.declared.slicer.SliceRefusal.{SliceRefusal};
 
-/// No samples have two answers, at any threshold and any number of samples to a level.
+/// Samples have exactly one answer, at any threshold and any number of samples to a level.
 pub fn one_answer()
+    ensures some { (threshold per : ℕ) (samples : List ℕ) → 1 ≤ per
+        → (answer : Result (List Bool) SliceRefusal) × IsAnswer threshold per samples answer }
     ensures one { (threshold per : ℕ) (samples : List ℕ) (left right : Result (List Bool) SliceRefusal) → 1 ≤ per
         → IsAnswer threshold per samples left → IsAnswer threshold per samples right → left ≡ right }
 {}
