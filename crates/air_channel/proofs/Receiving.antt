@@ -1,12 +1,10 @@
 -- That levels are received in some way, and how the stream of a reply is received.
-use Rattle.std.proofs.Common.{◌≡◌, ℕ, ◌^◌, ◌<◌, ◌⊎◌, inl, inr, Bool, List, length, refl, Result, Ok, Err}
-use Rattle.bit_strings.specs.declared.code.Code.{Code}
+use Rattle.std.proofs.Common.{ℕ, ◌^◌, ◌<◌, ◌⊎◌, inl, inr, Bool, List, length, refl, Result, Ok, Err}
 use Rattle.line_code.specs.Table.{Table}
-use Rattle.line_code.specs.Stream.{IsStream, Streams}
+use Rattle.line_code.specs.Stream.{IsStream}
 use Rattle.line_code.specs.Answer.{IsAnswer}
 use Rattle.line_code.specs.declared.refusal.LineRefusal.{LineRefusal}
 use Rattle.line_code.specs.declared.refusal.LineRefusal.TheVariants.{Invalid, Unfinished}
-use Rattle.line_codes.specs.Codes.{table_of}
 use Rattle.reply_grammar.specs.Table.{Answers, Suits, Carries, IsReply, spelling}
 use Rattle.reply_grammar.specs.Faults.{Faults}
 use Rattle.reply_grammar.specs.ReplyLaws.{answers_from}

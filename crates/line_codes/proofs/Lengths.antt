@@ -1,5 +1,5 @@
 -- How many levels a stream has in the code that was found.
-use Rattle.std.proofs.Common.{◌≡◌, ℕ, ◌+◌, ◌*◌, ◌≤◌, Bool, List, length, sym, ◌∙◌, ap, subst}
+use Rattle.std.proofs.Common.{◌≡◌, ◌+◌, ◌*◌, ◌≤◌, Bool, List, length, sym, ◌∙◌, ap, subst}
 use Rattle.bit_strings.specs.declared.code.Code.{Code}
 use Rattle.line_code.specs.Stream.{IsStream, stream_of}
 use Rattle.line_codes.specs.Codes.{table_of, chips_of}
