@@ -1,4 +1,5 @@
 pub mod Flow
+pub mod FlowLaws
 pub mod Takes
 pub mod Puts
 pub mod Memory

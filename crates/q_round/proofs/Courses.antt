@@ -12,8 +12,9 @@ use Rattle.q_round.specs.SpecValue.{SpecValue, IsLegalSpec}
 use Rattle.q_round.specs.Rounds.{qfp_of, is_silent, all_silent, Turn, query, adjust, rep, quiet, limit, q_after, frame_after, ends, turn_of, q_of, frame_of, is_over, AreOutcomes, slots_of, answer_of, next_command}
 use Rattle.q_round.specs.Standing.{IsSound, IsCounted, counted, IsFrameOf}
 use Rattle.q_round.specs.RoundLaws.{IsSilentFrame}
+use Rattle.q_round.specs.SlotLaws.{slots-underway}
 use Rattle.q_round.proofs.Table.{IsTurn, turn-tells, counted-frame, up-sound, down-sound, same-sound, rep-sound, some-slots, both}
-use Rattle.q_round.proofs.Turns.{turn-is, slots-underway}
+use Rattle.q_round.proofs.Turns.{turn-is}
 
 -- the frame behind these outcomes
 abbrev pub frame_at : SpecValue → List Outcome → Frame

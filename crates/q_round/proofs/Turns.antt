@@ -1,5 +1,5 @@
 -- What a round that keeps no outcomes does is what the table says of the outcomes.
-use Rattle.std.proofs.Common.{◌≡◌, ◌≢◌, ℕ, ◌+◌, ◌^◌, ◌==◌, ◌&&◌, nat_lt, Bool, true, false, List, [], ◌∷◌, length, Option, Some, None, refl, ap, sym, ◌∙◌, subst, add-one, add-zero, eq-eqb, if◌then◌else◌, arith}
+use Rattle.std.proofs.Common.{◌≡◌, ◌≢◌, ℕ, ◌+◌, ◌^◌, ◌==◌, ◌&&◌, nat_lt, Bool, true, false, List, ◌∷◌, length, Option, Some, None, refl, ap, sym, ◌∙◌, subst, add-one, add-zero, eq-eqb, if◌then◌else◌}
 use Rattle.std.proofs.lemmas.Bool.{ne_eqb}
 use Rattle.command_grammar.specs.declared.command.UpDn.{UpDn}
 use Rattle.command_grammar.specs.declared.command.UpDn.TheVariants.{Up, Same, Down}
@@ -9,7 +9,8 @@ use Rattle.q_round.specs.declared.frame.Outcome.{Outcome}
 use Rattle.q_round.specs.declared.round.Next.TheVariants.{Send, Limit}
 use Rattle.q_round.specs.declared.round.Stage.TheVariants as stages
 use Rattle.q_round.specs.SpecValue.{SpecValue}
-use Rattle.q_round.specs.Rounds.{rounded, Turn, adjust, rep, quiet, limit, turn_after, turn_of, frame_of, is_over, AreOutcomes, slots_of}
+use Rattle.q_round.specs.Rounds.{rounded, Turn, adjust, rep, limit, turn_after, turn_of, frame_of, is_over, slots_of}
+use Rattle.q_round.specs.SlotLaws.{slots-underway}
 use Rattle.q_round.specs.Standing.{RoundValue, counted, change_of, begun, IsFrameOf, IsStageOf, StandsFor, Answers}
 
 -- the line of the table behind one more outcome, by what the frame knows
@@ -39,11 +40,6 @@ pub turn-on : (most sent : ℕ) (frame : Frame) → (frame.slots == 2 ^ frame.q 
     turn_after most sent frame.qfp frame.q frame.slots frame.silent ≡ turn_for (change_of frame)
 turn-on most sent frame h other = rw (h, ne_eqb sent most other)
     (turn-for (nat_lt frame.q (rounded frame.qfp)) (nat_lt (rounded frame.qfp) frame.q) (frame.slots == 2 ^ frame.q))
-
--- where the round goes on, it gave one command more than it was given outcomes
-pub slots-underway : (spec : SpecValue) (outcomes : List Outcome) → AreOutcomes spec outcomes → is_over spec outcomes ≡ false → slots_of spec outcomes ≡ length outcomes + 1
-slots-underway spec [] are on = refl
-slots-underway spec (outcome ∷ before) are on = rw (on, slots-underway spec before are.1 are.0) (omega arith)
 
 -- the frame that a QueryAdjust begins
 pub frame-begun : (spec : SpecValue) (outcomes : List Outcome) (outcome : Outcome) (frame : Frame) (updn : UpDn) → IsFrameOf frame spec outcomes →

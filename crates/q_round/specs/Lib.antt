@@ -1,4 +1,5 @@
 pub mod RoundLaws
 pub mod Rounds
+pub mod SlotLaws
 pub mod SpecValue
 pub mod Standing

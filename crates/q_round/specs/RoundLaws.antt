@@ -3,7 +3,8 @@ use Rattle.std.specs.Prelude.{◌≡◌, ℕ, ◌+◌, ◌^◌, List, length}
 use Rattle.std.specs.List.{AllByRecursion}
 use Rattle.command_grammar.specs.declared.command.UpDn.{UpDn}
 use Rattle.command_grammar.specs.declared.command.UpDn.TheVariants.{Up, Same, Down}
-use Rattle.command_grammar.specs.declared.commands.Command.TheVariants.{QueryAdjust}
+use Rattle.command_grammar.specs.declared.commands.Command.{Command}
+use Rattle.command_grammar.specs.declared.commands.Command.TheVariants.{Query, QueryAdjust, QueryRep}
 use Rattle.command_grammar.specs.Commands.{IsLegal}
 use Rattle.q_round.specs.declared.frame.Outcome.{Outcome}
 use Rattle.q_round.specs.declared.frame.Outcome.TheVariants.{Silence}
@@ -33,3 +34,21 @@ abbrev pub IsLegalNext : Next → Type 0
 IsLegalNext (Send command) = IsLegal command
 IsLegalNext Quiet = Unit {0}
 IsLegalNext Limit = Unit {0}
+
+-- 6.3.2.11.2 Inventory commands: a Query, QueryAdjust or QueryRep of this session, each of which begins a slot
+abbrev pub IsSlotCommand : ℕ → Command → Type 0
+IsSlotCommand session (Query dr code trext sel named target q) = named ≡ session
+IsSlotCommand session (QueryAdjust named updn) = named ≡ session
+IsSlotCommand session (QueryRep named) = named ≡ session
+IsSlotCommand session command = ⊥
+
+abbrev pub SendsSlotCommand : ℕ → Next → Type 0
+SendsSlotCommand session (Send command) = IsSlotCommand session command
+SendsSlotCommand session Quiet = ⊥
+SendsSlotCommand session Limit = ⊥
+
+-- one of the two ends of a round
+abbrev pub IsEnd : Next → Type 0
+IsEnd (Send command) = ⊥
+IsEnd Quiet = Unit {0}
+IsEnd Limit = Unit {0}

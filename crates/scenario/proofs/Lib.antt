@@ -2,6 +2,7 @@ pub mod PrintedLines
 pub mod Leading
 pub mod Settled
 pub mod Spoken
+pub mod Cursors
 pub mod Taken
 pub mod Texts
 pub mod Reader

@@ -20,7 +20,8 @@ use Rattle.scenario.specs.declared.values.Step.{Step}
 use Rattle.scenario.specs.declared.values.Step.TheVariants as steps
 use Rattle.scenario.specs.ScenarioText.{air_lines, entry_lines, scenario_lines, step_line}
 use Rattle.scenario.specs.Limits.{IsEntry, IsScenario, IsStep, Rises, most_air_lines, most_steps, most_tags, no_operations}
-use Rattle.scenario.specs.Standing.{ChoosesOnce, DraftValue, Follows, Leads, MayFollow, NamesTag, Standing, after, begun, ended, entries_of, last_entry, new_draft, nothing_said, scenario_of, start, turned, with_air, with_happening, with_said, with_step, within}
+use Rattle.air_events.specs.Entries.{no_entry}
+use Rattle.scenario.specs.Standing.{ChoosesOnce, DraftValue, Follows, Leads, MayFollow, NamesTag, Standing, after, begun, ended, entries_of, last_entry, new_draft, scenario_of, start, turned, with_air, with_happening, with_said, with_step, within}
 
 -- the lines of a draft, without the end
 abbrev pub draft_lines : DraftValue → List Line
@@ -129,7 +130,7 @@ entry_more exchange entry (happenings.Miss tag) follows alone =
 entry_more exchange entry (happenings.Choice choice) follows alone =
     rw alone (simp append-nil refl)
 
-entry_first : (exchange : ℕ) (happening : Happening) → entry_lines (exchange, with_happening nothing_said happening) ≡ lines.Air exchange happening ∷ []
+entry_first : (exchange : ℕ) (happening : Happening) → entry_lines (exchange, with_happening no_entry happening) ≡ lines.Air exchange happening ∷ []
 entry_first exchange (happenings.Event event tag) = refl
 entry_first exchange (happenings.Miss tag) = refl
 entry_first exchange (happenings.Choice choice) = refl
@@ -288,8 +289,8 @@ said_first draft number happening = with_said (turned (record draft { airs = dra
 first_air_lines : (draft : DraftValue) (number : ℕ) (happening : Happening) → 0 < number
     → air_lines (entries_of (said_first draft number happening)) ≡ air_lines (entries_of draft) ++ lines.Air number happening ∷ []
 first_air_lines draft number happening some =
-    ap (λ (last : List (ℕ × Entry)). air_lines (entries_of draft ++ last)) (last_one number (with_happening nothing_said happening) some)
-    ∙ air_lines_one (entries_of draft) (number, with_happening nothing_said happening)
+    ap (λ (last : List (ℕ × Entry)). air_lines (entries_of draft ++ last)) (last_one number (with_happening no_entry happening) some)
+    ∙ air_lines_one (entries_of draft) (number, with_happening no_entry happening)
     ∙ ap (λ (list : List Line). air_lines (entries_of draft) ++ list) (entry_first number happening)
 
 not_none : {A : Type 0} (n : ℕ) → n + 1 ≡ 0 → A
@@ -323,14 +324,14 @@ first_keeps draft number happening keeps above air =
     let some : 0 < number = omega arith in
     let tags = length draft.tags in
     let entries = entries_keep draft keeps in
-    let nothing : IsEntry tags (number, with_happening nothing_said happening) =
-    happening_keeps tags number nothing_said happening air.is_exchange air.is air.names (All-nil (λ (event : Event × ℕ). IsEvent event.0 event.1 × (event.1 < tags)))
+    let nothing : IsEntry tags (number, with_happening no_entry happening) =
+    happening_keeps tags number no_entry happening air.is_exchange air.is air.names (All-nil (λ (event : Event × ℕ). IsEvent event.0 event.1 × (event.1 < tags)))
     (All-nil (λ tag. IsPlace tag × (tag < tags))) tt in
     record {
       link = keeps.link;
       tags = keeps.tags;
       closed = entries.0;
-      last = last_is_said tags number (with_happening nothing_said happening) nothing;
+      last = last_is_said tags number (with_happening no_entry happening) nothing;
       rising = entries.1;
       below = last_below draft.closed draft.exchange number draft.latest above keeps.below;
       steps = keeps.steps;

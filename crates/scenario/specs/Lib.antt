@@ -7,6 +7,8 @@ pub mod Taking
 pub mod Rest
 pub mod Beginnings
 pub mod LineLaws
+pub mod Cursor
 pub use Rattle.scenario_lines.specs.Spelling
 pub use Rattle.scenario_lines.specs.LineForm
 pub use Rattle.scenario_lines.specs.LineFaults
+pub use Rattle.air_events.specs.Entries

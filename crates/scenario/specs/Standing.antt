@@ -5,6 +5,7 @@ use Rattle.air_events.specs.declared.Choice.{Choice}
 use Rattle.air_events.specs.declared.Entry.{Entry}
 use Rattle.command_grammar.specs.declared.commands.Command.TheVariants as commands
 use Rattle.pie_line.specs.Link.{LinkValue}
+use Rattle.air_events.specs.Entries.{no_entry}
 use Rattle.scenario_lines.specs.declared.tag.TagSpec.{TagSpec}
 use Rattle.scenario_lines.specs.declared.words.Word.{Word}
 use Rattle.scenario_lines.specs.declared.words.Word.TheVariants as words
@@ -56,12 +57,8 @@ pub data Standing : Type 0 where
   -- behind the end
   ended : DraftValue → Standing
 
--- nothing is said of an exchange
-abbrev pub nothing_said : Entry
-nothing_said = record { events = []; missed = []; choice = None }
-
 abbrev pub new_draft : LinkValue → DraftValue
-new_draft link = record { link = link; tags = []; airs = 0; closed = []; exchange = 0; latest = nothing_said; steps = [] }
+new_draft link = record { link = link; tags = []; airs = 0; closed = []; exchange = 0; latest = no_entry; steps = [] }
 
 -- what is said of one exchange, with one thing more
 abbrev pub with_happening : Entry → Happening → Entry
@@ -160,7 +157,7 @@ pub record Follows (standing : Standing) (line : Line) : Type 0 where
 
 -- the draft with another exchange as the last one, of which nothing is said yet
 abbrev pub turned : DraftValue → ℕ → DraftValue
-turned draft exchange = record draft { closed = entries_of draft; exchange = exchange; latest = nothing_said }
+turned draft exchange = record draft { closed = entries_of draft; exchange = exchange; latest = no_entry }
 
 -- the draft in which one thing more is said of the last exchange
 abbrev pub with_said : DraftValue → Happening → DraftValue

@@ -5,6 +5,7 @@
 //! scenario can have there, with the first reason that applies.
 #![tactic(auto)]
 
+mod cursor;
 mod draft;
 mod fault;
 mod laws;
@@ -16,6 +17,7 @@ mod values;
 
 pub use access_ops::{Op, OpList};
 pub use air_events::{Choice, Entry, Event};
+pub use cursor::{EntryCursor, empty_entry};
 pub use fault::{Fault, ScenarioFault};
 pub use laws::{
     faulty_lines_begin_no_text, lines_begin_a_scenario, lines_say_a_scenario,

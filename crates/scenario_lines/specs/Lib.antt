@@ -1,5 +1,6 @@
 pub mod Names
 pub mod TagForm
+pub mod TagLaws
 pub mod LineForm
 pub mod Spelling
 pub mod LineFaults

@@ -1,7 +1,11 @@
 //! What holds of the spellings themselves. Each function here states one law by its contract, and does
 //! nothing.
-ghost use Rattle.std.specs.Prelude.{◌≡◌, ℕ, List, All};
+ghost use Rattle.std.specs.Prelude.{◌≡◌, ℕ, true, List, All};
 ghost use Rattle.text_fields.specs.Lines.{IsFieldText};
+ghost use Rattle.tag_memory.specs.Image.{banks_of, pc_fits, sizes_fit};
+ghost use Rattle.tag_memory.specs.Memory.{IsLegal};
+ghost use Rattle.scenario_lines.specs.declared.tag.TagSpec.{TagSpec};
+ghost use Rattle.scenario_lines.specs.TagForm.{IsTag};
 ghost use Rattle.scenario_lines.specs.declared.words.Word.{Word};
 ghost use Rattle.scenario_lines.specs.declared.line.Line.{Line};
 ghost use Rattle.scenario_lines.specs.declared.fault.LineFault.{LineFault};
@@ -39,4 +43,12 @@ pub fn spelled_lines_are_not_faulty()
 /// Fields are faulty for at most one reason.
 pub fn lines_have_one_fault()
     ensures { (fields : List (List ℕ)) (one other : LineFault) → IsFaulty fields one → IsFaulty fields other → one ≡ other }
+{}
+
+/// A memory can be made of the image of each tag line (6.3.2.1 Tag memory), and its banks have the sizes
+/// that a tag's banks may have.
+pub fn tag_lines_fit_memories()
+    ensures sizes { (tag : TagSpec) → IsTag tag → sizes_fit tag.image ≡ true }
+    ensures pc { (tag : TagSpec) → IsTag tag → pc_fits tag.image ≡ true }
+    ensures banks { (tag : TagSpec) → IsTag tag → IsLegal (banks_of tag.image) }
 {}

@@ -13,7 +13,7 @@ mod words;
 pub use fault::LineFault;
 pub use laws::{
     lines_are_field_texts, lines_are_told_apart, lines_begin_with_one_word,
-    lines_begin_with_their_word, lines_have_one_fault, spelled_lines_are_not_faulty,
+    lines_begin_with_their_word, lines_have_one_fault, spelled_lines_are_not_faulty, tag_lines_fit_memories,
 };
 pub use line::{Happening, Line, Selection};
 pub use printing::{

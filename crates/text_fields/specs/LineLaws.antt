@@ -1,10 +1,11 @@
 -- The pieces of a text that is cut at a byte.
-use Rattle.std.proofs.Common.{◌≡◌, ◌≢◌, ℕ, false, eqb, List, [], ◌∷◌, ◌++◌, length, arith, ap, refl, ◌∙◌, append_assoc}
+use Rattle.std.proofs.Common.{◌≡◌, ◌≢◌, ℕ, false, eqb, List, [], ◌∷◌, ◌++◌, length, arith, ap, refl, sym, ◌∙◌, append_assoc}
 use Rattle.std.specs.Prelude.{All}
 use Rattle.std.proofs.lemmas.Bool.Decides.{nat_tests}
 use Rattle.std.proofs.lemmas.List.Elements.{All-head, All-tail, All-weaker}
+use Rattle.std.proofs.lemmas.List.{append-nil}
 use Rattle.std.proofs.lemmas.List.Splits.{length-slice_split, slice_split_at, slice_split_none}
-use Rattle.text_fields.specs.Lines.{Lacks, fields_of, line_feed, line_with, lines_of, pieces_between, space, text_with}
+use Rattle.text_fields.specs.Lines.{Lacks, fields_behind, fields_of, line_feed, line_with, lines_of, pieces_between, space, text_with}
 
 fails : (byte each : ℕ) → each ≢ byte → eqb each byte ≡ false
 fails byte each differs = grind (arith, nat_tests)
@@ -40,3 +41,8 @@ lines_come_back [] lack = refl
 lines_come_back (line ∷ lines) lack =
     pieces_between-cut line_feed (text_with (line ∷ lines)) line (text_with lines) (All-head (Lacks line_feed) line lines lack) (append_assoc line (line_feed ∷ []) (text_with lines))
     ∙ ap (λ (rest : List (List ℕ)). line ∷ rest) (lines_come_back lines (All-tail (Lacks line_feed) line lines lack))
+
+-- a line is its first field and the others behind it
+pub line_with-fields_behind : (field : List ℕ) (fields : List (List ℕ)) → line_with (field ∷ fields) ≡ field ++ fields_behind fields
+line_with-fields_behind field [] = sym (append-nil field)
+line_with-fields_behind field (next ∷ fields) = ap (λ rest. field ++ (space ∷ rest)) (line_with-fields_behind next fields)

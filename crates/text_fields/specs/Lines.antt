@@ -28,6 +28,10 @@ fields_of line = pieces_between space line
 abbrev pub line_with : List (List ℕ) → List ℕ
 line_with fields = join_with_byte space fields
 
+-- these fields behind others: each is a space and the field
+abbrev pub fields_behind : List (List ℕ) → List ℕ
+fields_behind fields = flat_map (λ field. space ∷ field) fields
+
 -- the text with these lines
 abbrev pub text_with : List (List ℕ) → List ℕ
 text_with lines = flat_map (λ line. line ++ line_feed ∷ []) lines

@@ -34,8 +34,9 @@ pub use laws::{
 pub use lines::split_line;
 pub use more_fields::{five_fields, seven_fields, six_fields};
 pub use next_fields::{
-    next_bits, next_name, next_number, next_word, next_words, push_named_number, push_named_word,
+    next_bits, next_long_number, next_name, next_number, next_numbers, next_word, next_words,
+    push_named_number, push_named_word,
 };
-pub use numbers::{number, push_number};
+pub use numbers::{number, push_long_number, push_number};
 pub use word_lists::Words;
 pub use words::{push_byte_hex, push_hex_digit, push_word, push_words, word};

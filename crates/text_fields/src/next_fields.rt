@@ -1,13 +1,13 @@
 //! Fields, written behind others: each is a space and the field.
-ghost use Rattle.std.specs.Prelude.{◌≡◌, ◌++◌, [], ◌∷◌, OnOk};
+ghost use Rattle.std.specs.Prelude.{◌≡◌, ◌++◌, [], ◌∷◌, map, OnOk};
 ghost use Rattle.std.specs.String.{string_bytes};
 ghost use Rattle.std.specs.Fmt.{decimal};
 ghost use Rattle.text_fields.specs.Binary.{binary};
 ghost use Rattle.text_fields.specs.Hexadecimal.{hex_word, hex_words};
-ghost use Rattle.text_fields.specs.Lines.{line_with, space};
+ghost use Rattle.text_fields.specs.Lines.{fields_behind, line_with, space};
 
 use crate::digits::push_bits;
-use crate::numbers::push_number;
+use crate::numbers::{push_long_number, push_number};
 use crate::words::{push_word, push_words};
 use bit_strings::OutOfMemory;
 
@@ -25,6 +25,25 @@ pub fn next_number(text: &mut String, number: u32) -> Result<(), OutOfMemory>
 {
     text.push(' ')?;
     push_number(text, number)
+}
+
+/// Writes a number of 64 bits as the next field, in decimal digits. After an error the text may hold a
+/// part of it.
+pub fn next_long_number(text: &mut String, number: u64) -> Result<(), OutOfMemory>
+    ensures { OnOk result (string_bytes text.new ≡ string_bytes text.old ++ space ∷ decimal number) }
+{
+    text.push(' ')?;
+    push_long_number(text, number)
+}
+
+/// Writes numbers as the next fields, in decimal digits. After an error the text may hold a part of them.
+pub fn next_numbers(text: &mut String, numbers: &[u32]) -> Result<(), OutOfMemory>
+    ensures { OnOk result (string_bytes text.new ≡ string_bytes text.old ++ fields_behind (map decimal numbers.now)) }
+{
+    for number in numbers {
+        next_number(text, *number)?;
+    }
+    Ok(())
 }
 
 /// Writes a word as the next field, in hexadecimal digits. After an error the text may hold a part of it.

@@ -49,3 +49,12 @@ pub fn push_number(text: &mut String, number: u32) -> Result<(), OutOfMemory>
     write!(text, "{number}")?;
     Ok(())
 }
+
+/// Writes a number of 64 bits in decimal digits, without leading zeros, at the end of the text. After an
+/// error the text may hold a part of them.
+pub fn push_long_number(text: &mut String, value: u64) -> Result<(), OutOfMemory>
+    ensures { OnOk result (string_bytes text.new ≡ string_bytes text.old ++ decimal value) }
+{
+    write!(text, "{value}")?;
+    Ok(())
+}

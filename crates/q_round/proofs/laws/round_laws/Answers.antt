@@ -1,4 +1,5 @@
 use Rattle.q_round.proofs.Courses.{slots-within, q-in-range, quiet-frame, rep-frame, frame-front}
+use Rattle.q_round.specs.SlotLaws.{slots-underway, slots-over, next-underway, next-over}
 use Rattle.q_round.proofs.laws.round_laws.Goals as goal
 
 pub returns-clause-limit : goal.returns-clause-limit
@@ -15,3 +16,15 @@ returns-clause-rep c = rep-frame
 
 pub returns-clause-frame : goal.returns-clause-frame
 returns-clause-frame c = frame-front
+
+pub returns-clause-underway : goal.returns-clause-underway
+returns-clause-underway c = slots-underway
+
+pub returns-clause-over : goal.returns-clause-over
+returns-clause-over c = slots-over
+
+pub returns-clause-next_slot : goal.returns-clause-next_slot
+returns-clause-next_slot c = next-underway
+
+pub returns-clause-next_end : goal.returns-clause-next_end
+returns-clause-next_end c = next-over

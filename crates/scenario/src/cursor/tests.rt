@@ -1,0 +1,27 @@
+//! What is said of one exchange after another.
+
+use super::*;
+use air_events::Choice;
+use std::test::Fail;
+
+#[test]
+fn an_entry_comes_at_its_exchange(rt: HostRuntime) -> Result<(), Fail> {
+    let alloc = rt.alloc();
+    let empty = empty_entry(alloc);
+    let mut second = empty_entry(alloc);
+    second.choice = Some(Choice::Silent);
+    let mut fourth = empty_entry(alloc);
+    fourth.choice = Some(Choice::Pick(7));
+    let entries = vec![in alloc; (2, second), (4, fourth)]?;
+    let mut cursor = EntryCursor::new(entries.as_slice(), &empty);
+    for (exchange, wanted) in [
+        (1, None),
+        (2, Some(Choice::Silent)),
+        (3, None),
+        (4, Some(Choice::Pick(7))),
+        (5, None),
+    ] {
+        assert_eq!(rt; cursor.next_entry(exchange).choice, wanted);
+    }
+    Ok(())
+}
