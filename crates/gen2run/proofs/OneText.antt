@@ -1,11 +1,11 @@
 -- An input has one defined text at most, where each list of bits has one outcome as a command.
-use Rattle.std.proofs.Common.{◌≡◌, ℕ, ◌+◌, List, [], ◌∷◌, ◌++◌, length, refl, sym, ◌∙◌, ap, subst, suc, inl, inr}
+use Rattle.std.proofs.Common.{◌≡◌, ℕ, ◌+◌, List, [], ◌∷◌, ◌++◌, length, refl, sym, ◌∙◌, ap, subst, suc}
 use Rattle.std.specs.List.{AllZip, flat_map}
 use Rattle.std.proofs.lemmas.List.{append_cancel_right}
 use Rattle.text_fields.specs.Lines.{fields_of}
 use Rattle.gen2run.specs.Request.{kind_word, HasShape, Spells, IsFaulty}
 use Rattle.gen2run.specs.Answer.{Answer, IsAnswer, answer_line}
-use Rattle.gen2run.specs.DecodeLines.{IsFaultyBefore, fault_line, Decodes, Refuses, Defines}
+use Rattle.gen2run.specs.DecodeLines.{IsFaultyBefore, fault_line, Decodes, Refuses}
 use Rattle.gen2run.specs.declared.decode.request.Kind.{Kind}
 use Rattle.gen2run.specs.declared.decode.request.Request.{Request}
 use Rattle.gen2run.specs.declared.decode.request.Reason.{Reason}
@@ -49,7 +49,7 @@ same_answers one_outcome (l ∷ lines) (a ∷ one) (b ∷ other) left right =
     cc
 
 -- an input has one text of answers
-same_decoded : HasOneOutcome → (bytes one other : List ℕ) → Decodes bytes one → Decodes bytes other → one ≡ other
+pub same_decoded : HasOneOutcome → (bytes one other : List ℕ) → Decodes bytes one → Decodes bytes other → one ≡ other
 same_decoded one_outcome bytes one other left right =
     let lines : right.asks.lines ≡ left.asks.lines = append_cancel_right right.asks.lines left.asks.lines ([] ∷ []) (sym right.asks.cut ∙ left.asks.cut) in
     let mine = answered_lines left.asks.lines left.requests left.answers.answers left.asks.each left.answers.each in
@@ -124,7 +124,7 @@ same_fault_line : (one other : Fault) → one.line ≡ other.line → one.reason
 same_fault_line one other lines reasons = rw (lines, reasons) refl
 
 -- an input has one fault line
-same_refused : (bytes one other : List ℕ) → Refuses bytes one → Refuses bytes other → one ≡ other
+pub same_refused : (bytes one other : List ℕ) → Refuses bytes one → Refuses bytes other → one ≡ other
 same_refused bytes one other left right =
     let mine = left.first in
     let yours = right.first in
@@ -135,9 +135,3 @@ same_refused bytes one other left right =
 -- no input has both answers and a fault line
 pub texts_apart : (bytes one other : List ℕ) → Decodes bytes one → Refuses bytes other → ⊥
 texts_apart bytes one other decodes refuses = grammatical_not_faulty bytes refuses.fault (decodes.requests, decodes.asks) refuses.first
-
-pub same_text : HasOneOutcome → (bytes one other : List ℕ) → Defines bytes one → Defines bytes other → one ≡ other
-same_text one_outcome bytes one other (inl left) (inl right) = same_decoded one_outcome bytes one other left right
-same_text one_outcome bytes one other (inl left) (inr right) = absurd (texts_apart bytes one other left right)
-same_text one_outcome bytes one other (inr left) (inl right) = absurd (texts_apart bytes other one right left)
-same_text one_outcome bytes one other (inr left) (inr right) = same_refused bytes one other left right

@@ -1,5 +1,5 @@
 -- Profile: what `decode` writes for the bytes that it read. The whole input is checked before a line is written.
-use Rattle.std.specs.Prelude.{◌≡◌, ◌≢◌, ℕ, ◌+◌, List, [], ◌∷◌, ◌++◌, length, codes, ◌⊎◌}
+use Rattle.std.specs.Prelude.{◌≡◌, ◌≢◌, ℕ, ◌+◌, List, [], ◌∷◌, ◌++◌, length, codes}
 use Rattle.std.specs.List.{AllZip}
 use Rattle.text_fields.specs.Lines.{lines_of, fields_of, line_feed}
 use Rattle.std.specs.Fmt.{decimal}
@@ -67,7 +67,3 @@ pub record Refuses (bytes text : List ℕ) : Type 0 where
   pub fault : Fault
   pub first : IsFirstFault bytes fault
   pub line : text ≡ fault_line fault
-
--- the defined text of the bytes: their fault line where the grammar refuses them, else their decoded lines
-abbrev pub Defines : List ℕ → List ℕ → Type 0
-Defines bytes text = Decodes bytes text ⊎ Refuses bytes text

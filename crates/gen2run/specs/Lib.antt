@@ -2,6 +2,6 @@ pub mod Form
 pub mod Request
 pub mod Answer
 pub mod DecodeLines
-pub mod Decoded
+pub mod Defined
 pub mod Outcome
 pub mod StatusNumber

@@ -1,8 +1,14 @@
 -- Profile: what each status of the program says of the bytes that came in and of those that went out. A source
 -- may tell the bytes that it has left, and a sink those that were written; what is not told is left open.
-use Rattle.std.specs.Prelude.{◌≡◌, ℕ, ◌+◌, ◌≤◌, List, ◌++◌, length, Option, ◌⊎◌}
+use Rattle.std.specs.Prelude.{◌≡◌, ℕ, ◌+◌, ◌≤◌, List, ◌++◌, length, Option, Result, Ok, Err, ◌⊎◌}
 use Rattle.air_io.specs.Flow.{Reads, Adds, AtEnd, FaultsRose}
-use Rattle.gen2run.specs.DecodeLines.{Decodes, Refuses, Defines}
+use Rattle.gen2run.specs.Defined.{WritesOf, RefusesOf, DefinesOf}
+use Rattle.gen2run.specs.declared.words.Form.{Form}
+use Rattle.gen2run.specs.declared.words.Form.TheVariants.{Decode}
+use Rattle.gen2run.specs.declared.ending.Wrote.{Wrote}
+use Rattle.gen2run.specs.declared.ending.Wrote.TheVariants.{Text, FaultLine}
+use Rattle.gen2run.specs.declared.ending.WriteEnd.{WriteEnd}
+use Rattle.gen2run.specs.declared.ending.WriteEnd.TheVariants as ends
 use Rattle.gen2run.specs.declared.status.Status.{Status}
 use Rattle.gen2run.specs.declared.status.Status.TheVariants.{Done, BadWords, BadInput, ReadFault, WriteFault, TooLong, OutOfMemory}
 
@@ -16,22 +22,34 @@ pub record ReadsAll (old new : Option (List ℕ)) (bytes : List ℕ) : Type 0 wh
   pub end : AtEnd new
   pub limit : length bytes ≤ input_limit
 
--- the input was read to its end, and a text that T names for it was added whole
-pub record WritesWhole (T : List ℕ → List ℕ → Type 0) (left left' written written' : Option (List ℕ)) : Type 0 where
-  pub bytes : List ℕ
+-- the bytes are the input of the form, and were taken from what was left of the source
+abbrev pub TakesInput : Form → (left left' : Option (List ℕ)) → List ℕ → Type 0
+TakesInput Decode left left' bytes = ReadsAll left left' bytes
+
+-- a text that T names was added whole
+pub record AddsWhole (T : List ℕ → Type 0) (written written' : Option (List ℕ)) : Type 0 where
   pub text : List ℕ
-  pub input : ReadsAll left left' bytes
-  pub named : T bytes text
+  pub named : T text
   pub added : Adds written written' text
 
--- the input was read to its end, and a front of a text that T names for it was added
-pub record WritesFront (T : List ℕ → List ℕ → Type 0) (left left' written written' : Option (List ℕ)) : Type 0 where
-  pub bytes : List ℕ
+-- a front of a text that T names was added
+pub record AddsFront (T : List ℕ → Type 0) (written written' : Option (List ℕ)) : Type 0 where
   pub front : List ℕ
   pub rest : List ℕ
-  pub input : ReadsAll left left' bytes
-  pub named : T bytes (front ++ rest)
+  pub named : T (front ++ rest)
   pub added : Adds written written' front
+
+-- the form's input was taken, and a text that T names for it was added whole
+pub record WritesWhole (T : Form → List ℕ → List ℕ → Type 0) (form : Form) (left left' written written' : Option (List ℕ)) : Type 0 where
+  pub bytes : List ℕ
+  pub input : TakesInput form left left' bytes
+  pub adds : AddsWhole (T form bytes) written written'
+
+-- the form's input was taken, and a front of a text that T names for it was added
+pub record WritesFront (T : Form → List ℕ → List ℕ → Type 0) (form : Form) (left left' written written' : Option (List ℕ)) : Type 0 where
+  pub bytes : List ℕ
+  pub input : TakesInput form left left' bytes
+  pub adds : AddsFront (T form bytes) written written'
 
 -- no more than the limit was read
 pub record ReadsWithin (old new : Option (List ℕ)) : Type 0 where
@@ -45,14 +63,22 @@ pub record ReadsTooMuch (old new : Option (List ℕ)) : Type 0 where
   pub reads : Reads old new bytes
   pub over : length bytes ≡ input_limit + 1
 
--- What a status of `decode` says: of what was left and is left of the source, of what was written and is written, of the
+-- What the end of a form's writing for these bytes says: of what was written and is written, and of the count of the
+-- sink's faults before and after.
+abbrev pub EndsSo : Form → (bytes : List ℕ) → (written written' : Option (List ℕ)) → (writes writes' : ℕ) → Result Wrote WriteEnd → Type 0
+EndsSo form bytes written written' writes writes' (Ok Text) = AddsWhole (WritesOf form bytes) written written'
+EndsSo form bytes written written' writes writes' (Ok FaultLine) = AddsWhole (RefusesOf form bytes) written written'
+EndsSo form bytes written written' writes writes' (Err ends.Fault) = FaultsRose writes writes' × AddsFront (DefinesOf form bytes) written written'
+EndsSo form bytes written written' writes writes' (Err ends.OutOfMemory) = (written' ≡ written) ⊎ AddsFront (DefinesOf form bytes) written written'
+
+-- What a status says under a form: of what was left and is left of the source, of what was written and is written, of the
 -- two counts of faults before and after, and of the fact that the sink is untouched.
-abbrev pub Tells : (left left' written written' : Option (List ℕ)) → (reads reads' writes writes' : ℕ) → (untouched : Type 0) → Status → Type 0
-Tells left left' written written' reads reads' writes writes' untouched Done = WritesWhole Decodes left left' written written'
-Tells left left' written written' reads reads' writes writes' untouched BadInput = WritesWhole Refuses left left' written written'
-Tells left left' written written' reads reads' writes writes' untouched ReadFault = FaultsRose reads reads' × ReadsWithin left left' × untouched
-Tells left left' written written' reads reads' writes writes' untouched WriteFault = FaultsRose writes writes' × WritesFront Defines left left' written written'
-Tells left left' written written' reads reads' writes writes' untouched TooLong = ReadsTooMuch left left' × untouched
-Tells left left' written written' reads reads' writes writes' untouched OutOfMemory =
-    (ReadsWithin left left' × (written' ≡ written)) ⊎ WritesFront Defines left left' written written'
-Tells left left' written written' reads reads' writes writes' untouched BadWords = ⊥
+abbrev pub Tells : Form → (left left' written written' : Option (List ℕ)) → (reads reads' writes writes' : ℕ) → (untouched : Type 0) → Status → Type 0
+Tells form left left' written written' reads reads' writes writes' untouched Done = WritesWhole WritesOf form left left' written written'
+Tells form left left' written written' reads reads' writes writes' untouched BadInput = WritesWhole RefusesOf form left left' written written'
+Tells form left left' written written' reads reads' writes writes' untouched ReadFault = FaultsRose reads reads' × ReadsWithin left left' × untouched
+Tells form left left' written written' reads reads' writes writes' untouched WriteFault = FaultsRose writes writes' × WritesFront DefinesOf form left left' written written'
+Tells form left left' written written' reads reads' writes writes' untouched TooLong = ReadsTooMuch left left' × untouched
+Tells form left left' written written' reads reads' writes writes' untouched OutOfMemory =
+    (ReadsWithin left left' × (written' ≡ written)) ⊎ WritesFront DefinesOf form left left' written written'
+Tells form left left' written written' reads reads' writes writes' untouched BadWords = ⊥

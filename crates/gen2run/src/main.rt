@@ -2,6 +2,8 @@
 #![tactic(auto)]
 
 mod decode;
+mod ending;
+mod laws;
 mod program;
 mod status;
 #[cfg(test)]

@@ -1,12 +1,13 @@
 //! The law of the texts that `decode` writes.
-ghost use Rattle.std.specs.Prelude.{◌≡◌, ℕ, List};
-ghost use Rattle.gen2run.specs.DecodeLines.{Decodes, Refuses, Defines};
+ghost use Rattle.std.specs.Prelude.{◌≡◌, ℕ, List, ◌⊎◌};
+ghost use Rattle.gen2run.specs.DecodeLines.{Decodes, Refuses};
 
 use command_grammar::one_outcome;
 
-/// Each input has one defined text at most: its answers, or its fault line, and never both.
-pub fn inputs_have_one_text()
-    ensures one { (bytes one other : List ℕ) → Defines bytes one → Defines bytes other → one ≡ other }
+/// Decode lines have one defined text at most: their answers, or their fault line, and never both.
+pub fn decode_lines_have_one_text()
+    ensures answers { (bytes one other : List ℕ) → Decodes bytes one → Decodes bytes other → one ≡ other }
+    ensures fault_line { (bytes one other : List ℕ) → Refuses bytes one → Refuses bytes other → one ≡ other }
     ensures apart { (bytes one other : List ℕ) → Decodes bytes one → Refuses bytes other → ⊥ }
 {
     // The bits of a command line have one outcome.

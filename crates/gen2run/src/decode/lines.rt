@@ -2,32 +2,34 @@
 ghost use Rattle.std.specs.Prelude.{◌≡◌, ◌≤◌, length, OnOk, IfOk, IfErr};
 ghost use Rattle.std.specs.String.{string_bytes};
 ghost use Rattle.gen2run.specs.DecodeLines.{IsGrammatical, IsFirstFault, IsAsked, AnswersLine, fault_line, Decodes};
-ghost use Rattle.gen2run.specs.Decoded.{IsDecoded};
-ghost use Rattle.gen2run.specs.Outcome.{input_limit};
+ghost use Rattle.gen2run.specs.Outcome.{input_limit, EndsSo};
 
 use crate::decode::answer::Workspace;
 use crate::decode::request::{Fault, Reason, request_of};
+use crate::ending::{WriteEnd, Wrote};
+use crate::words::Form;
+use air_io::{Sink, write_all};
 use bit_strings::OutOfMemory;
 use std::alloc::Global;
 use text_fields::{push_number, split_line};
 
-/// What `decode` writes for an input.
-#[derive(Drop)]
-pub enum Decoded {
-    /// The answers to the lines, each on a line of its own.
-    Lines(String),
-    /// The one line that reports the first faulty line.
-    Fault(String),
-}
-
-/// What `decode` writes for the bytes that it read. The whole input is checked first.
-pub fn decode_input(alloc: Global, input: &[u8]) -> Result<Decoded, OutOfMemory>
+/// Writes what is defined for the bytes of an input: the answers to its lines, or the one line that reports
+/// the first faulty line. The whole input is checked before a line is written.
+pub fn decode_input<O: Sink>(alloc: Global, input: &[u8], output: &mut O) -> Result<Wrote, WriteEnd>
     requires { length input.now ≤ input_limit }
-    ensures { IfOk result (IsDecoded input.now) }
+    ensures { EndsSo Form.Decode input.now (O.written output.old) (O.written output.new) (O.faults output.old) (O.faults output.new) result }
 {
     match first_fault(input) {
-        Ok(()) => Ok(Decoded::Lines(answers(alloc, input)?)),
-        Err(fault) => Ok(Decoded::Fault(fault_text(alloc, fault)?)),
+        Ok(()) => {
+            let text = answers(alloc, input)?;
+            write_all(output, text.as_bytes())?;
+            Ok(Wrote::Text)
+        }
+        Err(fault) => {
+            let line = fault_text(alloc, fault)?;
+            write_all(output, line.as_bytes())?;
+            Ok(Wrote::FaultLine)
+        }
     }
 }
 

@@ -1,6 +1,8 @@
+use Rattle.std.proofs.Common.{◌≡◌}
 use Rattle.gen2run.proofs.Ends.{completes}
 use Rattle.gen2run.proofs.program.gen2run.Goals as goal
 
-pub returns-in-Some-Decode-clause-complete : goal.returns-in-Some-Decode-clause-complete
-returns-in-Some-Decode-clause-complete g c form bytes told few asks no_read no_write =
-    completes bytes _ _ _ _ _ _ _ _ c.decode.result (rw told at c.decode.ensures) few asks no_read no_write
+pub returns-in-Some-clause-complete : goal.returns-in-Some-clause-complete
+returns-in-Some-clause-complete g c form spelled bytes told few allowed no_read no_write =
+    let same : c.in-Some.form ≡ form = cc (c.in-Some.ensures.only form spelled) in
+    completes form bytes _ _ _ _ _ _ _ _ c.answer_input.result (rw (told, same) at c.answer_input.ensures) few allowed no_read no_write

@@ -1,0 +1,21 @@
+//! What holds of the words and of the texts of each form.
+ghost use Rattle.std.specs.Prelude.{◌≡◌, ℕ, List};
+ghost use Rattle.gen2run.specs.declared.words.Form.{Form};
+ghost use Rattle.gen2run.specs.Form.{words_of};
+ghost use Rattle.gen2run.specs.Defined.{WritesOf, RefusesOf, DefinesOf};
+
+use crate::decode::laws::decode_lines_have_one_text;
+
+/// A list of words is the spelling of one form at most.
+pub fn forms_are_told_apart()
+    ensures { (one other : Form) → words_of one ≡ words_of other → one ≡ other }
+{}
+
+/// Under each form an input has one defined text at most: what the form has to write for it, or its fault
+/// line, and never both.
+pub fn inputs_have_one_text()
+    ensures one { (form : Form) (bytes one other : List ℕ) → DefinesOf form bytes one → DefinesOf form bytes other → one ≡ other }
+    ensures apart { (form : Form) (bytes one other : List ℕ) → WritesOf form bytes one → RefusesOf form bytes other → ⊥ }
+{
+    decode_lines_have_one_text();
+}
