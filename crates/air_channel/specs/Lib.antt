@@ -1,2 +1,5 @@
 pub mod Received
 pub mod ReceivedLaws
+pub mod Exchange
+pub mod Channel
+pub mod Air
