@@ -3,3 +3,5 @@ pub mod ReceivedLaws
 pub mod Exchange
 pub mod Channel
 pub mod Air
+pub mod Reception
+pub mod Past

@@ -1,0 +1,2 @@
+//! A whole run: the history of a scenario on the air, and its report.
+#![tactic(auto)]
