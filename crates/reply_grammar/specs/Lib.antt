@@ -1,5 +1,6 @@
 pub mod Faults
 pub mod PassingLaws
 pub mod ReplyLaws
+pub mod SuitingLaws
 pub mod Table
 pub use Rattle.bit_strings.specs.Words

@@ -1,5 +1,5 @@
 -- The replies of tags as bits (6.3.2.11 Interrogator commands and Tag replies).
-use Rattle.std.specs.Prelude.{◌≡◌, ℕ, ◌/◌, ◌^◌, ◌<◌, ◌≤◌, Bool, true, false, List, ◌∷◌, ◌++◌, length, All}
+use Rattle.std.specs.Prelude.{◌≡◌, ℕ, ◌/◌, ◌^◌, ◌<◌, ◌≤◌, ◌==◌, ◌&&◌, nat_le, Bool, true, false, List, ◌∷◌, ◌++◌, length, All}
 use Rattle.bit_strings.specs.Numbers.{field_of}
 use Rattle.bit_strings.specs.Words.{bits_of_words}
 use Rattle.gen2_crc.specs.Crc.{crc16_of}
@@ -34,6 +34,15 @@ IsReply (Words words) = AreWords words
 IsReply Header = Unit {0}
 IsReply (Error code) = code < 2 ^ 8
 
+-- a Read brings at most the 512 words of a bank (profile)
+abbrev pub FitsBank : Reply → Type 0
+FitsBank (Rn16 rn) = Unit {0}
+FitsBank (Epc pc epc) = Unit {0}
+FitsBank (Handle rn) = Unit {0}
+FitsBank (Words words) = length words ≤ 512
+FitsBank Header = Unit {0}
+FitsBank (Error code) = Unit {0}
+
 -- the handle that an expectation names
 abbrev pub handle_of : Expect → ℕ
 handle_of OneRn16 = 0
@@ -57,6 +66,20 @@ Suits (Error code) (SomeWords count handle) = Unit {0}
 Suits (Error code) (AnyWords handle) = Unit {0}
 Suits (Error code) (OneHeader handle) = Unit {0}
 Suits reply expect = ⊥
+
+-- whether a reply answers what is expected: `Suits`, decided
+abbrev pub suits : Reply → Expect → Bool
+suits (Rn16 rn) OneRn16 = true
+suits (Epc pc epc) OneEpc = true
+suits (Handle rn) OneHandle = true
+suits (Handle rn) (Same handle) = rn == handle
+suits (Words words) (SomeWords count handle) = length words == count
+suits (Words words) (AnyWords handle) = nat_le 1 (length words) && nat_le (length words) 512
+suits Header (OneHeader handle) = true
+suits (Error code) (SomeWords count handle) = true
+suits (Error code) (AnyWords handle) = true
+suits (Error code) (OneHeader handle) = true
+suits reply expect = false
 
 -- the bits are the reply, and it is one that is expected
 pub record Answers (reply : Reply) (expect : Expect) (bits : List Bool) : Type 0 where

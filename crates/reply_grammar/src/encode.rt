@@ -2,20 +2,24 @@
 ghost use Rattle.std.specs.Prelude.{◌≡◌, ◌+◌, ◌*◌, ◌^◌, ◌<◌, ◌≤◌, [], ◌∷◌, ◌++◌, length};
 ghost use Rattle.bit_strings.specs.Numbers.{field_of};
 ghost use Rattle.bit_strings.specs.Words.{bits_of_words};
-ghost use Rattle.reply_grammar.specs.Table.{Answers, CanBeSent, Carries, IsReply, Suits, spelling, with_check};
+ghost use Rattle.reply_grammar.specs.Table.{Answers, CanBeSent, Carries, FitsBank, IsReply, Suits, spelling, with_check};
 ghost use Rattle.reply_grammar.specs.declared.expected.Expect.{Expect};
 
 use crate::expected::Reply;
 use bit_strings::Bits;
 use gen2_crc::crc16;
 
-/// Writes the bits of a reply, of which there are at most 8,240. The handle is used by `Words`,
+/// Writes the bits of a reply, of which there are 16 to 8,225. The handle is used by `Words`,
 /// `Header` and `Error`. A PC must count the words of its EPC in its first five bits, and a Read must
 /// bring at least one word.
 pub fn encode_reply(reply: &Reply, handle: u16, out: &mut Bits)
     requires room { 8240 ≤ out.old.capacity }
     requires sendable { CanBeSent reply.now }
     ensures bits { out.new ≡ record out.old { items = spelling reply.now handle } }
+    ensures in_range { IsReply reply.now }
+    ensures few_words { FitsBank reply.now }
+    ensures least { 16 ≤ length out.new.items }
+    ensures most { length out.new.items ≤ 8225 }
     ensures answers { (expect : Expect) → Suits reply.now expect → Carries expect handle → Answers reply.now expect out.new.items }
 {
     write_reply(reply, handle, out);
@@ -27,6 +31,7 @@ fn write_reply(reply: &Reply, handle: u16, out: &mut Bits)
     requires sendable { CanBeSent reply.now }
     ensures bits { out.new ≡ record out.old { items = spelling reply.now handle } }
     ensures in_range { IsReply reply.now }
+    ensures few_words { FitsBank reply.now }
 {
     out.clear();
     match reply {

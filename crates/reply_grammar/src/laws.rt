@@ -1,6 +1,6 @@
 //! The law of replies.
-ghost use Rattle.std.specs.Prelude.{◌≡◌, ◌⊎◌, List, Bool};
-ghost use Rattle.reply_grammar.specs.Table.{Answers};
+ghost use Rattle.std.specs.Prelude.{◌≡◌, ℕ, ◌≤◌, ◌⊎◌, ◌↔◌, List, Bool, true, length};
+ghost use Rattle.reply_grammar.specs.Table.{Answers, FitsBank, IsReply, Suits, spelling, suits};
 ghost use Rattle.reply_grammar.specs.Faults.{Faults};
 ghost use Rattle.reply_grammar.specs.declared.expected.Expect.{Expect};
 ghost use Rattle.reply_grammar.specs.declared.expected.Reply.{Reply};
@@ -13,4 +13,15 @@ pub fn reply_laws()
     ensures apart { (expect : Expect) (bits : List Bool) (reply : Reply) (refusal : ReplyRefusal) → Answers reply expect bits → Faults refusal expect bits → ⊥ }
     ensures one_reply { (expect : Expect) (bits : List Bool) (r s : Reply) → Answers r expect bits → Answers s expect bits → r ≡ s }
     ensures one_refusal { (expect : Expect) (bits : List Bool) (f g : ReplyRefusal) → Faults f expect bits → Faults g expect bits → f ≡ g }
+{}
+
+/// A reply has from 16 to 8,225 bits: those of an RN16, and those of a Read of 512 words.
+pub fn reply_length()
+    ensures least { (reply : Reply) (handle : ℕ) → IsReply reply → FitsBank reply → 16 ≤ length (spelling reply handle) }
+    ensures most { (reply : Reply) (handle : ℕ) → IsReply reply → FitsBank reply → length (spelling reply handle) ≤ 8225 }
+{}
+
+/// What decides whether a reply suits what is expected.
+pub fn suiting_law()
+    ensures { (reply : Reply) (expect : Expect) → (suits reply expect ≡ true) ↔ Suits reply expect }
 {}

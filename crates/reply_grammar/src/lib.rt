@@ -10,7 +10,7 @@ mod words;
 pub use decode::decode_reply;
 pub use encode::encode_reply;
 pub use expected::{Expect, Received, Reply, ReplyRefusal};
-pub use laws::reply_laws;
+pub use laws::{reply_laws, reply_length, suiting_law};
 pub use words::{EpcWords, ReadWords};
 
 #[cfg(test)]

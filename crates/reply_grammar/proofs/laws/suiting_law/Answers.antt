@@ -1,0 +1,5 @@
+use Rattle.reply_grammar.specs.SuitingLaws.{suits-decides}
+use Rattle.reply_grammar.proofs.laws.suiting_law.Goals as goal
+
+pub returns : goal.returns
+returns c = suits-decides
