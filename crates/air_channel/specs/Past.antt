@@ -8,6 +8,7 @@ use Rattle.air_events.specs.declared.Event.{Event}
 use Rattle.air_events.specs.Entries.{entry_at}
 use Rattle.command_grammar.specs.declared.commands.Command.{Command}
 use Rattle.pie_line.specs.Link.{LinkValue}
+use Rattle.q_round.specs.declared.round.RoundEnd.{RoundEnd}
 use Rattle.tag_machine.specs.TagValue.{TagValue, is_present}
 use Rattle.air_channel.specs.Exchange.{Replied, tag_after_event, tag_after_events, is_missed, outcome_in}
 use Rattle.air_channel.specs.Channel.{Given}
@@ -31,11 +32,6 @@ pub record Record : Type 0 where
   pub hearers : List ℕ
   pub replies : List Replied
   pub given : Given
-
--- how a round ended: after a whole frame of silent slots, or at its limit
-pub data RoundEnd : Type 0 where
-  ended_quiet : RoundEnd
-  ended_at_limit : RoundEnd
 
 pub data Item : Type 0 where
   -- an event befell the tag of a number, between exchanges

@@ -1,7 +1,7 @@
 -- Profile: the one history of a run. The interrogator goes by the rounds of Annex D; the standard leaves it free.
 use Rattle.std.specs.Prelude.{ℕ, zero, suc, ◌+◌, List, [], ◌∷◌, length, map}
 use Rattle.air_channel.specs.Channel.{Given}
-use Rattle.air_channel.specs.Past.{Start, Record, RoundEnd, ended_quiet, ended_at_limit, Item, befell, exchanged, ended, next_record, past_behind_command, rounds_in}
+use Rattle.air_channel.specs.Past.{Start, Record, Item, befell, exchanged, ended, next_record, past_behind_command, rounds_in}
 use Rattle.air_channel.specs.Reception.{Reception, no_stream, whole_reply, no_such_reply, reception_of}
 use Rattle.command_grammar.specs.declared.commands.Command.{Command}
 use Rattle.command_grammar.specs.declared.commands.Command.TheVariants as commands
@@ -10,6 +10,7 @@ use Rattle.q_round.specs.Rounds.{next_command}
 use Rattle.q_round.specs.declared.frame.Outcome.{Outcome}
 use Rattle.q_round.specs.declared.frame.Outcome.TheVariants as outcomes
 use Rattle.q_round.specs.declared.round.Next.{Next}
+use Rattle.q_round.specs.declared.round.RoundEnd.TheVariants as ends
 use Rattle.q_round.specs.declared.round.Next.TheVariants as nexts
 use Rattle.reply_grammar.specs.declared.expected.Expect.{Expect}
 use Rattle.reply_grammar.specs.declared.expected.Expect.TheVariants as expects
@@ -44,8 +45,8 @@ abbrev pub past_behind_turn : (List Outcome → List Item → List Item) → Sta
 past_behind_turn go_on start round outcomes past (nexts.Send command) =
     let slot = length outcomes + 1 in
     go_on (outcome_of (slot_reception start round slot command past) ∷ outcomes) (past_behind_slot start round slot command past)
-past_behind_turn go_on start round outcomes past nexts.Quiet = ended round ended_quiet (length outcomes) ∷ past
-past_behind_turn go_on start round outcomes past nexts.Limit = ended round ended_at_limit (length outcomes) ∷ past
+past_behind_turn go_on start round outcomes past nexts.Quiet = ended round ends.Quiet (length outcomes) ∷ past
+past_behind_turn go_on start round outcomes past nexts.Limit = ended round ends.Limit (length outcomes) ∷ past
 
 -- The past behind so many more turns of a round, or as many as it has, after these outcomes, the latest first.
 abbrev pub past_behind_turns : ℕ → Start → ℕ → SpecValue → List Outcome → List Item → List Item

@@ -1,7 +1,7 @@
 -- Profile: the report of a run, as lines in the order of what happens.
 use Rattle.std.specs.Prelude.{ℕ, ◌+◌, List, [], ◌∷◌, ◌++◌, length, map}
 use Rattle.air_channel.specs.Channel.{heard_levels, wave_for}
-use Rattle.air_channel.specs.Past.{Start, Record, RoundEnd, Item, befell, exchanged, ended, tags_behind}
+use Rattle.air_channel.specs.Past.{Start, Record, Item, befell, exchanged, ended, tags_behind}
 use Rattle.air_world.specs.History.{history_of}
 use Rattle.air_world.specs.Listing.{Listed, listed_by, listing_of}
 use Rattle.air_world.specs.ScenarioStart.{start_of}
