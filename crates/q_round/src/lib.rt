@@ -13,7 +13,7 @@ pub use command_grammar::{Command, Sel, Side, UpDn};
 pub use frame::Outcome;
 pub use laws::round_laws;
 pub use pie_line::Link;
-pub use round::{Next, Round};
+pub use round::{Next, Round, RoundEnd};
 pub use round_spec::RoundSpec;
 
 #[cfg(test)]

@@ -18,6 +18,15 @@ pub enum Next {
     Limit,
 }
 
+/// How a round ended.
+#[derive(Clone, Copy, Debug, PartialEq, Eq)]
+pub enum RoundEnd {
+    /// After a whole frame of silent slots.
+    Quiet,
+    /// With as many slots as its limit.
+    Limit,
+}
+
 /// How far a round is.
 #[derive(Clone, Copy)]
 pub(crate) enum Stage {

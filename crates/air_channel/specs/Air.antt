@@ -1,0 +1,64 @@
+-- Profile: what a contract sees of the air between one interrogator and a population of tags, and what an exchange makes of it.
+use Rattle.std.specs.Prelude.{ℕ, ◌+◌, ◌<◌, ◌≤◌, ◌==◌, Bool, List, length, All, Option, Some, None, if◌then◌else◌}
+use Rattle.std.specs.List.{AllByRecursion}
+use Rattle.air_events.specs.declared.Entry.{Entry}
+use Rattle.air_events.specs.declared.Event.{Event}
+use Rattle.command_grammar.specs.declared.commands.Command.{Command}
+use Rattle.pie_line.specs.Link.{LinkValue}
+use Rattle.tag_machine.specs.TagValue.{TagValue, IsLegalTag}
+use Rattle.tag_machine.specs.Answers.{Outcome, IsSent}
+use Rattle.air_channel.specs.Exchange.{Replied, outcomes_from, replies_from, tags_after, tags_after_event}
+use Rattle.air_channel.specs.Channel.{Given, given_of, heard_levels, wave_for}
+
+-- the link, the tags in the order of their numbers, the frame that was sent last, the stream that came back, how many tags
+-- replied, and how many exchanges there were
+pub record AirValue : Type 0 where
+  pub link : LinkValue
+  pub tags : List TagValue
+  pub frame : List ℕ
+  pub stream : List Bool
+  pub replies : ℕ
+  pub exchanges : ℕ
+
+-- the last value of the number of exchanges, at which it stays
+abbrev pub last_exchange : ℕ
+last_exchange = 18446744073709551615
+
+abbrev pub next_exchange : ℕ → ℕ
+next_exchange exchanges = if exchanges == last_exchange then last_exchange else exchanges + 1
+
+-- what comes of a command and an entry for each of the tags, numbered from 0
+abbrev pub outcomes_in : Command → Entry → List TagValue → List Outcome
+outcomes_in command entry tags = outcomes_from 0 command entry tags
+
+-- what the tags sent, in the order of their numbers
+abbrev pub replies_in : Command → Entry → List TagValue → List Replied
+replies_in command entry tags = replies_from 0 (outcomes_in command entry tags)
+
+-- what the channel gives of it
+abbrev pub given_in : Command → Entry → List TagValue → Given
+given_in command entry tags = given_of (replies_in command entry tags) entry.choice
+
+-- the air after an exchange
+abbrev pub air_after : AirValue → Command → Entry → AirValue
+air_after air command entry = record {
+  link = air.link;
+  tags = tags_after (outcomes_in command entry air.tags);
+  frame = wave_for air.link command;
+  stream = heard_levels air.link (given_in command entry air.tags);
+  replies = length (replies_in command entry air.tags);
+  exchanges = next_exchange air.exchanges;
+}
+
+-- the air after an event befell the tag of a number, outside every exchange
+abbrev pub air_after_event : AirValue → Event → ℕ → AirValue
+air_after_event air event number = record air { tags = tags_after_event 0 event number air.tags }
+
+-- each tag is legal
+abbrev pub AreLegalTags : List TagValue → Type 0
+AreLegalTags tags = AllByRecursion IsLegalTag tags
+
+-- each tag that an entry names is there
+pub record NamesTags (count : ℕ) (entry : Entry) : Type 0 where
+  pub events : All (λ event. event.1 < count) entry.events
+  pub missed : All (λ tag. tag < count) entry.missed

@@ -1,0 +1,35 @@
+-- What the interrogator makes of what the channel gives, as a function of the reply that was sent. That it is what the levels
+-- say by the line code and the table of replies (Received.antt) is a law.
+use Rattle.std.specs.Prelude.{ℕ, ◌==◌, ◌&&◌, Bool, true, if◌then◌else◌}
+use Rattle.reply_grammar.specs.Table.{handle_of, suits}
+use Rattle.reply_grammar.specs.declared.expected.Expect.{Expect}
+use Rattle.reply_grammar.specs.declared.expected.Reply.{Reply}
+use Rattle.reply_grammar.specs.declared.expected.Reply.TheVariants.{Rn16, Epc, Handle, Words, Header, Error}
+use Rattle.tag_machine.specs.Answers.{Sent}
+use Rattle.air_channel.specs.Exchange.{Replied}
+use Rattle.air_channel.specs.Channel.{Given, silence, whole, broken}
+
+-- no stream came, a stream that is a whole reply of the kind that is expected, or a stream that is none
+pub data Reception : Type 0 where
+  no_stream : Reception
+  whole_reply : (reply : Reply) → Reception
+  no_such_reply : Reception
+
+-- the handle in a reply is the one that is expected, where a reply of its kind has one
+abbrev pub has_handle : Reply → ℕ → ℕ → Bool
+has_handle (Rn16 rn) handle expected = true
+has_handle (Epc pc epc) handle expected = true
+has_handle (Handle rn) handle expected = true
+has_handle (Words words) handle expected = handle == expected
+has_handle Header handle expected = handle == expected
+has_handle (Error code) handle expected = handle == expected
+
+-- what was sent is a reply that is expected
+abbrev pub is_expected : Expect → Sent → Bool
+is_expected expect sent = suits sent.reply expect && has_handle sent.reply sent.handle (handle_of expect)
+
+-- no stream with one level inverted is a stream, so that a broken reply is never whole
+abbrev pub reception_of : Expect → Given → Reception
+reception_of expect silence = no_stream
+reception_of expect (whole replied) = if is_expected expect replied.sent then whole_reply replied.sent.reply else no_such_reply
+reception_of expect (broken replied place) = no_such_reply

@@ -1,0 +1,4 @@
+pub mod History
+pub mod Listing
+pub mod ScenarioStart
+pub mod Report

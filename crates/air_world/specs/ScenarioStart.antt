@@ -1,0 +1,25 @@
+-- Profile: what the run of a scenario begins with.
+use Rattle.std.specs.Prelude.{ℕ, List, [], map}
+use Rattle.air_channel.specs.Past.{Start, Item}
+use Rattle.scenario.specs.declared.values.Scenario.{Scenario}
+use Rattle.scenario_lines.specs.declared.tag.TagSpec.{TagSpec}
+use Rattle.tag_machine.specs.TagValue.{TagValue}
+use Rattle.tag_machine.specs.Events.{new_tag}
+use Rattle.tag_memory.specs.Image.{banks_of}
+use Rattle.air_channel.specs.Air.{AirValue}
+use Rattle.air_world.specs.History.{history_of}
+
+-- a tag as a scenario gives it: ready, with the flags of a new tag, no draw made, and StoredCRC computed
+abbrev pub tag_of : TagSpec → TagValue
+tag_of tag = new_tag (banks_of tag.image) tag.locks tag.words
+
+abbrev pub start_of : Scenario → Start
+start_of scenario = record { link = scenario.link; tags = map tag_of scenario.tags; entries = scenario.entries }
+
+-- the one history of a scenario
+abbrev pub history : Scenario → List Item
+history scenario = history_of (start_of scenario) scenario.steps
+
+-- the air at the start: no exchange was made on it
+abbrev pub new_air : Start → AirValue
+new_air start = record { link = start.link; tags = start.tags; frame = []; stream = []; replies = 0; exchanges = 0 }

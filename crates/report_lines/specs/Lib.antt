@@ -1,0 +1,2 @@
+pub mod ReportLine
+pub mod SeenCounts

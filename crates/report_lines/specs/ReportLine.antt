@@ -1,0 +1,84 @@
+-- Profile: the lines of the report of a run, and the one spelling of each.
+use Rattle.std.specs.Prelude.{ℕ, Bool, List, [], ◌∷◌, ◌++◌, map, codes}
+use Rattle.std.specs.List.{flat_map}
+use Rattle.std.specs.Fmt.{decimal}
+use Rattle.text_fields.specs.Binary.{binary, binary_digit}
+use Rattle.text_fields.specs.Hexadecimal.{hex_word, hex_words}
+use Rattle.text_fields.specs.Lines.{line_feed, line_with}
+use Rattle.command_grammar.specs.declared.command.Side.{Side}
+use Rattle.command_grammar.specs.declared.command.Side.TheVariants.{A, B}
+use Rattle.q_round.specs.declared.round.RoundEnd.{RoundEnd}
+use Rattle.q_round.specs.declared.round.RoundEnd.TheVariants as ends
+use Rattle.scenario_lines.specs.Spelling.{locks_text}
+use Rattle.session_flags.specs.declared.flags.Flags.{Flags}
+use Rattle.tag_machine.specs.declared.states.StateName.{StateName}
+use Rattle.tag_machine.specs.declared.states.StateName.TheVariants as names
+use Rattle.tag_machine.specs.Names.{name_of}
+use Rattle.tag_machine.specs.TagValue.{TagValue}
+
+pub data ReportLine : Type 0 where
+  -- the backscatter link frequency, as a numerator and a denominator in nanoseconds
+  BlfLine : (numerator denominator : ℕ) → ReportLine
+  -- the intervals of the frame that was sent in an exchange, in nanoseconds
+  TxLine : (exchange : ℕ) → (intervals : List ℕ) → ReportLine
+  -- how many tags replied in an exchange, and the levels that came
+  RxLine : (exchange count : ℕ) → (levels : List Bool) → ReportLine
+  -- a tag was listed: PC and EPC, with the round and the slot
+  ListLine : (round slot pc : ℕ) → (epc : List ℕ) → ReportLine
+  -- a round ended, which had so many slots
+  RoundLine : (round : ℕ) → (end : RoundEnd) → (slots : ℕ) → ReportLine
+  -- how often a PC and an EPC were listed
+  SeenLine : (count pc : ℕ) → (epc : List ℕ) → ReportLine
+  -- what a tag is in the end
+  TagLine : (number : ℕ) → (tag : TagValue) → ReportLine
+  -- the end of the report
+  DoneLine : ReportLine
+
+abbrev pub end_word : RoundEnd → List ℕ
+end_word ends.Quiet = codes "quiet"
+end_word ends.Limit = codes "limit"
+
+abbrev pub state_word : StateName → List ℕ
+state_word names.Ready = codes "ready"
+state_word names.Arbitrate = codes "arbitrate"
+state_word names.InReply = codes "reply"
+state_word names.Acknowledged = codes "acknowledged"
+state_word names.Opened = codes "open"
+state_word names.Secured = codes "secured"
+state_word names.Killed = codes "killed"
+state_word names.Unpowered = codes "off"
+
+abbrev pub side_letter : Side → List ℕ
+side_letter A = codes "A"
+side_letter B = codes "B"
+
+-- the inventoried flags of S0 to S3, and SL as a binary digit
+abbrev pub flags_word : Flags → List ℕ
+flags_word flags =
+    side_letter flags.s0 ++ side_letter flags.s1 ++ side_letter flags.s2 ++ side_letter flags.s3 ++ binary_digit flags.sl ∷ []
+
+-- a tag: its state, its flags, its lock bits, and its four banks
+abbrev pub tag_fields : ℕ → TagValue → List (List ℕ)
+tag_fields number tag =
+    codes "tag" ∷ decimal number ∷ state_word (name_of tag.state) ∷ flags_word tag.body.flags ∷ locks_text tag.body.locks
+    ∷ hex_words tag.body.memory.reserved ∷ hex_words tag.body.memory.epc ∷ hex_words tag.body.memory.tid
+    ∷ hex_words tag.body.memory.user ∷ []
+
+-- the fields of a line
+abbrev pub report_fields : ReportLine → List (List ℕ)
+report_fields (BlfLine numerator denominator) = codes "blf" ∷ (decimal numerator ++ codes "/" ++ decimal denominator) ∷ []
+report_fields (TxLine exchange intervals) = codes "tx" ∷ decimal exchange ∷ map decimal intervals
+report_fields (RxLine exchange count levels) = codes "rx" ∷ decimal exchange ∷ decimal count ∷ binary levels ∷ []
+report_fields (ListLine round slot pc epc) = codes "list" ∷ decimal round ∷ decimal slot ∷ hex_word pc ∷ hex_words epc ∷ []
+report_fields (RoundLine round end slots) = codes "round" ∷ decimal round ∷ end_word end ∷ decimal slots ∷ []
+report_fields (SeenLine count pc epc) = codes "seen" ∷ decimal count ∷ hex_word pc ∷ hex_words epc ∷ []
+report_fields (TagLine number tag) = tag_fields number tag
+report_fields DoneLine = codes "done" ∷ []
+
+-- a line with its line feed
+abbrev pub report_line_text : ReportLine → List ℕ
+report_line_text line = line_with (report_fields line) ++ line_feed ∷ []
+
+-- lines as text
+abbrev pub report_text : List ReportLine → List ℕ
+report_text lines = flat_map report_line_text lines
