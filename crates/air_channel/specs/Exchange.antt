@@ -11,13 +11,13 @@ use Rattle.tag_machine.specs.Events.{happens}
 use Rattle.tag_machine.specs.Step.{step}
 
 -- an event that befalls the tag of one number, seen by the tag of another
-abbrev pub tag_after_event : ℕ → Event → ℕ → TagValue → TagValue
-tag_after_event number event befallen tag = if befallen == number then happens event tag.state tag.body else tag
+abbrev pub tag_after_own_event : ℕ → Event → ℕ → TagValue → TagValue
+tag_after_own_event number event befallen tag = if befallen == number then happens event tag.state tag.body else tag
 
 -- the tag of a number after the events, in order
 abbrev pub tag_after_events : ℕ → List (Event × ℕ) → TagValue → TagValue
 tag_after_events number [] tag = tag
-tag_after_events number (event ∷ events) tag = tag_after_events number events (tag_after_event number event.0 event.1 tag)
+tag_after_events number (event ∷ events) tag = tag_after_events number events (tag_after_own_event number event.0 event.1 tag)
 
 -- the tag of this number misses the command
 abbrev pub is_missed : ℕ → Entry → Bool
@@ -64,4 +64,4 @@ hearers_from number entry (tag ∷ tags) = (if is_missed number entry then 0 els
 abbrev pub tags_after_event : ℕ → Event → ℕ → List TagValue → List TagValue
 tags_after_event number event befallen [] = []
 tags_after_event number event befallen (tag ∷ tags) =
-    tag_after_event number event befallen tag ∷ tags_after_event (number + 1) event befallen tags
+    tag_after_own_event number event befallen tag ∷ tags_after_event (number + 1) event befallen tags

@@ -10,7 +10,7 @@ use Rattle.command_grammar.specs.declared.commands.Command.{Command}
 use Rattle.pie_line.specs.Link.{LinkValue}
 use Rattle.q_round.specs.declared.round.RoundEnd.{RoundEnd}
 use Rattle.tag_machine.specs.TagValue.{TagValue, is_present}
-use Rattle.air_channel.specs.Exchange.{Replied, tag_after_event, tag_after_events, is_missed, outcome_in}
+use Rattle.air_channel.specs.Exchange.{Replied, tag_after_own_event, tag_after_events, is_missed, outcome_in}
 use Rattle.air_channel.specs.Channel.{Given}
 use Rattle.air_channel.specs.Air.{replies_in, given_in}
 
@@ -45,7 +45,7 @@ pub data Item : Type 0 where
 -- the commands that the tag didn't miss, and by no other tag.
 abbrev pub tag_behind : ℕ → TagValue → List Item → TagValue
 tag_behind number start [] = start
-tag_behind number start (befell event befallen ∷ past) = tag_after_event number event befallen (tag_behind number start past)
+tag_behind number start (befell event befallen ∷ past) = tag_after_own_event number event befallen (tag_behind number start past)
 tag_behind number start (exchanged sent ∷ past) = (outcome_in number sent.command sent.entry (tag_behind number start past)).tag
 tag_behind number start (ended round end slots ∷ past) = tag_behind number start past
 
