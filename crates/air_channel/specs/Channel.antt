@@ -6,7 +6,7 @@ use Rattle.air_events.specs.declared.Choice.TheVariants as choices
 use Rattle.command_grammar.specs.declared.commands.Command.{Command}
 use Rattle.command_grammar.specs.declared.commands.Command.TheVariants as commands
 use Rattle.command_grammar.specs.Commands.{spelling_of}
-use Rattle.line_code.specs.Laws.{flipped}
+use Rattle.line_code.specs.Laws.{with_level_flipped}
 use Rattle.line_code.specs.Stream.{stream_of}
 use Rattle.line_codes.specs.Codes.{table_of}
 use Rattle.pie_line.specs.Link.{LinkValue}
@@ -66,7 +66,7 @@ abbrev pub heard_levels : LinkValue → Given → List Bool
 heard_levels link silence = []
 heard_levels link (whole replied) = levels_of link replied.sent
 heard_levels link (broken replied place) =
-    let levels = levels_of link replied.sent in flipped levels (place % length levels)
+    let levels = levels_of link replied.sent in with_level_flipped levels (place % length levels)
 
 -- whether the channel gives a stream
 abbrev pub got_of : Given → Got

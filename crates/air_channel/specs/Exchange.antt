@@ -7,12 +7,12 @@ use Rattle.air_events.specs.declared.Event.{Event}
 use Rattle.command_grammar.specs.declared.commands.Command.{Command}
 use Rattle.tag_machine.specs.TagValue.{TagValue}
 use Rattle.tag_machine.specs.Answers.{Outcome, Sent, silent}
-use Rattle.tag_machine.specs.Events.{happens}
+use Rattle.tag_machine.specs.Events.{tag_after_event}
 use Rattle.tag_machine.specs.Step.{step}
 
 -- an event that befalls the tag of one number, seen by the tag of another
 abbrev pub tag_after_own_event : ℕ → Event → ℕ → TagValue → TagValue
-tag_after_own_event number event befallen tag = if befallen == number then happens event tag.state tag.body else tag
+tag_after_own_event number event befallen tag = if befallen == number then tag_after_event event tag.state tag.body else tag
 
 -- the tag of a number after the events, in order
 abbrev pub tag_after_events : ℕ → List (Event × ℕ) → TagValue → TagValue

@@ -4,8 +4,8 @@ use Rattle.std.specs.Prelude.{◌≡◌, ℕ, ◌⊎◌, Bool, List, length}
 use Rattle.bit_strings.specs.Family.{IsBadAt, IsShortAt}
 use Rattle.line_code.specs.Table.{Table}
 use Rattle.line_code.specs.Stream.{IsStream, Streams}
-use Rattle.reply_grammar.specs.Table.{Answers}
-use Rattle.reply_grammar.specs.Faults.{Faults}
+use Rattle.reply_grammar.specs.Table.{AnswersExpected}
+use Rattle.reply_grammar.specs.Refusals.{RefusesReply}
 use Rattle.reply_grammar.specs.declared.expected.Expect.{Expect}
 use Rattle.reply_grammar.specs.declared.expected.Reply.{Reply}
 use Rattle.reply_grammar.specs.declared.expected.ReplyRefusal.{ReplyRefusal}
@@ -16,14 +16,14 @@ use Rattle.reply_grammar.specs.declared.expected.Received.TheVariants.{Whole, Re
 pub record IsWhole (t : Table) (trext : Bool) (expect : Expect) (levels : List Bool) (reply : Reply) : Type 0 where
   pub bits : List Bool
   pub stream : IsStream t trext bits levels
-  pub answers : Answers reply expect bits
+  pub answers : AnswersExpected reply expect bits
 
 -- the levels are the stream of some bits, which are no reply that is expected; the place is behind the last level
 pub record IsUnexpected (t : Table) (trext : Bool) (expect : Expect) (levels : List Bool) (place : ℕ) : Type 0 where
   pub bits : List Bool
   pub stream : IsStream t trext bits levels
   pub refusal : ReplyRefusal
-  pub faults : Faults refusal expect bits
+  pub faults : RefusesReply refusal expect bits
   pub behind : place ≡ length levels
 
 -- a whole reply, or the place where the levels stop being the front of a stream, or their number, where they are

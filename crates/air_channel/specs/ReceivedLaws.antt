@@ -8,8 +8,8 @@ use Rattle.line_code.specs.StreamLaws.{begins_front, one_stream, refused_is_none
 use Rattle.line_code.specs.declared.refusal.LineRefusal.TheVariants.{Invalid, Unfinished}
 use Rattle.line_codes.specs.CodeLaws.{code_even, code_tells}
 use Rattle.line_codes.specs.Codes.{table_of, chips_of}
-use Rattle.reply_grammar.specs.Table.{Answers}
-use Rattle.reply_grammar.specs.Faults.{Faults}
+use Rattle.reply_grammar.specs.Table.{AnswersExpected}
+use Rattle.reply_grammar.specs.Refusals.{RefusesReply}
 use Rattle.reply_grammar.specs.PassingLaws.{answers_pass}
 use Rattle.reply_grammar.specs.ReplyLaws.{one_reply, passes_apart}
 use Rattle.reply_grammar.specs.declared.expected.Expect.{Expect}
@@ -24,9 +24,9 @@ pub same_bits : (code : Code) (trext : Bool) (xs ys levels : List Bool) → IsSt
 same_bits code trext xs ys levels = one_stream (table_of code) (chips_of code) (code_even code) (code_tells code) trext xs ys levels
 
 -- bits that answer have no fault
-answered_apart : (reply : Reply) (refusal : ReplyRefusal) (expect : Expect) (xs ys : List Bool) → xs ≡ ys → Answers reply expect xs → Faults refusal expect ys → ⊥
+answered_apart : (reply : Reply) (refusal : ReplyRefusal) (expect : Expect) (xs ys : List Bool) → xs ≡ ys → AnswersExpected reply expect xs → RefusesReply refusal expect ys → ⊥
 answered_apart reply refusal expect xs ys same answers faults =
-    passes_apart refusal expect ys (answers_pass reply expect ys (subst (λ b. Answers reply expect b) same answers)) faults
+    passes_apart refusal expect ys (answers_pass reply expect ys (subst (λ b. AnswersExpected reply expect b) same answers)) faults
 
 -- a whole reply is not refused
 whole_apart : (code : Code) (trext : Bool) (expect : Expect) (levels : List Bool) (reply : Reply) (place : ℕ)
@@ -52,7 +52,7 @@ pub same_received : (code : Code) (trext : Bool) (expect : Expect) (levels : Lis
     → IsReceived (table_of code) trext expect levels left → IsReceived (table_of code) trext expect levels right → left ≡ right
 same_received code trext expect levels (Whole r) (Whole s) left right =
     let bits : right.bits ≡ left.bits = same_bits code trext right.bits left.bits levels right.stream left.stream in
-    ap (λ (reply : Reply). Whole reply) (one_reply r s expect left.bits left.answers (subst (λ b. Answers s expect b) bits right.answers))
+    ap (λ (reply : Reply). Whole reply) (one_reply r s expect left.bits left.answers (subst (λ b. AnswersExpected s expect b) bits right.answers))
 same_received code trext expect levels (Whole r) (Refused q) left right = absurd (whole_apart code trext expect levels r q left right)
 same_received code trext expect levels (Refused p) (Whole s) left right = absurd (whole_apart code trext expect levels s p right left)
 same_received code trext expect levels (Refused p) (Refused q) left right = ap (λ n. Refused n) (one_place (table_of code) trext expect levels p q left right)

@@ -3,7 +3,7 @@ ghost use Rattle.std.specs.Prelude.{◌≡◌, ◌^◌, ◌<◌, ℕ, List, Bool
 ghost use Rattle.bit_strings.specs.declared.code.Code.{Code};
 ghost use Rattle.line_code.specs.Stream.{IsStream};
 ghost use Rattle.line_codes.specs.Codes.{table_of};
-ghost use Rattle.reply_grammar.specs.Table.{Answers, Carries, IsReply, Suits, spelling};
+ghost use Rattle.reply_grammar.specs.Table.{AnswersExpected, Carries, IsReply, Suits, spelling};
 ghost use Rattle.reply_grammar.specs.declared.expected.Expect.{Expect};
 ghost use Rattle.reply_grammar.specs.declared.expected.Expect.TheVariants.{Rn16 as OneRn16, Epc as OneEpc, Handle as OneHandle, Same};
 ghost use Rattle.reply_grammar.specs.declared.expected.Reply.{Reply};
@@ -34,7 +34,7 @@ pub fn reply_received()
         → IsStream (table_of code) trext (spelling reply handle) levels → IsReply reply → handle < 2 ^ 16 → Suits reply expect → Carries expect handle
         → IsReceived (table_of code) trext expect levels (Whole reply) }
     ensures unexpected { (code : Code) (trext : Bool) (expect : Expect) (bits levels : List Bool)
-        → IsStream (table_of code) trext bits levels → ((reply : Reply) → ¬ Answers reply expect bits)
+        → IsStream (table_of code) trext bits levels → ((reply : Reply) → ¬ AnswersExpected reply expect bits)
         → IsReceived (table_of code) trext expect levels (Refused (length levels)) }
 {
     reply_laws();

@@ -1,13 +1,14 @@
 //! Levels to replies.
 ghost use Rattle.std.specs.Prelude.{◌≡◌, ℕ, ◌<◌, ◌≤◌, List, Bool, [], length};
-ghost use Rattle.line_code.specs.Laws.{flipped};
+ghost use Rattle.line_code.specs.Laws.{with_level_flipped};
 ghost use Rattle.line_code.specs.Stream.{IsStream};
 ghost use Rattle.line_codes.specs.Codes.{table_of};
-ghost use Rattle.reply_grammar.specs.Table.{Answers};
+ghost use Rattle.reply_grammar.specs.Table.{AnswersExpected};
 ghost use Rattle.reply_grammar.specs.declared.expected.Reply.{Reply};
 ghost use Rattle.reply_grammar.specs.declared.expected.Received.{Received};
 ghost use Rattle.reply_grammar.specs.declared.expected.Received.TheVariants.{Whole, Refused};
 ghost use Rattle.air_channel.specs.Received.{IsReceived};
+ghost use Rattle.bit_strings.specs.BitString.{most_counted};
 
 use bit_strings::{Bits, Levels};
 use line_codes::{Code, LineRefusal, decode_levels};
@@ -28,12 +29,12 @@ pub fn receive(
     bits: &mut Bits,
 ) -> Received
     requires room { length stream.now.items ≤ bits.old.capacity }
-    requires few { length stream.now.items ≤ 4000000000 }
+    requires few { length stream.now.items ≤ most_counted }
     ensures received { IsReceived (table_of code) trext expect.now stream.now.items result }
     ensures only { (answer : Received) → IsReceived (table_of code) trext expect.now stream.now.items answer → result ≡ answer }
-    ensures only_whole { (reply : Reply) (sent : List Bool) → IsStream (table_of code) trext sent stream.now.items → Answers reply expect.now sent → (result ≡ Whole reply) × (bits.new.items ≡ sent) }
-    ensures whole { (reply : Reply) → result ≡ Whole reply → IsStream (table_of code) trext bits.new.items stream.now.items × Answers reply expect.now bits.new.items }
-    ensures flip { (sent whole : List Bool) (at : ℕ) → IsStream (table_of code) trext sent whole → at < length whole → stream.now.items ≡ flipped whole at → (place : ℕ) × (result ≡ Refused place) }
+    ensures only_whole { (reply : Reply) (sent : List Bool) → IsStream (table_of code) trext sent stream.now.items → AnswersExpected reply expect.now sent → (result ≡ Whole reply) × (bits.new.items ≡ sent) }
+    ensures whole { (reply : Reply) → result ≡ Whole reply → IsStream (table_of code) trext bits.new.items stream.now.items × AnswersExpected reply expect.now bits.new.items }
+    ensures flip { (sent whole : List Bool) (at : ℕ) → IsStream (table_of code) trext sent whole → at < length whole → stream.now.items ≡ with_level_flipped whole at → (place : ℕ) × (result ≡ Refused place) }
     ensures refused { (place : ℕ) → result ≡ Refused place → bits.new.items ≡ [] }
     ensures capacity { bits.new.capacity ≡ bits.old.capacity }
 {

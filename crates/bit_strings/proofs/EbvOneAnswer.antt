@@ -5,7 +5,7 @@ use Rattle.std.proofs.lemmas.List.{take-append-drop, take-append-le, nil_from_le
 use Rattle.bit_strings.specs.Numbers.{part_of}
 use Rattle.bit_strings.specs.Ebv.{IsCutEbv, IsTooLong, BeginsWithNothing}
 use Rattle.bit_strings.specs.EbvLaws.{ebv_apart, says-ebv, ends-ebv}
-use Rattle.bit_strings.specs.EbvAnswers.{Answers, StandsAt}
+use Rattle.bit_strings.specs.EbvAnswers.{IsEbvAnswer, HasEbvAt}
 use Rattle.bit_strings.specs.declared.ebv.Ebv.{Ebv}
 use Rattle.bit_strings.specs.declared.ebv.Ebv.TheVariants.{Value, Short, NotShortest, TooLong}
 
@@ -16,7 +16,7 @@ rest_of items from next = drop (next - from) (drop from items)
 split-at : (items : List Bool) (from next : ℕ) → part_of items from (next - from) ++ rest_of items from next ≡ drop from items
 split-at items from next = take-append-drop (next - from) (drop from items)
 
-value-value : (items : List Bool) (from n next m other : ℕ) → StandsAt items from n next → StandsAt items from m other → (n ≡ m) × (next ≡ other)
+value-value : (items : List Bool) (from n next m other : ℕ) → HasEbvAt items from n next → HasEbvAt items from m other → (n ≡ m) × (next ≡ other)
 value-value items from n next m other left right =
     let same : (n ≡ m) × (part_of items from (next - from) ≡ part_of items from (other - from)) =
     ebv_apart n m (part_of items from (next - from)) (part_of items from (other - from)) (rest_of items from next) (rest_of items from other) left.vector right.vector (split-at items from next ∙ sym (split-at items from other)) in
@@ -26,7 +26,7 @@ value-value items from n next m other left right =
     let d = length-drop from items in
     (same.0, omega (arith, left.forward, left.within, right.forward, right.within))
 
-value-short : (items : List Bool) (from n next : ℕ) → StandsAt items from n next → IsCutEbv (drop from items) → ⊥
+value-short : (items : List Bool) (from n next : ℕ) → HasEbvAt items from n next → IsCutEbv (drop from items) → ⊥
 value-short items from n next here cut =
     let front : List Bool = part_of items from (next - from) in
     let turned : front ++ (rest_of items from next ++ cut.more) ≡ (drop from items ++ cut.more) ++ [] =
@@ -34,11 +34,11 @@ value-short items from n next here cut =
     let same : (n ≡ cut.number) × (front ≡ drop from items ++ cut.more) = ebv_apart n cut.number front (drop from items ++ cut.more) (rest_of items from next ++ cut.more) [] here.vector cut.whole turned in
     cut.some_more (nil_from_length cut.more (omega (arith, ap length same.1, length-append (drop from items) cut.more, length-take (next - from) (drop from items))))
 
-value-nothing : (items : List Bool) (from n next : ℕ) → StandsAt items from n next → BeginsWithNothing (drop from items) → ⊥
+value-nothing : (items : List Bool) (from n next : ℕ) → HasEbvAt items from n next → BeginsWithNothing (drop from items) → ⊥
 value-nothing items from n next here nothing =
     says-ebv n (part_of items from (next - from)) (rest_of items from next) here.vector (subst BeginsWithNothing (sym (split-at items from next)) nothing)
 
-value-long : (items : List Bool) (from n next : ℕ) → StandsAt items from n next → IsTooLong (drop from items) → ⊥
+value-long : (items : List Bool) (from n next : ℕ) → HasEbvAt items from n next → IsTooLong (drop from items) → ⊥
 value-long items from n next here long =
     let back = sym (split-at items from next) in
     let at : (i : ℕ) → slice_get (drop from items) i ≡ Some true → slice_get (part_of items from (next - from) ++ rest_of items from next) i ≡ Some true =
@@ -64,7 +64,7 @@ short-long : (bits : List Bool) → IsCutEbv bits → IsTooLong bits → ⊥
 short-long bits cut long =
     ends-ebv cut.number (bits ++ cut.more) [] cut.whole (more-there bits cut.more 0 long.first) (more-there bits cut.more 8 long.second) (more-there bits cut.more 16 long.third) (more-there bits cut.more 24 long.fourth)
 
-pub one_answer : (items : List Bool) (from : ℕ) (a b : Ebv) → Answers a items from → Answers b items from → a ≡ b
+pub one_answer : (items : List Bool) (from : ℕ) (a b : Ebv) → IsEbvAnswer a items from → IsEbvAnswer b items from → a ≡ b
 one_answer items from (Value n next) (Value m other) left right =
     let same = value-value items from n next m other left right in
     let number = same.0 in

@@ -10,10 +10,11 @@ use Rattle.std.proofs.lemmas.List.Elements.{All-push}
 use Rattle.bit_strings.specs.Numbers.{value_of, part_of}
 use Rattle.bit_strings.specs.NumberLaws.{value_of-within, value_of-push}
 use Rattle.bit_strings.specs.Ebv.{number_of, blocks_of, IsShortest, IsEbv, IsCutEbv, IsTooLong, BeginsWithNothing}
-use Rattle.bit_strings.specs.EbvLaws.{AreSevens, seven-head, seven-tail, number_of-below, slice_get-skip, nothing-digit, digit-nothing}
-use Rattle.bit_strings.specs.EbvAnswers.{Begins, BeginsBlock, StandsAt}
+use Rattle.bit_strings.specs.EbvLaws.{AreSevens, seven-head, seven-tail, number_of-below, nothing-digit, digit-nothing}
+use Rattle.bit_strings.specs.EbvAnswers.{IsBlockAnswer, BeginsBlock, HasEbvAt}
 use Rattle.bit_strings.specs.declared.ebv.Block.{Block}
 use Rattle.bit_strings.specs.declared.ebv.Block.TheVariants.{Cut, More}
+use Rattle.bit_strings.specs.ListLaws.{slice_get-append_right}
 
 -- where a block could be read, eight bits stand
 pub long_enough : (items : List Bool) (at : ℕ) → (length items < at + 8 → true ≡ false) → 8 ≤ length (drop at items)
@@ -160,7 +161,7 @@ closed ds seven sevens proper few long = record {
 }
 
 -- the last block
-pub stands_at : (items : List Bool) (from at count value digit : ℕ) → count ≤ 3 → Begun items from at count value → BeginsBlock false digit (drop at items) → StandsAt items from (128 * value + digit) (at + 8)
+pub stands_at : (items : List Bool) (from at count value digit : ℕ) → count ≤ 3 → Begun items from at count value → BeginsBlock false digit (drop at items) → HasEbvAt items from (128 * value + digit) (at + 8)
 stands_at items from at count value digit few begun block =
     let bits : List Bool = open_blocks begun.digits ++ (false ∷ block.seven) in
     let whole : drop from items ≡ bits ++ block.behind =
@@ -258,10 +259,10 @@ too_long_bits bits rest (d ∷ e ∷ f ∷ []) split sevens proper three fourth 
     let at : (i : ℕ) → slice_get bits i ≡ slice_get ((true ∷ d) ++ ((true ∷ e) ++ ((true ∷ f) ++ rest))) i = λ i. ap (λ (b : List Bool). slice_get b i) turned in
     record {
       first = at 0;
-      second = at 8 ∙ slice_get-skip (true ∷ d) ((true ∷ e) ++ ((true ∷ f) ++ rest)) 0 8 (omega arith);
-      third = at 16 ∙ slice_get-skip (true ∷ d) ((true ∷ e) ++ ((true ∷ f) ++ rest)) 8 16 (omega arith) ∙ slice_get-skip (true ∷ e) ((true ∷ f) ++ rest) 0 8 (omega arith);
-      fourth = at 24 ∙ slice_get-skip (true ∷ d) ((true ∷ e) ++ ((true ∷ f) ++ rest)) 16 24 (omega arith) ∙ slice_get-skip (true ∷ e) ((true ∷ f) ++ rest) 8 16 (omega arith)
-          ∙ slice_get-skip (true ∷ f) rest 0 8 (omega arith) ∙ fourth;
+      second = at 8 ∙ slice_get-append_right (true ∷ d) ((true ∷ e) ++ ((true ∷ f) ++ rest)) 0 8 (omega arith);
+      third = at 16 ∙ slice_get-append_right (true ∷ d) ((true ∷ e) ++ ((true ∷ f) ++ rest)) 8 16 (omega arith) ∙ slice_get-append_right (true ∷ e) ((true ∷ f) ++ rest) 0 8 (omega arith);
+      fourth = at 24 ∙ slice_get-append_right (true ∷ d) ((true ∷ e) ++ ((true ∷ f) ++ rest)) 16 24 (omega arith) ∙ slice_get-append_right (true ∷ e) ((true ∷ f) ++ rest) 8 16 (omega arith)
+          ∙ slice_get-append_right (true ∷ f) rest 0 8 (omega arith) ∙ fourth;
       says = λ nothing. proper (nothing-digit d ((true ∷ e) ++ ((true ∷ f) ++ rest)) d_long (subst BeginsWithNothing turned nothing));
     }
 
@@ -281,15 +282,15 @@ too_long items from at count value got three begun test read =
     too_long_bits (drop from items) (drop at items) begun.digits begun.spelled begun.sevens begun.proper (begun.count_is ∙ three) (slice_get-drop items at ∙ sym read ∙ is-true got test)
 
 -- the fourth block has no extension bit 1, and is not the last
-pub cut_fourth : (items : List Bool) (from at count value : ℕ) (got : Option Bool) (block : Block) → count ≡ 3 → Begun items from at count value → false ≡ option_eq beq got (Some true) → got ≡ slice_get items at → Begins block (drop at items) → (block ≡ Cut) ⊎ ((digit : ℕ) × (block ≡ More digit)) → IsCutEbv (drop from items)
+pub cut_fourth : (items : List Bool) (from at count value : ℕ) (got : Option Bool) (block : Block) → count ≡ 3 → Begun items from at count value → false ≡ option_eq beq got (Some true) → got ≡ slice_get items at → IsBlockAnswer block (drop at items) → (block ≡ Cut) ⊎ ((digit : ℕ) × (block ≡ More digit)) → IsCutEbv (drop from items)
 cut_fourth items from at count value got block three begun test read holds cases =
     let not-more : slice_get (drop at items) 0 ≢ Some true = λ more.
     let there : got ≡ Some true = read ∙ sym (slice_get-drop items at) ∙ more in
     false≢true (test ∙ ap (λ (o : Option Bool). option_eq beq o (Some true)) there) in
     elim cases [
-      | inl cut ↦ cut_short items from at count value (omega arith) begun (subst (λ (b : Block). Begins b (drop at items)) cut holds) (λ same. not-more)
+      | inl cut ↦ cut_short items from at count value (omega arith) begun (subst (λ (b : Block). IsBlockAnswer b (drop at items)) cut holds) (λ same. not-more)
       | inr more ↦
-          let block : BeginsBlock true more.0 (drop at items) = subst (λ (b : Block). Begins b (drop at items)) more.1 holds in
+          let block : BeginsBlock true more.0 (drop at items) = subst (λ (b : Block). IsBlockAnswer b (drop at items)) more.1 holds in
           absurd (not-more (ap (λ (b : List Bool). slice_get b 0) block.bits_are))
     ]
 

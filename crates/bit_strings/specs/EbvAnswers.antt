@@ -8,17 +8,17 @@ use Rattle.bit_strings.specs.declared.ebv.Block.{Block}
 use Rattle.bit_strings.specs.declared.ebv.Block.TheVariants.{Cut, Last, More}
 
 -- the bits from one place up to another are the extensible bit vector of a number
-pub record StandsAt (bits : List Bool) (from number next : ℕ) : Type 0 where
+pub record HasEbvAt (bits : List Bool) (from number next : ℕ) : Type 0 where
   pub forward : from ≤ next
   pub within : next ≤ length bits
   pub vector : IsEbv number (part_of bits from (next - from))
 
 -- what an answer says of the bits from a place on
-abbrev pub Answers : Ebv → List Bool → ℕ → Type 0
-Answers (Value number next) bits from = StandsAt bits from number next
-Answers Short bits from = IsCutEbv (drop from bits)
-Answers NotShortest bits from = BeginsWithNothing (drop from bits)
-Answers TooLong bits from = IsTooLong (drop from bits)
+abbrev pub IsEbvAnswer : Ebv → List Bool → ℕ → Type 0
+IsEbvAnswer (Value number next) bits from = HasEbvAt bits from number next
+IsEbvAnswer Short bits from = IsCutEbv (drop from bits)
+IsEbvAnswer NotShortest bits from = BeginsWithNothing (drop from bits)
+IsEbvAnswer TooLong bits from = IsTooLong (drop from bits)
 
 -- the bits begin with a block of this extension bit and digit
 pub record BeginsBlock (extension : Bool) (digit : ℕ) (bits : List Bool) : Type 0 where
@@ -29,7 +29,7 @@ pub record BeginsBlock (extension : Bool) (digit : ℕ) (bits : List Bool) : Typ
   pub bits_are : bits ≡ extension ∷ seven ++ behind
 
 -- what a block says of the bits that it was read from
-abbrev pub Begins : Block → List Bool → Type 0
-Begins Cut bits = length bits < 8
-Begins (Last digit) bits = BeginsBlock false digit bits
-Begins (More digit) bits = BeginsBlock true digit bits
+abbrev pub IsBlockAnswer : Block → List Bool → Type 0
+IsBlockAnswer Cut bits = length bits < 8
+IsBlockAnswer (Last digit) bits = BeginsBlock false digit bits
+IsBlockAnswer (More digit) bits = BeginsBlock true digit bits

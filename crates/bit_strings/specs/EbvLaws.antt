@@ -9,6 +9,7 @@ use Rattle.std.proofs.lemmas.List.Elements.{All-head, All-tail, All-cons, All-ni
 use Rattle.bit_strings.specs.Numbers.{value_of, field_of}
 use Rattle.bit_strings.specs.NumberLaws.{length-field_of, value_of-within, value_of-field_of, same_from_value}
 use Rattle.bit_strings.specs.Ebv.{IsEbv, number_of, blocks_of, IsShortest, BeginsWithNothing, ebv_of}
+use Rattle.bit_strings.specs.ListLaws.{slice_get-append_right}
 
 -- each digit has seven bits
 abbrev pub AreSevens : List (List Bool) → Type 0
@@ -199,19 +200,13 @@ IsEbv-ebv_of number small =
 pub same-ebv : (number : ℕ) (bits : List Bool) → IsEbv number bits → bits ≡ ebv_of number
 same-ebv number bits ebv = one-ebv number bits (ebv_of number) ebv (IsEbv-ebv_of number (below-ebv number bits ebv))
 
--- what stands behind the first so many items
-pub slice_get-skip : (xs ys : List Bool) (n i : ℕ) → i ≡ length xs + n → slice_get (xs ++ ys) i ≡ slice_get ys n
-slice_get-skip [] ys n i place = ap (λ k. slice_get ys k) (place ∙ zero-add n)
-slice_get-skip (x ∷ xs) ys n zero place = absurd (omega arith)
-slice_get-skip (x ∷ xs) ys n (suc i) place = slice_get-skip xs ys n i (omega arith)
-
 last-block : (d : List Bool) (ds : List (List Bool)) (rest : List Bool) (i : ℕ) → i ≡ 8 * length ds → AreSevens (d ∷ ds) → slice_get (blocks_of (d ∷ ds) ++ rest) i ≡ Some false
 last-block d [] rest i place sevens = ap (λ k. slice_get (false ∷ d ++ rest) k) place
 last-block d (d' ∷ ds) rest i place sevens =
     let seven : length d ≡ 7 = seven-head d (d' ∷ ds) sevens in
     let tail : slice_get (blocks_of (d' ∷ ds) ++ rest) (8 * length ds) ≡ Some false = last-block d' ds rest (8 * length ds) refl (seven-tail d (d' ∷ ds) sevens) in
     let turned : (true ∷ d ++ blocks_of (d' ∷ ds)) ++ rest ≡ (true ∷ d) ++ (blocks_of (d' ∷ ds) ++ rest) = append_assoc (true ∷ d) (blocks_of (d' ∷ ds)) rest in
-    ap (λ (b : List Bool). slice_get b i) turned ∙ slice_get-skip (true ∷ d) (blocks_of (d' ∷ ds) ++ rest) (8 * length ds) i (omega arith) ∙ tail
+    ap (λ (b : List Bool). slice_get b i) turned ∙ slice_get-append_right (true ∷ d) (blocks_of (d' ∷ ds) ++ rest) (8 * length ds) i (omega arith) ∙ tail
 
 not-both : {o : Option Bool} → o ≡ Some false → o ≡ Some true → ⊥
 not-both here there = cc

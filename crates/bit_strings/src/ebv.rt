@@ -1,7 +1,7 @@
 //! Extensible bit vectors in a list of bits.
 ghost use Rattle.std.specs.Prelude.{◌≡◌, ◌+◌, ◌*◌, ◌^◌, ◌<◌, ◌≤◌, ◌↔◌, ◌++◌, length, drop, IsErr, OnErr};
 ghost use Rattle.bit_strings.specs.Ebv.{ebv_of};
-ghost use Rattle.bit_strings.specs.EbvAnswers.{Answers, Begins};
+ghost use Rattle.bit_strings.specs.EbvAnswers.{IsEbvAnswer, IsBlockAnswer};
 ghost use Rattle.bit_strings.specs.declared.ebv.Ebv.{Ebv};
 
 use crate::bits::{Bits, Full};
@@ -60,15 +60,15 @@ impl Bits {
 
     /// Reads the extensible bit vector that begins at the place `from`.
     pub fn take_ebv(&self, from: u32) -> Ebv
-        ensures answer { Answers result self.now.items from }
-        ensures only { (other : Ebv) → Answers other self.now.items from → result ≡ other }
+        ensures answer { IsEbvAnswer result self.now.items from }
+        ensures only { (other : Ebv) → IsEbvAnswer other self.now.items from → result ≡ other }
     {
         self.read_blocks(from)
     }
 
     /// Reads block by block: up to three that another may follow, and one that must be the last.
     fn read_blocks(&self, from: u32) -> Ebv
-        ensures { Answers result self.now.items from }
+        ensures { IsEbvAnswer result self.now.items from }
     {
         let mut value = 0;
         let mut at = from;
@@ -104,7 +104,7 @@ impl Bits {
 
     /// The block at a place.
     fn block(&self, at: u32) -> Block
-        ensures block { Begins result (drop at self.now.items) }
+        ensures block { IsBlockAnswer result (drop at self.now.items) }
         ensures within { length self.now.items < 2 ^ 32 }
     {
         match self.field(at, 8) {

@@ -8,7 +8,7 @@ use Rattle.command_grammar.specs.declared.commands.Command.{Command}
 use Rattle.command_grammar.specs.declared.refusal.Reason.{Reason}
 use Rattle.command_grammar.specs.declared.refusal.Reason.TheVariants as reasons
 use Rattle.command_grammar.specs.declared.reader.Stop.TheVariants.{Short, Bad}
-use Rattle.command_grammar.specs.Commands.{Part, bits_of, parts_of, spelling_of, IsLegal, StandsIn}
+use Rattle.command_grammar.specs.Commands.{Part, bits_of, parts_of, spelling_of, IsLegalCommand, StandsIn}
 use Rattle.command_grammar.specs.Reading.{Reading, ◌>>=◌, exactly_at, before, crc5_at, crc16_at}
 use Rattle.command_grammar.proofs.Fields.{Reads, bind_ok, bind_err, bind_to, bind_fails, at_first, at_second}
 use Rattle.command_grammar.proofs.Exact.{reads_exactly}
@@ -36,7 +36,7 @@ pub record StuckOn (pre : List Part) (read : List Bool → List Bool → Reading
   pub split : bits ≡ front ++ bit ∷ back
   pub left_is : left ≡ length back + 1
   pub command : Command
-  pub legal : IsLegal command
+  pub legal : IsLegalCommand command
   pub more : List Bool
   pub begins : spelling_of command ≡ (bits_of pre ++ front) ++ more
   pub stands : StandsIn (parts_of command) (length (bits_of pre) + length front) reason
@@ -45,23 +45,23 @@ pub record StuckOn (pre : List Part) (read : List Bool → List Bool → Reading
 -- behind these fields the reader answers as the commands that begin with them ask; where it stops at the last bit, each command that it reads
 -- from bits with the same front has the field of the refusal at that place
 pub record ReadsOn (pre : List Part) (read : List Bool → List Bool → Reading Command) : Type 0 where
-  pub live : (command : Command) × (more : List Part) × IsLegal command × (parts_of command ≡ pre ++ more)
-  pub found : (bits : List Bool) (command : Command) (rest : List Bool) → read (bits_of pre ++ bits) bits ≡ Ok (command, rest) → IsLegal command × (bits_of pre ++ bits ≡ spelling_of command ++ rest)
-  pub short : (bits : List Bool) → read (bits_of pre ++ bits) bits ≡ Err Short → (command : Command) × (more : List Bool) × IsLegal command × (spelling_of command ≡ (bits_of pre ++ bits) ++ more)
+  pub live : (command : Command) × (more : List Part) × IsLegalCommand command × (parts_of command ≡ pre ++ more)
+  pub found : (bits : List Bool) (command : Command) (rest : List Bool) → read (bits_of pre ++ bits) bits ≡ Ok (command, rest) → IsLegalCommand command × (bits_of pre ++ bits ≡ spelling_of command ++ rest)
+  pub short : (bits : List Bool) → read (bits_of pre ++ bits) bits ≡ Err Short → (command : Command) × (more : List Bool) × IsLegalCommand command × (spelling_of command ≡ (bits_of pre ++ bits) ++ more)
   pub bad : (bits : List Bool) (left : ℕ) (reason : Reason) → read (bits_of pre ++ bits) bits ≡ Err (Bad left reason) → StuckOn pre read bits left reason
   pub fields : (bits : List Bool) (command : Command) (rest : List Bool) → read (bits_of pre ++ bits) bits ≡ Ok (command, rest) → (more : List Part) × (parts_of command ≡ pre ++ more)
   pub named : (front : List Bool) (bit : Bool) (reason : Reason) → read (bits_of pre ++ (front ++ bit ∷ [])) (front ++ bit ∷ []) ≡ Err (Bad 1 reason) → (back : List Bool) (command : Command) (rest : List Bool)
       → read (bits_of pre ++ (front ++ back)) (front ++ back) ≡ Ok (command, rest) → StandsIn (parts_of command) (length (bits_of pre) + length front) reason
 
 -- a whole command
-pub reads_whole : (pre : List Part) (command : Command) → IsLegal command → parts_of command ≡ pre → ReadsOn pre (λ whole bits. Ok (command, bits))
+pub reads_whole : (pre : List Part) (command : Command) → IsLegalCommand command → parts_of command ≡ pre → ReadsOn pre (λ whole bits. Ok (command, bits))
 reads_whole pre command legal same = record {
   live = (command, [], legal, same ∙ sym (append-nil pre));
   found = λ bits other rest e.
       let pair : ◌≡◌ {A = Command × List Bool} (command, bits) (other, rest) = ok_pair (command, bits) (other, rest) e in
       let it : command ≡ other = ap (λ (p : Command × List Bool). p.0) pair in
       let back : bits ≡ rest = ap (λ (p : Command × List Bool). p.1) pair in
-      (subst IsLegal it legal, ap (λ (ps : List Part). bits_of ps ++ bits) (sym same) ∙ ap (λ (p : Command × List Bool). spelling_of p.0 ++ p.1) pair);
+      (subst IsLegalCommand it legal, ap (λ (ps : List Part). bits_of ps ++ bits) (sym same) ∙ ap (λ (p : Command × List Bool). spelling_of p.0 ++ p.1) pair);
   short = λ bits e. absurd (not_short (command, bits) e);
   bad = λ bits left reason e. absurd (not_bad (command, bits) left reason e);
   fields = λ bits other rest e. ([], ap (λ (p : Command × List Bool). parts_of p.0) (sym (ok_pair (command, bits) (other, rest) e)) ∙ same ∙ sym (append-nil pre));

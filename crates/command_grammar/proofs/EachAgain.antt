@@ -7,12 +7,12 @@ use Rattle.bit_strings.specs.Ebv.{ebv_of}
 use Rattle.bit_strings.specs.Words.{bits_of_words}
 use Rattle.command_grammar.specs.declared.commands.Command.{Command}
 use Rattle.command_grammar.specs.declared.commands.Command.TheVariants as commands
-use Rattle.command_grammar.specs.declared.choices.Kind.{Kind}
-use Rattle.command_grammar.specs.declared.choices.Kind.TheVariants as kinds
+use Rattle.command_grammar.specs.declared.choices.CommandKind.{CommandKind}
+use Rattle.command_grammar.specs.declared.choices.CommandKind.TheVariants as kinds
 use Rattle.command_grammar.specs.declared.refusal.Reason.{Reason}
 use Rattle.command_grammar.specs.declared.refusal.Reason.TheVariants as reasons
-use Rattle.command_grammar.specs.Commands.{Part, parts_of, IsLegal, bits_of_code, bits_of_sel, bits_of_side, bits_of_updn, bits_of_target, bits_of_mask_bank, bits_of_bank}
-use Rattle.command_grammar.specs.Reading.{Reading, ◌>>=◌, bit_at, bits_at, field_at, choice_at, count_at, words_at, ebv_at, one_zero, three_zeros, lines, selected, sides, changes, targets, masked_banks, all_banks, all_kinds, query_rep_at, ack_at, query_at, query_adjust_at, select_at, req_rn_at, read_at, write_at, kill_at, lock_at, access_at, block_write_at, block_erase_at, fields_at}
+use Rattle.command_grammar.specs.Commands.{Part, parts_of, IsLegalCommand, bits_of_code, bits_of_sel, bits_of_side, bits_of_updn, bits_of_target, bits_of_mask_bank, bits_of_bank}
+use Rattle.command_grammar.specs.Reading.{Reading, ◌>>=◌, bit_at, bits_at, field_at, choice_at, count_at, words_at, ebv_at, one_zero, three_zeros, lines, chosen_of, sides, changes, targets, masked_banks, all_banks, all_kinds, query_rep_at, ack_at, query_at, query_adjust_at, select_at, req_rn_at, read_at, write_at, kill_at, lock_at, access_at, block_write_at, block_erase_at, fields_at}
 use Rattle.command_grammar.proofs.Fields.{Reads}
 use Rattle.command_grammar.proofs.Elements.{IsNumber, reads_bit, reads_bits, reads_field, reads_count}
 use Rattle.command_grammar.proofs.WordLaws.{AreWords, reads_words}
@@ -43,11 +43,11 @@ goes_count pre more k command value some few goes =
 
 -- ---- each command
 
-with_code : (kind : Kind) (command : Command) (more : List Part) → Goes (part (Some reasons.Code) (bits_of_kind kind) ∷ []) more (λ whole bits. fields_at kind whole bits) command
+with_code : (kind : CommandKind) (command : Command) (more : List Part) → Goes (part (Some reasons.Code) (bits_of_kind kind) ∷ []) more (λ whole bits. fields_at kind whole bits) command
     → Goes [] (part (Some reasons.Code) (bits_of_kind kind) ∷ more) reading command
 with_code kind command more goes = goes_same [] more (Some reasons.Code) bits_of_kind (choice_at all_kinds reasons.Code) (λ kind whole. fields_at kind.0 whole kind.1) command kind reads_kind goes
 
-pub goes_command : (command : Command) → IsLegal command → Goes [] (parts_of command) reading command
+pub goes_command : (command : Command) → IsLegalCommand command → Goes [] (parts_of command) reading command
 unfolding query_rep_at ack_at query_at query_adjust_at select_at req_rn_at read_at write_at kill_at lock_at access_at block_write_at block_erase_at
 goes_command (commands.QueryRep session) legal = with_code kinds.QueryRep _ _ (goes_number 2 _ _ _ _ session (omega arith) (goes_whole _ _))
 goes_command (commands.Ack rn) legal = with_code kinds.Ack _ _ (goes_number 16 _ _ _ _ rn legal (goes_whole _ _))
@@ -56,7 +56,7 @@ goes_command (commands.Query dr line_code trext sel session target q) legal =
     goes_same _ _ None (λ bit. bit ∷ []) bit_at _ _ dr (reads_bit None) (
     goes_same _ _ None bits_of_code (choice_at lines reasons.Code) _ _ line_code reads_line (
     goes_same _ _ None (λ bit. bit ∷ []) bit_at _ _ trext (reads_bit None) (
-    goes_same _ _ None bits_of_sel (choice_at selected reasons.Code) _ _ sel reads_sel (
+    goes_same _ _ None bits_of_sel (choice_at chosen_of reasons.Code) _ _ sel reads_sel (
     goes_number 2 _ _ _ _ session (omega arith) (
     goes_same _ _ None bits_of_side (choice_at sides reasons.Code) _ _ target reads_side (
     goes_number 4 _ _ _ _ q (omega arith) (

@@ -9,19 +9,19 @@ use Rattle.bit_strings.specs.Ebv.{ebv_of}
 use Rattle.bit_strings.specs.Words.{bits_of_words}
 use Rattle.command_grammar.specs.declared.commands.Command.{Command}
 use Rattle.command_grammar.specs.declared.commands.Command.TheVariants as commands
-use Rattle.command_grammar.specs.declared.choices.Kind.{Kind}
-use Rattle.command_grammar.specs.declared.choices.Kind.TheVariants as kinds
+use Rattle.command_grammar.specs.declared.choices.CommandKind.{CommandKind}
+use Rattle.command_grammar.specs.declared.choices.CommandKind.TheVariants as kinds
 use Rattle.command_grammar.specs.declared.refusal.Reason.{Reason}
 use Rattle.command_grammar.specs.declared.refusal.Reason.TheVariants as reasons
-use Rattle.command_grammar.specs.declared.command.UpDn.TheVariants as updns
-use Rattle.command_grammar.specs.declared.command.Sel.TheVariants as sels
-use Rattle.command_grammar.specs.declared.command.Side.TheVariants as side
-use Rattle.command_grammar.specs.declared.command.Bank.TheVariants as banks
-use Rattle.command_grammar.specs.declared.command.MaskBank.TheVariants as mask_banks
-use Rattle.command_grammar.specs.declared.command.FlagName.TheVariants as flags
+use Rattle.command_grammar.specs.declared.field_values.UpDn.TheVariants as updns
+use Rattle.command_grammar.specs.declared.field_values.Sel.TheVariants as sels
+use Rattle.command_grammar.specs.declared.field_values.Side.TheVariants as side
+use Rattle.command_grammar.specs.declared.field_values.Bank.TheVariants as banks
+use Rattle.command_grammar.specs.declared.field_values.MaskBank.TheVariants as mask_banks
+use Rattle.command_grammar.specs.declared.field_values.FlagName.TheVariants as flags
 use Rattle.bit_strings.specs.declared.code.Code.TheVariants as lines_of
 use Rattle.command_grammar.specs.Commands.{Part, code, plain, named, with_crc16, IsWord, bits_of_code, bits_of_sel, bits_of_side, bits_of_updn, bits_of_target, bits_of_mask_bank, bits_of_bank}
-use Rattle.command_grammar.specs.Reading.{Reading, ◌>>=◌, bit_at, bits_at, field_at, choice_at, count_at, words_at, ebv_at, one_zero, three_zeros, lines, selected, sides, changes, targets, masked_banks, all_banks, all_kinds, query_rep_at, ack_at, query_at, query_adjust_at, select_at, req_rn_at, read_at, write_at, kill_at, lock_at, access_at, block_write_at, block_erase_at, fields_at}
+use Rattle.command_grammar.specs.Reading.{Reading, ◌>>=◌, bit_at, bits_at, field_at, choice_at, count_at, words_at, ebv_at, one_zero, three_zeros, lines, chosen_of, sides, changes, targets, masked_banks, all_banks, all_kinds, query_rep_at, ack_at, query_at, query_adjust_at, select_at, req_rn_at, read_at, write_at, kill_at, lock_at, access_at, block_write_at, block_erase_at, fields_at}
 use Rattle.command_grammar.proofs.Fields.{Reads}
 use Rattle.command_grammar.proofs.Elements.{IsNumber, reads_bit, reads_bits, reads_field, reads_count}
 use Rattle.command_grammar.proofs.WordLaws.{AreWords, reads_words, some_words}
@@ -92,7 +92,7 @@ query_reads =
     same_then _ None (λ bit. bit ∷ []) bit_at _ false (reads_bit None) (λ dr.
     same_then _ None bits_of_code (choice_at lines reasons.Code) _ lines_of.Fm0 reads_line (λ line_code.
     same_then _ None (λ bit. bit ∷ []) bit_at _ false (reads_bit None) (λ trext.
-    same_then _ None bits_of_sel (choice_at selected reasons.Code) _ sels.Sl reads_sel (λ sel.
+    same_then _ None bits_of_sel (choice_at chosen_of reasons.Code) _ sels.Sl reads_sel (λ sel.
     number_then 2 _ _ (λ session small.
     same_then _ None bits_of_side (choice_at sides reasons.Code) _ side.A reads_side (λ target.
     number_then 4 _ _ (λ q small_q.
@@ -189,7 +189,7 @@ block_erase_reads =
     let low : 1 ≤ count = some_of count some in
     reads_crc16_then _ _ (reads_whole _ (commands.BlockErase bank pointer count rn) (small_pointer, low, omega arith, small_rn) refl)))))
 
-each_reads : (kind : Kind) → ReadsOn (named reasons.Code (bits_of_kind kind)) (λ whole bits. fields_at kind whole bits)
+each_reads : (kind : CommandKind) → ReadsOn (named reasons.Code (bits_of_kind kind)) (λ whole bits. fields_at kind whole bits)
 each_reads kinds.QueryRep = query_rep_reads
 each_reads kinds.Ack = ack_reads
 each_reads kinds.Query = query_reads

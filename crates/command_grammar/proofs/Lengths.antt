@@ -9,21 +9,21 @@ use Rattle.bit_strings.specs.EbvLaws.{IsEbv-ebv_of}
 use Rattle.gen2_crc.specs.CrcLaws.{length-crc5_of, length-crc16_of}
 use Rattle.bit_strings.specs.declared.code.Code.{Code}
 use Rattle.bit_strings.specs.declared.code.Code.TheVariants.{Fm0, M2, M4, M8}
-use Rattle.command_grammar.specs.declared.command.Sel.{Sel}
-use Rattle.command_grammar.specs.declared.command.Sel.TheVariants as sels
-use Rattle.command_grammar.specs.declared.command.Side.{Side}
-use Rattle.command_grammar.specs.declared.command.Side.TheVariants.{A, B}
-use Rattle.command_grammar.specs.declared.command.UpDn.{UpDn}
-use Rattle.command_grammar.specs.declared.command.UpDn.TheVariants.{Up, Same, Down}
-use Rattle.command_grammar.specs.declared.command.Bank.{Bank}
-use Rattle.command_grammar.specs.declared.command.Bank.TheVariants as banks
-use Rattle.command_grammar.specs.declared.command.MaskBank.{MaskBank}
-use Rattle.command_grammar.specs.declared.command.MaskBank.TheVariants as mask_banks
-use Rattle.command_grammar.specs.declared.command.FlagName.{FlagName}
-use Rattle.command_grammar.specs.declared.command.FlagName.TheVariants as flags
+use Rattle.command_grammar.specs.declared.field_values.Sel.{Sel}
+use Rattle.command_grammar.specs.declared.field_values.Sel.TheVariants as sels
+use Rattle.command_grammar.specs.declared.field_values.Side.{Side}
+use Rattle.command_grammar.specs.declared.field_values.Side.TheVariants.{A, B}
+use Rattle.command_grammar.specs.declared.field_values.UpDn.{UpDn}
+use Rattle.command_grammar.specs.declared.field_values.UpDn.TheVariants.{Up, Same, Down}
+use Rattle.command_grammar.specs.declared.field_values.Bank.{Bank}
+use Rattle.command_grammar.specs.declared.field_values.Bank.TheVariants as banks
+use Rattle.command_grammar.specs.declared.field_values.MaskBank.{MaskBank}
+use Rattle.command_grammar.specs.declared.field_values.MaskBank.TheVariants as mask_banks
+use Rattle.command_grammar.specs.declared.field_values.FlagName.{FlagName}
+use Rattle.command_grammar.specs.declared.field_values.FlagName.TheVariants as flags
 use Rattle.command_grammar.specs.declared.commands.Command.{Command}
 use Rattle.command_grammar.specs.declared.commands.Command.TheVariants as commands
-use Rattle.command_grammar.specs.Commands.{Part, bits_of, spelling_of, parts_of, IsLegal, Spellings, bits_of_code, bits_of_sel, bits_of_side, bits_of_updn, bits_of_target, bits_of_mask_bank, bits_of_bank}
+use Rattle.command_grammar.specs.Commands.{Part, bits_of, spelling_of, parts_of, IsLegalCommand, Spellings, bits_of_code, bits_of_sel, bits_of_side, bits_of_updn, bits_of_target, bits_of_mask_bank, bits_of_bank}
 use Rattle.bit_strings.specs.Family.{Begins}
 
 length-blocks : (digits : List (List Bool)) → All (λ digit. length digit ≡ 7) digits → length (blocks_of digits) ≤ 8 * length digits
@@ -86,7 +86,7 @@ bank_two banks.Epc = omega arith
 bank_two banks.Tid = omega arith
 bank_two banks.User = omega arith
 
-small_size : (command : Command) → IsLegal command → size_of (parts_of command) ≤ 4162
+small_size : (command : Command) → IsLegalCommand command → size_of (parts_of command) ≤ 4162
 small_size (commands.QueryRep session) legal = omega (arith, length-field_of session 2)
 small_size (commands.Ack rn) legal = omega (arith, length-field_of rn 16)
 small_size (commands.Query dr line_code trext sel session target q) legal =
@@ -106,7 +106,7 @@ small_size (commands.BlockWrite bank pointer words rn) legal =
 small_size (commands.BlockErase bank pointer count rn) legal = omega (arith, bank_two bank, length-ebv_of pointer legal.0, length-field_of count 8, length-field_of rn 16, length-crc16_of)
 
 -- a command has at most 4,162 bits
-pub length-spelling_of : (command : Command) → IsLegal command → length (spelling_of command) ≤ 4162
+pub length-spelling_of : (command : Command) → IsLegalCommand command → length (spelling_of command) ≤ 4162
 length-spelling_of command legal = omega (arith, length-bits_of (parts_of command), small_size command legal)
 
 -- ... and so has what begins one

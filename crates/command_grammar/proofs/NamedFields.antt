@@ -3,28 +3,28 @@ use Rattle.std.proofs.Common.{◌≡◌, Bool, false, List, [], ◌∷◌, ◌++
 use Rattle.std.specs.Prelude.{codes, Some, None}
 use Rattle.bit_strings.specs.declared.code.Code.{Code}
 use Rattle.bit_strings.specs.declared.code.Code.TheVariants as lines_of
-use Rattle.command_grammar.specs.declared.choices.Kind.{Kind}
-use Rattle.command_grammar.specs.declared.choices.Kind.TheVariants as kinds
-use Rattle.command_grammar.specs.declared.command.Sel.{Sel}
-use Rattle.command_grammar.specs.declared.command.Sel.TheVariants as sels
-use Rattle.command_grammar.specs.declared.command.Side.{Side}
-use Rattle.command_grammar.specs.declared.command.Side.TheVariants as side
-use Rattle.command_grammar.specs.declared.command.UpDn.{UpDn}
-use Rattle.command_grammar.specs.declared.command.UpDn.TheVariants as updns
-use Rattle.command_grammar.specs.declared.command.Bank.{Bank}
-use Rattle.command_grammar.specs.declared.command.Bank.TheVariants as banks
-use Rattle.command_grammar.specs.declared.command.MaskBank.{MaskBank}
-use Rattle.command_grammar.specs.declared.command.MaskBank.TheVariants as mask_banks
-use Rattle.command_grammar.specs.declared.command.FlagName.{FlagName}
-use Rattle.command_grammar.specs.declared.command.FlagName.TheVariants as flags
+use Rattle.command_grammar.specs.declared.choices.CommandKind.{CommandKind}
+use Rattle.command_grammar.specs.declared.choices.CommandKind.TheVariants as kinds
+use Rattle.command_grammar.specs.declared.field_values.Sel.{Sel}
+use Rattle.command_grammar.specs.declared.field_values.Sel.TheVariants as sels
+use Rattle.command_grammar.specs.declared.field_values.Side.{Side}
+use Rattle.command_grammar.specs.declared.field_values.Side.TheVariants as side
+use Rattle.command_grammar.specs.declared.field_values.UpDn.{UpDn}
+use Rattle.command_grammar.specs.declared.field_values.UpDn.TheVariants as updns
+use Rattle.command_grammar.specs.declared.field_values.Bank.{Bank}
+use Rattle.command_grammar.specs.declared.field_values.Bank.TheVariants as banks
+use Rattle.command_grammar.specs.declared.field_values.MaskBank.{MaskBank}
+use Rattle.command_grammar.specs.declared.field_values.MaskBank.TheVariants as mask_banks
+use Rattle.command_grammar.specs.declared.field_values.FlagName.{FlagName}
+use Rattle.command_grammar.specs.declared.field_values.FlagName.TheVariants as flags
 use Rattle.command_grammar.specs.declared.refusal.Reason.TheVariants as reasons
 use Rattle.command_grammar.specs.Commands.{binary, bits_of_code, bits_of_sel, bits_of_side, bits_of_updn, bits_of_target, bits_of_mask_bank, bits_of_bank}
-use Rattle.command_grammar.specs.Reading.{choice_at, lines, selected, sides, changes, targets, masked_banks, all_banks, three_zeros, all_kinds}
+use Rattle.command_grammar.specs.Reading.{choice_at, lines, chosen_of, sides, changes, targets, masked_banks, all_banks, three_zeros, all_kinds}
 use Rattle.command_grammar.proofs.Fields.{Reads}
 use Rattle.command_grammar.proofs.ChoiceLaws.{reads_choice, reads_full}
 
 -- the code of each command
-abbrev pub bits_of_kind : Kind → List Bool
+abbrev pub bits_of_kind : CommandKind → List Bool
 bits_of_kind kinds.QueryRep = binary (codes "00")
 bits_of_kind kinds.Ack = binary (codes "01")
 bits_of_kind kinds.Query = binary (codes "1000")
@@ -40,7 +40,7 @@ bits_of_kind kinds.Access = binary (codes "11000110")
 bits_of_kind kinds.BlockWrite = binary (codes "11000111")
 bits_of_kind kinds.BlockErase = binary (codes "11001000")
 
-kind_again : (kind : Kind) (rest : List Bool) → choice_at all_kinds reasons.Code (bits_of_kind kind ++ rest) ≡ Ok (kind, rest)
+kind_again : (kind : CommandKind) (rest : List Bool) → choice_at all_kinds reasons.Code (bits_of_kind kind ++ rest) ≡ Ok (kind, rest)
 kind_again kinds.QueryRep rest = refl
 kind_again kinds.Ack rest = refl
 kind_again kinds.Query rest = refl
@@ -69,14 +69,14 @@ line_again lines_of.M8 rest = refl
 pub reads_line : Reads (λ code bits. bits ≡ bits_of_code code) None (choice_at lines reasons.Code)
 reads_line = reads_full bits_of_code reasons.Code lines None ((refl, refl), (refl, refl)) refl refl line_again
 
-sel_again : (sel : Sel) (rest : List Bool) → choice_at selected reasons.Code (bits_of_sel sel ++ rest) ≡ Ok (sel, rest)
+sel_again : (sel : Sel) (rest : List Bool) → choice_at chosen_of reasons.Code (bits_of_sel sel ++ rest) ≡ Ok (sel, rest)
 sel_again sels.All00 rest = refl
 sel_again sels.All01 rest = refl
 sel_again sels.NotSl rest = refl
 sel_again sels.Sl rest = refl
 
-pub reads_sel : Reads (λ sel bits. bits ≡ bits_of_sel sel) None (choice_at selected reasons.Code)
-reads_sel = reads_full bits_of_sel reasons.Code selected None ((refl, refl), (refl, refl)) refl refl sel_again
+pub reads_sel : Reads (λ sel bits. bits ≡ bits_of_sel sel) None (choice_at chosen_of reasons.Code)
+reads_sel = reads_full bits_of_sel reasons.Code chosen_of None ((refl, refl), (refl, refl)) refl refl sel_again
 
 side_again : (s : Side) (rest : List Bool) → choice_at sides reasons.Code (bits_of_side s ++ rest) ≡ Ok (s, rest)
 side_again side.A rest = refl

@@ -14,15 +14,15 @@ use Rattle.command_grammar.specs.declared.refusal.Pushed.TheVariants as pushed
 use Rattle.command_grammar.specs.Framing.{Keeps, refusal_in}
 use Rattle.command_grammar.specs.declared.reader.Stop.{Stop}
 use Rattle.command_grammar.specs.declared.reader.Stop.TheVariants.{Short, Bad}
-use Rattle.command_grammar.specs.Commands.{spelling_of, Spells, Spellings, IsRefusedAt, Judges, Finishes}
+use Rattle.command_grammar.specs.Commands.{spelling_of, SpellsCommand, Spellings, IsCommandRefusedAt, Judges, IsFinishAnswer}
 use Rattle.command_grammar.specs.Reading.{all_of}
 use Rattle.command_grammar.proofs.Verdict.{same_command, all_whole, all_short, all_bad, all_named}
 
-pub one_command : (c d : Command) (bits : List Bool) → Spells c bits → Spells d bits → c ≡ d
+pub one_command : (c d : Command) (bits : List Bool) → SpellsCommand c bits → SpellsCommand d bits → c ≡ d
 one_command c d bits left right =
     (same_command c d [] [] left.legal right.legal (ap (λ (l : List Bool). l ++ []) (sym left.spelled ∙ right.spelled))).0
 
-pub none_behind : (c d : Command) (bits more : List Bool) → Spells c bits → Spells d (bits ++ more) → more ≡ []
+pub none_behind : (c d : Command) (bits more : List Bool) → SpellsCommand c bits → SpellsCommand d (bits ++ more) → more ≡ []
 none_behind c d bits more left right =
     (same_command c d more [] left.legal right.legal (ap (λ (l : List Bool). l ++ more) (sym left.spelled) ∙ right.spelled ∙ sym (append-nil (spelling_of d)))).1
 
@@ -61,7 +61,7 @@ still_bad X bits bit place bad = record {
 }
 
 -- ... with its name
-pub still_refused : (bits : List Bool) (bit : Bool) (place : ℕ) (reason : Reason) → IsRefusedAt bits place reason → IsRefusedAt (bits ++ bit ∷ []) place reason
+pub still_refused : (bits : List Bool) (bit : Bool) (place : ℕ) (reason : Reason) → IsCommandRefusedAt bits place reason → IsCommandRefusedAt (bits ++ bit ∷ []) place reason
 still_refused bits bit place reason refused =
     let front : take place (bits ++ bit ∷ []) ≡ take place bits = take-append-le place bits (bit ∷ []) (omega (arith, refused.bad.inside)) in
     record {
@@ -118,17 +118,17 @@ stops_last bits place bit bad split = read_is (all_of now) refl
         (reason, e ∙ ap (λ n. Err (Bad n reason)) one)
 
 -- the reason is the one for which the reader stops there
-pub one_refusal : (bits : List Bool) (p q : ℕ) (one other : Reason) → IsRefusedAt bits p one → IsRefusedAt bits q other → (p ≡ q) × (one ≡ other)
+pub one_refusal : (bits : List Bool) (p q : ℕ) (one other : Reason) → IsCommandRefusedAt bits p one → IsCommandRefusedAt bits q other → (p ≡ q) × (one ≡ other)
 one_refusal bits p q one other left right =
     let place : q ≡ p = one_place Spellings bits q p right.bad left.bad in
-    let same : IsRefusedAt bits p other = subst (λ n. IsRefusedAt bits n other) place right in
+    let same : IsCommandRefusedAt bits p other = subst (λ n. IsCommandRefusedAt bits n other) place right in
     let inside : p < length bits = left.bad.inside in
     let bit : Bool = get_or bits p true in
     let next : suc p ≡ p + 1 = omega arith in
     let s = stops_last bits p bit left.bad (ap (λ n. take n bits) (sym next) ∙ take-suc bits p true inside) in
     (sym place, all_named bits p bit s.0 one (omega (arith, inside)) s.1 left.name ∙ sym (all_named bits p bit s.0 other (omega (arith, inside)) s.1 same.name))
 
-pub one_outcome : (bits : List Bool) (one other : Result Command CommandRefusal) → Finishes one bits → Finishes other bits → one ≡ other
+pub one_outcome : (bits : List Bool) (one other : Result Command CommandRefusal) → IsFinishAnswer one bits → IsFinishAnswer other bits → one ≡ other
 one_outcome bits (Ok command) (Ok other) left right = ap (λ (c : Command). Ok c) (one_command command other bits left right)
 one_outcome bits (Ok command) (Err (refusals.At place reason)) left right = absurd (not_spelled bits place (command, left) right.bad)
 one_outcome bits (Ok command) (Err (refusals.Short count)) left right = absurd (right.no_member (command, left))
@@ -169,12 +169,12 @@ judges_more kept refused now bit answer none pushed_one judged bits stands =
 -- ... and one that was refused
 pub stands_refused : (kept : List Bool) (refused : Option (ℕ × Reason)) (bit : Bool) (place : ℕ) (reason : Reason) → refused ≡ Some (place, reason) → (bits : List Bool) → Keeps kept refused bits → Keeps kept refused (bits ++ bit ∷ [])
 stands_refused kept refused bit place reason is bits stands =
-    let h : IsRefusedAt bits place reason = subst (λ (r : Option (ℕ × Reason)). Keeps kept r bits) is stands in
+    let h : IsCommandRefusedAt bits place reason = subst (λ (r : Option (ℕ × Reason)). Keeps kept r bits) is stands in
     subst (λ (r : Option (ℕ × Reason)). Keeps kept r (bits ++ bit ∷ [])) (sym is) (still_refused bits bit place reason h)
 
-pub judges_refused : (kept : List Bool) (refused : Option (ℕ × Reason)) (bit : Bool) (place : ℕ) (reason : Reason) → refused ≡ Some (place, reason) → (bits : List Bool) → Keeps kept refused bits → IsRefusedAt (bits ++ bit ∷ []) place reason
+pub judges_refused : (kept : List Bool) (refused : Option (ℕ × Reason)) (bit : Bool) (place : ℕ) (reason : Reason) → refused ≡ Some (place, reason) → (bits : List Bool) → Keeps kept refused bits → IsCommandRefusedAt (bits ++ bit ∷ []) place reason
 judges_refused kept refused bit place reason is bits stands =
     still_refused bits bit place reason (subst (λ (r : Option (ℕ × Reason)). Keeps kept r bits) is stands)
 
-pub finishes_refused : (kept : List Bool) (refused : Option (ℕ × Reason)) (place : ℕ) (reason : Reason) → refused ≡ Some (place, reason) → (bits : List Bool) → Keeps kept refused bits → IsRefusedAt bits place reason
+pub finishes_refused : (kept : List Bool) (refused : Option (ℕ × Reason)) (place : ℕ) (reason : Reason) → refused ≡ Some (place, reason) → (bits : List Bool) → Keeps kept refused bits → IsCommandRefusedAt bits place reason
 finishes_refused kept refused place reason is bits stands = subst (λ (r : Option (ℕ × Reason)). Keeps kept r bits) is stands

@@ -9,7 +9,7 @@ use Rattle.command_grammar.specs.declared.refusal.Reason.{Reason}
 use Rattle.command_grammar.specs.declared.refusal.Reason.TheVariants as reasons
 use Rattle.command_grammar.specs.declared.reader.Stop.{Stop}
 use Rattle.command_grammar.specs.declared.reader.Stop.TheVariants.{Short, Bad}
-use Rattle.command_grammar.specs.Commands.{parts_of, spelling_of, IsLegal, Spells, Spellings, StandsIn, IsField, IsRefusedAt}
+use Rattle.command_grammar.specs.Commands.{parts_of, spelling_of, IsLegalCommand, SpellsCommand, Spellings, StandsIn, IsField, IsCommandRefusedAt}
 use Rattle.command_grammar.specs.Reading.{Reading, command_at, all_of}
 use Rattle.command_grammar.proofs.Fields.{bind_ok, bind_err, bind_to, at_first, at_second}
 use Rattle.command_grammar.proofs.Behind.{longer_front}
@@ -18,7 +18,7 @@ use Rattle.command_grammar.proofs.EachCommand.{reads_command}
 use Rattle.command_grammar.proofs.EachAgain.{goes_command}
 
 -- a command is read again from its spelling, whatever follows
-pub command_again : (command : Command) (rest : List Bool) → IsLegal command → command_at (spelling_of command ++ rest) ≡ Ok (command, rest)
+pub command_again : (command : Command) (rest : List Bool) → IsLegalCommand command → command_at (spelling_of command ++ rest) ≡ Ok (command, rest)
 unfolding command_at
 command_again command rest legal = (goes_command command legal).to rest
 
@@ -26,7 +26,7 @@ ok_pair : (x y : Command × List Bool) → ◌≡◌ {A = Reading Command} (Ok x
 ok_pair x y e = cc
 
 -- two commands at the front of the same bits are one, and so is what follows
-pub same_command : (c d : Command) (rest more : List Bool) → IsLegal c → IsLegal d → spelling_of c ++ rest ≡ spelling_of d ++ more → (c ≡ d) × (rest ≡ more)
+pub same_command : (c d : Command) (rest more : List Bool) → IsLegalCommand c → IsLegalCommand d → spelling_of c ++ rest ≡ spelling_of d ++ more → (c ≡ d) × (rest ≡ more)
 same_command c d rest more legal_c legal_d e =
     let pair = ok_pair (c, rest) (d, more) (sym (command_again c rest legal_c) ∙ ap command_at e ∙ command_again d more legal_d) in
     (ap (λ (p : Command × List Bool). p.0) pair, ap (λ (p : Command × List Bool). p.1) pair)
@@ -57,20 +57,20 @@ no_bits (b ∷ bits) e = let h : suc (length bits) ≡ 0 = grind (arith, nat_tes
 
 -- ---- whole
 
-pub all_again : (command : Command) (bits : List Bool) → Spells command bits → all_of bits ≡ Ok command
+pub all_again : (command : Command) (bits : List Bool) → SpellsCommand command bits → all_of bits ≡ Ok command
 unfolding all_of
 all_again command bits spells =
     let e : command_at bits ≡ Ok (command, []) = ap command_at (spells.spelled ∙ sym (append-nil (spelling_of command))) ∙ command_again command [] spells.legal in
     bind_to (command_at bits) whole_only (command, []) e
 
-pub all_whole : (command : Command) (bits : List Bool) → all_of bits ≡ Ok command → Spells command bits
+pub all_whole : (command : Command) (bits : List Bool) → all_of bits ≡ Ok command → SpellsCommand command bits
 unfolding all_of command_at
 all_whole command bits e =
     let b = bind_ok (command_at bits) whole_only command e in
     let w = whole_ok (length b.0.1 == 0) b.0 command b.2 in
     let f = reads_command.found bits b.0.0 b.0.1 b.1 in
     record {
-      legal = subst IsLegal w.1 f.0;
+      legal = subst IsLegalCommand w.1 f.0;
       spelled = f.1 ∙ ap (λ (l : List Bool). spelling_of b.0.0 ++ l) (no_bits b.0.1 w.0) ∙ append-nil (spelling_of b.0.0) ∙ ap spelling_of w.1;
     }
 
@@ -107,14 +107,14 @@ refused_behind bits front bit back left split left-is =
       ap (take (length front + 1)) (split ∙ sym (append_assoc front (bit ∷ []) back)) ∙ take_at (front ++ bit ∷ []) back (length front + 1) (omega (arith, length-append front (bit ∷ []))),
     )
 
-pub all_bad : (bits : List Bool) (left : ℕ) (reason : Reason) → all_of bits ≡ Err (Bad left reason) → (left ≤ length bits) × IsRefusedAt bits (length bits - left) reason
+pub all_bad : (bits : List Bool) (left : ℕ) (reason : Reason) → all_of bits ≡ Err (Bad left reason) → (left ≤ length bits) × IsCommandRefusedAt bits (length bits - left) reason
 unfolding all_of command_at
 all_bad bits left reason e = elim (bind_err (command_at bits) whole_only (Bad left reason) e) [
   | at_first h ↦
       let w = reads_command.bad bits left reason h in
       let p = refused_behind bits w.front w.bit w.back left w.split w.left_is in (
         omega (arith, w.left_is, ap (λ (l : List Bool). length l) w.split, length-append w.front (w.bit ∷ w.back)),
-        subst (λ (place : ℕ). IsRefusedAt bits place reason) p.1 (record {
+        subst (λ (place : ℕ). IsCommandRefusedAt bits place reason) p.1 (record {
           bad = record {
             inside = p.3;
             begins = (w.more, (w.command, record { legal = w.legal; spelled = ap (λ (l : List Bool). l ++ w.more) p.4 ∙ sym w.begins }));
@@ -140,12 +140,12 @@ all_bad bits left reason e = elim (bind_err (command_at bits) whole_only (Bad le
       let f = reads_command.found bits x.0 x.1 h in
       extra bits x.0 x.1 left reason f.0 f.1 w.0 w.1 w.2
 ] where
-  extra : (bits : List Bool) (c : Command) (rest : List Bool) (left : ℕ) (reason : Reason) → IsLegal c → bits ≡ spelling_of c ++ rest → (length rest == 0) ≡ false → left ≡ length rest → reason ≡ reasons.Extra → (left ≤ length bits) × IsRefusedAt bits (length bits - left) reason
+  extra : (bits : List Bool) (c : Command) (rest : List Bool) (left : ℕ) (reason : Reason) → IsLegalCommand c → bits ≡ spelling_of c ++ rest → (length rest == 0) ≡ false → left ≡ length rest → reason ≡ reasons.Extra → (left ≤ length bits) × IsCommandRefusedAt bits (length bits - left) reason
   extra bits c [] left reason legal split some left-is name = absurd cc
   extra bits c (b ∷ back) left reason legal split some left-is name =
       let p = refused_behind bits (spelling_of c) b back left split (omega (arith, left-is)) in (
         omega (arith, left-is, ap (λ (l : List Bool). length l) split, length-append (spelling_of c) (b ∷ back)),
-        subst (λ (place : ℕ). IsRefusedAt bits place reason) p.1 (record {
+        subst (λ (place : ℕ). IsCommandRefusedAt bits place reason) p.1 (record {
           bad = record {
             inside = p.3;
             begins = ([], (c, record { legal = legal; spelled = append-nil (take p.0 bits) ∙ p.4 }));

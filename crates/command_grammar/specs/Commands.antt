@@ -8,18 +8,18 @@ use Rattle.bit_strings.specs.Family.{IsBadAt, IsShortAt}
 use Rattle.bit_strings.specs.declared.code.Code.{Code}
 use Rattle.bit_strings.specs.declared.code.Code.TheVariants.{Fm0, M2, M4, M8}
 use Rattle.gen2_crc.specs.Crc.{crc5_of, crc16_of}
-use Rattle.command_grammar.specs.declared.command.Sel.{Sel}
-use Rattle.command_grammar.specs.declared.command.Sel.TheVariants as sels
-use Rattle.command_grammar.specs.declared.command.Side.{Side}
-use Rattle.command_grammar.specs.declared.command.Side.TheVariants.{A, B}
-use Rattle.command_grammar.specs.declared.command.UpDn.{UpDn}
-use Rattle.command_grammar.specs.declared.command.UpDn.TheVariants.{Up, Same, Down}
-use Rattle.command_grammar.specs.declared.command.Bank.{Bank}
-use Rattle.command_grammar.specs.declared.command.Bank.TheVariants as banks
-use Rattle.command_grammar.specs.declared.command.MaskBank.{MaskBank}
-use Rattle.command_grammar.specs.declared.command.MaskBank.TheVariants as mask_banks
-use Rattle.command_grammar.specs.declared.command.FlagName.{FlagName}
-use Rattle.command_grammar.specs.declared.command.FlagName.TheVariants as flags
+use Rattle.command_grammar.specs.declared.field_values.Sel.{Sel}
+use Rattle.command_grammar.specs.declared.field_values.Sel.TheVariants as sels
+use Rattle.command_grammar.specs.declared.field_values.Side.{Side}
+use Rattle.command_grammar.specs.declared.field_values.Side.TheVariants.{A, B}
+use Rattle.command_grammar.specs.declared.field_values.UpDn.{UpDn}
+use Rattle.command_grammar.specs.declared.field_values.UpDn.TheVariants.{Up, Same, Down}
+use Rattle.command_grammar.specs.declared.field_values.Bank.{Bank}
+use Rattle.command_grammar.specs.declared.field_values.Bank.TheVariants as banks
+use Rattle.command_grammar.specs.declared.field_values.MaskBank.{MaskBank}
+use Rattle.command_grammar.specs.declared.field_values.MaskBank.TheVariants as mask_banks
+use Rattle.command_grammar.specs.declared.field_values.FlagName.{FlagName}
+use Rattle.command_grammar.specs.declared.field_values.FlagName.TheVariants as flags
 use Rattle.command_grammar.specs.declared.commands.Command.{Command}
 use Rattle.command_grammar.specs.declared.commands.Command.TheVariants.{QueryRep, Ack, Query, QueryAdjust, Select, Nak, ReqRn, Read, Write, Kill, Lock, Access, BlockWrite, BlockErase}
 use Rattle.command_grammar.specs.declared.refusal.CommandRefusal.{CommandRefusal}
@@ -28,6 +28,10 @@ use Rattle.command_grammar.specs.declared.refusal.Pushed.{Pushed}
 use Rattle.command_grammar.specs.declared.refusal.Pushed.TheVariants as pushed
 use Rattle.command_grammar.specs.declared.refusal.Reason.{Reason}
 use Rattle.command_grammar.specs.declared.refusal.Reason.TheVariants as reasons
+
+-- the room, in bits, in which each command fits
+abbrev pub command_room : ℕ
+command_room = 4170
 
 -- a field of a command: the reason for which a bit in it may be refused, where one may be, and its bits
 pub record Part : Type 0 where
@@ -148,30 +152,30 @@ abbrev pub IsWord : ℕ → Type 0
 IsWord number = number < 2 ^ 16
 
 -- Each number is within its field. A place is below 2 ^ 28, since an extensible bit vector has at most four blocks (profile).
-abbrev pub IsLegal : Command → Type 0
-IsLegal (QueryRep session) = session ≤ 3
-IsLegal (Ack rn) = IsWord rn
-IsLegal (Query dr line_code trext sel session target q) = (session ≤ 3) × (q ≤ 15)
-IsLegal (QueryAdjust session updn) = session ≤ 3
-IsLegal (Select target action bank pointer mask) = (action ≤ 7) × (pointer < 2 ^ 28) × (length mask ≤ 255)
-IsLegal Nak = Unit {0}
-IsLegal (ReqRn rn) = IsWord rn
-IsLegal (Read bank pointer count rn) = (pointer < 2 ^ 28) × (count ≤ 255) × IsWord rn
-IsLegal (Write bank pointer covered rn) = (pointer < 2 ^ 28) × IsWord covered × IsWord rn
-IsLegal (Kill covered rn) = IsWord covered × IsWord rn
-IsLegal (Lock payload rn) = (payload < 2 ^ 20) × IsWord rn
-IsLegal (Access covered rn) = IsWord covered × IsWord rn
-IsLegal (BlockWrite bank pointer words rn) = (pointer < 2 ^ 28) × (1 ≤ length words) × (length words ≤ 255) × AllByRecursion IsWord words × IsWord rn
-IsLegal (BlockErase bank pointer count rn) = (pointer < 2 ^ 28) × (1 ≤ count) × (count ≤ 255) × IsWord rn
+abbrev pub IsLegalCommand : Command → Type 0
+IsLegalCommand (QueryRep session) = session ≤ 3
+IsLegalCommand (Ack rn) = IsWord rn
+IsLegalCommand (Query dr line_code trext sel session target q) = (session ≤ 3) × (q ≤ 15)
+IsLegalCommand (QueryAdjust session updn) = session ≤ 3
+IsLegalCommand (Select target action bank pointer mask) = (action ≤ 7) × (pointer < 2 ^ 28) × (length mask ≤ 255)
+IsLegalCommand Nak = Unit {0}
+IsLegalCommand (ReqRn rn) = IsWord rn
+IsLegalCommand (Read bank pointer count rn) = (pointer < 2 ^ 28) × (count ≤ 255) × IsWord rn
+IsLegalCommand (Write bank pointer covered rn) = (pointer < 2 ^ 28) × IsWord covered × IsWord rn
+IsLegalCommand (Kill covered rn) = IsWord covered × IsWord rn
+IsLegalCommand (Lock payload rn) = (payload < 2 ^ 20) × IsWord rn
+IsLegalCommand (Access covered rn) = IsWord covered × IsWord rn
+IsLegalCommand (BlockWrite bank pointer words rn) = (pointer < 2 ^ 28) × (1 ≤ length words) × (length words ≤ 255) × AllByRecursion IsWord words × IsWord rn
+IsLegalCommand (BlockErase bank pointer count rn) = (pointer < 2 ^ 28) × (1 ≤ count) × (count ≤ 255) × IsWord rn
 
 -- the bits are the spelling of the command
-pub record Spells (command : Command) (bits : List Bool) : Type 0 where
-  pub legal : IsLegal command
+pub record SpellsCommand (command : Command) (bits : List Bool) : Type 0 where
+  pub legal : IsLegalCommand command
   pub spelled : bits ≡ spelling_of command
 
 -- the family of all spellings
 abbrev pub Spellings : List Bool → Type 0
-Spellings bits = (command : Command) × Spells command bits
+Spellings bits = (command : Command) × SpellsCommand command bits
 
 -- the bit at the place stands in a field that may be refused for the reason
 pub record StandsIn (parts : List Part) (place : ℕ) (reason : Reason) : Type 0 where
@@ -186,25 +190,25 @@ pub record StandsIn (parts : List Part) (place : ℕ) (reason : Reason) : Type 0
 -- a command that begins with the bits before the place has the field at the place
 pub record IsField (bits : List Bool) (place : ℕ) (reason : Reason) : Type 0 where
   pub command : Command
-  pub legal : IsLegal command
+  pub legal : IsLegalCommand command
   pub more : List Bool
   pub begins : spelling_of command ≡ take place bits ++ more
   pub stands : StandsIn (parts_of command) place reason
 
 -- The bits are refused at the place, for the reason: it is Extra where the bits before are a whole command, and else the
 -- field in which the bit there stands.
-pub record IsRefusedAt (bits : List Bool) (place : ℕ) (reason : Reason) : Type 0 where
+pub record IsCommandRefusedAt (bits : List Bool) (place : ℕ) (reason : Reason) : Type 0 where
   pub bad : IsBadAt Spellings bits place
   pub name : ((reason ≡ reasons.Extra) × Spellings (take place bits)) ⊎ IsField bits place reason
 
 -- what is said of the bits that were pushed
 abbrev pub Judges : Pushed → List Bool → Type 0
 Judges pushed.Whole bits = Spellings bits
-Judges (pushed.Bad place reason) bits = IsRefusedAt bits place reason
+Judges (pushed.Bad place reason) bits = IsCommandRefusedAt bits place reason
 Judges pushed.More bits = IsShortAt Spellings bits (length bits)
 
 -- ... in the end
-abbrev pub Finishes : Result Command CommandRefusal → List Bool → Type 0
-Finishes (Ok command) bits = Spells command bits
-Finishes (Err (refusals.At place reason)) bits = IsRefusedAt bits place reason
-Finishes (Err (refusals.Short count)) bits = IsShortAt Spellings bits count
+abbrev pub IsFinishAnswer : Result Command CommandRefusal → List Bool → Type 0
+IsFinishAnswer (Ok command) bits = SpellsCommand command bits
+IsFinishAnswer (Err (refusals.At place reason)) bits = IsCommandRefusedAt bits place reason
+IsFinishAnswer (Err (refusals.Short count)) bits = IsShortAt Spellings bits count

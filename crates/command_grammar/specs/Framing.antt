@@ -2,7 +2,7 @@
 -- that changes nothing.
 use Rattle.std.specs.Prelude.{◌≡◌, ℕ, ◌≤◌, Bool, List, Option, Some, None, length}
 use Rattle.bit_strings.specs.Family.{Begins}
-use Rattle.command_grammar.specs.Commands.{Spellings, IsRefusedAt}
+use Rattle.command_grammar.specs.Commands.{Spellings, IsCommandRefusedAt}
 use Rattle.command_grammar.specs.declared.refusal.Pushed.{Pushed}
 use Rattle.command_grammar.specs.declared.refusal.Pushed.TheVariants as pushed
 use Rattle.command_grammar.specs.declared.refusal.Reason.{Reason}
@@ -14,11 +14,11 @@ pub record FramerValue : Type 0 where
 -- bits that were not refused are kept, all of them
 abbrev pub Keeps : List Bool → Option (ℕ × Reason) → List Bool → Type 0
 Keeps kept None bits = (bits ≡ kept) × Begins Spellings bits
-Keeps kept (Some refusal) bits = IsRefusedAt bits refusal.0 refusal.1
+Keeps kept (Some refusal) bits = IsCommandRefusedAt bits refusal.0 refusal.1
 
 -- the value stands for this list of bits
-abbrev pub StandsFor : FramerValue → List Bool → Type 0
-StandsFor value bits = Keeps value.kept value.refused bits
+abbrev pub FramerStandsFor : FramerValue → List Bool → Type 0
+FramerStandsFor value bits = Keeps value.kept value.refused bits
 
 -- the refusal that an answer tells
 abbrev pub refusal_in : Pushed → Option (ℕ × Reason)

@@ -5,23 +5,23 @@ use Rattle.bit_strings.specs.Numbers.{value_of}
 use Rattle.bit_strings.specs.declared.code.Code.{Code}
 use Rattle.bit_strings.specs.declared.code.Code.TheVariants.{Fm0, M2, M4, M8}
 use Rattle.gen2_crc.specs.Crc.{crc5_of, crc16_of, differ}
-use Rattle.command_grammar.specs.declared.command.Sel.{Sel}
-use Rattle.command_grammar.specs.declared.command.Sel.TheVariants as sels
-use Rattle.command_grammar.specs.declared.command.Side.{Side}
-use Rattle.command_grammar.specs.declared.command.Side.TheVariants as side
-use Rattle.command_grammar.specs.declared.command.UpDn.{UpDn}
-use Rattle.command_grammar.specs.declared.command.UpDn.TheVariants.{Up, Same, Down}
-use Rattle.command_grammar.specs.declared.command.Bank.{Bank}
-use Rattle.command_grammar.specs.declared.command.Bank.TheVariants as banks
-use Rattle.command_grammar.specs.declared.command.MaskBank.{MaskBank}
-use Rattle.command_grammar.specs.declared.command.MaskBank.TheVariants as mask_banks
-use Rattle.command_grammar.specs.declared.command.FlagName.{FlagName}
-use Rattle.command_grammar.specs.declared.command.FlagName.TheVariants as flags
+use Rattle.command_grammar.specs.declared.field_values.Sel.{Sel}
+use Rattle.command_grammar.specs.declared.field_values.Sel.TheVariants as sels
+use Rattle.command_grammar.specs.declared.field_values.Side.{Side}
+use Rattle.command_grammar.specs.declared.field_values.Side.TheVariants as side
+use Rattle.command_grammar.specs.declared.field_values.UpDn.{UpDn}
+use Rattle.command_grammar.specs.declared.field_values.UpDn.TheVariants.{Up, Same, Down}
+use Rattle.command_grammar.specs.declared.field_values.Bank.{Bank}
+use Rattle.command_grammar.specs.declared.field_values.Bank.TheVariants as banks
+use Rattle.command_grammar.specs.declared.field_values.MaskBank.{MaskBank}
+use Rattle.command_grammar.specs.declared.field_values.MaskBank.TheVariants as mask_banks
+use Rattle.command_grammar.specs.declared.field_values.FlagName.{FlagName}
+use Rattle.command_grammar.specs.declared.field_values.FlagName.TheVariants as flags
 use Rattle.command_grammar.specs.declared.commands.Command.{Command}
 use Rattle.command_grammar.specs.declared.commands.Command.TheVariants as commands
 use Rattle.command_grammar.specs.declared.reader.Block.{Block}
-use Rattle.command_grammar.specs.declared.choices.Kind.{Kind}
-use Rattle.command_grammar.specs.declared.choices.Kind.TheVariants as kinds
+use Rattle.command_grammar.specs.declared.choices.CommandKind.{CommandKind}
+use Rattle.command_grammar.specs.declared.choices.CommandKind.TheVariants as kinds
 use Rattle.command_grammar.specs.declared.refusal.Reason.{Reason}
 use Rattle.command_grammar.specs.declared.refusal.Reason.TheVariants as reasons
 use Rattle.command_grammar.specs.declared.reader.Stop.{Stop}
@@ -69,8 +69,8 @@ choice_at (fork zeros ones) reason bits = bit_at bits >>= λ next. (if next.0 th
 abbrev pub lines : Choice Code
 lines = fork (fork (pick Fm0) (pick M2)) (fork (pick M4) (pick M8))
 
-abbrev pub selected : Choice Sel
-selected = fork (fork (pick sels.All00) (pick sels.All01)) (fork (pick sels.NotSl) (pick sels.Sl))
+abbrev pub chosen_of : Choice Sel
+chosen_of = fork (fork (pick sels.All00) (pick sels.All01)) (fork (pick sels.NotSl) (pick sels.Sl))
 
 abbrev pub sides : Choice Side
 sides = fork (pick side.A) (pick side.B)
@@ -94,21 +94,21 @@ abbrev pub three_zeros : Choice (Unit {0})
 three_zeros = fork (fork (fork (pick tt) none) none) none
 
 -- the kinds whose code begins with 10, 1100, 11000 and 11001
-abbrev pub kinds_10 : Choice Kind
+abbrev pub kinds_10 : Choice CommandKind
 kinds_10 = fork (fork (pick kinds.Query) (pick kinds.QueryAdjust)) (fork (pick kinds.Select) none)
 
-abbrev pub kinds_11000 : Choice Kind
+abbrev pub kinds_11000 : Choice CommandKind
 kinds_11000 = fork
     (fork (fork (pick kinds.Nak) (pick kinds.ReqRn)) (fork (pick kinds.Read) (pick kinds.Write)))
     (fork (fork (pick kinds.Kill) (pick kinds.Lock)) (fork (pick kinds.Access) (pick kinds.BlockWrite)))
 
-abbrev pub kinds_11001 : Choice Kind
+abbrev pub kinds_11001 : Choice CommandKind
 kinds_11001 = fork (fork (fork (pick kinds.BlockErase) none) none) none
 
-abbrev pub kinds_11 : Choice Kind
+abbrev pub kinds_11 : Choice CommandKind
 kinds_11 = fork (fork (fork kinds_11000 kinds_11001) none) none
 
-abbrev pub all_kinds : Choice Kind
+abbrev pub all_kinds : Choice CommandKind
 all_kinds = fork (fork (pick kinds.QueryRep) (pick kinds.Ack)) (fork kinds_10 kinds_11)
 
 -- these bits alone
@@ -180,7 +180,7 @@ query_at whole bits = do
   dr ← bit_at bits
   line_code ← choice_at lines reasons.Code dr.1
   trext ← bit_at line_code.1
-  sel ← choice_at selected reasons.Code trext.1
+  sel ← choice_at chosen_of reasons.Code trext.1
   session ← field_at 2 sel.1
   target ← choice_at sides reasons.Code session.1
   q ← field_at 4 target.1
@@ -271,7 +271,7 @@ block_erase_at whole bits = do
   Ok (commands.BlockErase bank.0 pointer.0 count.0 rn.0, check.1)
 
 -- the fields of a kind; `whole` has all bits from the code on
-abbrev pub fields_at : Kind → List Bool → List Bool → Reading Command
+abbrev pub fields_at : CommandKind → List Bool → List Bool → Reading Command
 fields_at kinds.QueryRep whole bits = query_rep_at bits
 fields_at kinds.Ack whole bits = ack_at bits
 fields_at kinds.Query whole bits = query_at whole bits

@@ -4,7 +4,7 @@ ghost use Rattle.std.specs.Prelude.{◌≡◌, ◌≢◌, ◌^◌, ◌<◌, ◌�
 ghost use Rattle.command_grammar.specs.Reading.{Gives, field_at, query_rep_at, ack_at, query_at, query_adjust_at, select_at, req_rn_at, read_at, write_at, kill_at, lock_at, access_at, block_write_at, block_erase_at, fields_at, command_at, all_of};
 
 use crate::choices::{
-    Kind, bank, command_kind, line_code, mask_bank, sel, side, target, three_zeros, updn,
+    CommandKind, bank, command_kind, line_code, mask_bank, sel, side, target, three_zeros, updn,
 };
 use crate::commands::Command;
 use crate::reader::{
@@ -270,20 +270,20 @@ fn command(bits: &[bool]) -> Result<(Command, &[bool]), Stop>
 {
     let (kind, rest) = command_kind(bits)?;
     match kind {
-        Kind::QueryRep => query_rep(rest),
-        Kind::Ack => ack(rest),
-        Kind::Query => query(bits, rest),
-        Kind::QueryAdjust => query_adjust(rest),
-        Kind::Select => select(bits, rest),
-        Kind::Nak => Ok((Command::Nak, rest)),
-        Kind::ReqRn => req_rn(bits, rest),
-        Kind::Read => read(bits, rest),
-        Kind::Write => write(bits, rest),
-        Kind::Kill => kill(bits, rest),
-        Kind::Lock => lock(bits, rest),
-        Kind::Access => access(bits, rest),
-        Kind::BlockWrite => block_write(bits, rest),
-        Kind::BlockErase => block_erase(bits, rest),
+        CommandKind::QueryRep => query_rep(rest),
+        CommandKind::Ack => ack(rest),
+        CommandKind::Query => query(bits, rest),
+        CommandKind::QueryAdjust => query_adjust(rest),
+        CommandKind::Select => select(bits, rest),
+        CommandKind::Nak => Ok((Command::Nak, rest)),
+        CommandKind::ReqRn => req_rn(bits, rest),
+        CommandKind::Read => read(bits, rest),
+        CommandKind::Write => write(bits, rest),
+        CommandKind::Kill => kill(bits, rest),
+        CommandKind::Lock => lock(bits, rest),
+        CommandKind::Access => access(bits, rest),
+        CommandKind::BlockWrite => block_write(bits, rest),
+        CommandKind::BlockErase => block_erase(bits, rest),
     }
 }
 

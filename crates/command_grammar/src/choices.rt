@@ -1,16 +1,16 @@
 //! The fields of a few bits whose values have names, and the command codes.
 ghost use Rattle.std.specs.Prelude.{◌≡◌};
-ghost use Rattle.command_grammar.specs.Reading.{Gives, choice_at, lines, selected, sides, changes, targets, masked_banks, all_banks, three_zeros, kinds_10, kinds_11, kinds_11000, kinds_11001, all_kinds};
+ghost use Rattle.command_grammar.specs.Reading.{Gives, choice_at, lines, chosen_of, sides, changes, targets, masked_banks, all_banks, three_zeros, kinds_10, kinds_11, kinds_11000, kinds_11001, all_kinds};
 ghost use Rattle.command_grammar.specs.declared.refusal.Reason.TheVariants as reasons;
 
-use crate::command::{Bank, FlagName, MaskBank, Sel, Side, UpDn};
+use crate::field_values::{Bank, FlagName, MaskBank, Sel, Side, UpDn};
 use crate::reader::{Stop, bit, refused};
 use crate::refusal::Reason;
 use bit_strings::Code;
 
 /// What the code of a command says: which command it is.
 #[derive(Clone, Copy)]
-pub(crate) enum Kind {
+pub(crate) enum CommandKind {
     QueryRep,
     Ack,
     Query,
@@ -44,7 +44,7 @@ pub(crate) fn line_code(bits: &[bool]) -> Result<(Code, &[bool]), Stop>
 
 /// Sel of a Query.
 pub(crate) fn sel(bits: &[bool]) -> Result<(Sel, &[bool]), Stop>
-    ensures { Gives (λ x. (x.0, x.1.now)) result (choice_at selected reasons.Code bits.now) }
+    ensures { Gives (λ x. (x.0, x.1.now)) result (choice_at chosen_of reasons.Code bits.now) }
 {
     let (first, rest) = bit(bits)?;
     let (second, rest) = bit(rest)?;
@@ -153,35 +153,35 @@ pub(crate) fn three_zeros(bits: &[bool]) -> Result<&[bool], Stop>
 }
 
 /// The code of a command.
-pub(crate) fn command_kind(bits: &[bool]) -> Result<(Kind, &[bool]), Stop>
+pub(crate) fn command_kind(bits: &[bool]) -> Result<(CommandKind, &[bool]), Stop>
     ensures { Gives (λ x. (x.0, x.1.now)) result (choice_at all_kinds reasons.Code bits.now) }
 {
     let (first, rest) = bit(bits)?;
     let (second, rest) = bit(rest)?;
     match (first, second) {
-        (false, false) => Ok((Kind::QueryRep, rest)),
-        (false, true) => Ok((Kind::Ack, rest)),
+        (false, false) => Ok((CommandKind::QueryRep, rest)),
+        (false, true) => Ok((CommandKind::Ack, rest)),
         (true, false) => kind_of_four_bits(rest),
         (true, true) => kind_of_eight_bits(rest),
     }
 }
 
 /// The rest of a code that begins with 10.
-fn kind_of_four_bits(bits: &[bool]) -> Result<(Kind, &[bool]), Stop>
+fn kind_of_four_bits(bits: &[bool]) -> Result<(CommandKind, &[bool]), Stop>
     ensures { Gives (λ x. (x.0, x.1.now)) result (choice_at kinds_10 reasons.Code bits.now) }
 {
     let (third, rest) = bit(bits)?;
     let (fourth, rest) = bit(rest)?;
     match (third, fourth) {
-        (false, false) => Ok((Kind::Query, rest)),
-        (false, true) => Ok((Kind::QueryAdjust, rest)),
-        (true, false) => Ok((Kind::Select, rest)),
+        (false, false) => Ok((CommandKind::Query, rest)),
+        (false, true) => Ok((CommandKind::QueryAdjust, rest)),
+        (true, false) => Ok((CommandKind::Select, rest)),
         (true, true) => Err(refused(rest, Reason::Code)),
     }
 }
 
 /// The rest of a code that begins with 11.
-fn kind_of_eight_bits(bits: &[bool]) -> Result<(Kind, &[bool]), Stop>
+fn kind_of_eight_bits(bits: &[bool]) -> Result<(CommandKind, &[bool]), Stop>
     ensures { Gives (λ x. (x.0, x.1.now)) result (choice_at kinds_11 reasons.Code bits.now) }
 {
     let (third, rest) = bit(bits)?;
@@ -200,26 +200,26 @@ fn kind_of_eight_bits(bits: &[bool]) -> Result<(Kind, &[bool]), Stop>
     }
 }
 
-fn kind_behind_11000(bits: &[bool]) -> Result<(Kind, &[bool]), Stop>
+fn kind_behind_11000(bits: &[bool]) -> Result<(CommandKind, &[bool]), Stop>
     ensures { Gives (λ x. (x.0, x.1.now)) result (choice_at kinds_11000 reasons.Code bits.now) }
 {
     let (sixth, rest) = bit(bits)?;
     let (seventh, rest) = bit(rest)?;
     let (eighth, rest) = bit(rest)?;
     let kind = match (sixth, seventh, eighth) {
-        (false, false, false) => Kind::Nak,
-        (false, false, true) => Kind::ReqRn,
-        (false, true, false) => Kind::Read,
-        (false, true, true) => Kind::Write,
-        (true, false, false) => Kind::Kill,
-        (true, false, true) => Kind::Lock,
-        (true, true, false) => Kind::Access,
-        (true, true, true) => Kind::BlockWrite,
+        (false, false, false) => CommandKind::Nak,
+        (false, false, true) => CommandKind::ReqRn,
+        (false, true, false) => CommandKind::Read,
+        (false, true, true) => CommandKind::Write,
+        (true, false, false) => CommandKind::Kill,
+        (true, false, true) => CommandKind::Lock,
+        (true, true, false) => CommandKind::Access,
+        (true, true, true) => CommandKind::BlockWrite,
     };
     Ok((kind, rest))
 }
 
-fn kind_behind_11001(bits: &[bool]) -> Result<(Kind, &[bool]), Stop>
+fn kind_behind_11001(bits: &[bool]) -> Result<(CommandKind, &[bool]), Stop>
     ensures { Gives (λ x. (x.0, x.1.now)) result (choice_at kinds_11001 reasons.Code bits.now) }
 {
     let (sixth, rest) = bit(bits)?;
@@ -234,5 +234,5 @@ fn kind_behind_11001(bits: &[bool]) -> Result<(Kind, &[bool]), Stop>
     if eighth {
         return Err(refused(rest, Reason::Code));
     }
-    Ok((Kind::BlockErase, rest))
+    Ok((CommandKind::BlockErase, rest))
 }

@@ -1,7 +1,7 @@
 //! Bits, one at a time, to a command.
 ghost use Rattle.std.specs.Prelude.{◌≡◌, ◌≤◌, ◌++◌, ◌∷◌, [], ℕ, List, Bool, Ok, Some, length};
-ghost use Rattle.command_grammar.specs.Commands.{Judges, Finishes, Spells};
-ghost use Rattle.command_grammar.specs.Framing.{StandsFor, refusal_in, HasRoom};
+ghost use Rattle.command_grammar.specs.Commands.{Judges, IsFinishAnswer, SpellsCommand, command_room};
+ghost use Rattle.command_grammar.specs.Framing.{FramerStandsFor, refusal_in, HasRoom};
 ghost use Rattle.command_grammar.specs.declared.commands.Command.{Command};
 ghost use Rattle.command_grammar.specs.declared.refusal.Pushed.TheVariants.{Bad};
 ghost use Rattle.command_grammar.specs.declared.refusal.Reason.{Reason};
@@ -36,7 +36,7 @@ impl Model for Framer {
 impl Framer {
     /// Stands for no bits.
     pub fn new() -> Framer
-        ensures { StandsFor result [] }
+        ensures { FramerStandsFor result [] }
     {
         Framer {
             bits: ArrayVec::new(),
@@ -47,8 +47,8 @@ impl Framer {
     /// Stands for one bit more, and says what the bits now are. After a refusal each push answers the
     /// same.
     pub fn push(&mut self, bit: bool) -> Pushed
-        ensures stands { (bits : List Bool) → StandsFor self.old bits → StandsFor self.new (bits ++ bit ∷ []) }
-        ensures judges { (bits : List Bool) → StandsFor self.old bits → Judges result (bits ++ bit ∷ []) }
+        ensures stands { (bits : List Bool) → FramerStandsFor self.old bits → FramerStandsFor self.new (bits ++ bit ∷ []) }
+        ensures judges { (bits : List Bool) → FramerStandsFor self.old bits → Judges result (bits ++ bit ∷ []) }
         ensures remembers { self.new.refused ≡ refusal_in result }
         ensures same { (place : ℕ) (reason : Reason) → self.old.refused ≡ Some (place, reason) → result ≡ Bad place reason }
     {
@@ -65,8 +65,8 @@ impl Framer {
 
     /// The command that the bits are, the refusal, or `Short` where they only begin a command.
     pub fn finish(self) -> Result<Command, CommandRefusal>
-        ensures finishes { (bits : List Bool) → StandsFor self bits → Finishes result bits }
-        ensures only { (bits : List Bool) (command : Command) → StandsFor self bits → Spells command bits → result ≡ Ok command }
+        ensures finishes { (bits : List Bool) → FramerStandsFor self bits → IsFinishAnswer result bits }
+        ensures only { (bits : List Bool) (command : Command) → FramerStandsFor self bits → SpellsCommand command bits → result ≡ Ok command }
     {
         let Framer { bits, refused } = self;
         match refused {
@@ -88,7 +88,7 @@ fn refusal_of(answer: Pushed) -> Option<(u32, Reason)>
 
 /// What the bits are.
 fn judge(bits: &[bool]) -> Pushed
-    requires { length bits.now ≤ 4170 }
+    requires { length bits.now ≤ command_room }
     ensures judges { Judges result bits.now }
     ensures room { HasRoom (refusal_in result) bits.now }
 {
@@ -101,9 +101,9 @@ fn judge(bits: &[bool]) -> Pushed
 
 /// The command that the bits are, or why they are none.
 fn finished(bits: &[bool]) -> Result<Command, CommandRefusal>
-    requires { length bits.now ≤ 4170 }
-    ensures finishes { Finishes result bits.now }
-    ensures only { (command : Command) → Spells command bits.now → result ≡ Ok command }
+    requires { length bits.now ≤ command_room }
+    ensures finishes { IsFinishAnswer result bits.now }
+    ensures only { (command : Command) → SpellsCommand command bits.now → result ≡ Ok command }
 {
     match whole_command(bits) {
         Ok(command) => Ok(command),

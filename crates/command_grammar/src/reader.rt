@@ -6,7 +6,7 @@ ghost use Rattle.command_grammar.specs.Reading.{Gives, bit_at, bits_at, field_at
 ghost use Rattle.command_grammar.specs.declared.reader.Stop.TheVariants.{Bad};
 
 use crate::refusal::Reason;
-use crate::words::{BlockWords, Mask};
+use crate::command_lists::{BlockWords, Mask};
 use bit_strings::{Count1, value_of_bits};
 use gen2_crc::{crc5_of_bits, crc16_of_bits};
 

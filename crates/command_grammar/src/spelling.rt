@@ -5,21 +5,21 @@ ghost use Rattle.bit_strings.specs.Numbers.{field_of};
 ghost use Rattle.bit_strings.specs.Ebv.{ebv_of};
 ghost use Rattle.bit_strings.specs.Words.{bits_of_words};
 ghost use Rattle.gen2_crc.specs.Crc.{crc5_of, crc16_of};
-ghost use Rattle.command_grammar.specs.Commands.{IsLegal, IsWord, spelling_of, bits_of_code, bits_of_sel, bits_of_side, bits_of_updn, bits_of_target, bits_of_mask_bank, bits_of_bank};
+ghost use Rattle.command_grammar.specs.Commands.{IsLegalCommand, IsWord, spelling_of, bits_of_code, bits_of_sel, bits_of_side, bits_of_updn, bits_of_target, bits_of_mask_bank, bits_of_bank, command_room};
 ghost use Rattle.command_grammar.specs.declared.commands.Command.TheVariants.{QueryRep, Ack, Query, QueryAdjust, Select, Nak, ReqRn, Read, Write, Kill, Lock, Access, BlockWrite, BlockErase};
 
-use crate::command::{Bank, FlagName, MaskBank, Sel, Side, UpDn};
+use crate::field_values::{Bank, FlagName, MaskBank, Sel, Side, UpDn};
 use crate::commands::Command;
-use crate::words::{BlockWords, Mask};
+use crate::command_lists::{BlockWords, Mask};
 use bit_strings::{Action, Bits, Code, Count1, Payload, Pointer, QValue, Session};
 use gen2_crc::{crc5_of_bits, crc16_of_bits};
 
 /// Writes the one spelling of a command, in place of what stood in `out` (6.3.2.11). No spelling has
 /// more than 4,162 bits.
 pub fn encode_command(command: &Command, out: &mut Bits)
-    requires { 4170 ≤ out.old.capacity }
+    requires { command_room ≤ out.old.capacity }
     ensures spelled { out.new ≡ record out.old { items = spelling_of command.now } }
-    ensures legal { IsLegal command.now }
+    ensures legal { IsLegalCommand command.now }
 {
     out.clear();
     match command {
@@ -219,9 +219,9 @@ fn bank_bits(bank: Bank) -> [bool; 2]
 /// Adds a QueryRep.
 fn put_query_rep(out: &mut Bits, session: Session)
     requires empty { out.old.items ≡ [] }
-    requires room { 4170 ≤ out.old.capacity }
+    requires room { command_room ≤ out.old.capacity }
     ensures items { out.new.items ≡ spelling_of (QueryRep session) }
-    ensures legal { IsLegal (QueryRep session) }
+    ensures legal { IsLegalCommand (QueryRep session) }
     ensures capacity { out.new.capacity ≡ out.old.capacity }
 {
     put_bits(out, &[false, false]);
@@ -231,9 +231,9 @@ fn put_query_rep(out: &mut Bits, session: Session)
 /// Adds an ACK.
 fn put_ack(out: &mut Bits, rn: u16)
     requires empty { out.old.items ≡ [] }
-    requires room { 4170 ≤ out.old.capacity }
+    requires room { command_room ≤ out.old.capacity }
     ensures items { out.new.items ≡ spelling_of (Ack rn) }
-    ensures legal { IsLegal (Ack rn) }
+    ensures legal { IsLegalCommand (Ack rn) }
     ensures capacity { out.new.capacity ≡ out.old.capacity }
 {
     put_bits(out, &[false, true]);
@@ -252,9 +252,9 @@ fn put_query(
     q: QValue,
 )
     requires empty { out.old.items ≡ [] }
-    requires room { 4170 ≤ out.old.capacity }
+    requires room { command_room ≤ out.old.capacity }
     ensures items { out.new.items ≡ spelling_of (Query dr code trext sel session target q) }
-    ensures legal { IsLegal (Query dr code trext sel session target q) }
+    ensures legal { IsLegalCommand (Query dr code trext sel session target q) }
     ensures capacity { out.new.capacity ≡ out.old.capacity }
 {
     put_bits(out, &[true, false, false, false]);
@@ -271,9 +271,9 @@ fn put_query(
 /// Adds a QueryAdjust.
 fn put_query_adjust(out: &mut Bits, session: Session, updn: UpDn)
     requires empty { out.old.items ≡ [] }
-    requires room { 4170 ≤ out.old.capacity }
+    requires room { command_room ≤ out.old.capacity }
     ensures items { out.new.items ≡ spelling_of (QueryAdjust session updn) }
-    ensures legal { IsLegal (QueryAdjust session updn) }
+    ensures legal { IsLegalCommand (QueryAdjust session updn) }
     ensures capacity { out.new.capacity ≡ out.old.capacity }
 {
     put_bits(out, &[true, false, false, true]);
@@ -291,9 +291,9 @@ fn put_select(
     mask: &Mask,
 )
     requires empty { out.old.items ≡ [] }
-    requires room { 4170 ≤ out.old.capacity }
+    requires room { command_room ≤ out.old.capacity }
     ensures items { out.new.items ≡ spelling_of (Select target action bank pointer mask.now) }
-    ensures legal { IsLegal (Select target action bank pointer mask.now) }
+    ensures legal { IsLegalCommand (Select target action bank pointer mask.now) }
     ensures capacity { out.new.capacity ≡ out.old.capacity }
 {
     put_bits(out, &[true, false, true, false]);
@@ -310,9 +310,9 @@ fn put_select(
 /// Adds a NAK.
 fn put_nak(out: &mut Bits)
     requires empty { out.old.items ≡ [] }
-    requires room { 4170 ≤ out.old.capacity }
+    requires room { command_room ≤ out.old.capacity }
     ensures items { out.new.items ≡ spelling_of (Nak) }
-    ensures legal { IsLegal (Nak) }
+    ensures legal { IsLegalCommand (Nak) }
     ensures capacity { out.new.capacity ≡ out.old.capacity }
 {
     put_bits(out, &[true, true, false, false, false, false, false, false]);
@@ -321,9 +321,9 @@ fn put_nak(out: &mut Bits)
 /// Adds a Req_RN.
 fn put_req_rn(out: &mut Bits, rn: u16)
     requires empty { out.old.items ≡ [] }
-    requires room { 4170 ≤ out.old.capacity }
+    requires room { command_room ≤ out.old.capacity }
     ensures items { out.new.items ≡ spelling_of (ReqRn rn) }
-    ensures legal { IsLegal (ReqRn rn) }
+    ensures legal { IsLegalCommand (ReqRn rn) }
     ensures capacity { out.new.capacity ≡ out.old.capacity }
 {
     put_bits(out, &[true, true, false, false, false, false, false, true]);
@@ -334,9 +334,9 @@ fn put_req_rn(out: &mut Bits, rn: u16)
 /// Adds a Read.
 fn put_read(out: &mut Bits, bank: Bank, pointer: Pointer, count: u8, rn: u16)
     requires empty { out.old.items ≡ [] }
-    requires room { 4170 ≤ out.old.capacity }
+    requires room { command_room ≤ out.old.capacity }
     ensures items { out.new.items ≡ spelling_of (Read bank pointer count rn) }
-    ensures legal { IsLegal (Read bank pointer count rn) }
+    ensures legal { IsLegalCommand (Read bank pointer count rn) }
     ensures capacity { out.new.capacity ≡ out.old.capacity }
 {
     put_bits(out, &[true, true, false, false, false, false, true, false]);
@@ -350,9 +350,9 @@ fn put_read(out: &mut Bits, bank: Bank, pointer: Pointer, count: u8, rn: u16)
 /// Adds a Write.
 fn put_write(out: &mut Bits, bank: Bank, pointer: Pointer, covered: u16, rn: u16)
     requires empty { out.old.items ≡ [] }
-    requires room { 4170 ≤ out.old.capacity }
+    requires room { command_room ≤ out.old.capacity }
     ensures items { out.new.items ≡ spelling_of (Write bank pointer covered rn) }
-    ensures legal { IsLegal (Write bank pointer covered rn) }
+    ensures legal { IsLegalCommand (Write bank pointer covered rn) }
     ensures capacity { out.new.capacity ≡ out.old.capacity }
 {
     put_bits(out, &[true, true, false, false, false, false, true, true]);
@@ -366,9 +366,9 @@ fn put_write(out: &mut Bits, bank: Bank, pointer: Pointer, covered: u16, rn: u16
 /// Adds a Kill.
 fn put_kill(out: &mut Bits, covered: u16, rn: u16)
     requires empty { out.old.items ≡ [] }
-    requires room { 4170 ≤ out.old.capacity }
+    requires room { command_room ≤ out.old.capacity }
     ensures items { out.new.items ≡ spelling_of (Kill covered rn) }
-    ensures legal { IsLegal (Kill covered rn) }
+    ensures legal { IsLegalCommand (Kill covered rn) }
     ensures capacity { out.new.capacity ≡ out.old.capacity }
 {
     put_bits(out, &[true, true, false, false, false, true, false, false]);
@@ -381,9 +381,9 @@ fn put_kill(out: &mut Bits, covered: u16, rn: u16)
 /// Adds a Lock.
 fn put_lock(out: &mut Bits, payload: Payload, rn: u16)
     requires empty { out.old.items ≡ [] }
-    requires room { 4170 ≤ out.old.capacity }
+    requires room { command_room ≤ out.old.capacity }
     ensures items { out.new.items ≡ spelling_of (Lock payload rn) }
-    ensures legal { IsLegal (Lock payload rn) }
+    ensures legal { IsLegalCommand (Lock payload rn) }
     ensures capacity { out.new.capacity ≡ out.old.capacity }
 {
     put_bits(out, &[true, true, false, false, false, true, false, true]);
@@ -395,9 +395,9 @@ fn put_lock(out: &mut Bits, payload: Payload, rn: u16)
 /// Adds an Access.
 fn put_access(out: &mut Bits, covered: u16, rn: u16)
     requires empty { out.old.items ≡ [] }
-    requires room { 4170 ≤ out.old.capacity }
+    requires room { command_room ≤ out.old.capacity }
     ensures items { out.new.items ≡ spelling_of (Access covered rn) }
-    ensures legal { IsLegal (Access covered rn) }
+    ensures legal { IsLegalCommand (Access covered rn) }
     ensures capacity { out.new.capacity ≡ out.old.capacity }
 {
     put_bits(out, &[true, true, false, false, false, true, true, false]);
@@ -409,9 +409,9 @@ fn put_access(out: &mut Bits, covered: u16, rn: u16)
 /// Adds a BlockWrite.
 fn put_block_write(out: &mut Bits, bank: Bank, pointer: Pointer, words: &BlockWords, rn: u16)
     requires empty { out.old.items ≡ [] }
-    requires room { 4170 ≤ out.old.capacity }
+    requires room { command_room ≤ out.old.capacity }
     ensures items { out.new.items ≡ spelling_of (BlockWrite bank pointer words.now rn) }
-    ensures legal { IsLegal (BlockWrite bank pointer words.now rn) }
+    ensures legal { IsLegalCommand (BlockWrite bank pointer words.now rn) }
     ensures capacity { out.new.capacity ≡ out.old.capacity }
 {
     put_bits(out, &[true, true, false, false, false, true, true, true]);
@@ -426,9 +426,9 @@ fn put_block_write(out: &mut Bits, bank: Bank, pointer: Pointer, words: &BlockWo
 /// Adds a BlockErase.
 fn put_block_erase(out: &mut Bits, bank: Bank, pointer: Pointer, count: Count1, rn: u16)
     requires empty { out.old.items ≡ [] }
-    requires room { 4170 ≤ out.old.capacity }
+    requires room { command_room ≤ out.old.capacity }
     ensures items { out.new.items ≡ spelling_of (BlockErase bank pointer count rn) }
-    ensures legal { IsLegal (BlockErase bank pointer count rn) }
+    ensures legal { IsLegalCommand (BlockErase bank pointer count rn) }
     ensures capacity { out.new.capacity ≡ out.old.capacity }
 {
     put_bits(out, &[true, true, false, false, true, false, false, false]);

@@ -5,18 +5,18 @@ use Rattle.text_fields.specs.Lines.{line_with}
 use Rattle.text_fields.specs.Binary.{binary, binary_digit}
 use Rattle.text_fields.specs.Hexadecimal.{hex_digit, hex_word, hex_words}
 use Rattle.text_fields.specs.CodeNames.{code_word}
-use Rattle.command_grammar.specs.declared.command.Sel.{Sel}
-use Rattle.command_grammar.specs.declared.command.Sel.TheVariants as sels
-use Rattle.command_grammar.specs.declared.command.Side.{Side}
-use Rattle.command_grammar.specs.declared.command.Side.TheVariants.{A, B}
-use Rattle.command_grammar.specs.declared.command.UpDn.{UpDn}
-use Rattle.command_grammar.specs.declared.command.UpDn.TheVariants.{Up, Same, Down}
-use Rattle.command_grammar.specs.declared.command.Bank.{Bank}
-use Rattle.command_grammar.specs.declared.command.Bank.TheVariants as banks
-use Rattle.command_grammar.specs.declared.command.MaskBank.{MaskBank}
-use Rattle.command_grammar.specs.declared.command.MaskBank.TheVariants as mask_banks
-use Rattle.command_grammar.specs.declared.command.FlagName.{FlagName}
-use Rattle.command_grammar.specs.declared.command.FlagName.TheVariants as flags
+use Rattle.command_grammar.specs.declared.field_values.Sel.{Sel}
+use Rattle.command_grammar.specs.declared.field_values.Sel.TheVariants as sels
+use Rattle.command_grammar.specs.declared.field_values.Side.{Side}
+use Rattle.command_grammar.specs.declared.field_values.Side.TheVariants.{A, B}
+use Rattle.command_grammar.specs.declared.field_values.UpDn.{UpDn}
+use Rattle.command_grammar.specs.declared.field_values.UpDn.TheVariants.{Up, Same, Down}
+use Rattle.command_grammar.specs.declared.field_values.Bank.{Bank}
+use Rattle.command_grammar.specs.declared.field_values.Bank.TheVariants as banks
+use Rattle.command_grammar.specs.declared.field_values.MaskBank.{MaskBank}
+use Rattle.command_grammar.specs.declared.field_values.MaskBank.TheVariants as mask_banks
+use Rattle.command_grammar.specs.declared.field_values.FlagName.{FlagName}
+use Rattle.command_grammar.specs.declared.field_values.FlagName.TheVariants as flags
 use Rattle.command_grammar.specs.declared.commands.Command.{Command}
 use Rattle.command_grammar.specs.declared.commands.Command.TheVariants.{QueryRep, Ack, Query, QueryAdjust, Select, Nak, ReqRn, Read, Write, Kill, Lock, Access, BlockWrite, BlockErase}
 use Rattle.command_grammar.specs.declared.refusal.CommandRefusal.{CommandRefusal}

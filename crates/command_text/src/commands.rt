@@ -14,7 +14,7 @@ use crate::names::{
 use bit_strings::{Action, Code, OutOfMemory, Payload, Pointer, QValue, Session};
 use command_grammar::{Bank, BlockWords, Command, FlagName, Mask, MaskBank, Sel, Side, UpDn};
 use text_fields::{
-    name_of, next_bits, next_name, next_number, next_word, next_words, push_hex_digit,
+    name_of, push_next_bits, push_next_name, push_next_number, push_next_word, push_next_words, push_hex_digit,
     push_named_number, push_named_word, push_word,
 };
 
@@ -96,9 +96,9 @@ fn push_link(text: &mut String, dr: bool, code: Code, trext: bool) -> Result<(),
         ++ line_with (codes "query" ∷ (binary_digit dr ∷ []) ∷ code_word code ∷ (binary_digit trext ∷ []) ∷ [])) }
 {
     text.push_str("query")?;
-    next_name(text, bit_name(dr))?;
-    next_name(text, name_of(code))?;
-    next_name(text, bit_name(trext))
+    push_next_name(text, bit_name(dr))?;
+    push_next_name(text, name_of(code))?;
+    push_next_name(text, bit_name(trext))
 }
 
 /// Writes the fields of a Query behind those: what it says of the round.
@@ -112,10 +112,10 @@ fn push_round(
     ensures { OnOk result (string_bytes text.new ≡ string_bytes text.old
         ++ space ∷ line_with (sel_word sel ∷ decimal session.now ∷ side_word target ∷ decimal q.now ∷ [])) }
 {
-    next_name(text, sel_name(sel))?;
-    next_number(text, u32::from(session.get()))?;
-    next_name(text, side_name(target))?;
-    next_number(text, u32::from(q.get()))
+    push_next_name(text, sel_name(sel))?;
+    push_next_number(text, u32::from(session.get()))?;
+    push_next_name(text, side_name(target))?;
+    push_next_number(text, u32::from(q.get()))
 }
 
 /// Writes a QueryAdjust.
@@ -124,7 +124,7 @@ fn push_query_adjust(text: &mut String, session: &Session, updn: UpDn) -> Result
         ++ line_with (codes "queryadjust" ∷ decimal session.now ∷ updn_word updn ∷ [])) }
 {
     push_session(text, "queryadjust", session)?;
-    next_name(text, updn_name(updn))
+    push_next_name(text, updn_name(updn))
 }
 
 /// Writes a Select.
@@ -140,11 +140,11 @@ fn push_select(
         ++ line_with (codes "select" ∷ flag_word target ∷ decimal action.now ∷ mask_bank_word bank ∷ decimal pointer.now ∷ binary mask.now ∷ [])) }
 {
     text.push_str("select")?;
-    next_name(text, flag_name(target))?;
-    next_number(text, u32::from(action.get()))?;
-    next_name(text, mask_bank_name(bank))?;
-    next_number(text, pointer.get())?;
-    next_bits(text, mask.as_slice())
+    push_next_name(text, flag_name(target))?;
+    push_next_number(text, u32::from(action.get()))?;
+    push_next_name(text, mask_bank_name(bank))?;
+    push_next_number(text, pointer.get())?;
+    push_next_bits(text, mask.as_slice())
 }
 
 /// Writes the name of a command, the bank, and the place of the first word.
@@ -157,8 +157,8 @@ fn push_place(
     ensures { OnOk result (string_bytes text.new ≡ string_bytes text.old ++ line_with (name.now ∷ bank_word bank ∷ decimal pointer.now ∷ [])) }
 {
     text.push_str(name)?;
-    next_name(text, bank_name(bank))?;
-    next_number(text, pointer.get())
+    push_next_name(text, bank_name(bank))?;
+    push_next_number(text, pointer.get())
 }
 
 /// Writes a command for a number of words: its name, the bank, the place of the first word, the number of
@@ -175,8 +175,8 @@ fn push_counted(
         ++ line_with (name.now ∷ bank_word bank ∷ decimal pointer.now ∷ decimal count ∷ hex_word rn ∷ [])) }
 {
     push_place(text, name, bank, pointer)?;
-    next_number(text, u32::from(count))?;
-    next_word(text, rn)
+    push_next_number(text, u32::from(count))?;
+    push_next_word(text, rn)
 }
 
 /// Writes a Write.
@@ -191,8 +191,8 @@ fn push_write(
         ++ line_with (codes "write" ∷ bank_word bank ∷ decimal pointer.now ∷ hex_word covered ∷ hex_word rn ∷ [])) }
 {
     push_place(text, "write", bank, pointer)?;
-    next_word(text, covered)?;
-    next_word(text, rn)
+    push_next_word(text, covered)?;
+    push_next_word(text, rn)
 }
 
 /// Writes the name of a command, the covered half of a password, and the tag's handle.
@@ -200,11 +200,11 @@ fn push_half(text: &mut String, name: &str, covered: u16, rn: u16) -> Result<(),
     ensures { OnOk result (string_bytes text.new ≡ string_bytes text.old ++ line_with (name.now ∷ hex_word covered ∷ hex_word rn ∷ [])) }
 {
     push_named_word(text, name, covered)?;
-    next_word(text, rn)
+    push_next_word(text, rn)
 }
 
 /// Writes the payload of a Lock as the next field, in hexadecimal digits.
-fn next_payload(text: &mut String, payload: &Payload) -> Result<(), OutOfMemory>
+fn push_next_payload(text: &mut String, payload: &Payload) -> Result<(), OutOfMemory>
     ensures { OnOk result (string_bytes text.new ≡ string_bytes text.old ++ space ∷ payload_digits payload.now) }
 {
     let number = payload.get();
@@ -218,8 +218,8 @@ fn push_lock(text: &mut String, payload: &Payload, rn: u16) -> Result<(), OutOfM
     ensures { OnOk result (string_bytes text.new ≡ string_bytes text.old ++ line_with (codes "lock" ∷ payload_digits payload.now ∷ hex_word rn ∷ [])) }
 {
     text.push_str("lock")?;
-    next_payload(text, payload)?;
-    next_word(text, rn)
+    push_next_payload(text, payload)?;
+    push_next_word(text, rn)
 }
 
 /// Writes a BlockWrite.
@@ -234,6 +234,6 @@ fn push_block_write(
         ++ line_with (codes "blockwrite" ∷ bank_word bank ∷ decimal pointer.now ∷ hex_words words.now ∷ hex_word rn ∷ [])) }
 {
     push_place(text, "blockwrite", bank, pointer)?;
-    next_words(text, words.as_slice())?;
-    next_word(text, rn)
+    push_next_words(text, words.as_slice())?;
+    push_next_word(text, rn)
 }

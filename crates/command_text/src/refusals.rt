@@ -6,7 +6,7 @@ ghost use Rattle.command_text.specs.CommandText.{command_refusal_line};
 use crate::names::reason_name;
 use bit_strings::OutOfMemory;
 use command_grammar::CommandRefusal;
-use text_fields::{next_name, push_named_number};
+use text_fields::{push_next_name, push_named_number};
 
 /// Writes why bits are no command at the end of the text, without a line feed. After an error the text
 /// may hold a part of it.
@@ -19,7 +19,7 @@ pub fn push_command_refusal(text: &mut String, refusal: CommandRefusal) -> Resul
     match refusal {
         CommandRefusal::At(place, reason) => {
             push_named_number(text, "refused", place)?;
-            next_name(text, reason_name(reason))
+            push_next_name(text, reason_name(reason))
         }
         CommandRefusal::Short(count) => push_named_number(text, "short", count),
     }

@@ -4,7 +4,7 @@ use Rattle.std.proofs.Common.{arith}
 use Rattle.line_code.specs.Table.{Context}
 use Rattle.line_code.specs.Laws.{IsEven, HasLead, TellsBits, RefusesFlips, HidesLead}
 use Rattle.line_code.specs.Flips.{ShowsFlips, HasBreak, refuses_flips, hides_lead}
-use Rattle.line_code.specs.Fm0.{fm0, fm0_second, fm0_block, fm0_next, fm0_lead}
+use Rattle.fm0_line.specs.Fm0.{fm0, fm0_second, fm0_block, fm0_next, fm0_lead}
 
 pub fm0_even : IsEven fm0 2
 fm0_even = record { least = omega arith; most = omega arith; blocks_even = λ c bit. refl }

@@ -1,1 +1,2 @@
+pub mod Fm0
 pub mod Fm0Laws

@@ -9,7 +9,7 @@ use Rattle.std.proofs.lemmas.Nat.Bits.{bit_at_xor}
 use Rattle.std.proofs.lemmas.List.{take_more, take_all, length-map}
 use Rattle.bit_strings.specs.Numbers.{value_of, field_of}
 use Rattle.bit_strings.specs.NumberLaws.{value_of-field, field_of-value_of, field_of-mod, same_from_value}
-use Rattle.gen2_crc.specs.Crc.{differ, minus, divide, remainder_of, others5, preset5, others16, preset16, crc5_of, register_of, crc16_of, residue, StandsFor}
+use Rattle.gen2_crc.specs.Crc.{differ, minus, divide, remainder_of, others5, preset5, others16, preset16, crc5_of, register_of, crc16_of, residue, RegisterStandsFor}
 use Rattle.gen2_crc.specs.CrcLaws.{length-register_of, length-crc5_of}
 use Rattle.gen2_crc.specs.Division.{one-bit, left_of, left_of-true, left_of-false, remainder_of-append}
 
@@ -126,7 +126,7 @@ pub differs5-small : (v : ℕ) → bit_xor (2 * (v % 16)) 9 < 32
 differs5-small v = xor_lt 5 (2 * (v % 16)) 9 (omega arith) (omega arith)
 
 -- before the first bit
-pub stands_none : StandsFor 65535 []
+pub stands_none : RegisterStandsFor 65535 []
 unfolding register_of divide
 stands_none = record { is_remainder = refl }
 
@@ -135,11 +135,11 @@ unfolding register_of
 register_of-push bits bit = remainder_of-append preset16 others16 bits (bit ∷ []) (omega arith) (omega arith)
 
 -- the bits of the number that stands for a list
-stands-field : (register : ℕ) (bits : List Bool) → StandsFor register bits → field_of register 16 ≡ register_of bits
+stands-field : (register : ℕ) (bits : List Bool) → RegisterStandsFor register bits → field_of register 16 ≡ register_of bits
 stands-field register bits stands =
     ap (λ n. field_of n 16) stands.is_remainder ∙ ap (λ w. field_of (value_of (register_of bits)) w) (sym (length-register_of bits)) ∙ field_of-value_of (register_of bits)
 
-pub stands_more : (register result : ℕ) (bits : List Bool) (bit : Bool) → result < 65536 → StandsFor register bits → field_of result 16 ≡ remainder_of (field_of register 16) others16 (bit ∷ []) → StandsFor result (bits ++ bit ∷ [])
+pub stands_more : (register result : ℕ) (bits : List Bool) (bit : Bool) → result < 65536 → RegisterStandsFor register bits → field_of result 16 ≡ remainder_of (field_of register 16) others16 (bit ∷ []) → RegisterStandsFor result (bits ++ bit ∷ [])
 stands_more register result bits bit fits stands step = record {
   is_remainder =
       sym (value_of-field result 16 fits)
@@ -152,22 +152,22 @@ value_of-not (true ∷ bits) = omega (arith, value_of-not bits, length-map bits 
 value_of-not (false ∷ bits) = rw (length-map bits not) (omega (arith, value_of-not bits, pow-suc 2 (length bits)))
 
 -- the complement
-pub stands_value : (register : ℕ) (bits : List Bool) → StandsFor register bits → 65535 - register ≡ value_of (crc16_of bits)
+pub stands_value : (register : ℕ) (bits : List Bool) → RegisterStandsFor register bits → 65535 - register ≡ value_of (crc16_of bits)
 unfolding crc16_of
 stands_value register bits stands =
     let power : 2 ^ length (register_of bits) ≡ 65536 = ap (λ n. 2 ^ n) (length-register_of bits) in
     omega (arith, value_of-not (register_of bits), stands.is_remainder)
 
-pub stands_residue : (register : ℕ) (bits : List Bool) → StandsFor register bits → (register ≡ 7439 → register_of bits ≡ residue) × (register_of bits ≡ residue → register ≡ 7439)
+pub stands_residue : (register : ℕ) (bits : List Bool) → RegisterStandsFor register bits → (register ≡ 7439 → register_of bits ≡ residue) × (register_of bits ≡ residue → register ≡ 7439)
 stands_residue register bits stands =
     (λ same. same_from_value (register_of bits) residue (length-register_of bits) (sym stands.is_remainder ∙ same), λ same. stands.is_remainder ∙ ap value_of same)
 
 -- the loop's step
-pub stands_next : (bits : List Bool) (i register result : ℕ) → i < length bits → StandsFor register (take i bits) → ((front : List Bool) → StandsFor register front → StandsFor result (front ++ get_or bits i false ∷ [])) → StandsFor result (take (i + 1) bits)
-stands_next bits i register result within stands push = subst (StandsFor result) (sym (take_more bits i false within)) (push (take i bits) stands)
+pub stands_next : (bits : List Bool) (i register result : ℕ) → i < length bits → RegisterStandsFor register (take i bits) → ((front : List Bool) → RegisterStandsFor register front → RegisterStandsFor result (front ++ get_or bits i false ∷ [])) → RegisterStandsFor result (take (i + 1) bits)
+stands_next bits i register result within stands push = subst (RegisterStandsFor result) (sym (take_more bits i false within)) (push (take i bits) stands)
 
-pub stands_all : (bits : List Bool) (i register : ℕ) → length bits ≤ i → StandsFor register (take i bits) → StandsFor register bits
-stands_all bits i register past stands = subst (StandsFor register) (take_all i bits past) stands
+pub stands_all : (bits : List Bool) (i register : ℕ) → length bits ≤ i → RegisterStandsFor register (take i bits) → RegisterStandsFor register bits
+stands_all bits i register past stands = subst (RegisterStandsFor register) (take_all i bits past) stands
 
 -- the register of CRC-5
 pub crc5_of-none : 9 ≡ value_of (crc5_of [])

@@ -60,5 +60,5 @@ residue =
     false ∷ false ∷ false ∷ true ∷ true ∷ true ∷ false ∷ true ∷ false ∷ false ∷ false ∷ false ∷ true ∷ true ∷ true ∷ true ∷ []
 
 -- a number stands for a list of bits: it is the remainder of that message
-pub record StandsFor (register : ℕ) (bits : List Bool) : Type 0 where
+pub record RegisterStandsFor (register : ℕ) (bits : List Bool) : Type 0 where
   pub is_remainder : register ≡ value_of (register_of bits)

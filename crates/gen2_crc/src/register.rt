@@ -1,7 +1,7 @@
 //! The CRC-16 bit by bit.
 ghost use Rattle.std.specs.Prelude.{◌≡◌, ◌↔◌, List, Bool, [], ◌∷◌, ◌++◌, IsTrue};
 ghost use Rattle.bit_strings.specs.Numbers.{value_of, field_of};
-ghost use Rattle.gen2_crc.specs.Crc.{crc16_of, register_of, remainder_of, others16, residue, StandsFor};
+ghost use Rattle.gen2_crc.specs.Crc.{crc16_of, register_of, remainder_of, others16, residue, RegisterStandsFor};
 
 use std::marker::Model;
 
@@ -37,28 +37,28 @@ impl Model for Crc16 {
 impl Crc16 {
     /// Stands for no bits.
     pub fn new() -> Crc16
-        ensures { StandsFor result [] }
+        ensures { RegisterStandsFor result [] }
     {
         Crc16 { register: PRESET }
     }
 
     /// Stands for one bit more.
     pub fn push(&mut self, bit: bool)
-        ensures { (bits : List Bool) → StandsFor self.old bits → StandsFor self.new (bits ++ bit ∷ []) }
+        ensures { (bits : List Bool) → RegisterStandsFor self.old bits → RegisterStandsFor self.new (bits ++ bit ∷ []) }
     {
         self.register = shifted16(self.register, bit);
     }
 
     /// The CRC-16 of the bits.
     pub fn value(&self) -> u16
-        ensures { (bits : List Bool) → StandsFor self.now bits → result ≡ value_of (crc16_of bits) }
+        ensures { (bits : List Bool) → RegisterStandsFor self.now bits → result ≡ value_of (crc16_of bits) }
     {
         !self.register
     }
 
     /// Whether the register holds 1D0Fh.
     pub fn is_residue(&self) -> bool
-        ensures { (bits : List Bool) → StandsFor self.now bits → (IsTrue result ↔ (register_of bits ≡ residue)) }
+        ensures { (bits : List Bool) → RegisterStandsFor self.now bits → (IsTrue result ↔ (register_of bits ≡ residue)) }
     {
         self.register == RESIDUE
     }

@@ -3,8 +3,8 @@ use Rattle.std.proofs.Common.{◌≡◌, ℕ, List, [], ◌∷◌, ◌++◌, ref
 use Rattle.std.specs.List.{AllZip, flat_map}
 use Rattle.std.proofs.lemmas.List.{append_assoc, append-nil}
 use Rattle.text_fields.specs.Lines.{lines_of, line_feed}
-use Rattle.gen2run.specs.Request.{Spells}
-use Rattle.gen2run.specs.Answer.{Answer, IsAnswer, answer_line}
+use Rattle.gen2run.specs.Request.{AsksForRequest}
+use Rattle.gen2run.specs.Answer.{Answer, IsLineAnswer, answer_line}
 use Rattle.gen2run.specs.DecodeLines.{Decodes, AnswersLine, IsAsked, IsGrammatical}
 use Rattle.gen2run.specs.declared.decode.request.Request.{Request}
 use Rattle.gen2run.proofs.CheckedLines.{AsksTo, asks_none, asks_more, asks_all, some_line, zip_push}
@@ -14,7 +14,7 @@ pub record AnswersTo (input rest text : List ℕ) : Type 0 where
   pub asked : List Request
   pub answers : List Answer
   pub so_far : AsksTo input rest asked
-  pub each : AllZip IsAnswer asked answers
+  pub each : AllZip IsLineAnswer asked answers
   pub lines : text ≡ flat_map answer_line answers
   pub others : IsGrammatical rest
 
@@ -22,14 +22,14 @@ pub answers_none : (input : List ℕ) → IsGrammatical input → AnswersTo inpu
 answers_none input others = record { asked = []; answers = []; so_far = asks_none input; each = tt; lines = refl; others = others }
 
 -- the same, over the lines
-next_of : (lines : List (List ℕ)) (asked : List Request) (line behind : List ℕ) → AllZip Spells lines asked → lines ++ [] ∷ [] ≡ line ∷ lines_of behind → IsAsked line × IsGrammatical behind
+next_of : (lines : List (List ℕ)) (asked : List Request) (line behind : List ℕ) → AllZip AsksForRequest lines asked → lines ++ [] ∷ [] ≡ line ∷ lines_of behind → IsAsked line × IsGrammatical behind
 next_of [] [] line behind each cut = let e : [] ≡ lines_of behind = cc in absurd (omega (arith, some_line behind, ap length e))
 next_of [] (r ∷ asked) line behind each cut = absurd each
 next_of (l ∷ lines) [] line behind each cut = absurd each
 next_of (l ∷ lines) (r ∷ asked) line behind each cut =
     let e : l ≡ line = cc in
     let f : lines_of behind ≡ lines ++ [] ∷ [] = cc in
-    ((r, subst (λ x. Spells x r) e each.0), (asked, record { lines = lines; cut = f; each = each.1 }))
+    ((r, subst (λ x. AsksForRequest x r) e each.0), (asked, record { lines = lines; cut = f; each = each.1 }))
 
 -- the next line asks for something, and so do those behind it
 pub next_asked : (rest line behind : List ℕ) → IsGrammatical rest → lines_of rest ≡ line ∷ lines_of behind → IsAsked line × IsGrammatical behind
@@ -45,7 +45,7 @@ answers_more input rest line behind old new so_far lines split answered = record
   asked = so_far.asked ++ answered.request ∷ [];
   answers = so_far.answers ++ answered.adds.answer ∷ [];
   so_far = asks_more input rest line behind so_far.asked answered.request so_far.so_far lines split answered.asks;
-  each = zip_push IsAnswer so_far.asked so_far.answers answered.request answered.adds.answer so_far.each answered.adds.right;
+  each = zip_push IsLineAnswer so_far.asked so_far.answers answered.request answered.adds.answer so_far.each answered.adds.right;
   lines = answered.adds.line ∙ ap (λ text. text ++ answer_line answered.adds.answer) so_far.lines ∙ sym (flat_map_push answer_line so_far.answers answered.adds.answer);
   others = (next_asked rest line behind so_far.others lines).1;
 }

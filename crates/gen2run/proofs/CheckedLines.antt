@@ -4,17 +4,17 @@ use Rattle.std.specs.List.{AllZip}
 use Rattle.std.proofs.lemmas.List.{append_assoc}
 use Rattle.std.proofs.lemmas.List.Splits.{length-slice_split}
 use Rattle.text_fields.specs.Lines.{lines_of, fields_of, line_feed}
-use Rattle.gen2run.specs.Request.{Spells, IsFaulty}
+use Rattle.gen2run.specs.Request.{AsksForRequest, IsFaultyRequest}
 use Rattle.gen2run.specs.DecodeLines.{AsksFor, IsFaultyBefore, IsFirstFault}
 use Rattle.gen2run.specs.declared.decode.request.Request.{Request}
-use Rattle.gen2run.specs.declared.decode.request.Reason.{Reason}
-use Rattle.gen2run.specs.declared.decode.request.Reason.TheVariants.{End}
+use Rattle.gen2run.specs.declared.decode.request.FaultReason.{FaultReason}
+use Rattle.gen2run.specs.declared.decode.request.FaultReason.TheVariants.{End}
 
 -- the lines before what is left ask for these requests
 pub record AsksTo (input rest : List ℕ) (asked : List Request) : Type 0 where
   pub before : List (List ℕ)
   pub cut : lines_of input ≡ before ++ lines_of rest
-  pub each : AllZip Spells before asked
+  pub each : AllZip AsksForRequest before asked
   pub room : length before + length rest ≤ length input
 
 pub asks_none : (input : List ℕ) → AsksTo input input []
@@ -34,11 +34,11 @@ zip_length R (a ∷ xs) [] each = absurd each
 zip_length R (a ∷ xs) (b ∷ ys) each = ap suc (zip_length R xs ys each.1)
 
 -- one more line
-pub asks_more : (input rest line behind : List ℕ) (asked : List Request) (request : Request) → AsksTo input rest asked → lines_of rest ≡ line ∷ lines_of behind → rest ≡ line ++ line_feed ∷ behind → Spells line request → AsksTo input behind (asked ++ request ∷ [])
+pub asks_more : (input rest line behind : List ℕ) (asked : List Request) (request : Request) → AsksTo input rest asked → lines_of rest ≡ line ∷ lines_of behind → rest ≡ line ++ line_feed ∷ behind → AsksForRequest line request → AsksTo input behind (asked ++ request ∷ [])
 asks_more input rest line behind asked request so_far lines split spells = record {
   before = so_far.before ++ line ∷ [];
   cut = so_far.cut ∙ ap (λ tail. so_far.before ++ tail) lines ∙ sym (append_assoc so_far.before (line ∷ []) (lines_of behind));
-  each = zip_push Spells so_far.before asked line request so_far.each spells;
+  each = zip_push AsksForRequest so_far.before asked line request so_far.each spells;
   room = omega (arith, so_far.room, length-append so_far.before (line ∷ []), ap length split, length-append line (line_feed ∷ behind));
 }
 
@@ -46,16 +46,16 @@ asks_more input rest line behind asked request so_far lines split spells = recor
 pub some_line : (text : List ℕ) → 1 ≤ length (lines_of text)
 some_line text = omega (arith, length-slice_split (λ byte. byte == line_feed) text)
 
-faulty_before : (behind : List (List ℕ)) (line : List ℕ) (reason : Reason) → 1 ≤ length behind → IsFaulty (fields_of line) reason → IsFaultyBefore behind line reason
+faulty_before : (behind : List (List ℕ)) (line : List ℕ) (reason : FaultReason) → 1 ≤ length behind → IsFaultyRequest (fields_of line) reason → IsFaultyBefore behind line reason
 faulty_before [] line reason some faulty = absurd (omega arith)
 faulty_before (next ∷ behind) line reason some faulty = faulty
 
 -- how many lines were checked
 pub asked_count : (input rest : List ℕ) (asked : List Request) → AsksTo input rest asked → length asked + length rest ≤ length input
-asked_count input rest asked so_far = omega (arith, so_far.room, zip_length Spells so_far.before asked so_far.each)
+asked_count input rest asked so_far = omega (arith, so_far.room, zip_length AsksForRequest so_far.before asked so_far.each)
 
 -- the next line is the first faulty one
-pub fault_here : (input rest line behind : List ℕ) (asked : List Request) (number : ℕ) (reason : Reason) → AsksTo input rest asked → lines_of rest ≡ line ∷ lines_of behind → number ≡ length asked + 1 → IsFaulty (fields_of line) reason → IsFirstFault input (record { line = number; reason = reason })
+pub fault_here : (input rest line behind : List ℕ) (asked : List Request) (number : ℕ) (reason : FaultReason) → AsksTo input rest asked → lines_of rest ≡ line ∷ lines_of behind → number ≡ length asked + 1 → IsFaultyRequest (fields_of line) reason → IsFirstFault input (record { line = number; reason = reason })
 fault_here input rest line behind asked number reason so_far lines count faulty = record {
   before = so_far.before;
   asked = asked;
@@ -63,7 +63,7 @@ fault_here input rest line behind asked number reason so_far lines count faulty 
   behind = lines_of behind;
   cut = so_far.cut ∙ ap (λ tail. so_far.before ++ tail) lines;
   spelled = so_far.each;
-  number = count ∙ ap (λ n. n + 1) (sym (zip_length Spells so_far.before asked so_far.each));
+  number = count ∙ ap (λ n. n + 1) (sym (zip_length AsksForRequest so_far.before asked so_far.each));
   faulty = faulty_before (lines_of behind) line reason (some_line behind) faulty;
 }
 
@@ -76,7 +76,7 @@ fault_last input rest asked number so_far lines count some = record {
   behind = [];
   cut = so_far.cut ∙ ap (λ tail. so_far.before ++ tail) lines;
   spelled = so_far.each;
-  number = count ∙ ap (λ n. n + 1) (sym (zip_length Spells so_far.before asked so_far.each));
+  number = count ∙ ap (λ n. n + 1) (sym (zip_length AsksForRequest so_far.before asked so_far.each));
   faulty = (some, refl);
 }
 

@@ -7,8 +7,8 @@ use Rattle.gen2run.specs.Outcome.{input_limit, TakesInput, AddsFront, EndsSo, Te
 use Rattle.gen2run.specs.declared.ending.Wrote.{Wrote}
 use Rattle.gen2run.specs.declared.ending.WriteEnd.{WriteEnd}
 use Rattle.gen2run.specs.declared.ending.WriteEnd.TheVariants.{Fault}
-use Rattle.gen2run.specs.declared.words.Form.{Form}
-use Rattle.gen2run.specs.declared.words.Form.TheVariants.{Decode}
+use Rattle.gen2run.specs.declared.forms.Form.{Form}
+use Rattle.gen2run.specs.declared.forms.Form.TheVariants.{Decode}
 use Rattle.gen2run.specs.declared.status.Status.{Status}
 use Rattle.gen2run.specs.declared.status.Status.TheVariants.{Done, BadWords, BadInput, ReadFault, WriteFault, TooLong, OutOfMemory}
 use Rattle.gen2run.proofs.OneReading.{grammatical_not_faulty}

@@ -17,21 +17,21 @@ use Rattle.air_channel.specs.ReceivedLaws.{same_bits, same_received}
 use Rattle.pie_line.specs.declared.frame.FrameKind.{FrameKind}
 use Rattle.pie_line.specs.declared.frame.PieRefusal.{PieRefusal}
 use Rattle.pie_line.specs.FrameLaws.{frame-one, refusal-one, refuses-no_frame}
-use Rattle.command_grammar.specs.Commands.{Finishes}
+use Rattle.command_grammar.specs.Commands.{IsFinishAnswer}
 use Rattle.command_grammar.specs.declared.commands.Command.{Command}
 use Rattle.command_grammar.specs.declared.refusal.CommandRefusal.{CommandRefusal}
 use Rattle.gen2run.specs.Request.{IsWithinLimits}
-use Rattle.gen2run.specs.Answer.{Answer, IsAnswer, streamed, sliced, replied, heard, framed, commanded}
+use Rattle.gen2run.specs.Answer.{Answer, IsLineAnswer, streamed, sliced, replied, heard, framed, commanded}
 use Rattle.gen2run.specs.declared.decode.request.Request.{Request}
 use Rattle.gen2run.specs.declared.decode.request.Request.TheVariants.{Stream, Samples, Reply as ReplyLine, Heard, Pie, Command as CommandLine}
 
-same_refusal : (code : Code) (trext : Bool) (levels : List Bool) (one other : LineRefusal) → IsAnswer (Stream code trext levels) (streamed (Err one))
-    → IsAnswer (Stream code trext levels) (streamed (Err other)) → one ≡ other
+same_refusal : (code : Code) (trext : Bool) (levels : List Bool) (one other : LineRefusal) → IsLineAnswer (Stream code trext levels) (streamed (Err one))
+    → IsLineAnswer (Stream code trext levels) (streamed (Err other)) → one ≡ other
 same_refusal code trext levels one other left right =
     let refused : Err one ≡ Err other = same_stream_answer (table_of code) trext levels (Err one) (Err other) left right in cc
 
 same_streamed : (code : Code) (trext : Bool) (levels : List Bool) (one : Result (List Bool) LineRefusal) (other : Answer)
-    → IsAnswer (Stream code trext levels) (streamed one) → IsAnswer (Stream code trext levels) other → streamed one ≡ other
+    → IsLineAnswer (Stream code trext levels) (streamed one) → IsLineAnswer (Stream code trext levels) other → streamed one ≡ other
 same_streamed code trext levels (Ok one) (streamed (Ok other)) left right = ap (λ (bits : List Bool). streamed (Ok bits)) (same_bits code trext one other levels left right)
 same_streamed code trext levels (Ok one) (streamed (Err other)) left right = absurd (refused_is_none (Streams (table_of code) trext) levels other right (one, left))
 same_streamed code trext levels (Err one) (streamed (Ok other)) left right = absurd (refused_is_none (Streams (table_of code) trext) levels one left (other, right))
@@ -39,7 +39,7 @@ same_streamed code trext levels (Err one) (streamed (Err other)) left right = ap
 same_streamed code trext levels one other left right = absurd right
 
 same_sliced : (threshold per_level : ℕ) (samples : List ℕ) → 1 ≤ per_level → (one : Result (List Bool) SliceRefusal) (other : Answer)
-    → IsAnswer (Samples threshold per_level samples) (sliced one) → IsAnswer (Samples threshold per_level samples) other → sliced one ≡ other
+    → IsLineAnswer (Samples threshold per_level samples) (sliced one) → IsLineAnswer (Samples threshold per_level samples) other → sliced one ≡ other
 same_sliced threshold per_level samples some (Ok one) (sliced (Ok other)) left right = ap sliced (same_samples_answer threshold per_level samples (Ok one) (Ok other) some left right)
 same_sliced threshold per_level samples some (Ok one) (sliced (Err other)) left right = ap sliced (same_samples_answer threshold per_level samples (Ok one) (Err other) some left right)
 same_sliced threshold per_level samples some (Err one) (sliced (Ok other)) left right = ap sliced (same_samples_answer threshold per_level samples (Err one) (Ok other) some left right)
@@ -47,7 +47,7 @@ same_sliced threshold per_level samples some (Err one) (sliced (Err other)) left
 same_sliced threshold per_level samples some one other left right = absurd right
 
 same_replied : (expect : Expect) (bits : List Bool) (one : Result Reply ReplyRefusal) (other : Answer)
-    → IsAnswer (ReplyLine expect bits) (replied one) → IsAnswer (ReplyLine expect bits) other → replied one ≡ other
+    → IsLineAnswer (ReplyLine expect bits) (replied one) → IsLineAnswer (ReplyLine expect bits) other → replied one ≡ other
 same_replied expect bits (Ok one) (replied (Ok other)) left right = ap (λ (reply : Reply). replied (Ok reply)) (one_reply one other expect bits left right)
 same_replied expect bits (Ok one) (replied (Err other)) left right = absurd (passes_apart other expect bits (answers_pass one expect bits left) right)
 same_replied expect bits (Err one) (replied (Ok other)) left right = absurd (passes_apart one expect bits (answers_pass other expect bits right) left)
@@ -55,7 +55,7 @@ same_replied expect bits (Err one) (replied (Err other)) left right = ap (λ (re
 same_replied expect bits one other left right = absurd right
 
 same_heard : (code : Code) (trext : Bool) (expect : Expect) (levels : List Bool) (one : Received) (other : Answer)
-    → IsAnswer (Heard code trext expect levels) (heard one) → IsAnswer (Heard code trext expect levels) other → heard one ≡ other
+    → IsLineAnswer (Heard code trext expect levels) (heard one) → IsLineAnswer (Heard code trext expect levels) other → heard one ≡ other
 same_heard code trext expect levels one (heard other) left right = ap heard (same_received code trext expect levels one other left right)
 same_heard code trext expect levels one other left right = absurd right
 
@@ -63,7 +63,7 @@ same_frame : (one other : FrameKind × List Bool) → (one.0 ≡ other.0) × (on
 same_frame (kind, bits) (kind', bits') same = rw (same.0, same.1) refl
 
 same_framed : (intervals : List ℕ) (one : Result (FrameKind × List Bool) PieRefusal) (other : Answer)
-    → IsAnswer (Pie intervals) (framed one) → IsAnswer (Pie intervals) other → framed one ≡ other
+    → IsLineAnswer (Pie intervals) (framed one) → IsLineAnswer (Pie intervals) other → framed one ≡ other
 same_framed intervals (Ok one) (framed (Ok other)) left right = same_frame one other (frame-one one.0 other.0 one.1 other.1 intervals left right)
 same_framed intervals (Ok one) (framed (Err other)) left right = absurd (refuses-no_frame other intervals right (one.0, one.1, left))
 same_framed intervals (Err one) (framed (Ok other)) left right = absurd (refuses-no_frame one intervals left (other.0, other.1, right))
@@ -72,15 +72,15 @@ same_framed intervals one other left right = absurd right
 
 -- what command_grammar's law of outcomes says
 abbrev pub HasOneOutcome : Type 0
-HasOneOutcome = (bits : List Bool) (one other : Result Command CommandRefusal) → Finishes one bits → Finishes other bits → one ≡ other
+HasOneOutcome = (bits : List Bool) (one other : Result Command CommandRefusal) → IsFinishAnswer one bits → IsFinishAnswer other bits → one ≡ other
 
 same_commanded : HasOneOutcome → (bits : List Bool) (one : Result Command CommandRefusal) (other : Answer)
-    → IsAnswer (CommandLine bits) (commanded one) → IsAnswer (CommandLine bits) other → commanded one ≡ other
+    → IsLineAnswer (CommandLine bits) (commanded one) → IsLineAnswer (CommandLine bits) other → commanded one ≡ other
 same_commanded one_outcome bits one (commanded other) left right = ap commanded (one_outcome bits one other left right)
 same_commanded one_outcome bits one other left right = absurd right
 
 -- a request within its limits has one answer: samples need a level that has samples
-pub same_answer : HasOneOutcome → (request : Request) (one other : Answer) → IsWithinLimits request → IsAnswer request one → IsAnswer request other → one ≡ other
+pub same_answer : HasOneOutcome → (request : Request) (one other : Answer) → IsWithinLimits request → IsLineAnswer request one → IsLineAnswer request other → one ≡ other
 same_answer one_outcome (Stream code trext levels) (streamed one) other within left right = same_streamed code trext levels one other left right
 same_answer one_outcome (Samples threshold per_level samples) (sliced one) other within left right = same_sliced threshold per_level samples within.1 one other left right
 same_answer one_outcome (ReplyLine expect bits) (replied one) other within left right = same_replied expect bits one other left right

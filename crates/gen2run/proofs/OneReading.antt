@@ -16,18 +16,19 @@ use Rattle.hex.specs.Hex.{decode_of}
 use Rattle.hex.proofs.OnLiterals.{hex_on_literals}
 use Rattle.std.specs.Fmt.{decimal}
 use Rattle.text_fields.specs.FieldTextLaws.{IsFieldText-decimal, IsFieldText-binary}
-use Rattle.gen2run.specs.Request.{kind_word, HasShape, request_kind, AreSpelled, IsWithinLimits, AsksBehind, Spells, AreFaulty, IsFaulty}
+use Rattle.gen2run.specs.Request.{request_word, HasShape, request_kind, AreSpelled, IsWithinLimits, AsksBehind, AsksForRequest, AreFaulty, IsFaultyRequest}
 use Rattle.gen2run.specs.DecodeLines.{IsGrammatical, IsFaultyBefore, IsFirstFault}
-use Rattle.gen2run.specs.declared.decode.request.Kind.{Kind}
-use Rattle.gen2run.specs.declared.decode.request.Kind.TheVariants.{Stream as StreamKind, Samples as SamplesKind, Reply as ReplyKind, Heard as HeardKind, Pie as PieKind, Command as CommandKind}
+use Rattle.gen2run.specs.declared.decode.request.RequestKind.{RequestKind}
+use Rattle.gen2run.specs.declared.decode.request.RequestKind.TheVariants.{Stream as StreamKind, Samples as SamplesKind, Reply as ReplyKind, Heard as HeardKind, Pie as PieKind, Command as CommandKind}
 use Rattle.gen2run.specs.declared.decode.request.Request.{Request}
 use Rattle.gen2run.specs.declared.decode.request.Request.TheVariants.{Stream, Samples, Reply, Heard, Pie, Command}
-use Rattle.gen2run.specs.declared.decode.request.Reason.{Reason}
-use Rattle.gen2run.specs.declared.decode.request.Reason.TheVariants.{End, Word, Shape, Number}
-use Rattle.gen2run.specs.declared.decode.request.Fault.{Fault}
+use Rattle.gen2run.specs.declared.decode.request.FaultReason.{FaultReason}
+use Rattle.gen2run.specs.declared.decode.request.FaultReason.TheVariants.{End, Word, Shape, Number}
+use Rattle.gen2run.specs.declared.decode.request.DecodeFault.{DecodeFault}
+use Rattle.pie_line.specs.Pie.{longest_interval}
 
 -- the kind that a first field says
-kind_read : List ℕ → Option Kind
+kind_read : List ℕ → Option RequestKind
 kind_read word =
     (if bytes_eq word (codes "fm0") then Some (StreamKind Fm0)
     else (if bytes_eq word (codes "m2") then Some (StreamKind M2)
@@ -39,7 +40,7 @@ kind_read word =
     else (if bytes_eq word (codes "pie") then Some PieKind
     else (if bytes_eq word (codes "command") then Some CommandKind else None)))))))))
 
-kind_read_word : (kind : Kind) → kind_read (kind_word kind) ≡ Some kind
+kind_read_word : (kind : RequestKind) → kind_read (request_word kind) ≡ Some kind
 unfolding kind_read
 kind_read_word (StreamKind Fm0) = refl
 kind_read_word (StreamKind M2) = refl
@@ -52,7 +53,7 @@ kind_read_word PieKind = refl
 kind_read_word CommandKind = refl
 
 -- a first field says one kind
-pub kind_word-injective : (a b : Kind) → kind_word a ≡ kind_word b → a ≡ b
+pub kind_word-injective : (a b : RequestKind) → request_word a ≡ request_word b → a ≡ b
 kind_word-injective a b same = let e : Some a ≡ Some b = sym (kind_read_word a) ∙ ap kind_read same ∙ kind_read_word b in cc
 
 abbrev Filled : List ℕ → Type 0
@@ -70,10 +71,10 @@ code_filled M2 e = cc
 code_filled M4 e = cc
 code_filled M8 e = cc
 
-numbers_filled : (numbers : List ℕ) → All (λ number. number ≤ 999999) numbers → All Filled (map decimal numbers)
+numbers_filled : (numbers : List ℕ) → All (λ number. number ≤ longest_interval) numbers → All Filled (map decimal numbers)
 numbers_filled [] within = All-nil Filled
 numbers_filled (n ∷ numbers) within =
-    let Small : ℕ → Type 0 = λ number. number ≤ 999999 in
+    let Small : ℕ → Type 0 = λ number. number ≤ longest_interval in
     All-cons Filled (decimal n) (map decimal numbers) (IsFieldText-decimal n (omega (arith, All-head Small n numbers within))).filled
     (numbers_filled numbers (All-tail Small n numbers within))
 
@@ -113,7 +114,7 @@ request_shape (Command bits) others spelling limits =
     rw spelling (refl, All-cons Filled (binary bits) [] (IsFieldText-binary bits).filled (All-nil Filled))
 
 -- fields that ask for something are not faulty
-asked_not_faulty : (request : Request) (kind : Kind) (others : List (List ℕ)) (reason : Reason) → AsksBehind kind others request → AreFaulty kind others reason → ⊥
+asked_not_faulty : (request : Request) (kind : RequestKind) (others : List (List ℕ)) (reason : FaultReason) → AsksBehind kind others request → AreFaulty kind others reason → ⊥
 asked_not_faulty request kind others End asks faulty = faulty
 asked_not_faulty request kind others Word asks faulty = faulty
 asked_not_faulty request kind others Number asks faulty = faulty.1 request asks
@@ -125,7 +126,7 @@ pub same_fields : (a b : List ℕ) (xs ys : List (List ℕ)) → a ∷ xs ≡ b 
 same_fields a b xs ys e = (cc, cc)
 
 -- a line that asks for something is not faulty behind another reading of its first field
-behind_not_faulty : (line : List ℕ) (request : Request) (reason : Reason) (kind : Kind) (others : List (List ℕ)) → Spells line request → fields_of line ≡ kind_word kind ∷ others → AreFaulty kind others reason → ⊥
+behind_not_faulty : (line : List ℕ) (request : Request) (reason : FaultReason) (kind : RequestKind) (others : List (List ℕ)) → AsksForRequest line request → fields_of line ≡ request_word kind ∷ others → AreFaulty kind others reason → ⊥
 behind_not_faulty line request reason kind others spells fields faulty =
     let parts = same_fields _ _ _ _ (sym spells.fields ∙ fields) in
     let same_kind = kind_word-injective spells.kind kind parts.0 in
@@ -133,14 +134,14 @@ behind_not_faulty line request reason kind others spells fields faulty =
     (subst (λ k. AsksBehind k others request) same_kind (subst (λ o. AsksBehind spells.kind o request) parts.1 spells.asks)) faulty
 
 -- a line that asks for something is not faulty
-pub spelled_not_faulty : (line : List ℕ) (request : Request) (reason : Reason) → Spells line request → IsFaulty (fields_of line) reason → ⊥
+pub spelled_not_faulty : (line : List ℕ) (request : Request) (reason : FaultReason) → AsksForRequest line request → IsFaultyRequest (fields_of line) reason → ⊥
 spelled_not_faulty line request Word spells faulty = faulty spells.kind spells.others spells.fields
 spelled_not_faulty line request End spells faulty = faulty.3
 spelled_not_faulty line request Shape spells faulty = behind_not_faulty line request Shape faulty.0 faulty.1 spells faulty.2 faulty.3
 spelled_not_faulty line request Number spells faulty = behind_not_faulty line request Number faulty.0 faulty.1 spells faulty.2 faulty.3
 
 -- a line that asks for something stands in no faulty place
-clash : (lines : List (List ℕ)) (asked : List Request) (before : List (List ℕ)) (line : List ℕ) (behind : List (List ℕ)) (reason : Reason) → AllZip Spells lines asked → lines ++ [] ∷ [] ≡ before ++ line ∷ behind → IsFaultyBefore behind line reason → ⊥
+clash : (lines : List (List ℕ)) (asked : List Request) (before : List (List ℕ)) (line : List ℕ) (behind : List (List ℕ)) (reason : FaultReason) → AllZip AsksForRequest lines asked → lines ++ [] ∷ [] ≡ before ++ line ∷ behind → IsFaultyBefore behind line reason → ⊥
 clash [] [] [] line [] reason each cut faulty = let e : line ≡ [] = cc in faulty.0 e
 clash [] [] [] line (next ∷ more) reason each cut faulty = cc
 clash [] [] (b ∷ []) line behind reason each cut faulty = cc
@@ -151,12 +152,12 @@ clash (l ∷ []) (r ∷ asked) [] line [] reason each cut faulty = cc
 clash (l ∷ m ∷ lines) (r ∷ asked) [] line [] reason each cut faulty = cc
 clash (l ∷ lines) (r ∷ asked) [] line (next ∷ more) reason each cut faulty =
     let e : line ≡ l = cc in
-    spelled_not_faulty l r reason each.0 (subst (λ x. IsFaulty (fields_of x) reason) e faulty)
+    spelled_not_faulty l r reason each.0 (subst (λ x. IsFaultyRequest (fields_of x) reason) e faulty)
 clash (l ∷ lines) (r ∷ asked) (b ∷ before) line behind reason each cut faulty =
     let e : lines ++ [] ∷ [] ≡ before ++ line ∷ behind = cc in
     clash lines asked before line behind reason each.1 e faulty
 
 -- a grammatical input has no faulty line
-pub grammatical_not_faulty : (bytes : List ℕ) (fault : Fault) → IsGrammatical bytes → IsFirstFault bytes fault → ⊥
+pub grammatical_not_faulty : (bytes : List ℕ) (fault : DecodeFault) → IsGrammatical bytes → IsFirstFault bytes fault → ⊥
 grammatical_not_faulty bytes fault asks first =
     clash asks.1.lines asks.0 first.before first.line first.behind fault.reason asks.1.each (sym asks.1.cut ∙ first.cut) first.faulty

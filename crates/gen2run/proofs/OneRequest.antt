@@ -9,11 +9,12 @@ use Rattle.text_fields.specs.ToldApart.{decimal_told, binary_told}
 use Rattle.bit_strings.specs.declared.code.Code.{Code}
 use Rattle.reply_text.specs.ReplyText.{expect_word}
 use Rattle.reply_text.specs.ToldApart.{expect_told}
-use Rattle.gen2run.specs.Request.{request_kind, AreSpelled, IsWithinLimits, Spells}
-use Rattle.gen2run.specs.declared.decode.request.Kind.TheVariants.{Stream as StreamKind}
+use Rattle.gen2run.specs.Request.{request_kind, AreSpelled, IsWithinLimits, AsksForRequest}
+use Rattle.gen2run.specs.declared.decode.request.RequestKind.TheVariants.{Stream as StreamKind}
 use Rattle.gen2run.specs.declared.decode.request.Request.{Request}
 use Rattle.gen2run.specs.declared.decode.request.Request.TheVariants.{Stream, Samples, Reply, Heard, Pie, Command}
 use Rattle.gen2run.proofs.OneReading.{kind_word-injective, same_fields}
+use Rattle.pie_line.specs.Pie.{longest_interval}
 
 digit_told : (one other : Bool) → binary_digit one ≡ binary_digit other → one ≡ other
 digit_told true true same = refl
@@ -26,7 +27,7 @@ code_told one other same = let kinds : StreamKind one ≡ StreamKind other = kin
 
 -- the range of an interval in a line
 abbrev IsInterval : ℕ → Type 0
-IsInterval number = number ≤ 999999
+IsInterval number = number ≤ longest_interval
 
 numbers_told : (one other : List ℕ) → All IsInterval one → All IsInterval other → map decimal one ≡ map decimal other → one ≡ other
 numbers_told [] [] small small' same = refl
@@ -35,8 +36,8 @@ numbers_told (m ∷ ms) [] small small' same = cc
 numbers_told (m ∷ ms) (n ∷ ns) small small' same =
     let heads : decimal m ≡ decimal n = cc in
     let tails : map decimal ms ≡ map decimal ns = cc in
-    let fits : m ≤ 999999 = All-head IsInterval m ms small in
-    let fits' : n ≤ 999999 = All-head IsInterval n ns small' in
+    let fits : m ≤ longest_interval = All-head IsInterval m ms small in
+    let fits' : n ≤ longest_interval = All-head IsInterval n ns small' in
     let first : m ≡ n = decimal_told m n (omega arith) (omega arith) heads in
     let rest : ms ≡ ns = numbers_told ms ns (All-tail IsInterval m ms small) (All-tail IsInterval n ns small') tails in
     cc
@@ -81,7 +82,7 @@ same_behind (Command bits) (Command bits') others kinds spelled spelled' within 
 same_behind one other others kinds spelled spelled' within within' = cc
 
 -- a line asks for one thing
-pub same_request : (line : List ℕ) (one other : Request) → Spells line one → Spells line other → one ≡ other
+pub same_request : (line : List ℕ) (one other : Request) → AsksForRequest line one → AsksForRequest line other → one ≡ other
 same_request line one other left right =
     let parts = same_fields _ _ _ _ (sym left.fields ∙ right.fields) in
     let kinds : left.kind ≡ right.kind = kind_word-injective left.kind right.kind parts.0 in

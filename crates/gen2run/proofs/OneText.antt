@@ -3,14 +3,14 @@ use Rattle.std.proofs.Common.{◌≡◌, ℕ, ◌+◌, List, [], ◌∷◌, ◌+
 use Rattle.std.specs.List.{AllZip, flat_map}
 use Rattle.std.proofs.lemmas.List.{append_cancel_right}
 use Rattle.text_fields.specs.Lines.{fields_of}
-use Rattle.gen2run.specs.Request.{kind_word, HasShape, Spells, IsFaulty}
-use Rattle.gen2run.specs.Answer.{Answer, IsAnswer, answer_line}
-use Rattle.gen2run.specs.DecodeLines.{IsFaultyBefore, fault_line, Decodes, Refuses}
-use Rattle.gen2run.specs.declared.decode.request.Kind.{Kind}
+use Rattle.gen2run.specs.Request.{request_word, HasShape, AsksForRequest, IsFaultyRequest}
+use Rattle.gen2run.specs.Answer.{Answer, IsLineAnswer, answer_line}
+use Rattle.gen2run.specs.DecodeLines.{IsFaultyBefore, fault_line, Decodes, IsFaultText}
+use Rattle.gen2run.specs.declared.decode.request.RequestKind.{RequestKind}
 use Rattle.gen2run.specs.declared.decode.request.Request.{Request}
-use Rattle.gen2run.specs.declared.decode.request.Reason.{Reason}
-use Rattle.gen2run.specs.declared.decode.request.Reason.TheVariants.{End, Word, Shape, Number}
-use Rattle.gen2run.specs.declared.decode.request.Fault.{Fault}
+use Rattle.gen2run.specs.declared.decode.request.FaultReason.{FaultReason}
+use Rattle.gen2run.specs.declared.decode.request.FaultReason.TheVariants.{End, Word, Shape, Number}
+use Rattle.gen2run.specs.declared.decode.request.DecodeFault.{DecodeFault}
 use Rattle.gen2run.proofs.OneReading.{kind_word-injective, same_fields, spelled_not_faulty, grammatical_not_faulty}
 use Rattle.gen2run.proofs.OneRequest.{same_request}
 use Rattle.gen2run.proofs.OneAnswer.{HasOneOutcome, same_answer}
@@ -18,16 +18,16 @@ use Rattle.gen2run.proofs.OneAnswer.{HasOneOutcome, same_answer}
 -- the answer is one to what the line asks for
 record Answered (line : List ℕ) (answer : Answer) : Type 0 where
   request : Request
-  asks : Spells line request
-  right : IsAnswer request answer
+  asks : AsksForRequest line request
+  right : IsLineAnswer request answer
 
 same_answered : HasOneOutcome → (line : List ℕ) (one other : Answer) → Answered line one → Answered line other → one ≡ other
 same_answered one_outcome line one other left right =
     let requests : right.request ≡ left.request = same_request line right.request left.request right.asks left.asks in
-    same_answer one_outcome left.request one other left.asks.asks.limits left.right (subst (λ request. IsAnswer request other) requests right.right)
+    same_answer one_outcome left.request one other left.asks.asks.limits left.right (subst (λ request. IsLineAnswer request other) requests right.right)
 
 -- each line has its answer
-answered_lines : (lines : List (List ℕ)) (asked : List Request) (answers : List Answer) → AllZip Spells lines asked → AllZip IsAnswer asked answers → AllZip Answered lines answers
+answered_lines : (lines : List (List ℕ)) (asked : List Request) (answers : List Answer) → AllZip AsksForRequest lines asked → AllZip IsLineAnswer asked answers → AllZip Answered lines answers
 answered_lines [] [] [] asks right = tt
 answered_lines [] [] (a ∷ answers) asks right = absurd right
 answered_lines [] (r ∷ asked) answers asks right = absurd asks
@@ -59,7 +59,7 @@ same_decoded one_outcome bytes one other left right =
     left.answers.lines ∙ ap (λ all. flat_map answer_line all) answers ∙ sym right.answers.lines
 
 -- where a first field is read in two ways, the fields have the shape of both or of none
-one_reading : (fields : List (List ℕ)) (kind kind' : Kind) (others others' : List (List ℕ)) → fields ≡ kind_word kind ∷ others → fields ≡ kind_word kind' ∷ others'
+one_reading : (fields : List (List ℕ)) (kind kind' : RequestKind) (others others' : List (List ℕ)) → fields ≡ request_word kind ∷ others → fields ≡ request_word kind' ∷ others'
     → HasShape kind others → HasShape kind' others'
 one_reading fields kind kind' others others' read read' shape =
     let parts = same_fields _ _ _ _ (sym read ∙ read') in
@@ -67,7 +67,7 @@ one_reading fields kind kind' others others' read read' shape =
     subst (λ k. HasShape k others') kinds (subst (λ o. HasShape kind o) parts.1 shape)
 
 -- fields have one first reason
-same_reason : (fields : List (List ℕ)) (one other : Reason) → IsFaulty fields one → IsFaulty fields other → one ≡ other
+same_reason : (fields : List (List ℕ)) (one other : FaultReason) → IsFaultyRequest fields one → IsFaultyRequest fields other → one ≡ other
 same_reason fields Word Word left right = refl
 same_reason fields Shape Shape left right = refl
 same_reason fields Number Number left right = refl
@@ -81,28 +81,28 @@ same_reason fields End other left right = absurd left.3
 same_reason fields one End left right = absurd right.3
 
 -- a line with another one behind it is faulty by its fields
-faulty_inside : (more : List (List ℕ)) (last : List ℕ) (behind : List (List ℕ)) (line : List ℕ) (reason : Reason) → IsFaultyBefore (more ++ last ∷ behind) line reason → IsFaulty (fields_of line) reason
+faulty_inside : (more : List (List ℕ)) (last : List ℕ) (behind : List (List ℕ)) (line : List ℕ) (reason : FaultReason) → IsFaultyBefore (more ++ last ∷ behind) line reason → IsFaultyRequest (fields_of line) reason
 faulty_inside [] last behind line reason faulty = faulty
 faulty_inside (next ∷ more) last behind line reason faulty = faulty
 
 -- a line has one first reason
-same_reason_before : (behind : List (List ℕ)) (line : List ℕ) (one other : Reason) → IsFaultyBefore behind line one → IsFaultyBefore behind line other → one ≡ other
+same_reason_before : (behind : List (List ℕ)) (line : List ℕ) (one other : FaultReason) → IsFaultyBefore behind line one → IsFaultyBefore behind line other → one ≡ other
 same_reason_before [] line one other left right = left.1 ∙ sym right.1
 same_reason_before (next ∷ behind) line one other left right = same_reason (fields_of line) one other left right
 
 -- no line before the first faulty one is faulty
-asked_before : (asked : List Request) (line : List ℕ) (more : List (List ℕ)) (last : List ℕ) (behind behind' : List (List ℕ)) (first : List ℕ) (reason : Reason)
-    → AllZip Spells (line ∷ more) asked → first ∷ behind ≡ line ∷ (more ++ last ∷ behind') → IsFaultyBefore behind first reason → ⊥
+asked_before : (asked : List Request) (line : List ℕ) (more : List (List ℕ)) (last : List ℕ) (behind behind' : List (List ℕ)) (first : List ℕ) (reason : FaultReason)
+    → AllZip AsksForRequest (line ∷ more) asked → first ∷ behind ≡ line ∷ (more ++ last ∷ behind') → IsFaultyBefore behind first reason → ⊥
 asked_before [] line more last behind behind' first reason asks cut faulty = asks
 asked_before (r ∷ asked) line more last behind behind' first reason asks cut faulty =
     let lines : first ≡ line = cc in
     let rest : behind ≡ more ++ last ∷ behind' = cc in
     let here : IsFaultyBefore (more ++ last ∷ behind') first reason = subst (λ all. IsFaultyBefore all first reason) rest faulty in
-    spelled_not_faulty line r reason asks.0 (subst (λ each. IsFaulty (fields_of each) reason) lines (faulty_inside more last behind' first reason here))
+    spelled_not_faulty line r reason asks.0 (subst (λ each. IsFaultyRequest (fields_of each) reason) lines (faulty_inside more last behind' first reason here))
 
 -- lines have one first faulty line, with one first reason
-same_place : (before before' : List (List ℕ)) (asked asked' : List Request) (line line' : List ℕ) (behind behind' : List (List ℕ)) (one other : Reason)
-    → AllZip Spells before asked → AllZip Spells before' asked' → before ++ line ∷ behind ≡ before' ++ line' ∷ behind'
+same_place : (before before' : List (List ℕ)) (asked asked' : List Request) (line line' : List ℕ) (behind behind' : List (List ℕ)) (one other : FaultReason)
+    → AllZip AsksForRequest before asked → AllZip AsksForRequest before' asked' → before ++ line ∷ behind ≡ before' ++ line' ∷ behind'
     → IsFaultyBefore behind line one → IsFaultyBefore behind' line' other → (length before ≡ length before') × (one ≡ other)
 same_place [] [] asked asked' line line' behind behind' one other asks asks' cut faulty faulty' =
     let lines : line' ≡ line = cc in
@@ -120,11 +120,11 @@ same_place (l ∷ before) (m ∷ before') (r ∷ asked) (s ∷ asked') line line
     let both = same_place before before' asked asked' line line' behind behind' one other asks.1 asks'.1 rest faulty faulty' in
     (ap suc both.0, both.1)
 
-same_fault_line : (one other : Fault) → one.line ≡ other.line → one.reason ≡ other.reason → fault_line one ≡ fault_line other
+same_fault_line : (one other : DecodeFault) → one.line ≡ other.line → one.reason ≡ other.reason → fault_line one ≡ fault_line other
 same_fault_line one other lines reasons = rw (lines, reasons) refl
 
 -- an input has one fault line
-pub same_refused : (bytes one other : List ℕ) → Refuses bytes one → Refuses bytes other → one ≡ other
+pub same_refused : (bytes one other : List ℕ) → IsFaultText bytes one → IsFaultText bytes other → one ≡ other
 same_refused bytes one other left right =
     let mine = left.first in
     let yours = right.first in
@@ -133,5 +133,5 @@ same_refused bytes one other left right =
     left.line ∙ same_fault_line left.fault right.fault (mine.number ∙ ap (λ n. n + 1) both.0 ∙ sym yours.number) both.1 ∙ sym right.line
 
 -- no input has both answers and a fault line
-pub texts_apart : (bytes one other : List ℕ) → Decodes bytes one → Refuses bytes other → ⊥
+pub texts_apart : (bytes one other : List ℕ) → Decodes bytes one → IsFaultText bytes other → ⊥
 texts_apart bytes one other decodes refuses = grammatical_not_faulty bytes refuses.fault (decodes.requests, decodes.asks) refuses.first

@@ -3,46 +3,46 @@ use Rattle.std.proofs.Common.{◌≡◌, ℕ, Bool, List, Result, Ok, Err, subst
 use Rattle.std.specs.Prelude.{IfOk, IfErr, OnOk}
 use Rattle.bit_strings.specs.declared.code.Code.{Code}
 use Rattle.line_code.specs.Stream.{IsStream, Streams}
-use Rattle.line_code.specs.Refusal.{Refuses}
+use Rattle.line_code.specs.Refusal.{RefusesStream}
 use Rattle.line_code.specs.declared.refusal.LineRefusal.{LineRefusal}
 use Rattle.line_codes.specs.Codes.{table_of}
-use Rattle.sample_slicer.specs.Samples.{AreLevels, Refuses as RefusesSamples}
+use Rattle.sample_slicer.specs.Samples.{AreLevels, RefusesSamples}
 use Rattle.sample_slicer.specs.declared.slicer.SliceRefusal.{SliceRefusal}
-use Rattle.reply_grammar.specs.Table.{Answers as AnswersExpected}
-use Rattle.reply_grammar.specs.Faults.{Faults}
+use Rattle.reply_grammar.specs.Table.{AnswersExpected}
+use Rattle.reply_grammar.specs.Refusals.{RefusesReply}
 use Rattle.reply_grammar.specs.declared.expected.Expect.{Expect}
 use Rattle.reply_grammar.specs.declared.expected.Reply.{Reply}
 use Rattle.reply_grammar.specs.declared.expected.ReplyRefusal.{ReplyRefusal}
 use Rattle.reply_grammar.specs.declared.expected.Received.{Received}
 use Rattle.air_channel.specs.Received.{IsReceived}
 use Rattle.pie_line.specs.Pie.{IsFrame}
-use Rattle.pie_line.specs.Refusal.{Refuses as RefusesFrame}
+use Rattle.pie_line.specs.Refusal.{RefusesFrame}
 use Rattle.pie_line.specs.declared.frame.FrameKind.{FrameKind}
 use Rattle.pie_line.specs.declared.frame.PieRefusal.{PieRefusal}
-use Rattle.command_grammar.specs.Commands.{Finishes}
+use Rattle.command_grammar.specs.Commands.{IsFinishAnswer}
 use Rattle.command_grammar.specs.declared.commands.Command.{Command}
 use Rattle.command_grammar.specs.declared.refusal.CommandRefusal.{CommandRefusal}
-use Rattle.gen2run.specs.Answer.{IsAnswer, streamed, sliced, replied, heard, framed, commanded, with_left}
+use Rattle.gen2run.specs.Answer.{IsLineAnswer, streamed, sliced, replied, heard, framed, commanded, with_left}
 use Rattle.gen2run.specs.declared.decode.request.Request.TheVariants.{Stream as StreamLine, Samples as SamplesLine, Reply as ReplyLine, Heard as HeardLine, Pie as PieLine, Command as CommandLine}
 
-pub streamed_right : (code : Code) (trext : Bool) (levels items bits : List Bool) (outcome : Result (Unit {0}) LineRefusal) → items ≡ levels → OnOk outcome (IsStream (table_of code) trext bits items) → IfErr outcome (Refuses (Streams (table_of code) trext) items) → IsAnswer (StreamLine code trext levels) (streamed (with_left (λ done. bits) outcome))
+pub streamed_right : (code : Code) (trext : Bool) (levels items bits : List Bool) (outcome : Result (Unit {0}) LineRefusal) → items ≡ levels → OnOk outcome (IsStream (table_of code) trext bits items) → IfErr outcome (RefusesStream (Streams (table_of code) trext) items) → IsLineAnswer (StreamLine code trext levels) (streamed (with_left (λ done. bits) outcome))
 streamed_right code trext levels items bits (Ok done) same ok refused = subst (IsStream (table_of code) trext bits) same ok
-streamed_right code trext levels items bits (Err refusal) same ok refused = subst (λ l. Refuses (Streams (table_of code) trext) l refusal) same refused
+streamed_right code trext levels items bits (Err refusal) same ok refused = subst (λ l. RefusesStream (Streams (table_of code) trext) l refusal) same refused
 
-pub sliced_right : (threshold per_level : ℕ) (samples items : List ℕ) (levels : List Bool) (outcome : Result (Unit {0}) SliceRefusal) → items ≡ samples → OnOk outcome (AreLevels threshold per_level items levels) → IfErr outcome (RefusesSamples threshold per_level items) → IsAnswer (SamplesLine threshold per_level samples) (sliced (with_left (λ done. levels) outcome))
+pub sliced_right : (threshold per_level : ℕ) (samples items : List ℕ) (levels : List Bool) (outcome : Result (Unit {0}) SliceRefusal) → items ≡ samples → OnOk outcome (AreLevels threshold per_level items levels) → IfErr outcome (RefusesSamples threshold per_level items) → IsLineAnswer (SamplesLine threshold per_level samples) (sliced (with_left (λ done. levels) outcome))
 sliced_right threshold per_level samples items levels (Ok done) same ok refused = subst (λ s. AreLevels threshold per_level s levels) same ok
 sliced_right threshold per_level samples items levels (Err refusal) same ok refused = subst (λ s. RefusesSamples threshold per_level s refusal) same refused
 
-pub replied_right : (expect : Expect) (bits items : List Bool) (outcome : Result Reply ReplyRefusal) → items ≡ bits → IfOk outcome (λ reply. AnswersExpected reply expect items) → IfErr outcome (λ refusal. Faults refusal expect items) → IsAnswer (ReplyLine expect bits) (replied outcome)
+pub replied_right : (expect : Expect) (bits items : List Bool) (outcome : Result Reply ReplyRefusal) → items ≡ bits → IfOk outcome (λ reply. AnswersExpected reply expect items) → IfErr outcome (λ refusal. RefusesReply refusal expect items) → IsLineAnswer (ReplyLine expect bits) (replied outcome)
 replied_right expect bits items (Ok reply) same ok refused = subst (AnswersExpected reply expect) same ok
-replied_right expect bits items (Err refusal) same ok refused = subst (Faults refusal expect) same refused
+replied_right expect bits items (Err refusal) same ok refused = subst (RefusesReply refusal expect) same refused
 
-pub heard_right : (code : Code) (trext : Bool) (expect : Expect) (levels items : List Bool) (received : Received) → items ≡ levels → IsReceived (table_of code) trext expect items received → IsAnswer (HeardLine code trext expect levels) (heard received)
+pub heard_right : (code : Code) (trext : Bool) (expect : Expect) (levels items : List Bool) (received : Received) → items ≡ levels → IsReceived (table_of code) trext expect items received → IsLineAnswer (HeardLine code trext expect levels) (heard received)
 heard_right code trext expect levels items received same found = subst (λ l. IsReceived (table_of code) trext expect l received) same found
 
-pub framed_right : (intervals items : List ℕ) (bits : List Bool) (outcome : Result FrameKind PieRefusal) → items ≡ intervals → IfOk outcome (λ kind. IsFrame kind bits items) → IfErr outcome (λ refusal. RefusesFrame refusal items) → IsAnswer (PieLine intervals) (framed (with_left (λ kind. (kind, bits)) outcome))
+pub framed_right : (intervals items : List ℕ) (bits : List Bool) (outcome : Result FrameKind PieRefusal) → items ≡ intervals → IfOk outcome (λ kind. IsFrame kind bits items) → IfErr outcome (λ refusal. RefusesFrame refusal items) → IsLineAnswer (PieLine intervals) (framed (with_left (λ kind. (kind, bits)) outcome))
 framed_right intervals items bits (Ok kind) same ok refused = subst (IsFrame kind bits) same ok
 framed_right intervals items bits (Err refusal) same ok refused = subst (RefusesFrame refusal) same refused
 
-pub commanded_right : (bits items : List Bool) (outcome : Result Command CommandRefusal) → items ≡ bits → Finishes outcome items → IsAnswer (CommandLine bits) (commanded outcome)
-commanded_right bits items outcome same found = subst (Finishes outcome) same found
+pub commanded_right : (bits items : List Bool) (outcome : Result Command CommandRefusal) → items ≡ bits → IsFinishAnswer outcome items → IsLineAnswer (CommandLine bits) (commanded outcome)
+commanded_right bits items outcome same found = subst (IsFinishAnswer outcome) same found

@@ -4,16 +4,16 @@ use Rattle.std.specs.List.{AllZip, flat_map}
 use Rattle.line_code.specs.declared.refusal.LineRefusal.{LineRefusal}
 use Rattle.line_code.specs.declared.refusal.LineRefusal.TheVariants.{Invalid, Unfinished}
 use Rattle.line_code.specs.Stream.{IsStream, Streams}
-use Rattle.line_code.specs.Refusal.{Refuses}
+use Rattle.line_code.specs.Refusal.{RefusesStream}
 use Rattle.text_fields.specs.Lines.{line_feed}
 use Rattle.std.specs.Fmt.{decimal}
 use Rattle.text_fields.specs.Binary.{binary}
 use Rattle.line_codes.specs.Codes.{table_of}
-use Rattle.sample_slicer.specs.Samples.{AreLevels, Refuses as RefusesSamples}
+use Rattle.sample_slicer.specs.Samples.{AreLevels, RefusesSamples}
 use Rattle.sample_slicer.specs.declared.slicer.SliceRefusal.{SliceRefusal}
 use Rattle.sample_slicer.specs.declared.slicer.SliceRefusal.TheVariants.{Mixed, Rest}
-use Rattle.reply_grammar.specs.Table.{Answers as AnswersExpected}
-use Rattle.reply_grammar.specs.Faults.{Faults}
+use Rattle.reply_grammar.specs.Table.{AnswersExpected}
+use Rattle.reply_grammar.specs.Refusals.{RefusesReply}
 use Rattle.reply_grammar.specs.declared.expected.Reply.{Reply}
 use Rattle.reply_grammar.specs.declared.expected.ReplyRefusal.{ReplyRefusal}
 use Rattle.reply_grammar.specs.declared.expected.Received.{Received}
@@ -21,11 +21,11 @@ use Rattle.reply_grammar.specs.declared.expected.Received.TheVariants.{Whole, Re
 use Rattle.reply_text.specs.ReplyText.{reply_line, refusal_line}
 use Rattle.air_channel.specs.Received.{IsReceived}
 use Rattle.pie_line.specs.Pie.{IsFrame}
-use Rattle.pie_line.specs.Refusal.{Refuses as RefusesFrame}
+use Rattle.pie_line.specs.Refusal.{RefusesFrame}
 use Rattle.pie_line.specs.declared.frame.FrameKind.{FrameKind}
 use Rattle.pie_line.specs.declared.frame.PieRefusal.{PieRefusal}
 use Rattle.pie_text.specs.PieText.{frame_line, pie_refusal_line}
-use Rattle.command_grammar.specs.Commands.{Finishes}
+use Rattle.command_grammar.specs.Commands.{IsFinishAnswer}
 use Rattle.command_grammar.specs.declared.commands.Command.{Command}
 use Rattle.command_grammar.specs.declared.refusal.CommandRefusal.{CommandRefusal}
 use Rattle.command_text.specs.CommandText.{command_line, command_refusal_line}
@@ -47,18 +47,18 @@ pub data Answer : Type 0 where
   commanded : Result Command CommandRefusal → Answer
 
 -- the answer is the one to the request
-abbrev pub IsAnswer : Request → Answer → Type 0
-IsAnswer (Stream code trext levels) (streamed (Ok bits)) = IsStream (table_of code) trext bits levels
-IsAnswer (Stream code trext levels) (streamed (Err refusal)) = Refuses (Streams (table_of code) trext) levels refusal
-IsAnswer (Samples threshold per_level samples) (sliced (Ok levels)) = AreLevels threshold per_level samples levels
-IsAnswer (Samples threshold per_level samples) (sliced (Err refusal)) = RefusesSamples threshold per_level samples refusal
-IsAnswer (ReplyLine expect bits) (replied (Ok reply)) = AnswersExpected reply expect bits
-IsAnswer (ReplyLine expect bits) (replied (Err refusal)) = Faults refusal expect bits
-IsAnswer (HeardLine code trext expect levels) (heard received) = IsReceived (table_of code) trext expect levels received
-IsAnswer (PieLine intervals) (framed (Ok frame)) = IsFrame frame.0 frame.1 intervals
-IsAnswer (PieLine intervals) (framed (Err refusal)) = RefusesFrame refusal intervals
-IsAnswer (CommandLine bits) (commanded outcome) = Finishes outcome bits
-IsAnswer request answer = ⊥
+abbrev pub IsLineAnswer : Request → Answer → Type 0
+IsLineAnswer (Stream code trext levels) (streamed (Ok bits)) = IsStream (table_of code) trext bits levels
+IsLineAnswer (Stream code trext levels) (streamed (Err refusal)) = RefusesStream (Streams (table_of code) trext) levels refusal
+IsLineAnswer (Samples threshold per_level samples) (sliced (Ok levels)) = AreLevels threshold per_level samples levels
+IsLineAnswer (Samples threshold per_level samples) (sliced (Err refusal)) = RefusesSamples threshold per_level samples refusal
+IsLineAnswer (ReplyLine expect bits) (replied (Ok reply)) = AnswersExpected reply expect bits
+IsLineAnswer (ReplyLine expect bits) (replied (Err refusal)) = RefusesReply refusal expect bits
+IsLineAnswer (HeardLine code trext expect levels) (heard received) = IsReceived (table_of code) trext expect levels received
+IsLineAnswer (PieLine intervals) (framed (Ok frame)) = IsFrame frame.0 frame.1 intervals
+IsLineAnswer (PieLine intervals) (framed (Err refusal)) = RefusesFrame refusal intervals
+IsLineAnswer (CommandLine bits) (commanded outcome) = IsFinishAnswer outcome bits
+IsLineAnswer request answer = ⊥
 
 -- an outcome with what its call left, where that was no refusal
 abbrev pub with_left : {A B E : Type 0} → (A → B) → Result A E → Result B E
@@ -83,13 +83,13 @@ answer_line (commanded (Ok command)) = command_line command ++ line_feed ∷ []
 answer_line (commanded (Err refusal)) = command_refusal_line refusal ++ line_feed ∷ []
 
 -- the text is the answers to the requests, each on a line of its own, in order
-pub record Answers (requests : List Request) (text : List ℕ) : Type 0 where
+pub record AreAnswers (requests : List Request) (text : List ℕ) : Type 0 where
   pub answers : List Answer
-  pub each : AllZip IsAnswer requests answers
+  pub each : AllZip IsLineAnswer requests answers
   pub lines : text ≡ flat_map answer_line answers
 
 -- the text is the one before with the line of the request's answer at its end
 pub record AddsAnswer (request : Request) (old new : List ℕ) : Type 0 where
   pub answer : Answer
-  pub right : IsAnswer request answer
+  pub right : IsLineAnswer request answer
   pub line : new ≡ old ++ answer_line answer

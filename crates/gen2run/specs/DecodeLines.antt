@@ -3,18 +3,18 @@ use Rattle.std.specs.Prelude.{◌≡◌, ◌≢◌, ℕ, ◌+◌, List, [], ◌�
 use Rattle.std.specs.List.{AllZip}
 use Rattle.text_fields.specs.Lines.{lines_of, fields_of, line_feed}
 use Rattle.std.specs.Fmt.{decimal}
-use Rattle.gen2run.specs.Request.{Spells, IsFaulty}
-use Rattle.gen2run.specs.Answer.{Answers, AddsAnswer}
+use Rattle.gen2run.specs.Request.{AsksForRequest, IsFaultyRequest}
+use Rattle.gen2run.specs.Answer.{AreAnswers, AddsAnswer}
 use Rattle.gen2run.specs.declared.decode.request.Request.{Request}
-use Rattle.gen2run.specs.declared.decode.request.Reason.{Reason}
-use Rattle.gen2run.specs.declared.decode.request.Reason.TheVariants.{End, Word, Shape, Number}
-use Rattle.gen2run.specs.declared.decode.request.Fault.{Fault}
+use Rattle.gen2run.specs.declared.decode.request.FaultReason.{FaultReason}
+use Rattle.gen2run.specs.declared.decode.request.FaultReason.TheVariants.{End, Word, Shape, Number}
+use Rattle.gen2run.specs.declared.decode.request.DecodeFault.{DecodeFault}
 
 -- the bytes are lines that ask for these requests, in order, and nothing stands behind the last line feed
 pub record AsksFor (bytes : List ℕ) (requests : List Request) : Type 0 where
   pub lines : List (List ℕ)
   pub cut : lines_of bytes ≡ lines ++ [] ∷ []
-  pub each : AllZip Spells lines requests
+  pub each : AllZip AsksForRequest lines requests
 
 -- the bytes ask for something, line by line
 abbrev pub IsGrammatical : List ℕ → Type 0
@@ -22,48 +22,48 @@ IsGrammatical bytes = (requests : List Request) × AsksFor bytes requests
 
 -- the line asks for something
 abbrev pub IsAsked : List ℕ → Type 0
-IsAsked line = (request : Request) × Spells line request
+IsAsked line = (request : Request) × AsksForRequest line request
 
 -- the text is the one before with the answer to what the line asks for at its end
 pub record AnswersLine (line old new : List ℕ) : Type 0 where
   pub request : Request
-  pub asks : Spells line request
+  pub asks : AsksForRequest line request
   pub adds : AddsAnswer request old new
 
 -- the first reason for which a line is faulty, by the lines behind it: a line with none behind it has no line feed
-abbrev pub IsFaultyBefore : List (List ℕ) → List ℕ → Reason → Type 0
+abbrev pub IsFaultyBefore : List (List ℕ) → List ℕ → FaultReason → Type 0
 IsFaultyBefore [] line reason = (line ≢ []) × (reason ≡ End)
-IsFaultyBefore (next ∷ lines) line reason = IsFaulty (fields_of line) reason
+IsFaultyBefore (next ∷ lines) line reason = IsFaultyRequest (fields_of line) reason
 
 -- the first faulty line of the bytes, counted from 1, with its first reason
-pub record IsFirstFault (bytes : List ℕ) (fault : Fault) : Type 0 where
+pub record IsFirstFault (bytes : List ℕ) (fault : DecodeFault) : Type 0 where
   pub before : List (List ℕ)
   pub asked : List Request
   pub line : List ℕ
   pub behind : List (List ℕ)
   pub cut : lines_of bytes ≡ before ++ line ∷ behind
-  pub spelled : AllZip Spells before asked
+  pub spelled : AllZip AsksForRequest before asked
   pub number : fault.line ≡ length before + 1
   pub faulty : IsFaultyBefore behind line fault.reason
 
-abbrev pub reason_word : Reason → List ℕ
+abbrev pub reason_word : FaultReason → List ℕ
 reason_word End = codes "end"
 reason_word Word = codes "word"
 reason_word Shape = codes "shape"
 reason_word Number = codes "number"
 
 -- a fault as a line, with its line feed
-abbrev pub fault_line : Fault → List ℕ
+abbrev pub fault_line : DecodeFault → List ℕ
 fault_line fault = codes "fault " ++ decimal fault.line ++ codes " " ++ reason_word fault.reason ++ line_feed ∷ []
 
 -- the text is the decoded lines of the bytes
 pub record Decodes (bytes text : List ℕ) : Type 0 where
   pub requests : List Request
   pub asks : AsksFor bytes requests
-  pub answers : Answers requests text
+  pub answers : AreAnswers requests text
 
 -- the text is the fault line of the bytes
-pub record Refuses (bytes text : List ℕ) : Type 0 where
-  pub fault : Fault
+pub record IsFaultText (bytes text : List ℕ) : Type 0 where
+  pub fault : DecodeFault
   pub first : IsFirstFault bytes fault
   pub line : text ≡ fault_line fault

@@ -1,8 +1,8 @@
 -- Profile: the text that the program defines for its input, one case a form.
 use Rattle.std.specs.Prelude.{ℕ, List, ◌⊎◌}
-use Rattle.gen2run.specs.declared.words.Form.{Form}
-use Rattle.gen2run.specs.declared.words.Form.TheVariants.{Decode}
-use Rattle.gen2run.specs.DecodeLines.{Decodes, Refuses, IsGrammatical}
+use Rattle.gen2run.specs.declared.forms.Form.{Form}
+use Rattle.gen2run.specs.declared.forms.Form.TheVariants.{Decode}
+use Rattle.gen2run.specs.DecodeLines.{Decodes, IsFaultText, IsGrammatical}
 
 -- the grammar of the form's input allows the bytes
 abbrev pub IsGrammaticalOf : Form → List ℕ → Type 0
@@ -14,7 +14,7 @@ WritesOf Decode bytes text = Decodes bytes text
 
 -- the text is the fault line of bytes that the form's grammar refuses
 abbrev pub RefusesOf : Form → List ℕ → List ℕ → Type 0
-RefusesOf Decode bytes text = Refuses bytes text
+RefusesOf Decode bytes text = IsFaultText bytes text
 
 -- the defined text of the bytes: their fault line where the grammar refuses them, else what the form has to write
 abbrev pub DefinesOf : Form → List ℕ → List ℕ → Type 0

@@ -2,8 +2,8 @@
 use Rattle.std.specs.Prelude.{◌≡◌, ℕ, List, [], ◌∷◌, map, codes, String}
 use Rattle.std.specs.Global.{Global}
 use Rattle.std.specs.String.{string_bytes}
-use Rattle.gen2run.specs.declared.words.Form.{Form}
-use Rattle.gen2run.specs.declared.words.Form.TheVariants.{Decode}
+use Rattle.gen2run.specs.declared.forms.Form.{Form}
+use Rattle.gen2run.specs.declared.forms.Form.TheVariants.{Decode}
 
 -- the bytes of each word
 abbrev pub texts : List (String Global) → List (List ℕ)

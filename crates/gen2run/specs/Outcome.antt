@@ -3,8 +3,8 @@
 use Rattle.std.specs.Prelude.{◌≡◌, ℕ, ◌+◌, ◌≤◌, List, ◌++◌, length, Option, Result, Ok, Err, ◌⊎◌}
 use Rattle.air_io.specs.Flow.{Reads, Adds, AtEnd, FaultsRose}
 use Rattle.gen2run.specs.Defined.{WritesOf, RefusesOf, DefinesOf}
-use Rattle.gen2run.specs.declared.words.Form.{Form}
-use Rattle.gen2run.specs.declared.words.Form.TheVariants.{Decode}
+use Rattle.gen2run.specs.declared.forms.Form.{Form}
+use Rattle.gen2run.specs.declared.forms.Form.TheVariants.{Decode}
 use Rattle.gen2run.specs.declared.ending.Wrote.{Wrote}
 use Rattle.gen2run.specs.declared.ending.Wrote.TheVariants.{Text, FaultLine}
 use Rattle.gen2run.specs.declared.ending.WriteEnd.{WriteEnd}

@@ -7,29 +7,39 @@ use Rattle.text_fields.specs.Lines.{fields_of}
 use Rattle.text_fields.specs.Binary.{binary, binary_digit}
 use Rattle.text_fields.specs.CodeNames.{code_word}
 use Rattle.reply_text.specs.ReplyText.{expect_word, IsExpect}
-use Rattle.gen2run.specs.declared.decode.request.Kind.{Kind}
-use Rattle.gen2run.specs.declared.decode.request.Kind.TheVariants.{Stream as StreamKind, Samples as SamplesKind, Reply as ReplyKind, Heard as HeardKind, Pie as PieKind, Command as CommandKind}
+use Rattle.gen2run.specs.declared.decode.request.RequestKind.{RequestKind}
+use Rattle.gen2run.specs.declared.decode.request.RequestKind.TheVariants.{Stream as StreamKind, Samples as SamplesKind, Reply as ReplyKind, Heard as HeardKind, Pie as PieKind, Command as CommandKind}
 use Rattle.gen2run.specs.declared.decode.request.Request.{Request}
 use Rattle.gen2run.specs.declared.decode.request.Request.TheVariants.{Stream, Samples, Reply, Heard, Pie, Command}
-use Rattle.gen2run.specs.declared.decode.request.Reason.{Reason}
-use Rattle.gen2run.specs.declared.decode.request.Reason.TheVariants.{End, Word, Shape, Number}
+use Rattle.gen2run.specs.declared.decode.request.FaultReason.{FaultReason}
+use Rattle.gen2run.specs.declared.decode.request.FaultReason.TheVariants.{End, Word, Shape, Number}
+use Rattle.pie_line.specs.Pie.{longest_interval}
+use Rattle.sample_slicer.specs.Samples.{most_samples}
+
+-- the most bits of a reply or a command
+abbrev pub most_bits : ℕ
+most_bits = 8240
+
+-- the most levels of a stream
+abbrev pub most_levels : ℕ
+most_levels = 132000
 
 -- the first field of a line
-abbrev pub kind_word : Kind → List ℕ
-kind_word (StreamKind code) = code_word code
-kind_word SamplesKind = codes "samples"
-kind_word ReplyKind = codes "reply"
-kind_word HeardKind = codes "heard"
-kind_word PieKind = codes "pie"
-kind_word CommandKind = codes "command"
+abbrev pub request_word : RequestKind → List ℕ
+request_word (StreamKind code) = code_word code
+request_word SamplesKind = codes "samples"
+request_word ReplyKind = codes "reply"
+request_word HeardKind = codes "heard"
+request_word PieKind = codes "pie"
+request_word CommandKind = codes "command"
 
 -- the first field is no name of a line code
-abbrev pub NamesNoCode : Kind → Type 0
+abbrev pub NamesNoCode : RequestKind → Type 0
 NamesNoCode (StreamKind code) = ⊥
 NamesNoCode kind = Unit {0}
 
 -- how many fields may stand behind the first
-abbrev pub MayHave : Kind → ℕ → Type 0
+abbrev pub MayHave : RequestKind → ℕ → Type 0
 MayHave (StreamKind code) count = count ≡ 2
 MayHave SamplesKind count = count ≡ 3
 MayHave ReplyKind count = count ≡ 2
@@ -38,11 +48,11 @@ MayHave PieKind count = (1 ≤ count) × (count ≤ 20000)
 MayHave CommandKind count = count ≡ 1
 
 -- the fields behind the first: their number is right, and none is empty
-abbrev pub HasShape : Kind → List (List ℕ) → Type 0
+abbrev pub HasShape : RequestKind → List (List ℕ) → Type 0
 HasShape kind others = MayHave kind (length others) × All (λ field. field ≢ []) others
 
 -- what the first field of a request's line says
-abbrev pub request_kind : Request → Kind
+abbrev pub request_kind : Request → RequestKind
 request_kind (Stream code trext levels) = StreamKind code
 request_kind (Samples threshold per_level samples) = SamplesKind
 request_kind (Reply expect bits) = ReplyKind
@@ -63,29 +73,29 @@ AreSpelled (Command bits) others = others ≡ binary bits ∷ []
 
 -- the limits on the numbers and lists of a line
 abbrev pub IsWithinLimits : Request → Type 0
-IsWithinLimits (Stream code trext levels) = length levels ≤ 132000
+IsWithinLimits (Stream code trext levels) = length levels ≤ most_levels
 IsWithinLimits (Samples threshold per_level samples) =
-    (threshold ≤ 255) × (1 ≤ per_level) × (per_level ≤ 64) × (1 ≤ length samples) × (length samples ≤ 132000)
-IsWithinLimits (Reply expect bits) = IsExpect expect × (length bits ≤ 8240)
-IsWithinLimits (Heard code trext expect levels) = IsExpect expect × (length levels ≤ 132000)
-IsWithinLimits (Pie intervals) = (1 ≤ length intervals) × (length intervals ≤ 20000) × All (λ interval. interval ≤ 999999) intervals
-IsWithinLimits (Command bits) = length bits ≤ 8240
+    (threshold ≤ 255) × (1 ≤ per_level) × (per_level ≤ 64) × (1 ≤ length samples) × (length samples ≤ most_samples)
+IsWithinLimits (Reply expect bits) = IsExpect expect × (length bits ≤ most_bits)
+IsWithinLimits (Heard code trext expect levels) = IsExpect expect × (length levels ≤ most_levels)
+IsWithinLimits (Pie intervals) = (1 ≤ length intervals) × (length intervals ≤ 20000) × All (λ interval. interval ≤ longest_interval) intervals
+IsWithinLimits (Command bits) = length bits ≤ most_bits
 
 -- behind a first field of this kind, these fields ask for this
-pub record AsksBehind (kind : Kind) (others : List (List ℕ)) (request : Request) : Type 0 where
+pub record AsksBehind (kind : RequestKind) (others : List (List ℕ)) (request : Request) : Type 0 where
   pub same_kind : kind ≡ request_kind request
   pub spelling : AreSpelled request others
   pub limits : IsWithinLimits request
 
 -- the line asks for this
-pub record Spells (line : List ℕ) (request : Request) : Type 0 where
-  pub kind : Kind
+pub record AsksForRequest (line : List ℕ) (request : Request) : Type 0 where
+  pub kind : RequestKind
   pub others : List (List ℕ)
-  pub fields : fields_of line ≡ kind_word kind ∷ others
+  pub fields : fields_of line ≡ request_word kind ∷ others
   pub asks : AsksBehind kind others request
 
 -- the first reason for which the fields behind the first ask for nothing
-abbrev pub AreFaulty : Kind → List (List ℕ) → Reason → Type 0
+abbrev pub AreFaulty : RequestKind → List (List ℕ) → FaultReason → Type 0
 -- their number is wrong, or one is empty
 AreFaulty kind others Shape = ¬ HasShape kind others
 -- they are there, and one of them isn't of its form, range or length: they ask for nothing
@@ -94,8 +104,8 @@ AreFaulty kind others End = ⊥
 AreFaulty kind others Word = ⊥
 
 -- the first reason for which the fields of a line that has its line feed ask for nothing
-abbrev pub IsFaulty : List (List ℕ) → Reason → Type 0
+abbrev pub IsFaultyRequest : List (List ℕ) → FaultReason → Type 0
 -- the first field is none that a line may begin with
-IsFaulty fields Word = (kind : Kind) (others : List (List ℕ)) → fields ≢ kind_word kind ∷ others
-IsFaulty fields reason =
-    (kind : Kind) × (others : List (List ℕ)) × (fields ≡ kind_word kind ∷ others) × AreFaulty kind others reason
+IsFaultyRequest fields Word = (kind : RequestKind) (others : List (List ℕ)) → fields ≢ request_word kind ∷ others
+IsFaultyRequest fields reason =
+    (kind : RequestKind) × (others : List (List ℕ)) × (fields ≡ request_word kind ∷ others) × AreFaulty kind others reason

@@ -1,6 +1,6 @@
 //! What holds of the words and of the texts of each form.
 ghost use Rattle.std.specs.Prelude.{◌≡◌, ℕ, List};
-ghost use Rattle.gen2run.specs.declared.words.Form.{Form};
+ghost use Rattle.gen2run.specs.declared.forms.Form.{Form};
 ghost use Rattle.gen2run.specs.Form.{words_of};
 ghost use Rattle.gen2run.specs.Defined.{WritesOf, RefusesOf, DefinesOf};
 

@@ -8,7 +8,7 @@ mod program;
 mod status;
 #[cfg(test)]
 mod tests;
-mod words;
+mod forms;
 
 use air_io::{StdSink, StdSource};
 pub use program::gen2run;

@@ -1,7 +1,7 @@
 //! The top call: what the program does for its words.
 ghost use Rattle.std.specs.Prelude.{◌≡◌, ◌≤◌, ◌↔◌, ◌⊎◌, ℕ, List, length, Some};
 ghost use Rattle.air_io.specs.Flow.{FaultsRose};
-ghost use Rattle.gen2run.specs.declared.words.Form.{Form};
+ghost use Rattle.gen2run.specs.declared.forms.Form.{Form};
 ghost use Rattle.gen2run.specs.Form.{texts, words_of, HasForm};
 ghost use Rattle.gen2run.specs.Defined.{IsGrammaticalOf, WritesOf, RefusesOf, DefinesOf};
 ghost use Rattle.gen2run.specs.Outcome.{input_limit, WritesWhole, WritesFront, ReadsWithin, ReadsTooMuch, EndsSo, Tells};
@@ -9,7 +9,7 @@ ghost use Rattle.gen2run.specs.Outcome.{input_limit, WritesWhole, WritesFront, R
 use crate::decode::lines::decode_input;
 use crate::ending::{WriteEnd, Wrote};
 use crate::status::Status;
-use crate::words::{Form, form_of};
+use crate::forms::{Form, form_of};
 use air_io::{ReadEnd, Sink, Source, read_to_end};
 use std::alloc::Global;
 

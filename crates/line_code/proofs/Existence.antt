@@ -9,7 +9,7 @@ use Rattle.line_code.specs.Table.{Table}
 use Rattle.line_code.specs.Stream.{Streams}
 use Rattle.line_code.specs.Laws.{IsEven, TellsBits}
 use Rattle.line_code.specs.States.{SeekingValue, InsideValue, Seeks, Reads, fits_of}
-use Rattle.line_code.specs.Answer.{IsAnswer}
+use Rattle.line_code.specs.Answer.{IsStreamAnswer}
 use Rattle.line_code.specs.declared.refusal.LineRefusal.{LineRefusal}
 use Rattle.line_code.specs.declared.refusal.LineRefusal.TheVariants.{Invalid, Unfinished}
 use Rattle.line_code.proofs.LeadLevels.{seeks_more, seeks_size, seeks_bad, seeks_short, lead_all}
@@ -144,7 +144,7 @@ last_cases (Some true) = inl refl
 last_cases (Some false) = inr (λ e. let h : false ≡ true = same_Some false true e in cc)
 
 pub ends : (t : Table) (chips : ℕ) → IsEven t chips → TellsBits t → (trext : Bool) (levels : List Bool) → Progress t trext levels levels
-    → (answer : Result (Unit {0}) LineRefusal) × IsAnswer t trext levels answer
+    → (answer : Result (Unit {0}) LineRefusal) × IsStreamAnswer t trext levels answer
 ends t chips even tells trext levels (stopped place bad) = (Err (Invalid place), bad)
 ends t chips even tells trext levels (seeking state s) = (Err (Unfinished state.taken), seeks_short t trext state levels s)
 ends t chips even tells trext levels (inside state bits r) =
@@ -157,7 +157,7 @@ ends t chips even tells trext levels (inside state bits r) =
     ]
 
 pub some_answer : (t : Table) (chips : ℕ) → IsEven t chips → TellsBits t → (trext : Bool) (levels : List Bool)
-    → (answer : Result (Unit {0}) LineRefusal) × IsAnswer t trext levels answer
+    → (answer : Result (Unit {0}) LineRefusal) × IsStreamAnswer t trext levels answer
 some_answer t chips even tells trext levels =
     let P : List Bool → Type 0 = λ ls. Progress t trext levels ls in
     let all = take_all (length levels) levels (omega arith) in

@@ -5,8 +5,8 @@ use Rattle.bit_strings.specs.Family.{IsBadAt}
 use Rattle.line_code.specs.Table.{Context, Table}
 use Rattle.line_code.specs.Stream.{blocks, IsStream, Streams}
 use Rattle.line_code.specs.States.{InsideValue, Reads}
-use Rattle.line_code.specs.Laws.{IsEven, TellsBits, RefusesFlips, HidesLead, flipped}
-use Rattle.line_code.specs.Refusal.{Refuses}
+use Rattle.line_code.specs.Laws.{IsEven, TellsBits, RefusesFlips, HidesLead, with_level_flipped}
+use Rattle.line_code.specs.Refusal.{RefusesStream}
 use Rattle.line_code.specs.StreamLaws.{one_stream, refused_is_none}
 use Rattle.line_code.specs.declared.refusal.LineRefusal.{LineRefusal}
 
@@ -41,7 +41,7 @@ bits_within t chips even trext state levels bits r =
 
 -- where the levels are a stream, a true answer is its bits
 pub decided : (t : Table) (chips : ℕ) → IsEven t chips → TellsBits t → (trext : Bool) (result : Result (Unit {0}) LineRefusal) (levels out bits : List Bool)
-    → OnOk result (IsStream t trext out levels) → IfErr result (Refuses (Streams t trext) levels) → IsStream t trext bits levels → IsOk result × (out ≡ bits)
+    → OnOk result (IsStream t trext out levels) → IfErr result (RefusesStream (Streams t trext) levels) → IsStream t trext bits levels → IsOk result × (out ≡ bits)
 decided t chips even tells trext (Ok done) levels out bits ok refused s = (refl, one_stream t chips even tells trext out bits levels ok s)
 decided t chips even tells trext (Err refusal) levels out bits ok refused s = absurd (refused_is_none (Streams t trext) levels refusal refused (bits, s))
 
@@ -53,7 +53,7 @@ refused_else t trext (Err refusal) levels out ok none = refl
 
 -- a stream with one level inverted is none
 pub flip_is_none : (t : Table) (trext : Bool) (levels given sent : List Bool) (at : ℕ) → RefusesFlips t → levels ≡ given
-    → Streams t trext sent → at < length sent → given ≡ flipped sent at → ¬ Streams t trext levels
+    → Streams t trext sent → at < length sent → given ≡ with_level_flipped sent at → ¬ Streams t trext levels
 flip_is_none t trext levels given sent at law is stream within e member =
     law trext sent at within stream (subst (Streams t trext) (is ∙ e) member)
 

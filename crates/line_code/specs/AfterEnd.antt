@@ -3,7 +3,7 @@ use Rattle.std.specs.Prelude.{◌≡◌, Bool, List, ◌++◌, Result, Ok, Err}
 use Rattle.line_code.specs.Table.{Table}
 use Rattle.line_code.specs.Stream.{Streams}
 use Rattle.line_code.specs.States.{EndedValue, Ends}
-use Rattle.line_code.specs.Refusal.{Refuses}
+use Rattle.line_code.specs.Refusal.{RefusesStream}
 use Rattle.line_code.specs.declared.refusal.LineRefusal.{LineRefusal}
 
 -- the answer at the end, by the levels and by the buffer before it and behind it: the levels are a stream, and
@@ -11,4 +11,4 @@ use Rattle.line_code.specs.declared.refusal.LineRefusal.{LineRefusal}
 abbrev pub AfterEnd : Table → Bool → List Bool → List Bool → List Bool → List Bool → Result EndedValue LineRefusal → Type 0
 AfterEnd t trext levels stood old new (Ok state) =
     (bits : List Bool) × Ends t trext state levels bits × (new ≡ stood ++ bits)
-AfterEnd t trext levels stood old new (Err refusal) = Refuses (Streams t trext) levels refusal × (new ≡ old)
+AfterEnd t trext levels stood old new (Err refusal) = RefusesStream (Streams t trext) levels refusal × (new ≡ old)

@@ -15,12 +15,12 @@ use Rattle.std.proofs.lemmas.Bool.{cases_lt}
 use Rattle.std.proofs.lemmas.List.{append_assoc, length-take-le, take-append-drop, drop-drop}
 use Rattle.line_code.specs.Table.{Context, Table}
 use Rattle.line_code.specs.Stream.{blocks}
-use Rattle.line_code.specs.Laws.{IsEven, TellsBits, flipped, RefusesFlips, HidesLead}
+use Rattle.line_code.specs.Laws.{IsEven, TellsBits, with_level_flipped, RefusesFlips, HidesLead}
 
 -- where a block with one inverted level is the block of the other bit, the block after it differs in each case
 abbrev pub ShowsFlips : Table → Type 0
 ShowsFlips t =
-    (c : Context) (bit : Bool) (at : ℕ) → at < length (t.block c bit) → flipped (t.block c bit) at ≡ t.block c (not bit)
+    (c : Context) (bit : Bool) (at : ℕ) → at < length (t.block c bit) → with_level_flipped (t.block c bit) at ≡ t.block c (not bit)
     → (x y : Bool) → t.block (t.next c bit) x ≢ t.block (t.next c (not bit)) y
 
 -- two symbols of the lead, behind a number of others, that are no two data blocks in a row
@@ -50,25 +50,25 @@ not-self : (b : Bool) → not b ≢ b
 not-self true e = cc
 not-self false e = cc
 
-pub flipped-other : (levels : List Bool) (at : ℕ) → at < length levels → flipped levels at ≢ levels
-flipped-other [] at l e = omega arith
-flipped-other (x ∷ xs) zero l e = let h : not x ≡ x = cc in not-self x h
-flipped-other (x ∷ xs) (suc n) l e = let h : flipped xs n ≡ xs = cc in flipped-other xs n (omega arith) h
+pub with_level_flipped-other : (levels : List Bool) (at : ℕ) → at < length levels → with_level_flipped levels at ≢ levels
+with_level_flipped-other [] at l e = omega arith
+with_level_flipped-other (x ∷ xs) zero l e = let h : not x ≡ x = cc in not-self x h
+with_level_flipped-other (x ∷ xs) (suc n) l e = let h : with_level_flipped xs n ≡ xs = cc in with_level_flipped-other xs n (omega arith) h
 
-pub length-flipped : (levels : List Bool) (at : ℕ) → length (flipped levels at) ≡ length levels
-length-flipped [] at = refl
-length-flipped (x ∷ xs) zero = refl
-length-flipped (x ∷ xs) (suc n) = ap suc (length-flipped xs n)
+pub length-with_level_flipped : (levels : List Bool) (at : ℕ) → length (with_level_flipped levels at) ≡ length levels
+length-with_level_flipped [] at = refl
+length-with_level_flipped (x ∷ xs) zero = refl
+length-with_level_flipped (x ∷ xs) (suc n) = ap suc (length-with_level_flipped xs n)
 
-pub flipped-left : (a b : List Bool) (at : ℕ) → at < length a → flipped (a ++ b) at ≡ flipped a at ++ b
-flipped-left [] b at l = absurd (omega arith)
-flipped-left (x ∷ a) b zero l = refl
-flipped-left (x ∷ a) b (suc n) l = ap (λ ls. x ∷ ls) (flipped-left a b n (omega arith))
+pub with_level_flipped-left : (a b : List Bool) (at : ℕ) → at < length a → with_level_flipped (a ++ b) at ≡ with_level_flipped a at ++ b
+with_level_flipped-left [] b at l = absurd (omega arith)
+with_level_flipped-left (x ∷ a) b zero l = refl
+with_level_flipped-left (x ∷ a) b (suc n) l = ap (λ ls. x ∷ ls) (with_level_flipped-left a b n (omega arith))
 
-pub flipped-right : (a b : List Bool) (at k : ℕ) → at ≡ length a + k → flipped (a ++ b) at ≡ a ++ flipped b k
-flipped-right [] b at k e = let same : at ≡ k = omega arith in ap (flipped b) same
-flipped-right (x ∷ a) b zero k e = absurd (omega arith)
-flipped-right (x ∷ a) b (suc n) k e = ap (λ ls. x ∷ ls) (flipped-right a b n k (omega arith))
+pub with_level_flipped-right : (a b : List Bool) (at k : ℕ) → at ≡ length a + k → with_level_flipped (a ++ b) at ≡ a ++ with_level_flipped b k
+with_level_flipped-right [] b at k e = let same : at ≡ k = omega arith in ap (with_level_flipped b) same
+with_level_flipped-right (x ∷ a) b zero k e = absurd (omega arith)
+with_level_flipped-right (x ∷ a) b (suc n) k e = ap (λ ls. x ∷ ls) (with_level_flipped-right a b n k (omega arith))
 
 -- a list that is not empty
 pub record Headed (bits : List Bool) : Type 0 where
@@ -109,11 +109,11 @@ told t tells c false true e = absurd (tells c e)
 -- where a first block with one level inverted is a first block, the blocks behind the two differ
 pub flipped_first : (t : Table) (chips : ℕ) → IsEven t chips → ShowsFlips t
     → (x y : Bool) (xs ys : List Bool) (c : Context) (at : ℕ) → at < length (t.block c x)
-    → flipped (t.block c x) at ≡ t.block c y
+    → with_level_flipped (t.block c x) at ≡ t.block c y
     → blocks t (t.next c x) (xs ++ true ∷ []) ≢ blocks t (t.next c y) (ys ++ true ∷ [])
 flipped_first t chips even shows x y xs ys c at l e rest =
     elim (same_or_not x y) [
-      | inl same ↦ flipped-other (t.block c x) at l (e ∙ ap (t.block c) (sym same))
+      | inl same ↦ with_level_flipped-other (t.block c x) at l (e ∙ ap (t.block c) (sym same))
       | inr other ↦
           let f = first_block t (t.next c x) xs in
           let g = first_block t (t.next c y) ys in
@@ -127,8 +127,8 @@ flipped_first t chips even shows x y xs ys c at l e rest =
 -- no blocks of data and dummy with one level inverted are blocks of data and dummy
 pub flipped_blocks : (t : Table) (chips : ℕ) → IsEven t chips → TellsBits t → ShowsFlips t
     → (xs ys : List Bool) (c : Context) (at : ℕ) → at < length (blocks t c (xs ++ true ∷ []))
-    → flipped (blocks t c (xs ++ true ∷ [])) at ≢ blocks t c (ys ++ true ∷ [])
-flipped_blocks t chips even tells shows [] [] c at l e = flipped-other (blocks t c (true ∷ [])) at l e
+    → with_level_flipped (blocks t c (xs ++ true ∷ [])) at ≢ blocks t c (ys ++ true ∷ [])
+flipped_blocks t chips even tells shows [] [] c at l e = with_level_flipped-other (blocks t c (true ∷ [])) at l e
 flipped_blocks t chips even tells shows [] (y ∷ ys) c at l e =
     let one : length (t.block c true) ≡ chips = even.blocks_even c true in
     let two : length (t.block c y) ≡ chips = even.blocks_even c y in
@@ -136,7 +136,7 @@ flipped_blocks t chips even tells shows [] (y ∷ ys) c at l e =
     let least = even.least in
     let left = length-append (t.block c true) [] in
     let right = length-append (t.block c y) (blocks t (t.next c y) (ys ++ true ∷ [])) in
-    let sizes = sym (length-flipped (blocks t c (true ∷ [])) at) ∙ ap length e in
+    let sizes = sym (length-with_level_flipped (blocks t c (true ∷ [])) at) ∙ ap length e in
     omega arith
 flipped_blocks t chips even tells shows (x ∷ xs) [] c at l e =
     let one : length (t.block c true) ≡ chips = even.blocks_even c true in
@@ -145,7 +145,7 @@ flipped_blocks t chips even tells shows (x ∷ xs) [] c at l e =
     let least = even.least in
     let left = length-append (t.block c true) [] in
     let right = length-append (t.block c x) (blocks t (t.next c x) (xs ++ true ∷ [])) in
-    let sizes = sym (length-flipped (blocks t c ((x ∷ xs) ++ true ∷ [])) at) ∙ ap length e in
+    let sizes = sym (length-with_level_flipped (blocks t c ((x ∷ xs) ++ true ∷ [])) at) ∙ ap length e in
     omega arith
 flipped_blocks t chips even tells shows (x ∷ xs) (y ∷ ys) c at l e =
     let rest_x = blocks t (t.next c x) (xs ++ true ∷ []) in
@@ -155,15 +155,15 @@ flipped_blocks t chips even tells shows (x ∷ xs) (y ∷ ys) c at l e =
     let joined = length-append (t.block c x) rest_x in
     elim (cases_lt at (length (t.block c x))) [
       | inl below ↦
-          let e2 = sym (flipped-left (t.block c x) rest_x at below) ∙ e in
-          let size = length-flipped (t.block c x) at in
-          let parts = parts_same (flipped (t.block c x) at) (t.block c y) rest_x rest_y (omega arith) e2 in
+          let e2 = sym (with_level_flipped-left (t.block c x) rest_x at below) ∙ e in
+          let size = length-with_level_flipped (t.block c x) at in
+          let parts = parts_same (with_level_flipped (t.block c x) at) (t.block c y) rest_x rest_y (omega arith) e2 in
           flipped_first t chips even shows x y xs ys c at below parts.0 parts.1
       | inr above ↦
           let k = at - length (t.block c x) in
           let at_is : at ≡ length (t.block c x) + k = omega arith in
-          let e2 = sym (flipped-right (t.block c x) rest_x at k at_is) ∙ e in
-          let parts = parts_same (t.block c x) (t.block c y) (flipped rest_x k) rest_y (omega arith) e2 in
+          let e2 = sym (with_level_flipped-right (t.block c x) rest_x at k at_is) ∙ e in
+          let parts = parts_same (t.block c x) (t.block c y) (with_level_flipped rest_x k) rest_y (omega arith) e2 in
           let same : x ≡ y = told t tells c x y parts.0 in
           flipped_blocks t chips even tells shows xs ys (t.next c x) k (omega arith) (parts.1 ∙ ap (λ b. blocks t (t.next c b) (ys ++ true ∷ [])) (sym same))
     ]
@@ -176,17 +176,17 @@ refuses_flips t chips even tells shows trext levels at l (xs, e) (ys, f) =
     let theirs = blocks t t.start (ys ++ true ∷ []) in
     let joined = length-append lead ours in
     let whole = ap length e in
-    let g = sym (ap (λ ls. flipped ls at) e) ∙ f in
+    let g = sym (ap (λ ls. with_level_flipped ls at) e) ∙ f in
     elim (cases_lt at (length lead)) [
       | inl below ↦
-          let g2 = sym (flipped-left lead ours at below) ∙ g in
-          let parts = parts_same (flipped lead at) lead ours theirs (length-flipped lead at) g2 in
-          flipped-other lead at below parts.0
+          let g2 = sym (with_level_flipped-left lead ours at below) ∙ g in
+          let parts = parts_same (with_level_flipped lead at) lead ours theirs (length-with_level_flipped lead at) g2 in
+          with_level_flipped-other lead at below parts.0
       | inr above ↦
           let k = at - length lead in
           let at_is : at ≡ length lead + k = omega arith in
-          let g2 = sym (flipped-right lead ours at k at_is) ∙ g in
-          let parts = parts_same lead lead (flipped ours k) theirs refl g2 in
+          let g2 = sym (with_level_flipped-right lead ours at k at_is) ∙ g in
+          let parts = parts_same lead lead (with_level_flipped ours k) theirs refl g2 in
           flipped_blocks t chips even tells shows xs ys t.start k (omega arith) parts.1
     ]
 

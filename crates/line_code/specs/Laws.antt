@@ -18,17 +18,17 @@ abbrev pub TellsBits : Table → Type 0
 TellsBits t = (c : Context) → t.block c false ≢ t.block c true
 
 -- the level, inverted
-abbrev pub inverted : Option Bool → Bool
-inverted (Some level) = not level
-inverted None = false
+abbrev pub inverse_of : Option Bool → Bool
+inverse_of (Some level) = not level
+inverse_of None = false
 
 -- the levels, with the one at a place inverted
-abbrev pub flipped : List Bool → ℕ → List Bool
-flipped levels at = slice_set levels at (inverted (slice_get levels at))
+abbrev pub with_level_flipped : List Bool → ℕ → List Bool
+with_level_flipped levels at = slice_set levels at (inverse_of (slice_get levels at))
 
 -- no stream with one level flipped is a stream of the same code and TRext
 abbrev pub RefusesFlips : Table → Type 0
-RefusesFlips t = (trext : Bool) (levels : List Bool) (at : ℕ) → at < length levels → Streams t trext levels → ¬ Streams t trext (flipped levels at)
+RefusesFlips t = (trext : Bool) (levels : List Bool) (at : ℕ) → at < length levels → Streams t trext levels → ¬ Streams t trext (with_level_flipped levels at)
 
 -- no list of data blocks begins with the lead
 abbrev pub HidesLead : Table → Type 0

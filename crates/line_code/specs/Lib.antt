@@ -1,7 +1,5 @@
 pub mod Table
 pub mod Stream
-pub mod Fm0
-pub mod Miller
 pub mod Laws
 pub mod Flips
 pub mod States

@@ -5,6 +5,6 @@ use Rattle.line_code.specs.declared.refusal.LineRefusal.{LineRefusal}
 use Rattle.line_code.specs.declared.refusal.LineRefusal.TheVariants.{Invalid, Unfinished}
 
 -- the refusal of a list by a family of lists
-abbrev pub Refuses : (List Bool → Type 0) → List Bool → LineRefusal → Type 0
-Refuses X levels (Invalid place) = IsBadAt X levels place
-Refuses X levels (Unfinished count) = IsShortAt X levels count
+abbrev pub RefusesStream : (List Bool → Type 0) → List Bool → LineRefusal → Type 0
+RefusesStream X levels (Invalid place) = IsBadAt X levels place
+RefusesStream X levels (Unfinished count) = IsShortAt X levels count

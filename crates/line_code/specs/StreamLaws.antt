@@ -8,8 +8,8 @@ use Rattle.line_code.specs.Stream.{blocks, IsStream, Streams}
 use Rattle.line_code.specs.States.{context_after}
 use Rattle.line_code.specs.Laws.{IsEven, TellsBits}
 use Rattle.line_code.specs.Flips.{parts_same, told}
-use Rattle.line_code.specs.Refusal.{Refuses}
-use Rattle.line_code.specs.Answer.{IsAnswer}
+use Rattle.line_code.specs.Refusal.{RefusesStream}
+use Rattle.line_code.specs.Answer.{IsStreamAnswer}
 use Rattle.line_code.specs.declared.refusal.LineRefusal.{LineRefusal}
 use Rattle.line_code.specs.declared.refusal.LineRefusal.TheVariants.{Invalid, Unfinished}
 
@@ -59,7 +59,7 @@ one_stream t chips even tells trext xs ys levels e f =
     sym (same_from_push ys xs true true whole).0
 
 -- what is refused is no member
-pub refused_is_none : (X : List Bool → Type 0) (levels : List Bool) (refusal : LineRefusal) → Refuses X levels refusal → ¬ X levels
+pub refused_is_none : (X : List Bool → Type 0) (levels : List Bool) (refusal : LineRefusal) → RefusesStream X levels refusal → ¬ X levels
 refused_is_none X levels (Invalid place) bad member = member-not_bad X levels place member bad
 refused_is_none X levels (Unfinished count) short member = short.no_member member
 
@@ -68,7 +68,7 @@ begins_front X levels n begins = begins-take X n levels begins
 
 -- there is one answer to each list of levels
 pub same_answer : (t : Table) (trext : Bool) (levels : List Bool) (left right : Result (Unit {0}) LineRefusal)
-    → IsAnswer t trext levels left → IsAnswer t trext levels right → left ≡ right
+    → IsStreamAnswer t trext levels left → IsStreamAnswer t trext levels right → left ≡ right
 same_answer t trext levels (Ok a) (Ok b) l r = refl
 same_answer t trext levels (Ok a) (Err e) l r = absurd (refused_is_none (Streams t trext) levels e r l)
 same_answer t trext levels (Err e) (Ok b) l r = absurd (refused_is_none (Streams t trext) levels e l r)

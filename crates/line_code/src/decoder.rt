@@ -2,9 +2,10 @@
 ghost use Rattle.std.specs.Prelude.{◌≡◌, ◌≤◌, ◌<◌, ℕ, List, Bool, [], length, take, IfOk, OnOk, IfErr, OnErr, IsOk, IsErr};
 ghost use Rattle.line_code.specs.Table.{Context};
 ghost use Rattle.line_code.specs.Stream.{IsStream, Streams, blocks};
-ghost use Rattle.line_code.specs.Laws.{flipped};
-ghost use Rattle.line_code.specs.Refusal.{Refuses};
+ghost use Rattle.line_code.specs.Laws.{with_level_flipped};
+ghost use Rattle.line_code.specs.Refusal.{RefusesStream};
 ghost use Rattle.line_code.specs.States.{Reads};
+ghost use Rattle.bit_strings.specs.BitString.{most_counted};
 
 use crate::code::LineCode;
 use crate::refusal::LineRefusal;
@@ -17,13 +18,13 @@ use bit_strings::{Bits, Levels};
 /// refused, and so are data blocks without the lead.
 pub fn decode<C: LineCode>(trext: bool, levels: &Levels, out: &mut Bits) -> Result<(), LineRefusal>
     requires room { length levels.now.items ≤ out.old.capacity }
-    requires few { length levels.now.items ≤ 4000000000 }
+    requires few { length levels.now.items ≤ most_counted }
     ensures ok { OnOk result (IsStream C.table trext out.new.items levels.now.items) }
-    ensures refused { IfErr result (Refuses (Streams C.table trext) levels.now.items) }
+    ensures refused { IfErr result (RefusesStream (Streams C.table trext) levels.now.items) }
     ensures err { OnErr result (out.new.items ≡ []) }
     ensures capacity { out.new.capacity ≡ out.old.capacity }
     ensures only { (bits : List Bool) → IsStream C.table trext bits levels.now.items → IsOk result × (out.new.items ≡ bits) }
-    ensures flip { (sent : List Bool) (at : ℕ) → Streams C.table trext sent → at < length sent → levels.now.items ≡ flipped sent at → IsErr result }
+    ensures flip { (sent : List Bool) (at : ℕ) → Streams C.table trext sent → at < length sent → levels.now.items ≡ with_level_flipped sent at → IsErr result }
     ensures no_lead { (c : Context) (bits : List Bool) → levels.now.items ≡ blocks C.table c bits → IsErr result }
 {
     out.clear();
@@ -38,9 +39,9 @@ pub fn decode<C: LineCode>(trext: bool, levels: &Levels, out: &mut Bits) -> Resu
 fn read<C: LineCode>(trext: bool, levels: &[bool], out: &mut Bits) -> Result<(), LineRefusal>
     requires empty { out.old.items ≡ [] }
     requires room { length levels.now ≤ out.old.capacity }
-    requires few { length levels.now ≤ 4000000000 }
+    requires few { length levels.now ≤ most_counted }
     ensures ok { OnOk result (IsStream C.table trext out.new.items levels.now) }
-    ensures refused { IfErr result (Refuses (Streams C.table trext) levels.now) }
+    ensures refused { IfErr result (RefusesStream (Streams C.table trext) levels.now) }
     ensures capacity { out.new.capacity ≡ out.old.capacity }
 {
     let (mut inside, mut at) = seek::<C>(trext, levels)?;
@@ -62,9 +63,9 @@ fn read<C: LineCode>(trext: bool, levels: &[bool], out: &mut Bits) -> Result<(),
 /// Takes the levels of the pilot and the preamble, and answers the state behind them and how many
 /// they are.
 fn seek<C: LineCode>(trext: bool, levels: &[bool]) -> Result<(Inside<C>, usize), LineRefusal>
-    requires { length levels.now ≤ 4000000000 }
+    requires { length levels.now ≤ most_counted }
     ensures found { IfOk result (λ it. (it.1 ≤ length levels.now) × Reads C.table trext it.0 (take it.1 levels.now) []) }
-    ensures refused { IfErr result (Refuses (Streams C.table trext) levels.now) }
+    ensures refused { IfErr result (RefusesStream (Streams C.table trext) levels.now) }
 {
     let mut seeking = Seeking::<C>::new(trext);
     for (at, level) in levels.iter().enumerate() {

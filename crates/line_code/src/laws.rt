@@ -5,7 +5,7 @@ ghost use Rattle.line_code.specs.Laws.{IsEven, TellsBits};
 ghost use Rattle.line_code.specs.Stream.{IsStream, Streams};
 ghost use Rattle.line_code.specs.States.{SeekingValue, InsideValue, Seeks, Reads};
 ghost use Rattle.bit_strings.specs.Family.{Begins};
-ghost use Rattle.line_code.specs.Answer.{IsAnswer};
+ghost use Rattle.line_code.specs.Answer.{IsStreamAnswer};
 ghost use Rattle.line_code.specs.declared.refusal.LineRefusal.{LineRefusal};
 
 /// To each list of levels there is exactly one answer, for each table whose blocks have one length
@@ -13,9 +13,9 @@ ghost use Rattle.line_code.specs.declared.refusal.LineRefusal.{LineRefusal};
 /// short. A stream is that of one list of bits.
 pub fn one_answer()
     ensures some { (t : Table) (chips : ℕ) → IsEven t chips → TellsBits t → (trext : Bool) (levels : List Bool)
-        → (answer : Result (Unit {0}) LineRefusal) × IsAnswer t trext levels answer }
+        → (answer : Result (Unit {0}) LineRefusal) × IsStreamAnswer t trext levels answer }
     ensures one { (t : Table) (chips : ℕ) → IsEven t chips → TellsBits t → (trext : Bool) (levels : List Bool)
-        → (left right : Result (Unit {0}) LineRefusal) → IsAnswer t trext levels left → IsAnswer t trext levels right → left ≡ right }
+        → (left right : Result (Unit {0}) LineRefusal) → IsStreamAnswer t trext levels left → IsStreamAnswer t trext levels right → left ≡ right }
     ensures bits { (t : Table) (chips : ℕ) → IsEven t chips → TellsBits t → (trext : Bool) (levels : List Bool)
         → (left right : List Bool) → IsStream t trext left levels → IsStream t trext right levels → left ≡ right }
 {}

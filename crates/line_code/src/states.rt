@@ -3,10 +3,11 @@
 ghost use Rattle.std.specs.Prelude.{◌≡◌, ◌≢◌, ◌<◌, ◌≤◌, List, Bool, true, [], ◌∷◌, ◌++◌, length, take, IfErr, OnErr, IfSome, IfNone, IsSome, IsTrue, ◌↔◌, slice_get};
 ghost use Rattle.line_code.specs.States.{Seeks, Reads, Ends};
 ghost use Rattle.line_code.specs.Stream.{Streams};
-ghost use Rattle.line_code.specs.Refusal.{Refuses};
+ghost use Rattle.line_code.specs.Refusal.{RefusesStream};
 ghost use Rattle.line_code.specs.AfterSeeking.{AfterSeeking};
 ghost use Rattle.line_code.specs.AfterInside.{AfterInside};
 ghost use Rattle.line_code.specs.AfterEnd.{AfterEnd};
+ghost use Rattle.bit_strings.specs.BitString.{most_counted};
 
 use crate::code::LineCode;
 use crate::refusal::LineRefusal;
@@ -163,7 +164,7 @@ impl<C: LineCode> Seeking<C> {
     /// `Unfinished` with their number.
     pub fn end(self) -> LineRefusal
         ensures count { result ≡ LineRefusal.Unfinished self.taken }
-        ensures refused { (trext : Bool) (levels : List Bool) → Seeks C.table trext self levels → Refuses (Streams C.table trext) levels result }
+        ensures refused { (trext : Bool) (levels : List Bool) → Seeks C.table trext self levels → RefusesStream (Streams C.table trext) levels result }
     {
         let Seeking {
             trext: _,
@@ -195,7 +196,7 @@ impl<C: LineCode> Inside<C> {
     /// end of `out`, which is not cleared, and which is to be the buffer of the pushes before.
     pub fn push(self, level: bool, out: &mut Bits) -> Within<C>
         requires room { length out.old.items < out.old.capacity }
-        requires few { self.taken < 4000000000 }
+        requires few { self.taken < most_counted }
         ensures answer { (trext : Bool) (levels bits stood : List Bool) → Reads C.table trext self levels bits → out.old.items ≡ stood ++ bits → AfterInside C.table trext levels level stood out.old.items out.new.items result }
         ensures capacity { out.new.capacity ≡ out.old.capacity }
     {
@@ -255,7 +256,7 @@ impl<C: LineCode> Inside<C> {
     /// taken before. `out` is to be the buffer of what was taken.
     pub(crate) fn take_block(self, bit: bool, out: &mut Bits) -> Inside<C>
         requires room { length out.old.items < out.old.capacity }
-        requires few { self.taken < 4000000000 }
+        requires few { self.taken < most_counted }
         requires fresh { self.place ≡ 0 }
         ensures reads { (trext : Bool) (levels : List Bool) → Reads C.table trext self levels out.old.items → Reads C.table trext result (levels ++ C.table.block self.context bit) out.new.items }
         ensures capacity { out.new.capacity ≡ out.old.capacity }

@@ -6,8 +6,8 @@ use Rattle.bit_strings.specs.declared.code.Code.TheVariants.{Fm0, M2, M4, M8}
 use Rattle.line_code.specs.Table.{Context, Table}
 use Rattle.line_code.specs.Laws.{IsEven, HasLead, TellsBits, RefusesFlips, HidesLead}
 use Rattle.line_code.specs.Stream.{blocks, stream_of}
-use Rattle.line_code.specs.Fm0.{fm0}
-use Rattle.line_code.specs.Miller.{miller}
+use Rattle.fm0_line.specs.Fm0.{fm0}
+use Rattle.miller_line.specs.Miller.{miller}
 use Rattle.fm0_line.specs.Fm0Laws.{fm0_even, fm0_has_lead, fm0_tells_bits, fm0_refuses_flips, fm0_hides_lead}
 use Rattle.miller_line.specs.MillerLaws.{two, four, eight, miller_even, miller_has_lead, miller_tells_bits, miller_refuses_flips, miller_hides_lead}
 use Rattle.line_codes.specs.Codes.{table_of, chips_of}

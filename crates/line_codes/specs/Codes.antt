@@ -3,8 +3,8 @@ use Rattle.std.specs.Prelude.{ℕ}
 use Rattle.bit_strings.specs.declared.code.Code.{Code}
 use Rattle.bit_strings.specs.declared.code.Code.TheVariants.{Fm0, M2, M4, M8}
 use Rattle.line_code.specs.Table.{Table}
-use Rattle.line_code.specs.Fm0.{fm0}
-use Rattle.line_code.specs.Miller.{miller}
+use Rattle.fm0_line.specs.Fm0.{fm0}
+use Rattle.miller_line.specs.Miller.{miller}
 
 -- the table of a code
 abbrev pub table_of : Code → Table

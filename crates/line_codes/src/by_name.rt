@@ -1,10 +1,11 @@
 //! Encoding and decoding in the code that is named.
 ghost use Rattle.std.specs.Prelude.{◌≡◌, ℕ, ◌+◌, ◌*◌, ◌<◌, ◌≤◌, List, Bool, [], length, OnOk, OnErr, IfErr, IsOk, IsErr};
-ghost use Rattle.line_code.specs.Laws.{flipped};
+ghost use Rattle.line_code.specs.Laws.{with_level_flipped};
 ghost use Rattle.line_code.specs.Stream.{IsStream, Streams};
-ghost use Rattle.line_code.specs.Refusal.{Refuses};
+ghost use Rattle.line_code.specs.Refusal.{RefusesStream};
 ghost use Rattle.line_code.specs.Table.{Table};
 ghost use Rattle.line_codes.specs.Codes.{table_of, chips_of};
+ghost use Rattle.bit_strings.specs.BitString.{most_counted};
 
 use bit_strings::{Bits, Code, Levels};
 use fm0_line::Fm0;
@@ -25,13 +26,13 @@ pub fn decode_levels(
     out: &mut Bits,
 ) -> Result<(), LineRefusal>
     requires room { length levels.now.items ≤ out.old.capacity }
-    requires few { length levels.now.items ≤ 4000000000 }
+    requires few { length levels.now.items ≤ most_counted }
     ensures ok { OnOk result (IsStream (table_of code) trext out.new.items levels.now.items) }
-    ensures refused { IfErr result (Refuses (Streams (table_of code) trext) levels.now.items) }
+    ensures refused { IfErr result (RefusesStream (Streams (table_of code) trext) levels.now.items) }
     ensures err { OnErr result (out.new.items ≡ []) }
     ensures capacity { out.new.capacity ≡ out.old.capacity }
     ensures only { (bits : List Bool) → IsStream (table_of code) trext bits levels.now.items → IsOk result × (out.new.items ≡ bits) }
-    ensures flip { (bits : List Bool) (whole : List Bool) (at : ℕ) → IsStream (table_of code) trext bits whole → at < length whole → levels.now.items ≡ flipped whole at → IsErr result }
+    ensures flip { (bits : List Bool) (whole : List Bool) (at : ℕ) → IsStream (table_of code) trext bits whole → at < length whole → levels.now.items ≡ with_level_flipped whole at → IsErr result }
 {
     match code {
         Code::Fm0 => decode::<Fm0>(trext, levels, out),

@@ -4,7 +4,7 @@ use Rattle.std.proofs.lemmas.Nat.{div-mul-add}
 use Rattle.bit_strings.specs.Numbers.{digit_of}
 use Rattle.lock_rules.specs.declared.locks.Pair.{Pair}
 use Rattle.lock_rules.specs.declared.locks.Locks.{Locks}
-use Rattle.lock_rules.specs.Lock.{pair_number, number_of, locks_of}
+use Rattle.lock_rules.specs.Lock.{pair_number, locks_number, locks_of}
 
 -- the bit whose digit is the last of a number
 last_digit : (half : ℕ) (bit : Bool) → ((half * 2 + digit_of bit) % 2 == 1) ≡ bit
@@ -41,7 +41,7 @@ digit_value (suc (suc m)) small = absurd (omega arith)
 last_bit : (n : ℕ) → digit_of (n % 2 == 1) ≡ n % 2
 last_bit n = digit_value (n % 2) (omega arith)
 
-pub number_of-locks_of : (n : ℕ) → n < 1024 → number_of (locks_of n) ≡ n
+pub number_of-locks_of : (n : ℕ) → n < 1024 → locks_number (locks_of n) ≡ n
 number_of-locks_of n small =
     rw (last_bit (n / 512), last_bit (n / 256), last_bit (n / 128), last_bit (n / 64), last_bit (n / 32), last_bit (n / 16), last_bit (n / 8), last_bit (n / 4), last_bit (n / 2), last_bit (n / 1)) (omega arith)
 
@@ -55,14 +55,14 @@ pair_back pair high unit low n small parts =
     digit_at bit (high * 2 + digit_of pair.write_bit) unit low n small (omega arith) in
     rw (write, last) refl
 
-pub locks_of-number_of : (locks : Locks) → locks_of (number_of locks) ≡ locks
+pub locks_of-number_of : (locks : Locks) → locks_of (locks_number locks) ≡ locks
 locks_of-number_of locks =
     let k = pair_number locks.kill_word in
     let a = pair_number locks.access_word in
     let e = pair_number locks.epc in
     let t = pair_number locks.tid in
     let u = pair_number locks.user in
-    let n = number_of locks in
+    let n = locks_number locks in
     let small_a = pair_number_small locks.access_word in
     let small_e = pair_number_small locks.epc in
     let small_t = pair_number_small locks.tid in

@@ -40,8 +40,8 @@ locks_of bits = record {
 abbrev pub pair_number : Pair → ℕ
 pair_number pair = 2 * digit_of pair.write_bit + digit_of pair.permalock
 
-abbrev pub number_of : Locks → ℕ
-number_of locks =
+abbrev pub locks_number : Locks → ℕ
+locks_number locks =
     256 * pair_number locks.kill_word + 64 * pair_number locks.access_word + 16 * pair_number locks.epc
     + 4 * pair_number locks.tid + pair_number locks.user
 
@@ -59,15 +59,15 @@ takes_permalock_off locks payload field =
 
 -- a pair after a payload: one that is permalocked stays (profile, but for a payload that asserts the permalock again), and
 -- in another each masked bit becomes its action bit
-abbrev pub changed : Pair → Pair → Pair → Pair
-changed pair mask action =
+abbrev pub pair_after : Pair → Pair → Pair → Pair
+pair_after pair mask action =
     (if pair.permalock then pair else record {
       write_bit = (if mask.write_bit then action.write_bit else pair.write_bit);
       permalock = (if mask.permalock then action.permalock else pair.permalock);
     })
 
-abbrev pub changed_field : Locks → ℕ → Field → Pair
-changed_field locks payload field = changed (pair_of locks field) (mask_of payload field) (action_of payload field)
+abbrev pub pair_after_lock : Locks → ℕ → Field → Pair
+pair_after_lock locks payload field = pair_after (pair_of locks field) (mask_of payload field) (action_of payload field)
 
 abbrev pub fields : List Field
 fields = KillWord ∷ AccessWord ∷ Epc ∷ Tid ∷ User ∷ []
@@ -80,14 +80,14 @@ abbrev pub takes_any_permalock_off : Locks → ℕ → Bool
 takes_any_permalock_off locks payload = list_any (takes_permalock_off locks payload) fields
 
 -- the three rules, the first that applies: the codes are profile
-abbrev pub locked : Locks → ℕ → Bool → Result Locks ErrorCode
-locked locks payload has_user =
+abbrev pub locks_after : Locks → ℕ → Bool → Result Locks ErrorCode
+locks_after locks payload has_user =
     (if not has_user && masks_user payload then Err Overrun
     else (if takes_any_permalock_off locks payload then Err Locked
     else Ok (record {
-      kill_word = changed_field locks payload KillWord;
-      access_word = changed_field locks payload AccessWord;
-      epc = changed_field locks payload Epc;
-      tid = changed_field locks payload Tid;
-      user = changed_field locks payload User;
+      kill_word = pair_after_lock locks payload KillWord;
+      access_word = pair_after_lock locks payload AccessWord;
+      epc = pair_after_lock locks payload Epc;
+      tid = pair_after_lock locks payload Tid;
+      user = pair_after_lock locks payload User;
     })))

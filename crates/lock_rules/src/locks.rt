@@ -1,7 +1,7 @@
 //! The pairs of lock bits, what they allow, and how a Lock payload changes them.
 ghost use Rattle.std.specs.Prelude.{◌≡◌, ◌<◌, ◌≤◌, ◌↔◌, IsNone, IfSome};
 ghost use Rattle.lock_rules.specs.Permissions.{pair_of, pair_allows, may, Reading, Writing};
-ghost use Rattle.lock_rules.specs.Lock.{bit_at_place, pair_at, pair_number, number_of, locks_of, takes_permalock_off, changed, changed_field, masks_user, takes_any_permalock_off, locked};
+ghost use Rattle.lock_rules.specs.Lock.{bit_at_place, pair_at, pair_number, locks_number, locks_of, takes_permalock_off, pair_after, pair_after_lock, masks_user, takes_any_permalock_off, locks_after};
 
 use crate::terms::{ErrorCode, Field, Level};
 use bit_strings::Payload;
@@ -97,7 +97,7 @@ impl Pair {
 
     /// The pair after a Lock payload with this mask and action.
     fn changed(self, mask: Pair, action: Pair) -> Pair
-        ensures { result ≡ changed self mask action }
+        ensures { result ≡ pair_after self mask action }
     {
         if self.permalock {
             return self;
@@ -123,7 +123,7 @@ impl Locks {
     pub fn from_bits(pairs: u16) -> Option<Locks>
         ensures none { IsNone result ↔ (1024 ≤ pairs) }
         ensures pairs { IfSome result (λ locks. locks ≡ locks_of pairs) }
-        ensures number { IfSome result (λ locks. number_of locks ≡ pairs) }
+        ensures number { IfSome result (λ locks. locks_number locks ≡ pairs) }
     {
         if pairs >= 1024 {
             return None;
@@ -140,7 +140,7 @@ impl Locks {
 
     /// The pairs as ten bits, in the order of [`Locks::from_bits`].
     pub fn bits(&self) -> u16
-        ensures number { result ≡ number_of self.now }
+        ensures number { result ≡ locks_number self.now }
         ensures pairs { locks_of result ≡ self.now }
         ensures ten { result < 1024 }
     {
@@ -202,7 +202,7 @@ impl Locks {
 
     /// The pair of a field after the payload.
     fn changed_field(&self, payload: u32, field: Field) -> Pair
-        ensures { result ≡ changed_field self.now payload field }
+        ensures { result ≡ pair_after_lock self.now payload field }
     {
         self.pair(field)
             .changed(Pair::at(payload >> 10, field), Pair::at(payload, field))
@@ -216,7 +216,7 @@ impl Locks {
     /// 3. Each permalocked field stays (profile, but for a payload that asserts the permalock again), and in
     ///    each other field each masked bit becomes its action bit.
     pub fn apply(&self, payload: Payload, has_user: bool) -> Result<Locks, ErrorCode>
-        ensures { result ≡ locked self.now payload has_user }
+        ensures { result ≡ locks_after self.now payload has_user }
     {
         let payload = payload.get();
         if !has_user && masks_user(payload) {

@@ -3,8 +3,9 @@ use Rattle.std.specs.Prelude.{◌≡◌, ℕ, zero, suc, ◌+◌, ◌*◌, ◌/�
 use Rattle.std.proofs.Common.{arith, ap, ◌∙◌}
 use Rattle.std.proofs.Math.Nat.{suc-mul}
 use Rattle.std.proofs.lemmas.List.{append_assoc, append-nil}
-use Rattle.line_code.specs.Miller.{carrier, miller_preamble}
+use Rattle.miller_line.specs.Miller.{carrier, miller_preamble}
 use Rattle.miller_line.specs.MillerLaws.{length-carrier}
+use Rattle.bit_strings.specs.ListLaws.{slice_get-append_left, slice_get-append_right}
 
 -- a level at an even place is high in phase 0, and one at an odd place is low
 pub carrier_at : (n at : ℕ) (phase : Bool) → at < n
@@ -17,16 +18,6 @@ carrier_at (suc n) (suc at) true h =
 carrier_at (suc n) (suc at) false h =
     let rest = carrier_at n at true (omega arith) in
     (λ e. rest.1 (λ e'. omega arith), λ ne. rest.0 (omega arith))
-
-pub slice_get-append_left : (xs ys : List Bool) (i : ℕ) → i < length xs → slice_get (xs ++ ys) i ≡ slice_get xs i
-slice_get-append_left [] ys i h = absurd (omega arith)
-slice_get-append_left (x ∷ xs) ys zero h = refl
-slice_get-append_left (x ∷ xs) ys (suc i) h = slice_get-append_left xs ys i (omega arith)
-
-pub slice_get-append_right : (xs ys : List Bool) (i k : ℕ) → i ≡ length xs + k → slice_get (xs ++ ys) i ≡ slice_get ys k
-slice_get-append_right [] ys i k e = let same : i ≡ k = omega arith in ap (slice_get ys) same
-slice_get-append_right (x ∷ xs) ys zero k e = absurd (omega arith)
-slice_get-append_right (x ∷ xs) ys (suc i) k e = slice_get-append_right xs ys i k (omega arith)
 
 -- parts of the subcarrier, of m levels each, by their phases
 abbrev pub halves : ℕ → List Bool → List Bool
@@ -44,7 +35,7 @@ halves_at m zero r (x ∷ phases) phase level h p l =
     rw place (slice_get-append_left (carrier m x) (halves m phases) r (omega arith) ∙ rw same l)
 halves_at m (suc q) r (x ∷ phases) phase level h p l =
     let size = length-carrier m x in
-    slice_get-append_right (carrier m x) (halves m phases) (suc q * m + r) (q * m + r) (omega (arith, suc-mul q m))
+    slice_get-append_right (carrier m x) (halves m phases) (q * m + r) (suc q * m + r) (omega (arith, suc-mul q m))
     ∙ halves_at m q r phases phase level h p l
 
 -- the phases of the halves of the preamble's symbols

@@ -1,2 +1,3 @@
+pub mod Miller
 pub mod SymbolContext
 pub mod MillerLaws

@@ -4,9 +4,9 @@ use Rattle.std.proofs.Common.{arith, ap, sym, ◌∙◌, inl, inr, length-append
 use Rattle.std.proofs.lemmas.Bool.{cases_lt}
 use Rattle.std.proofs.lemmas.List.{append_assoc}
 use Rattle.line_code.specs.Table.{Context}
-use Rattle.line_code.specs.Laws.{IsEven, HasLead, TellsBits, RefusesFlips, HidesLead, flipped}
-use Rattle.line_code.specs.Flips.{ShowsFlips, HasBreak, parts_same, flipped-other, flipped-left, flipped-right, length-flipped, refuses_flips, hides_lead}
-use Rattle.line_code.specs.Miller.{carrier, symbol, zero_start, start_phase, middle_phase, miller_block, miller_next, miller_preamble, miller_lead, miller}
+use Rattle.line_code.specs.Laws.{IsEven, HasLead, TellsBits, RefusesFlips, HidesLead, with_level_flipped}
+use Rattle.line_code.specs.Flips.{ShowsFlips, HasBreak, parts_same, with_level_flipped-other, with_level_flipped-left, with_level_flipped-right, length-with_level_flipped, refuses_flips, hides_lead}
+use Rattle.miller_line.specs.Miller.{carrier, symbol, zero_start, start_phase, middle_phase, miller_block, miller_next, miller_preamble, miller_lead, miller}
 
 -- M is even, and from 2 to 8
 pub record IsFactor (m : ℕ) : Type 0 where
@@ -71,7 +71,7 @@ miller_tells_bits m f c e =
     not-self c.phase (sym parts.1 ∙ parts.0)
 
 -- with one level inverted, two levels or more of the subcarrier are no such part, since two phases differ in each level
-carrier_flip : (n : ℕ) (a b : Bool) (at : ℕ) → 2 ≤ n → at < n → flipped (carrier n a) at ≢ carrier n b
+carrier_flip : (n : ℕ) (a b : Bool) (at : ℕ) → 2 ≤ n → at < n → with_level_flipped (carrier n a) at ≢ carrier n b
 carrier_flip zero a b at l h e = absurd (omega arith)
 carrier_flip (suc zero) a b at l h e = absurd (omega arith)
 carrier_flip (suc (suc n)) true false zero l h e = cc
@@ -80,23 +80,23 @@ carrier_flip (suc (suc n)) true false (suc (suc at)) l h e = cc
 carrier_flip (suc (suc n)) false true zero l h e = cc
 carrier_flip (suc (suc n)) false true (suc zero) l h e = cc
 carrier_flip (suc (suc n)) false true (suc (suc at)) l h e = cc
-carrier_flip (suc (suc n)) true true at l h e = flipped-other (carrier (suc (suc n)) true) at (rw (length-carrier (suc (suc n)) true) h) e
-carrier_flip (suc (suc n)) false false at l h e = flipped-other (carrier (suc (suc n)) false) at (rw (length-carrier (suc (suc n)) false) h) e
+carrier_flip (suc (suc n)) true true at l h e = with_level_flipped-other (carrier (suc (suc n)) true) at (rw (length-carrier (suc (suc n)) true) h) e
+carrier_flip (suc (suc n)) false false at l h e = with_level_flipped-other (carrier (suc (suc n)) false) at (rw (length-carrier (suc (suc n)) false) h) e
 
 -- no symbol with one level inverted is a symbol
-symbol_flip : (m : ℕ) → 2 ≤ m → (a b c d : Bool) (at : ℕ) → at < 2 * m → flipped (symbol m a b) at ≢ symbol m c d
+symbol_flip : (m : ℕ) → 2 ≤ m → (a b c d : Bool) (at : ℕ) → at < 2 * m → with_level_flipped (symbol m a b) at ≢ symbol m c d
 symbol_flip m l a b c d at h e =
     let size_a = length-carrier m a in
     let size_c = length-carrier m c in
     elim (cases_lt at m) [
       | inl below ↦
-          let same = sym (flipped-left (carrier m a) (carrier m b) at (omega arith)) ∙ e in
-          let size = length-flipped (carrier m a) at in
-          let parts = parts_same (flipped (carrier m a) at) (carrier m c) (carrier m b) (carrier m d) (omega arith) same in
+          let same = sym (with_level_flipped-left (carrier m a) (carrier m b) at (omega arith)) ∙ e in
+          let size = length-with_level_flipped (carrier m a) at in
+          let parts = parts_same (with_level_flipped (carrier m a) at) (carrier m c) (carrier m b) (carrier m d) (omega arith) same in
           carrier_flip m a c at l below parts.0
       | inr above ↦
-          let same = sym (flipped-right (carrier m a) (carrier m b) at (at - m) (omega arith)) ∙ e in
-          let parts = parts_same (carrier m a) (carrier m c) (flipped (carrier m b) (at - m)) (carrier m d) (omega arith) same in
+          let same = sym (with_level_flipped-right (carrier m a) (carrier m b) at (at - m) (omega arith)) ∙ e in
+          let parts = parts_same (carrier m a) (carrier m c) (with_level_flipped (carrier m b) (at - m)) (carrier m d) (omega arith) same in
           carrier_flip m b d (at - m) l (omega arith) parts.1
     ]
 

@@ -1,5 +1,5 @@
 //! The three codes.
-ghost use Rattle.line_code.specs.Miller.{miller};
+ghost use Rattle.miller_line.specs.Miller.{miller};
 ghost use Rattle.miller_line.specs.SymbolContext.{context};
 ghost use Rattle.miller_line.specs.MillerLaws.{two, four, eight, miller_even, miller_has_lead, miller_tells_bits, miller_refuses_flips, miller_hides_lead};
 

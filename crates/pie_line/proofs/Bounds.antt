@@ -4,7 +4,7 @@ use Rattle.std.specs.List.{All}
 use Rattle.std.proofs.lemmas.List.Elements.{All-nil, All-cons, All-head, All-tail, All-weaker}
 use Rattle.pie_line.specs.declared.frame.FrameKind.{FrameKind}
 use Rattle.pie_line.specs.declared.frame.FrameKind.TheVariants.{Preamble, FrameSync}
-use Rattle.pie_line.specs.Pie.{ArePairs, pair_sums, HasSums, IsFrame}
+use Rattle.pie_line.specs.Pie.{ArePairs, pair_sums, HasSums, IsFrame, longest_interval}
 
 -- an interval or a sum that is at most this long
 abbrev pub AtMost : ℕ → ℕ → Type 0
@@ -35,9 +35,9 @@ pairs-bounded most (high ∷ low ∷ rest) p a =
     (All-cons (AtMost most) low rest (omega (arith, le))
     (pairs-bounded most rest p.2 (All-tail (AtMost most) (high + low) (pair_sums rest) a)))
 
-pub frame-bounded : (kind : FrameKind) (bits : List Bool) (xs : List ℕ) → IsFrame kind bits xs → All (λ x. x ≤ 999999) xs
+pub frame-bounded : (kind : FrameKind) (bits : List Bool) (xs : List ℕ) → IsFrame kind bits xs → All (λ x. x ≤ longest_interval) xs
 frame-bounded kind bits [] f = absurd f
 frame-bounded kind bits (d ∷ xs) f =
-    All-cons (λ x. x ≤ 999999) d xs (omega (arith, f.0))
-    (All-weaker (AtMost 300000) (λ x. x ≤ 999999) (λ x le. omega (arith, le)) xs
+    All-cons (λ x. x ≤ longest_interval) d xs (omega (arith, f.0))
+    (All-weaker (AtMost 300000) (λ x. x ≤ longest_interval) (λ x le. omega (arith, le)) xs
     (pairs-bounded 300000 xs f.1 (sums-bounded kind bits (pair_sums xs) f.2)))

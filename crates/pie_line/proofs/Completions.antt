@@ -3,11 +3,11 @@ use Rattle.std.proofs.Common.{ℕ, ◌+◌, ◌-◌, ◌*◌, ◌≤◌, Bool, L
 use Rattle.std.proofs.lemmas.List.Elements.{All-nil}
 use Rattle.pie_line.specs.declared.frame.FrameKind.{FrameKind}
 use Rattle.pie_line.specs.declared.frame.FrameKind.TheVariants.{Preamble, FrameSync}
-use Rattle.pie_line.specs.declared.place.Place.{Place}
-use Rattle.pie_line.specs.declared.place.Place.TheVariants.{Delimiter, TariHigh, TariLow, RtCalHigh, RtCalLow, FirstHigh, FirstLow, High, Low}
+use Rattle.pie_line.specs.declared.frame_state.FrameState.{FrameState}
+use Rattle.pie_line.specs.declared.frame_state.FrameState.TheVariants.{Delimiter, TariHigh, TariLow, RtCalHigh, RtCalLow, FirstHigh, FirstLow, High, Low}
 use Rattle.pie_line.specs.Link.{IsTari, IsRtCal, IsTrCal}
 use Rattle.pie_line.specs.Pie.{bit_of, AreSymbols, HasSums}
-use Rattle.pie_line.specs.Place.{IsSound, Completes, rtcal_of}
+use Rattle.pie_line.specs.FrameState.{IsSoundState, Completes, rtcal_of}
 use Rattle.pie_line.proofs.Symbols.{symbols-more}
 
 pub no_symbols : (r : ℕ) → AreSymbols r [] []
@@ -36,7 +36,7 @@ preamble t r c it ir ic = record {
   symbols = no_symbols r;
 }
 
-pub completion : (place : Place) → IsSound place → (kind : FrameKind) × (bits : List Bool) × (rest : List ℕ) × Completes place kind bits rest
+pub completion : (place : FrameState) → IsSoundState place → (kind : FrameKind) × (bits : List Bool) × (rest : List ℕ) × Completes place kind bits rest
 completion Delimiter s = (
   FrameSync 25000 75000,
   [],

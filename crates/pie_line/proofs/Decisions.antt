@@ -4,11 +4,11 @@ use Rattle.std.proofs.lemmas.Bool.{cases_lt}
 use Rattle.std.proofs.lemmas.List.Elements.{All-head}
 use Rattle.pie_line.specs.declared.frame.FrameKind.{FrameKind}
 use Rattle.pie_line.specs.declared.frame.FrameKind.TheVariants.{Preamble, FrameSync}
-use Rattle.pie_line.specs.declared.place.Place.{Place}
-use Rattle.pie_line.specs.declared.place.Place.TheVariants.{Delimiter, TariHigh, TariLow, RtCalHigh, RtCalLow, FirstHigh, FirstLow, High, Low}
+use Rattle.pie_line.specs.declared.frame_state.FrameState.{FrameState}
+use Rattle.pie_line.specs.declared.frame_state.FrameState.TheVariants.{Delimiter, TariHigh, TariLow, RtCalHigh, RtCalLow, FirstHigh, FirstLow, High, Low}
 use Rattle.pie_line.specs.Link.{IsTari, IsRtCal, IsTrCal}
 use Rattle.pie_line.specs.Pie.{IsDelimiter, pair_sums, bit_of, HasSums, AreSymbols}
-use Rattle.pie_line.specs.Place.{IsSound, IsHigh, rtcal_of, Completes, Moves, Stops}
+use Rattle.pie_line.specs.FrameState.{IsSoundState, IsHigh, rtcal_of, Completes, Moves, Stops}
 use Rattle.pie_line.proofs.Symbols.{symbol-moves, first-moves, preamble-moves}
 
 -- a fact holds or it doesn't
@@ -55,12 +55,12 @@ symbol-kept : (r : ℕ) (bits : List Bool) (sum : ℕ) (sums : List ℕ) → Are
 symbol-kept r bits sum sums s = All-head (λ x. x ≤ 4 * r) sum sums s.within
 
 -- a high that is read leaves its place at its low, and nothing else changes
-waits : (place next : Place) (x : ℕ) → IsSound next → ((kind : FrameKind) (bits : List Bool) (rest : List ℕ) → Completes place kind bits (x ∷ rest) → Completes next kind bits rest) →
+waits : (place next : FrameState) (x : ℕ) → IsSoundState next → ((kind : FrameKind) (bits : List Bool) (rest : List ℕ) → Completes place kind bits (x ∷ rest) → Completes next kind bits rest) →
     ((kind : FrameKind) (bits : List Bool) (rest : List ℕ) → Completes next kind bits rest → Completes place kind bits (x ∷ rest)) → Moves place x next None
 waits place next x s only back = record { sound = s; only = λ kind bits rest c. (bits, refl, only kind bits rest c); back = back }
 
 -- what each place asks of the next interval
-abbrev Asks : Place → ℕ → Type 0
+abbrev Asks : FrameState → ℕ → Type 0
 Asks Delimiter x = IsDelimiter x
 Asks TariHigh x = IsHigh x 25000
 Asks (TariLow high) x = (1 ≤ x) × IsTari (high + x)
@@ -71,7 +71,7 @@ Asks (FirstLow t r high) x = (1 ≤ x) × ((high + x ≤ r) ⊎ IsTrCal r (high 
 Asks (High kind) x = IsHigh x (4 * rtcal_of kind)
 Asks (Low kind high) x = (1 ≤ x) × (high + x ≤ 4 * rtcal_of kind)
 
-asks-decided : (place : Place) (x : ℕ) → Decided (Asks place x)
+asks-decided : (place : FrameState) (x : ℕ) → Decided (Asks place x)
 asks-decided Delimiter x = both-decided (le-decided 11875 x) (le-decided x 13125)
 asks-decided TariHigh x = high-decided x 25000
 asks-decided (TariLow high) x = both-decided (le-decided 1 x) (both-decided (le-decided 6250 (high + x)) (le-decided (high + x) 25000))
@@ -84,7 +84,7 @@ asks-decided (High kind) x = high-decided x (4 * rtcal_of kind)
 asks-decided (Low kind high) x = both-decided (le-decided 1 x) (le-decided (high + x) (4 * rtcal_of kind))
 
 -- an interval that is asked for moves the decoder on
-moves-asked : (place : Place) (x : ℕ) → IsSound place → Asks place x → (next : Place) × (bit : Option Bool) × Moves place x next bit
+moves-asked : (place : FrameState) (x : ℕ) → IsSoundState place → Asks place x → (next : FrameState) × (bit : Option Bool) × Moves place x next bit
 moves-asked Delimiter x s a = (TariHigh, None, waits Delimiter TariHigh x tt (λ kind bits rest c. (c.1, c.2)) (λ kind bits rest c. (a, c.0, c.1)))
 moves-asked TariHigh x s a = (TariLow x, None, waits TariHigh (TariLow x) x a (λ kind bits rest c. c) (λ kind bits rest c. c))
 moves-asked (TariLow high) x s a =
@@ -101,7 +101,7 @@ moves-asked (High kind) x s a = (Low kind x, None, waits (High kind) (Low kind x
 moves-asked (Low kind high) x s a = (High kind, Some (bit_of (rtcal_of kind) (high + x)), symbol-moves kind high x s.0 s.1.lasts a.0 a.1)
 
 -- every frame that goes on has an interval there that is asked for
-asked : (place : Place) (x : ℕ) (kind : FrameKind) (bits : List Bool) (rest : List ℕ) → Completes place kind bits (x ∷ rest) → Asks place x
+asked : (place : FrameState) (x : ℕ) (kind : FrameKind) (bits : List Bool) (rest : List ℕ) → Completes place kind bits (x ∷ rest) → Asks place x
 asked Delimiter x kind bits rest c = c.0
 asked TariHigh x kind bits [] c = absurd c.0
 asked TariHigh x kind bits (y ∷ rest) c =
@@ -129,7 +129,7 @@ asked (High header) x kind bits (y ∷ rest) c =
     record { lasts = c.1.0; room = omega (arith, c.1.1, s) }
 asked (Low header high) x kind bits rest c = (c.1.1, symbol-kept (rtcal_of header) bits (high + x) (pair_sums rest) c.2)
 
-pub moves-or_stops : (place : Place) (x : ℕ) → IsSound place → ((next : Place) × (bit : Option Bool) × Moves place x next bit) ⊎ Stops place x
+pub moves-or_stops : (place : FrameState) (x : ℕ) → IsSoundState place → ((next : FrameState) × (bit : Option Bool) × Moves place x next bit) ⊎ Stops place x
 moves-or_stops place x s = elim (asks-decided place x) [
   | inl a ↦ inl (moves-asked place x s a)
   | inr n ↦ inr record { never = λ kind bits rest c. n (asked place x kind bits rest c) }

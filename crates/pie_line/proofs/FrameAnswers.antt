@@ -5,11 +5,11 @@ use Rattle.std.specs.Option.{option_to_list}
 use Rattle.bit_strings.specs.Family.{IsBadAt, IsShortAt}
 use Rattle.pie_line.specs.declared.frame.FrameKind.{FrameKind}
 use Rattle.pie_line.specs.declared.frame.FrameKind.TheVariants.{Preamble, FrameSync}
-use Rattle.pie_line.specs.declared.place.Place.{Place}
-use Rattle.pie_line.specs.declared.place.Place.TheVariants.{Delimiter, TariHigh, TariLow, RtCalHigh, RtCalLow, FirstHigh, FirstLow, High, Low}
+use Rattle.pie_line.specs.declared.frame_state.FrameState.{FrameState}
+use Rattle.pie_line.specs.declared.frame_state.FrameState.TheVariants.{Delimiter, TariHigh, TariLow, RtCalHigh, RtCalLow, FirstHigh, FirstLow, High, Low}
 use Rattle.pie_line.specs.Pie.{HasSums, IsFrame, Frames}
-use Rattle.pie_line.specs.Place.{IsSound, Completes, rtcal_of}
-use Rattle.pie_line.specs.Edges.{LeadsTo}
+use Rattle.pie_line.specs.FrameState.{IsSoundState, Completes, rtcal_of}
+use Rattle.pie_line.specs.Edges.{LeadsToState}
 use Rattle.pie_line.specs.FrameAnswer.{HasOneAnswer}
 use Rattle.pie_line.specs.FrameLaws.{refusal-one}
 use Rattle.pie_line.proofs.Completions.{no_symbols, sync}
@@ -27,7 +27,7 @@ starts-tari (FrameSync t r) bits a f = f
 starts-tari (Preamble t r c) bits a f = f
 
 -- at a place a frame ends, or each frame goes on
-ends-or_goes_on : (place : Place) → IsSound place →
+ends-or_goes_on : (place : FrameState) → IsSoundState place →
     ((kind : FrameKind) × Completes place kind [] []) ⊎ ((kind : FrameKind) (bits : List Bool) → ¬ Completes place kind bits [])
 ends-or_goes_on Delimiter s = inr (λ kind bits c. c)
 ends-or_goes_on TariHigh s = inr (λ kind bits c. starts kind bits c.1)
@@ -43,7 +43,7 @@ ends-or_goes_on (Low header high) s = inr (λ kind bits c. c.1)
 abbrev Answer : List ℕ → Type 0
 Answer xs = Frames xs ⊎ (((place : ℕ) × IsBadAt Frames xs place) ⊎ ((count : ℕ) × IsShortAt Frames xs count))
 
-ended : (place : Place) (bits : List Bool) (xs : List ℕ) → LeadsTo place bits xs → Answer xs
+ended : (place : FrameState) (bits : List Bool) (xs : List ℕ) → LeadsToState place bits xs → Answer xs
 ended place bits xs l = elim (ends-or_goes_on place l.sound) [
   | inl e ↦ inl (e.0, bits, leads-ends place bits xs e.0 l e.1)
   | inr n ↦ inr (inr (
@@ -56,7 +56,7 @@ ended place bits xs l = elim (ends-or_goes_on place l.sound) [
   ))
 ]
 
-goes_on : (place : Place) (bits : List Bool) (xs rest : List ℕ) → LeadsTo place bits xs → Answer (xs ++ rest)
+goes_on : (place : FrameState) (bits : List Bool) (xs rest : List ℕ) → LeadsToState place bits xs → Answer (xs ++ rest)
 goes_on place bits xs [] l = subst Answer (sym (append-nil xs)) (ended place bits xs l)
 goes_on place bits xs (x ∷ rest) l = elim (moves-or_stops place x l.sound) [
   | inl m ↦ subst Answer (append_assoc xs (x ∷ []) rest)

@@ -7,16 +7,16 @@ use Rattle.bit_strings.specs.Family.{Begins}
 use Rattle.pie_line.specs.declared.frame.FrameKind.{FrameKind}
 use Rattle.pie_line.specs.declared.frame.PieRefusal.{PieRefusal}
 use Rattle.pie_line.specs.declared.frame.PieRefusal.TheVariants.{Unfinished}
-use Rattle.pie_line.specs.declared.place.Place.{Place}
+use Rattle.pie_line.specs.declared.frame_state.FrameState.{FrameState}
 use Rattle.pie_line.specs.Pie.{IsFrame, Frames}
-use Rattle.pie_line.specs.Place.{Completes, Moves, Stops}
-use Rattle.pie_line.specs.Refusal.{refusal_at, IsRefusedAt, Refuses}
-use Rattle.pie_line.specs.Edges.{LeadsTo}
+use Rattle.pie_line.specs.FrameState.{Completes, Moves, Stops}
+use Rattle.pie_line.specs.Refusal.{refusal_at, IsFrameRefusedAt, RefusesFrame}
+use Rattle.pie_line.specs.Edges.{LeadsToState}
 use Rattle.pie_line.proofs.Completions.{completion}
 use Rattle.bit_strings.specs.FamilyLaws.{bad-last, bad-more}
 
-pub leads-moves : (place next : Place) (bit : Option Bool) (bits : List Bool) (xs : List ℕ) (x : ℕ) → LeadsTo place bits xs → Moves place x next bit →
-    LeadsTo next (bits ++ option_to_list bit) (xs ++ x ∷ [])
+pub leads-moves : (place next : FrameState) (bit : Option Bool) (bits : List Bool) (xs : List ℕ) (x : ℕ) → LeadsToState place bits xs → Moves place x next bit →
+    LeadsToState next (bits ++ option_to_list bit) (xs ++ x ∷ [])
 leads-moves place next bit bits xs x l m = record {
   sound = m.sound;
   only = λ kind all rest f.
@@ -28,20 +28,20 @@ leads-moves place next bit bits xs x l m = record {
       rw (append_assoc bits (option_to_list bit) more, append_assoc xs (x ∷ []) rest) f;
 }
 
-pub leads-begins : (place : Place) (bits : List Bool) (xs : List ℕ) → LeadsTo place bits xs → Begins Frames xs
+pub leads-begins : (place : FrameState) (bits : List Bool) (xs : List ℕ) → LeadsToState place bits xs → Begins Frames xs
 leads-begins place bits xs l =
     let c = completion place l.sound in
     (c.2, (c.0, bits ++ c.1, l.back c.0 c.1 c.2 c.3))
 
-pub leads-stops : (place : Place) (bits : List Bool) (xs : List ℕ) (x : ℕ) → LeadsTo place bits xs → Stops place x → ¬ Begins Frames (xs ++ x ∷ [])
+pub leads-stops : (place : FrameState) (bits : List Bool) (xs : List ℕ) (x : ℕ) → LeadsToState place bits xs → Stops place x → ¬ Begins Frames (xs ++ x ∷ [])
 leads-stops place bits xs x l s b =
     let f = b.1 in
     let a = l.only f.0 f.1 (x ∷ b.0) (subst (IsFrame f.0 f.1) (append_assoc xs (x ∷ []) b.0) f.2) in
     s.never f.0 a.0 b.0 a.2
 
 -- the interval at which no frame goes on is the bad place
-pub leads-refused : (place : Place) (bits : List Bool) (xs : List ℕ) (x count : ℕ) (refusal : PieRefusal) → LeadsTo place bits xs → Stops place x →
-    count ≡ length xs → refusal ≡ refusal_at count x → (at : ℕ) × IsRefusedAt refusal (xs ++ x ∷ []) at
+pub leads-refused : (place : FrameState) (bits : List Bool) (xs : List ℕ) (x count : ℕ) (refusal : PieRefusal) → LeadsToState place bits xs → Stops place x →
+    count ≡ length xs → refusal ≡ refusal_at count x → (at : ℕ) × IsFrameRefusedAt refusal (xs ++ x ∷ []) at
 leads-refused place bits xs x count refusal l s counted named = (
   length xs,
   record {
@@ -50,14 +50,14 @@ leads-refused place bits xs x count refusal l s counted named = (
   },
 )
 
-pub refused-more : (refusal : PieRefusal) (xs ys : List ℕ) → (at : ℕ) × IsRefusedAt refusal xs at → (at : ℕ) × IsRefusedAt refusal (xs ++ ys) at
+pub refused-more : (refusal : PieRefusal) (xs ys : List ℕ) → (at : ℕ) × IsFrameRefusedAt refusal xs at → (at : ℕ) × IsFrameRefusedAt refusal (xs ++ ys) at
 refused-more refusal xs ys r =
     let inside : r.0 < length xs = r.1.bad.inside in
     (r.0, record { bad = bad-more Frames xs ys r.0 r.1.bad; named = rw get_or_append_left r.1.named })
 
 -- a frame that goes on is unfinished
-pub leads-unfinished : (place : Place) (bits : List Bool) (xs : List ℕ) (count : ℕ) → LeadsTo place bits xs → count ≡ length xs →
-    ((kind : FrameKind) (more : List Bool) → ¬ Completes place kind more []) → Refuses (Unfinished count) xs
+pub leads-unfinished : (place : FrameState) (bits : List Bool) (xs : List ℕ) (count : ℕ) → LeadsToState place bits xs → count ≡ length xs →
+    ((kind : FrameKind) (more : List Bool) → ¬ Completes place kind more []) → RefusesFrame (Unfinished count) xs
 leads-unfinished place bits xs count l counted goes_on =
     inr (
       count,
@@ -72,5 +72,5 @@ leads-unfinished place bits xs count l counted goes_on =
     )
 
 -- a frame that ends here is whole
-pub leads-ends : (place : Place) (bits : List Bool) (xs : List ℕ) (kind : FrameKind) → LeadsTo place bits xs → Completes place kind [] [] → IsFrame kind bits xs
+pub leads-ends : (place : FrameState) (bits : List Bool) (xs : List ℕ) (kind : FrameKind) → LeadsToState place bits xs → Completes place kind [] [] → IsFrame kind bits xs
 leads-ends place bits xs kind l c = rw (← append-nil bits, ← append-nil xs) (l.back kind [] [] c)

@@ -5,49 +5,49 @@ use Rattle.std.proofs.lemmas.List.{append-nil}
 use Rattle.std.proofs.lemmas.Result.{MatchResult-at_ok, MatchResult-at_err}
 use Rattle.pie_line.specs.declared.frame.PieRefusal.{PieRefusal}
 use Rattle.pie_line.specs.declared.edges.Edge.TheVariants.{More, Bit, Refused}
-use Rattle.pie_line.specs.declared.place.Place.{Place}
-use Rattle.pie_line.specs.Place.{Moves}
-use Rattle.pie_line.specs.Refusal.{IsRefusedAt}
-use Rattle.pie_line.specs.Edges.{EdgesValue, LeadsTo, StandsFor, Answers}
+use Rattle.pie_line.specs.declared.frame_state.FrameState.{FrameState}
+use Rattle.pie_line.specs.FrameState.{Moves}
+use Rattle.pie_line.specs.Refusal.{IsFrameRefusedAt}
+use Rattle.pie_line.specs.Edges.{EdgesValue, LeadsToState, EdgesStandFor, IsEdgesAnswer}
 use Rattle.pie_line.proofs.Leads.{leads-moves, refused-more}
 
 -- what a decoder knows at a place
-abbrev Reads : ℕ → List Bool → List ℕ → Place → Type 0
-Reads count bits xs place = (count ≡ length xs) × LeadsTo place bits xs
+abbrev Reads : ℕ → List Bool → List ℕ → FrameState → Type 0
+Reads count bits xs place = (count ≡ length xs) × LeadsToState place bits xs
 
 -- what a decoder knows after a refusal
 abbrev Knows : List ℕ → PieRefusal → Type 0
-Knows xs refusal = (at : ℕ) × IsRefusedAt refusal xs at
+Knows xs refusal = (at : ℕ) × IsFrameRefusedAt refusal xs at
 
-pub stands-at : (edges : EdgesValue) (place : Place) (bits : List Bool) (xs : List ℕ) → edges.standing ≡ Ok place → StandsFor edges bits xs →
-    (edges.count ≡ length xs) × LeadsTo place bits xs
+pub stands-at : (edges : EdgesValue) (place : FrameState) (bits : List Bool) (xs : List ℕ) → edges.standing ≡ Ok place → EdgesStandFor edges bits xs →
+    (edges.count ≡ length xs) × LeadsToState place bits xs
 stands-at edges place bits xs is s = MatchResult-at_ok (Reads edges.count bits xs) (Knows xs) place is s
 
-pub stands-refused : (edges : EdgesValue) (refusal : PieRefusal) (bits : List Bool) (xs : List ℕ) → edges.standing ≡ Err refusal → StandsFor edges bits xs →
-    (at : ℕ) × IsRefusedAt refusal xs at
+pub stands-refused : (edges : EdgesValue) (refusal : PieRefusal) (bits : List Bool) (xs : List ℕ) → edges.standing ≡ Err refusal → EdgesStandFor edges bits xs →
+    (at : ℕ) × IsFrameRefusedAt refusal xs at
 stands-refused edges refusal bits xs is s = MatchResult-at_err (Reads edges.count bits xs) (Knows xs) refusal is s
 
 -- after a refusal every interval is answered by the same one
-pub refused-again : (edges : EdgesValue) (refusal : PieRefusal) (x : ℕ) (bits : List Bool) (xs : List ℕ) → edges.standing ≡ Err refusal → StandsFor edges bits xs →
-    Answers (Refused refusal) edges bits (xs ++ x ∷ [])
+pub refused-again : (edges : EdgesValue) (refusal : PieRefusal) (x : ℕ) (bits : List Bool) (xs : List ℕ) → edges.standing ≡ Err refusal → EdgesStandFor edges bits xs →
+    IsEdgesAnswer (Refused refusal) edges bits (xs ++ x ∷ [])
 refused-again edges refusal x bits xs is s =
     let ys = xs ++ x ∷ [] in
-    let P : Result Place PieRefusal → Type 0 = λ standing. MatchResult standing (Reads edges.count bits ys) (Knows ys) in
+    let P : Result FrameState PieRefusal → Type 0 = λ standing. MatchResult standing (Reads edges.count bits ys) (Knows ys) in
     (is, subst P (sym is) (refused-more refusal xs (x ∷ []) (stands-refused edges refusal bits xs is s)))
 
 -- a symbol ended
-pub answers-bit : (place next : Place) (bit : Bool) (bits : List Bool) (xs : List ℕ) (x count : ℕ) → (count ≡ length xs) × LeadsTo place bits xs →
-    Moves place x next (Some bit) → Answers (Bit bit) (record { standing = Ok next; count = count + 1 }) bits (xs ++ x ∷ [])
+pub answers-bit : (place next : FrameState) (bit : Bool) (bits : List Bool) (xs : List ℕ) (x count : ℕ) → (count ≡ length xs) × LeadsToState place bits xs →
+    Moves place x next (Some bit) → IsEdgesAnswer (Bit bit) (record { standing = Ok next; count = count + 1 }) bits (xs ++ x ∷ [])
 answers-bit place next bit bits xs x count s m =
     (refl, (omega (arith, s.0, length-append xs (x ∷ [])), leads-moves place next (Some bit) bits xs x s.1 m))
 
 -- no symbol ended
-pub answers-more : (place next : Place) (bits : List Bool) (xs : List ℕ) (x count : ℕ) → (count ≡ length xs) × LeadsTo place bits xs →
-    Moves place x next None → Answers More (record { standing = Ok next; count = count + 1 }) bits (xs ++ x ∷ [])
+pub answers-more : (place next : FrameState) (bits : List Bool) (xs : List ℕ) (x count : ℕ) → (count ≡ length xs) × LeadsToState place bits xs →
+    Moves place x next None → IsEdgesAnswer More (record { standing = Ok next; count = count + 1 }) bits (xs ++ x ∷ [])
 answers-more place next bits xs x count s m = (
   refl,
   (
     omega (arith, s.0, length-append xs (x ∷ [])),
-    subst (λ all. LeadsTo next all (xs ++ x ∷ [])) (append-nil bits) (leads-moves place next None bits xs x s.1 m),
+    subst (λ all. LeadsToState next all (xs ++ x ∷ [])) (append-nil bits) (leads-moves place next None bits xs x s.1 m),
   ),
 )

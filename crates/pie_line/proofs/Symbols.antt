@@ -3,10 +3,10 @@ use Rattle.std.proofs.Common.{◌≡◌, ℕ, ◌+◌, ◌*◌, ◌≤◌, Bool,
 use Rattle.std.proofs.lemmas.List.Elements.{All-cons, All-tail}
 use Rattle.pie_line.specs.declared.frame.FrameKind.{FrameKind}
 use Rattle.pie_line.specs.declared.frame.FrameKind.TheVariants.{Preamble, FrameSync}
-use Rattle.pie_line.specs.declared.place.Place.TheVariants.{FirstLow, High, Low}
+use Rattle.pie_line.specs.declared.frame_state.FrameState.TheVariants.{FirstLow, High, Low}
 use Rattle.pie_line.specs.Link.{IsTari, IsRtCal, IsTrCal}
 use Rattle.pie_line.specs.Pie.{pair_sums, bit_of, AreSymbols, HasSums}
-use Rattle.pie_line.specs.Place.{IsHeader, rtcal_of, Moves}
+use Rattle.pie_line.specs.FrameState.{IsHeader, rtcal_of, Moves}
 
 pub symbols-rest : (r sum : ℕ) (bits : List Bool) (sums : List ℕ) → AreSymbols r bits (sum ∷ sums) →
     (more : List Bool) × (bits ≡ bit_of r sum ∷ more) × AreSymbols r more sums

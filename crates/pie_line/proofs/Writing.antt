@@ -6,7 +6,7 @@ use Rattle.std.proofs.lemmas.List.{take_all}
 use Rattle.std.proofs.lemmas.List.Elements.{All-nil}
 use Rattle.pie_line.specs.declared.frame.Lead.{Lead}
 use Rattle.pie_line.specs.declared.frame.Lead.TheVariants.{Preamble as preamble, FrameSync as frame_sync}
-use Rattle.pie_line.specs.Link.{LinkValue, IsLegal}
+use Rattle.pie_line.specs.Link.{LinkValue, IsLegalLink}
 use Rattle.pie_line.specs.Pie.{IsFrame, ArePairs, AreSymbols, IsNoTrCal, bit_of, pair_sums, pair_of, sum_of, wave_of, kind_of}
 use Rattle.pie_line.proofs.Symbols.{symbols-more}
 
@@ -20,15 +20,15 @@ pair-sum : (pw sum : ℕ) → pw ≤ sum → (sum - pw) + pw ≡ sum
 pair-sum pw sum le = omega arith
 
 -- the symbol of a bit lasts long enough for its low, and no longer than RTcal, and tells the bit
-pub sum-low : (link : LinkValue) → IsLegal link → (bit : Bool) → link.pw + 1 ≤ sum_of link bit
+pub sum-low : (link : LinkValue) → IsLegalLink link → (bit : Bool) → link.pw + 1 ≤ sum_of link bit
 sum-low link legal true = omega (arith, legal.tari_range, legal.rtcal_range, legal.pw_range)
 sum-low link legal false = omega (arith, legal.tari_range, legal.rtcal_range, legal.pw_range)
 
-sum-most : (link : LinkValue) → IsLegal link → (bit : Bool) → sum_of link bit ≤ link.rtcal
+sum-most : (link : LinkValue) → IsLegalLink link → (bit : Bool) → sum_of link bit ≤ link.rtcal
 sum-most link legal true = omega arith
 sum-most link legal false = omega (arith, legal.tari_range, legal.rtcal_range)
 
-bit-told : (link : LinkValue) → IsLegal link → (bit : Bool) → bit_of link.rtcal (sum_of link bit) ≡ bit
+bit-told : (link : LinkValue) → IsLegalLink link → (bit : Bool) → bit_of link.rtcal (sum_of link bit) ≡ bit
 bit-told link legal true = le-leb link.rtcal (2 * (link.rtcal - link.tari)) (omega (arith, legal.tari_range, legal.rtcal_range))
 bit-told link legal false = lt-leb link.rtcal (2 * link.tari) (omega (arith, legal.tari_range, legal.rtcal_range))
 
@@ -36,28 +36,28 @@ bit-told link legal false = lt-leb link.rtcal (2 * link.tari) (omega (arith, leg
 abbrev pub symbols_of : LinkValue → List Bool → List ℕ
 symbols_of link bits = flat_map (λ bit. pair_of link (sum_of link bit)) bits
 
-symbols-pairs : (link : LinkValue) → IsLegal link → (bits : List Bool) → ArePairs (symbols_of link bits)
+symbols-pairs : (link : LinkValue) → IsLegalLink link → (bits : List Bool) → ArePairs (symbols_of link bits)
 symbols-pairs link legal [] = tt
 symbols-pairs link legal (bit ∷ bits) = (omega (arith, sum-low link legal bit), omega (arith, legal.pw_range), symbols-pairs link legal bits)
 
-symbols-sums : (link : LinkValue) → IsLegal link → (bits : List Bool) → pair_sums (symbols_of link bits) ≡ map (sum_of link) bits
+symbols-sums : (link : LinkValue) → IsLegalLink link → (bits : List Bool) → pair_sums (symbols_of link bits) ≡ map (sum_of link) bits
 symbols-sums link legal [] = refl
 symbols-sums link legal (bit ∷ bits) =
     rw (pair-sum link.pw (sum_of link bit) (omega (arith, sum-low link legal bit)), symbols-sums link legal bits) refl
 
-symbols-told : (link : LinkValue) → IsLegal link → (bits : List Bool) → AreSymbols link.rtcal bits (map (sum_of link) bits)
+symbols-told : (link : LinkValue) → IsLegalLink link → (bits : List Bool) → AreSymbols link.rtcal bits (map (sum_of link) bits)
 symbols-told link legal [] = record { within = All-nil (λ x. x ≤ 4 * link.rtcal); told = refl }
 symbols-told link legal (bit ∷ bits) =
     let most : sum_of link bit ≤ 4 * link.rtcal = omega (arith, sum-most link legal bit) in
     subst (λ b. AreSymbols link.rtcal (b ∷ bits) (sum_of link bit ∷ map (sum_of link) bits)) (bit-told link legal bit)
     (symbols-more link.rtcal (sum_of link bit) bits (map (sum_of link) bits) most (symbols-told link legal bits))
 
-symbols-no_trcal : (link : LinkValue) → IsLegal link → (bits : List Bool) → IsNoTrCal link.rtcal (map (sum_of link) bits)
+symbols-no_trcal : (link : LinkValue) → IsLegalLink link → (bits : List Bool) → IsNoTrCal link.rtcal (map (sum_of link) bits)
 symbols-no_trcal link legal [] = tt
 symbols-no_trcal link legal (bit ∷ bits) = sum-most link legal bit
 
 -- what is written is a frame of the header and the bits
-pub wave-frame : (link : LinkValue) → IsLegal link → (lead : Lead) (bits : List Bool) → IsFrame (kind_of link lead) bits (wave_of link lead bits)
+pub wave-frame : (link : LinkValue) → IsLegalLink link → (lead : Lead) (bits : List Bool) → IsFrame (kind_of link lead) bits (wave_of link lead bits)
 wave-frame link legal frame_sync bits =
     let pw : (1 ≤ link.pw) × (link.pw + 1 ≤ link.tari) × (link.pw + 1 ≤ link.rtcal) = (omega (arith, legal.pw_range), omega (arith, legal), omega (arith, legal)) in (
       (omega arith, omega arith),
@@ -87,7 +87,7 @@ wave-frame link legal preamble bits =
       },
     )
 
-pub written-frame : (link : LinkValue) (lead : Lead) (bits : List Bool) (items : List ℕ) (at : ℕ) → IsLegal link → IsWriting link lead bits items at → length bits ≤ at →
+pub written-frame : (link : LinkValue) (lead : Lead) (bits : List Bool) (items : List ℕ) (at : ℕ) → IsLegalLink link → IsWriting link lead bits items at → length bits ≤ at →
     IsFrame (kind_of link lead) bits items
 written-frame link lead bits items at legal w end =
     let all : take at bits ≡ bits = take_all at bits end in

@@ -2,35 +2,35 @@
 use Rattle.std.specs.Prelude.{◌≡◌, ℕ, Bool, Result, Err, List, [], ◌∷◌, ◌++◌, length, IsOk, MatchResult}
 use Rattle.pie_line.specs.declared.frame.FrameKind.{FrameKind}
 use Rattle.pie_line.specs.declared.frame.PieRefusal.{PieRefusal}
-use Rattle.pie_line.specs.declared.place.Place.{Place}
+use Rattle.pie_line.specs.declared.frame_state.FrameState.{FrameState}
 use Rattle.pie_line.specs.declared.edges.Edge.{Edge}
 use Rattle.pie_line.specs.declared.edges.Edge.TheVariants.{More, Bit, Refused}
 use Rattle.pie_line.specs.Pie.{IsFrame}
-use Rattle.pie_line.specs.Place.{IsSound, Completes}
-use Rattle.pie_line.specs.Refusal.{IsRefusedAt}
+use Rattle.pie_line.specs.FrameState.{IsSoundState, Completes}
+use Rattle.pie_line.specs.Refusal.{IsFrameRefusedAt}
 
 -- where a decoder stands, or what it has refused, and how many intervals it took before
 pub record EdgesValue : Type 0 where
-  pub standing : Result Place PieRefusal
+  pub standing : Result FrameState PieRefusal
   pub count : ℕ
 
 -- these intervals, from which the bits were read, lead to the place: what makes a frame of them is what completes
 -- the frame of the place
-pub record LeadsTo (place : Place) (bits : List Bool) (intervals : List ℕ) : Type 0 where
-  pub sound : IsSound place
+pub record LeadsToState (place : FrameState) (bits : List Bool) (intervals : List ℕ) : Type 0 where
+  pub sound : IsSoundState place
   pub only : (kind : FrameKind) (all : List Bool) (rest : List ℕ) → IsFrame kind all (intervals ++ rest) →
       (more : List Bool) × (all ≡ bits ++ more) × Completes place kind more rest
   pub back : (kind : FrameKind) (more : List Bool) (rest : List ℕ) → Completes place kind more rest →
       IsFrame kind (bits ++ more) (intervals ++ rest)
 
 -- the decoder was given these intervals, and has read these bits from them
-abbrev pub StandsFor : EdgesValue → List Bool → List ℕ → Type 0
-StandsFor edges bits intervals = MatchResult edges.standing
-    (λ place. (edges.count ≡ length intervals) × LeadsTo place bits intervals)
-    (λ refusal. (place : ℕ) × IsRefusedAt refusal intervals place)
+abbrev pub EdgesStandFor : EdgesValue → List Bool → List ℕ → Type 0
+EdgesStandFor edges bits intervals = MatchResult edges.standing
+    (λ place. (edges.count ≡ length intervals) × LeadsToState place bits intervals)
+    (λ refusal. (place : ℕ) × IsFrameRefusedAt refusal intervals place)
 
 -- the answer to the last of these intervals, with the decoder after it and the bits that were read before it
-abbrev pub Answers : Edge → EdgesValue → List Bool → List ℕ → Type 0
-Answers More edges bits intervals = IsOk edges.standing × StandsFor edges bits intervals
-Answers (Bit bit) edges bits intervals = IsOk edges.standing × StandsFor edges (bits ++ bit ∷ []) intervals
-Answers (Refused refusal) edges bits intervals = (edges.standing ≡ Err refusal) × StandsFor edges bits intervals
+abbrev pub IsEdgesAnswer : Edge → EdgesValue → List Bool → List ℕ → Type 0
+IsEdgesAnswer More edges bits intervals = IsOk edges.standing × EdgesStandFor edges bits intervals
+IsEdgesAnswer (Bit bit) edges bits intervals = IsOk edges.standing × EdgesStandFor edges (bits ++ bit ∷ []) intervals
+IsEdgesAnswer (Refused refusal) edges bits intervals = (edges.standing ≡ Err refusal) × EdgesStandFor edges bits intervals

@@ -3,7 +3,7 @@ use Rattle.std.specs.Prelude.{◌≡◌, ℕ, ◌⊎◌, List}
 use Rattle.bit_strings.specs.Family.{IsBadAt, IsShortAt}
 use Rattle.pie_line.specs.declared.frame.PieRefusal.{PieRefusal}
 use Rattle.pie_line.specs.Pie.{Frames}
-use Rattle.pie_line.specs.Refusal.{Refuses}
+use Rattle.pie_line.specs.Refusal.{RefusesFrame}
 
 -- exactly one of the three holds, with one place and one refusal
 pub record HasOneAnswer (intervals : List ℕ) : Type 0 where
@@ -12,4 +12,4 @@ pub record HasOneAnswer (intervals : List ℕ) : Type 0 where
   pub frame_not_short : (count : ℕ) → Frames intervals → ¬ IsShortAt Frames intervals count
   pub short_not_bad : (count place : ℕ) → IsShortAt Frames intervals count → ¬ IsBadAt Frames intervals place
   pub one_place : (place other : ℕ) → IsBadAt Frames intervals place → IsBadAt Frames intervals other → place ≡ other
-  pub one_refusal : (refusal other : PieRefusal) → Refuses refusal intervals → Refuses other intervals → refusal ≡ other
+  pub one_refusal : (refusal other : PieRefusal) → RefusesFrame refusal intervals → RefusesFrame other intervals → refusal ≡ other

@@ -7,7 +7,7 @@ use Rattle.pie_line.specs.declared.frame.FrameKind.TheVariants.{Preamble, FrameS
 use Rattle.pie_line.specs.declared.frame.PieRefusal.{PieRefusal}
 use Rattle.pie_line.specs.declared.frame.PieRefusal.TheVariants.{Unfinished}
 use Rattle.pie_line.specs.Pie.{IsFrame, Frames, HasSums, pair_sums}
-use Rattle.pie_line.specs.Refusal.{Refuses, refusal_at}
+use Rattle.pie_line.specs.Refusal.{RefusesFrame, refusal_at}
 
 -- the sums tell the header and the bits
 sums-one : (k k' : FrameKind) (b b' : List Bool) (sums : List ℕ) → HasSums k b sums → HasSums k' b' sums → (k ≡ k') × (b ≡ b')
@@ -28,12 +28,12 @@ pub frame-one : (k k' : FrameKind) (b b' : List Bool) (xs : List ℕ) → IsFram
 frame-one k k' b b' [] f g = absurd f
 frame-one k k' b b' (d ∷ xs) f g = sums-one k k' b b' (pair_sums xs) f.2 g.2
 
-pub refuses-no_frame : (refusal : PieRefusal) (xs : List ℕ) → Refuses refusal xs → ¬ Frames xs
+pub refuses-no_frame : (refusal : PieRefusal) (xs : List ℕ) → RefusesFrame refusal xs → ¬ Frames xs
 refuses-no_frame refusal xs (inl r) f = member-not_bad Frames xs r.0 f r.1.bad
 refuses-no_frame refusal xs (inr r) f = r.1.short.no_member f
 
 -- the refusal is that of the place or of the length
-pub refusal-one : (xs : List ℕ) (refusal other : PieRefusal) → Refuses refusal xs → Refuses other xs → refusal ≡ other
+pub refusal-one : (xs : List ℕ) (refusal other : PieRefusal) → RefusesFrame refusal xs → RefusesFrame other xs → refusal ≡ other
 refusal-one xs refusal other (inl r) (inl q) =
     let e = bad-one Frames xs r.0 q.0 r.1.bad q.1.bad in
     r.1.named ∙ ap (λ place. refusal_at place (slice_index xs place)) e ∙ sym q.1.named

@@ -5,5 +5,5 @@ pub mod IntervalList
 pub mod Link
 pub mod LinkRefusal
 pub mod Pie
-pub mod Place
+pub mod FrameState
 pub mod Refusal

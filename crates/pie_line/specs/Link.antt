@@ -29,7 +29,7 @@ abbrev pub IsPw : ℕ → ℕ → Type 0
 IsPw tari pw = (2000 ≤ pw) × (265 * tari ≤ 1000 * pw) × (1000 * pw ≤ 525 * tari)
 
 -- each parameter is in its range
-pub record IsLegal (link : LinkValue) : Type 0 where
+pub record IsLegalLink (link : LinkValue) : Type 0 where
   pub tari_range : IsTari link.tari
   pub rtcal_range : IsRtCal link.tari link.rtcal
   pub trcal_range : IsTrCal link.rtcal link.trcal

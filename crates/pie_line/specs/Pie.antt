@@ -8,6 +8,10 @@ use Rattle.pie_line.specs.declared.frame.Lead.{Lead}
 use Rattle.pie_line.specs.declared.frame.Lead.TheVariants.{Preamble as preamble, FrameSync as frame_sync}
 use Rattle.pie_line.specs.Link.{LinkValue, IsTari, IsRtCal, IsTrCal}
 
+-- the longest interval, in nanoseconds
+abbrev pub longest_interval : ℕ
+longest_interval = 999999
+
 -- 6.3.1.2.8: the delimiter lasts 12.5 microseconds, give or take 5 percent
 abbrev pub IsDelimiter : ℕ → Type 0
 IsDelimiter interval = (11875 ≤ interval) × (interval ≤ 13125)

@@ -15,7 +15,7 @@ refusal_at place interval =
     if nat_le 7 place || interval == 0 then Symbol place else TrCal
 
 -- the list begins no frame from this place on, and the refusal is the place's name
-pub record IsRefusedAt (refusal : PieRefusal) (intervals : List ℕ) (place : ℕ) : Type 0 where
+pub record IsFrameRefusedAt (refusal : PieRefusal) (intervals : List ℕ) (place : ℕ) : Type 0 where
   pub bad : IsBadAt Frames intervals place
   pub named : refusal ≡ refusal_at place (slice_index intervals place)
 
@@ -25,5 +25,5 @@ pub record IsUnfinishedAt (refusal : PieRefusal) (intervals : List ℕ) (count :
   pub named : refusal ≡ Unfinished count
 
 -- the refusal is that of the list
-abbrev pub Refuses : PieRefusal → List ℕ → Type 0
-Refuses refusal intervals = ((place : ℕ) × IsRefusedAt refusal intervals place) ⊎ ((count : ℕ) × IsUnfinishedAt refusal intervals count)
+abbrev pub RefusesFrame : PieRefusal → List ℕ → Type 0
+RefusesFrame refusal intervals = ((place : ℕ) × IsFrameRefusedAt refusal intervals place) ⊎ ((count : ℕ) × IsUnfinishedAt refusal intervals count)

@@ -1,8 +1,9 @@
 //! Frames to bits.
 ghost use Rattle.std.specs.Prelude.{◌≡◌, ◌≤◌, ℕ, Bool, List, [], All, IfOk, IfErr, OnErr, Ok, length};
-ghost use Rattle.pie_line.specs.Pie.{IsFrame};
+ghost use Rattle.pie_line.specs.Pie.{IsFrame, longest_interval};
 ghost use Rattle.pie_line.specs.declared.frame.FrameKind.{FrameKind};
-ghost use Rattle.pie_line.specs.Refusal.{Refuses};
+ghost use Rattle.pie_line.specs.Refusal.{RefusesFrame};
+ghost use Rattle.bit_strings.specs.BitString.{most_counted};
 
 use crate::edges::{Edge, Edges};
 use crate::{FrameKind, Intervals, PieRefusal};
@@ -15,10 +16,10 @@ use bit_strings::Bits;
 /// which it begins no frame, or as `Unfinished` with its length where it begins one.
 pub fn decode_frame(intervals: &Intervals, out: &mut Bits) -> Result<FrameKind, PieRefusal>
     requires room { length intervals.now.items ≤ out.old.capacity }
-    requires each { All (λ interval. interval ≤ 999999) intervals.now.items }
-    requires count { length intervals.now.items ≤ 4000000000 }
+    requires each { All (λ interval. interval ≤ longest_interval) intervals.now.items }
+    requires count { length intervals.now.items ≤ most_counted }
     ensures ok { IfOk result (λ kind. IsFrame kind out.new.items intervals.now.items) }
-    ensures refused { IfErr result (λ refusal. Refuses refusal intervals.now.items) }
+    ensures refused { IfErr result (λ refusal. RefusesFrame refusal intervals.now.items) }
     ensures err { OnErr result (out.new.items ≡ []) }
     // A frame is read as what it is.
     ensures only { (kind : FrameKind) (bits : List Bool) → IsFrame kind bits intervals.now.items →
@@ -38,10 +39,10 @@ pub fn decode_frame(intervals: &Intervals, out: &mut Bits) -> Result<FrameKind, 
 fn decode_intervals(intervals: &[u32], out: &mut Bits) -> Result<FrameKind, PieRefusal>
     requires empty { out.old.items ≡ [] }
     requires room { length intervals.now ≤ out.old.capacity }
-    requires each { All (λ interval. interval ≤ 999999) intervals.now }
-    requires count { length intervals.now ≤ 4000000000 }
+    requires each { All (λ interval. interval ≤ longest_interval) intervals.now }
+    requires count { length intervals.now ≤ most_counted }
     ensures ok { IfOk result (λ kind. IsFrame kind out.new.items intervals.now) }
-    ensures refused { IfErr result (λ refusal. Refuses refusal intervals.now) }
+    ensures refused { IfErr result (λ refusal. RefusesFrame refusal intervals.now) }
     ensures capacity { out.new.capacity ≡ out.old.capacity }
 {
     let mut edges = Edges::new();

@@ -1,8 +1,10 @@
 //! A decoder that takes one interval at a time.
 ghost use Rattle.std.specs.Prelude.{◌≡◌, ◌+◌, ◌<◌, ◌≤◌, ℕ, Bool, List, [], ◌∷◌, ◌++◌, MatchResult};
 ghost use Rattle.pie_line.specs.Refusal.{refusal_at};
+ghost use Rattle.bit_strings.specs.BitString.{most_counted};
+ghost use Rattle.pie_line.specs.Pie.{longest_interval};
 
-use crate::place::Place;
+use crate::frame_state::FrameState;
 use crate::{FrameKind, PieRefusal};
 use std::marker::Model;
 
@@ -23,20 +25,20 @@ pub enum Edge {
 /// A contract sees it as a record of where it stands and of how many intervals it took.
 #[derive(Drop)]
 pub struct Edges {
-    standing: Result<Place, PieRefusal>,
+    standing: Result<FrameState, PieRefusal>,
     count: u32,
 }
 
 impl Model for Edges {
     ghost use Rattle.std.specs.Prelude.{IfOk};
-    ghost use Rattle.pie_line.specs.Place.{IsSound};
+    ghost use Rattle.pie_line.specs.FrameState.{IsSoundState};
     ghost use Rattle.pie_line.specs.Edges.{EdgesValue};
 
     ghost Value = { EdgesValue };
 
     ghost view = { λ a. record { standing = a.standing; count = a.count } };
 
-    ghost invariant = { λ a. IfOk a.standing IsSound };
+    ghost invariant = { λ a. IfOk a.standing IsSoundState };
 }
 
 /// The name of a bad place, counted from 0, at which this interval stands.
@@ -58,27 +60,27 @@ fn refusal_of(place: u32, interval: u32) -> PieRefusal
 
 impl Edges {
     ghost use Rattle.pie_line.specs.Pie.{IsFrame};
-    ghost use Rattle.pie_line.specs.Refusal.{Refuses};
-    ghost use Rattle.pie_line.specs.Edges.{EdgesValue, StandsFor, Answers};
+    ghost use Rattle.pie_line.specs.Refusal.{RefusesFrame};
+    ghost use Rattle.pie_line.specs.Edges.{EdgesValue, EdgesStandFor, IsEdgesAnswer};
 
     /// A decoder that was given no interval.
     pub fn new() -> Edges
-        ensures stands { StandsFor result [] [] }
+        ensures stands { EdgesStandFor result [] [] }
         ensures count { result.count ≡ 0 }
     {
         Edges {
-            standing: Ok(Place::Delimiter),
+            standing: Ok(FrameState::Delimiter),
             count: 0,
         }
     }
 
     /// Takes one more interval, in nanoseconds.
     pub fn push(&mut self, interval: u32) -> Edge
-        requires interval { interval ≤ 999999 }
-        requires count { self.old.count < 4000000000 }
+        requires interval { interval ≤ longest_interval }
+        requires count { self.old.count < most_counted }
         // The decoder stands for a list of intervals and for the bits that were read from it.
-        ensures answer { (bits : List Bool) (intervals : List ℕ) → StandsFor self.old bits intervals →
-            Answers result self.new bits (intervals ++ interval ∷ []) }
+        ensures answer { (bits : List Bool) (intervals : List ℕ) → EdgesStandFor self.old bits intervals →
+            IsEdgesAnswer result self.new bits (intervals ++ interval ∷ []) }
         ensures count { self.new.count ≤ self.old.count + 1 }
     {
         let place = match self.standing {
@@ -100,8 +102,8 @@ impl Edges {
 
     /// The kind of the frame that the intervals are, or why they are none.
     pub fn finish(self) -> Result<FrameKind, PieRefusal>
-        ensures answer { (bits : List Bool) (intervals : List ℕ) → StandsFor self bits intervals →
-            MatchResult result (λ kind. IsFrame kind bits intervals) (λ refusal. Refuses refusal intervals) }
+        ensures answer { (bits : List Bool) (intervals : List ℕ) → EdgesStandFor self bits intervals →
+            MatchResult result (λ kind. IsFrame kind bits intervals) (λ refusal. RefusesFrame refusal intervals) }
     {
         let Edges { standing, count } = self;
         let place = match standing {

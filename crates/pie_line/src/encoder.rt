@@ -1,7 +1,7 @@
 //! Bits to frames.
 ghost use Rattle.std.specs.Prelude.{◌≡◌, ◌+◌, ◌-◌, ◌*◌, ◌<◌, ◌≤◌, ◌++◌, ◌∷◌, [], length, All, if◌then◌else◌};
-ghost use Rattle.pie_line.specs.Link.{IsLegal};
-ghost use Rattle.pie_line.specs.Pie.{IsFrame, pair_of, sum_of, header_of, wave_of, kind_of};
+ghost use Rattle.pie_line.specs.Link.{IsLegalLink};
+ghost use Rattle.pie_line.specs.Pie.{IsFrame, pair_of, sum_of, header_of, wave_of, kind_of, longest_interval};
 
 use crate::{Intervals, Lead, Link};
 use bit_strings::Bits;
@@ -16,7 +16,7 @@ pub fn encode_frame(link: &Link, lead: Lead, bits: &Bits, out: &mut Intervals)
     ensures wave { out.new.items ≡ wave_of link.now lead bits.now.items }
     ensures frame { IsFrame (kind_of link.now lead) bits.now.items out.new.items }
     // The list can be read again.
-    ensures each { All (λ interval. interval ≤ 999999) out.new.items }
+    ensures each { All (λ interval. interval ≤ longest_interval) out.new.items }
     ensures count { length out.new.items ≤ 7 + 2 * length bits.now.items }
     ensures capacity { out.new.capacity ≡ out.old.capacity }
 {
@@ -31,7 +31,7 @@ fn put_header(link: &Link, lead: Lead, out: &mut Intervals)
     requires room { 7 ≤ out.old.capacity }
     ensures header { out.new.items ≡ 12500 ∷ header_of link.now lead }
     ensures written { length out.new.items ≤ 7 }
-    ensures legal { IsLegal link.now }
+    ensures legal { IsLegalLink link.now }
     ensures capacity { out.new.capacity ≡ out.old.capacity }
 {
     out.clear();

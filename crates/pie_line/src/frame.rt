@@ -32,7 +32,7 @@ pub enum FrameKind {
 }
 
 impl FrameKind {
-    ghost use Rattle.pie_line.specs.Place.{rtcal_of};
+    ghost use Rattle.pie_line.specs.FrameState.{rtcal_of};
 
     /// RTcal, in nanoseconds.
     pub fn rtcal(self) -> u32

@@ -2,7 +2,7 @@
 ghost use Rattle.std.specs.Prelude.{◌≡◌, ℕ, Bool, List};
 ghost use Rattle.pie_line.specs.declared.frame.FrameKind.{FrameKind};
 ghost use Rattle.pie_line.specs.declared.frame.Lead.{Lead};
-ghost use Rattle.pie_line.specs.Link.{LinkValue, IsLegal};
+ghost use Rattle.pie_line.specs.Link.{LinkValue, IsLegalLink};
 ghost use Rattle.pie_line.specs.Pie.{IsFrame, wave_of, kind_of};
 ghost use Rattle.pie_line.specs.FrameAnswer.{HasOneAnswer};
 
@@ -16,6 +16,6 @@ pub fn one_answer()
 
 /// What is written over any link is a frame of the link's durations and of the bits.
 pub fn written_frame()
-    ensures { (link : LinkValue) (lead : Lead) (bits : List Bool) → IsLegal link →
+    ensures { (link : LinkValue) (lead : Lead) (bits : List Bool) → IsLegalLink link →
         IsFrame (kind_of link lead) bits (wave_of link lead bits) }
 {}

@@ -9,7 +9,7 @@ mod frame;
 mod intervals;
 mod laws;
 mod link;
-mod place;
+mod frame_state;
 mod ranges;
 #[cfg(test)]
 mod tests;

@@ -34,19 +34,19 @@ pub enum LinkRefusal {
 }
 
 impl Model for Link {
-    ghost use Rattle.pie_line.specs.Link.{LinkValue, IsLegal};
+    ghost use Rattle.pie_line.specs.Link.{LinkValue, IsLegalLink};
 
     ghost Value = { LinkValue };
 
     ghost view = { λ a. record { tari = a.tari; rtcal = a.rtcal; trcal = a.trcal; pw = a.pw; dr = a.dr; code = a.code; trext = a.trext } };
 
-    ghost invariant = { λ a. IsLegal (record { tari = a.tari; rtcal = a.rtcal; trcal = a.trcal; pw = a.pw; dr = a.dr; code = a.code; trext = a.trext }) };
+    ghost invariant = { λ a. IsLegalLink (record { tari = a.tari; rtcal = a.rtcal; trcal = a.trcal; pw = a.pw; dr = a.dr; code = a.code; trext = a.trext }) };
 
     ghost inverse = { λ v. record { tari = v.tari; rtcal = v.rtcal; trcal = v.trcal; pw = v.pw; dr = v.dr; code = v.code; trext = v.trext } };
 }
 
 impl Link {
-    ghost use Rattle.pie_line.specs.Link.{LinkValue, IsLegal, blf_of};
+    ghost use Rattle.pie_line.specs.Link.{LinkValue, IsLegalLink, blf_of};
     ghost use Rattle.pie_line.specs.LinkRefusal.{IsFirstBroken};
 
     /// The link with these parameters: durations in nanoseconds, and DR, the code and TRext as a Query
@@ -61,7 +61,7 @@ impl Link {
         trext: bool,
     ) -> Result<Link, LinkRefusal>
         ensures link { IfOk result (λ link. link ≡ record { tari = tari; rtcal = rtcal; trcal = trcal; pw = pw; dr = dr; code = code; trext = trext }) }
-        ensures legal { IfOk result IsLegal }
+        ensures legal { IfOk result IsLegalLink }
         ensures refused { IfErr result (λ refusal. IsFirstBroken refusal tari rtcal trcal pw) }
     {
         if !is_tari(tari) {
@@ -90,7 +90,7 @@ impl Link {
     /// The duration of a data-0, in nanoseconds.
     pub fn tari(&self) -> u32
         ensures value { result ≡ self.now.tari }
-        ensures legal { IsLegal self.now }
+        ensures legal { IsLegalLink self.now }
     {
         self.tari
     }
@@ -98,7 +98,7 @@ impl Link {
     /// The duration of a data-0 and a data-1 together, in nanoseconds.
     pub fn rtcal(&self) -> u32
         ensures value { result ≡ self.now.rtcal }
-        ensures legal { IsLegal self.now }
+        ensures legal { IsLegalLink self.now }
     {
         self.rtcal
     }
@@ -106,7 +106,7 @@ impl Link {
     /// The duration that sets the backscatter link frequency, in nanoseconds.
     pub fn trcal(&self) -> u32
         ensures value { result ≡ self.now.trcal }
-        ensures legal { IsLegal self.now }
+        ensures legal { IsLegalLink self.now }
     {
         self.trcal
     }
@@ -114,7 +114,7 @@ impl Link {
     /// The duration of each low of a symbol, in nanoseconds.
     pub fn pw(&self) -> u32
         ensures value { result ≡ self.now.pw }
-        ensures legal { IsLegal self.now }
+        ensures legal { IsLegalLink self.now }
     {
         self.pw
     }
@@ -122,7 +122,7 @@ impl Link {
     /// The bit DR of a Query: `false` is a divide ratio of 8, `true` one of 64/3.
     pub fn dr(&self) -> bool
         ensures value { result ≡ self.now.dr }
-        ensures legal { IsLegal self.now }
+        ensures legal { IsLegalLink self.now }
     {
         self.dr
     }
@@ -130,7 +130,7 @@ impl Link {
     /// The line code of the backscatter.
     pub fn code(&self) -> Code
         ensures value { result ≡ self.now.code }
-        ensures legal { IsLegal self.now }
+        ensures legal { IsLegalLink self.now }
     {
         self.code
     }
@@ -138,7 +138,7 @@ impl Link {
     /// Whether the backscatter begins with the long pilot.
     pub fn trext(&self) -> bool
         ensures value { result ≡ self.now.trext }
-        ensures legal { IsLegal self.now }
+        ensures legal { IsLegalLink self.now }
     {
         self.trext
     }
@@ -147,7 +147,7 @@ impl Link {
     /// unit is one over a nanosecond.
     pub fn blf(&self) -> (u32, u32)
         ensures value { result ≡ blf_of self.now }
-        ensures legal { IsLegal self.now }
+        ensures legal { IsLegalLink self.now }
     {
         if self.dr {
             (64, 3 * self.trcal)

@@ -4,7 +4,7 @@ use Rattle.std.specs.Fmt.{decimal}
 use Rattle.std.proofs.lemmas.Fmt.{decimal_is_IsNumeral}
 use Rattle.std.proofs.lemmas.List.{length-append, length-map}
 use Rattle.std.proofs.lemmas.List.Elements.{All-nil, All-cons, All-head, All-tail}
-use Rattle.pie_text.specs.Numbers.{HasShape, Spells}
+use Rattle.pie_text.specs.Numbers.{HasShape, SpellsNumbers}
 use Rattle.pie_text.specs.Spelling.{IsNumber, number_of}
 
 -- the fact of `within`
@@ -74,7 +74,7 @@ values_within most (field ∷ fields) are =
 
 -- fields that spell numbers have their shape
 pub spelled_shape : (most_items most : ℕ) (fields : List (List ℕ)) (numbers : List ℕ) → most < 2 ^ 32
-    → Spells most_items most fields numbers → HasShape most_items fields
+    → SpellsNumbers most_items most fields numbers → HasShape most_items fields
 spelled_shape most_items most fields numbers small spells =
     let count : length fields ≡ length numbers = rw (spells.spelling, length-map) refl in
     let some = spells.some in
@@ -92,7 +92,7 @@ spelled_numbers most fields numbers small within spells = rw spells (digits_are_
 
 -- fields spell the numbers of the fields
 pub numbers_spelled : (most_items most : ℕ) (fields : List (List ℕ)) → HasShape most_items fields → All (IsNumber most) fields
-    → Spells most_items most fields (map number_of fields)
+    → SpellsNumbers most_items most fields (map number_of fields)
 numbers_spelled most_items most fields shape are =
     let count : length (map number_of fields) ≡ length fields = rw length-map refl in
     let some = shape.some in
@@ -106,7 +106,7 @@ numbers_spelled most_items most fields shape are =
 
 -- fields spell no other numbers
 pub one_spelling : (most_items most : ℕ) (fields : List (List ℕ)) (numbers : List ℕ) → most < 2 ^ 32
-    → Spells most_items most fields numbers → map number_of fields ≡ numbers
+    → SpellsNumbers most_items most fields numbers → map number_of fields ≡ numbers
 one_spelling most_items most fields numbers small spells =
     ap (λ (fs : List (List ℕ)). map number_of fs) spells.spelling ∙ values_back most numbers small spells.within
 

@@ -11,16 +11,16 @@ pub record HasShape (most_items : ℕ) (fields : List (List ℕ)) : Type 0 where
   pub filled : All (λ field. field ≢ []) fields
 
 -- the fields spell these numbers, which are from 1 to most_items numbers up to most
-pub record Spells (most_items most : ℕ) (fields : List (List ℕ)) (numbers : List ℕ) : Type 0 where
+pub record SpellsNumbers (most_items most : ℕ) (fields : List (List ℕ)) (numbers : List ℕ) : Type 0 where
   pub spelling : fields ≡ map decimal numbers
   pub some : 1 ≤ length numbers
   pub room : length numbers ≤ most_items
   pub within : All (λ number. number ≤ most) numbers
 
 -- the first reason for which the fields spell no such numbers
-abbrev pub Refuses : NotNumbers → ℕ → ℕ → List (List ℕ) → Type 0
+abbrev pub RefusesNumbers : NotNumbers → ℕ → ℕ → List (List ℕ) → Type 0
 -- their number is wrong, or one is empty
-Refuses Shape most_items most fields = ¬ HasShape most_items fields
+RefusesNumbers Shape most_items most fields = ¬ HasShape most_items fields
 -- they are there, and one of them is no number up to most
-Refuses Number most_items most fields =
+RefusesNumbers Number most_items most fields =
     HasShape most_items fields × ((numbers : List ℕ) → All (λ number. number ≤ most) numbers → fields ≢ map decimal numbers)

@@ -5,7 +5,7 @@ ghost use Rattle.pie_text.specs.PieText.{frame_line, pie_refusal_line};
 
 use bit_strings::{Bits, OutOfMemory};
 use pie_line::{FrameKind, PieRefusal};
-use text_fields::{next_bits, next_number, push_named_number};
+use text_fields::{push_next_bits, push_next_number, push_named_number};
 
 /// Writes a frame at the end of the text: `sync TARI RTCAL BITS` or `preamble TARI RTCAL TRCAL BITS`,
 /// the durations in nanoseconds. After an error the text may hold a part of it.
@@ -15,15 +15,15 @@ pub fn push_frame(text: &mut String, kind: &FrameKind, bits: &Bits) -> Result<()
     match kind {
         FrameKind::FrameSync { tari, rtcal } => {
             push_named_number(text, "sync", *tari)?;
-            next_number(text, *rtcal)?;
+            push_next_number(text, *rtcal)?;
         }
         FrameKind::Preamble { tari, rtcal, trcal } => {
             push_named_number(text, "preamble", *tari)?;
-            next_number(text, *rtcal)?;
-            next_number(text, *trcal)?;
+            push_next_number(text, *rtcal)?;
+            push_next_number(text, *trcal)?;
         }
     }
-    next_bits(text, bits.as_slice())
+    push_next_bits(text, bits.as_slice())
 }
 
 /// Writes at the end of the text why intervals are no frame: `refused` with the part of the frame that

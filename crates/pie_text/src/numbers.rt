@@ -1,7 +1,7 @@
 //! A list of numbers that the fields of a line spell.
 ghost use Rattle.std.specs.Prelude.{◌≡◌, ◌≢◌, ◌≤◌, ◌↔◌, ℕ, List, [], length, All, IfOk, IfErr, IsOkAnd, IsTrue};
 ghost use Rattle.text_fields.specs.Lines.{fields_of};
-ghost use Rattle.pie_text.specs.Numbers.{HasShape, Refuses, Spells};
+ghost use Rattle.pie_text.specs.Numbers.{HasShape, RefusesNumbers, SpellsNumbers};
 ghost use Rattle.pie_text.specs.Spelling.{IsNumber, number_of};
 
 use pie_line::Intervals;
@@ -94,9 +94,9 @@ impl<'a> Numbers<'a> {
     /// `Shape` comes exactly where the number of fields isn't from 1 to `most_items` or a field is empty,
     /// and `Number` exactly where they have this shape and a field is no number up to `most`.
     pub fn new(fields: Fields<'a>, most_items: u32, most: u32) -> Result<Numbers<'a>, NotNumbers>
-        ensures ok { IfOk result (Spells most_items most fields.entry) }
-        ensures refused { IfErr result (λ reason. Refuses reason most_items most fields.entry) }
-        ensures only { (numbers : List ℕ) → Spells most_items most fields.entry numbers → IsOkAnd result (λ it. it ≡ numbers) }
+        ensures ok { IfOk result (SpellsNumbers most_items most fields.entry) }
+        ensures refused { IfErr result (λ reason. RefusesNumbers reason most_items most fields.entry) }
+        ensures only { (numbers : List ℕ) → SpellsNumbers most_items most fields.entry numbers → IsOkAnd result (λ it. it ≡ numbers) }
     {
         let Some(line) = fields.into_rest() else {
             return Err(NotNumbers::Shape);

@@ -1,7 +1,7 @@
 -- The laws of rounds, by what is known at each turn.
 use Rattle.std.proofs.Common.{◌≡◌, ℕ, ◌+◌, ◌^◌, ◌<◌, ◌≤◌, Bool, true, false, List, [], ◌∷◌, ◌++◌, length, refl, ap, sym, ◌∙◌, subst, add-one, arith}
 use Rattle.std.specs.List.{AllByRecursion}
-use Rattle.command_grammar.specs.declared.command.UpDn.TheVariants.{Up, Same, Down}
+use Rattle.command_grammar.specs.declared.field_values.UpDn.TheVariants.{Up, Same, Down}
 use Rattle.command_grammar.specs.declared.commands.Command.TheVariants.{QueryRep}
 use Rattle.pie_line.specs.Link.{LinkValue}
 use Rattle.q_round.specs.declared.frame.Frame.{Frame}
@@ -10,7 +10,7 @@ use Rattle.q_round.specs.declared.frame.Outcome.TheVariants.{Silence, Whole, Ref
 use Rattle.q_round.specs.declared.round.Next.TheVariants.{Send, Quiet}
 use Rattle.q_round.specs.SpecValue.{SpecValue, IsLegalSpec}
 use Rattle.q_round.specs.Rounds.{qfp_of, is_silent, all_silent, Turn, query, adjust, rep, quiet, limit, q_after, frame_after, ends, turn_of, q_of, frame_of, is_over, AreOutcomes, slots_of, answer_of, next_command}
-use Rattle.q_round.specs.Standing.{IsSound, IsCounted, counted, IsFrameOf}
+use Rattle.q_round.specs.Standing.{IsSoundFrame, IsCounted, frame_after_outcome, IsFrameOf}
 use Rattle.q_round.specs.RoundLaws.{IsSilentFrame}
 use Rattle.q_round.specs.SlotLaws.{slots-underway}
 use Rattle.q_round.proofs.Table.{IsTurn, turn-tells, counted-frame, up-sound, down-sound, same-sound, rep-sound, some-slots, both}
@@ -27,7 +27,7 @@ frame_at spec outcomes = record {
 
 -- the frame with one more outcome
 abbrev pub next_at : SpecValue → Outcome → List Outcome → Frame
-next_at spec outcome before = counted spec.c outcome (frame_at spec before)
+next_at spec outcome before = frame_after_outcome spec.c outcome (frame_at spec before)
 
 frame-at : (spec : SpecValue) (outcomes : List Outcome) → is_over spec outcomes ≡ false → IsFrameOf (frame_at spec outcomes) spec outcomes
 frame-at spec outcomes on = record { goes_on = on; q = refl; qfp = refl; slots = refl; silent = refl }
@@ -43,7 +43,7 @@ turn-at spec outcome before on =
 -- ... by cases on the turn
 frame-sound : (spec : SpecValue) (outcome : Outcome) (before : List Outcome) (turn : Turn) → turn_of spec (outcome ∷ before) ≡ turn → ends turn ≡ false →
     is_over spec before ≡ false → IsCounted (next_at spec outcome before) → IsTurn turn spec.limit (length before + 1) (next_at spec outcome before) →
-    IsSound (frame_at spec (outcome ∷ before))
+    IsSoundFrame (frame_at spec (outcome ∷ before))
 frame-sound spec outcome before query t goes on s known = absurd known
 frame-sound spec outcome before quiet t goes on s known = absurd (cc)
 frame-sound spec outcome before limit t goes on s known = absurd (cc)
@@ -52,7 +52,7 @@ frame-sound spec outcome before (adjust Down) t goes on s known = rw t (down-sou
 frame-sound spec outcome before (adjust Same) t goes on s known = rw t (same-sound (next_at spec outcome before) s known.1)
 frame-sound spec outcome before rep t goes on s known = rw t (rw (← add-one (length (frame_of spec before))) (rep-sound (next_at spec outcome before) s known.1 known.2))
 
-sound : (spec : SpecValue) (outcomes : List Outcome) → IsLegalSpec spec → AreOutcomes spec outcomes → is_over spec outcomes ≡ false → IsSound (frame_at spec outcomes)
+sound : (spec : SpecValue) (outcomes : List Outcome) → IsLegalSpec spec → AreOutcomes spec outcomes → is_over spec outcomes ≡ false → IsSoundFrame (frame_at spec outcomes)
 sound spec [] legal are on = record { q = legal.q; qfp = omega (arith, legal.q); low = omega arith; high = omega arith; slots = some-slots spec.q }
 sound spec (outcome ∷ before) legal are on =
     frame-sound spec outcome before (turn_of spec (outcome ∷ before)) refl on are.0

@@ -1,11 +1,11 @@
 -- What holds of every round, in terms of the commands that it gives (profile).
 use Rattle.std.specs.Prelude.{◌≡◌, ℕ, ◌+◌, ◌^◌, List, length}
 use Rattle.std.specs.List.{AllByRecursion}
-use Rattle.command_grammar.specs.declared.command.UpDn.{UpDn}
-use Rattle.command_grammar.specs.declared.command.UpDn.TheVariants.{Up, Same, Down}
+use Rattle.command_grammar.specs.declared.field_values.UpDn.{UpDn}
+use Rattle.command_grammar.specs.declared.field_values.UpDn.TheVariants.{Up, Same, Down}
 use Rattle.command_grammar.specs.declared.commands.Command.{Command}
 use Rattle.command_grammar.specs.declared.commands.Command.TheVariants.{Query, QueryAdjust, QueryRep}
-use Rattle.command_grammar.specs.Commands.{IsLegal}
+use Rattle.command_grammar.specs.Commands.{IsLegalCommand}
 use Rattle.q_round.specs.declared.frame.Outcome.{Outcome}
 use Rattle.q_round.specs.declared.frame.Outcome.TheVariants.{Silence}
 use Rattle.q_round.specs.declared.round.Next.{Next}
@@ -31,7 +31,7 @@ pub record IsSilentFrame (q : ℕ) (frame : List Outcome) : Type 0 where
 
 -- the numbers of the command that comes next are within their fields
 abbrev pub IsLegalNext : Next → Type 0
-IsLegalNext (Send command) = IsLegal command
+IsLegalNext (Send command) = IsLegalCommand command
 IsLegalNext Quiet = Unit {0}
 IsLegalNext Limit = Unit {0}
 

@@ -2,8 +2,8 @@
 -- populations; the rule for Q is the informative one of Annex D, in thousandths, with numbers of this profile).
 -- A list of outcomes stands latest first.
 use Rattle.std.specs.Prelude.{◌≡◌, ℕ, ◌+◌, ◌-◌, ◌*◌, ◌/◌, ◌^◌, ◌==◌, nat_lt, min, Bool, true, false, ◌&&◌, List, [], ◌∷◌, length, if◌then◌else◌}
-use Rattle.command_grammar.specs.declared.command.UpDn.{UpDn}
-use Rattle.command_grammar.specs.declared.command.UpDn.TheVariants.{Up, Same, Down}
+use Rattle.command_grammar.specs.declared.field_values.UpDn.{UpDn}
+use Rattle.command_grammar.specs.declared.field_values.UpDn.TheVariants.{Up, Same, Down}
 use Rattle.command_grammar.specs.declared.commands.Command.TheVariants.{Query, QueryAdjust, QueryRep}
 use Rattle.pie_line.specs.Link.{LinkValue}
 use Rattle.q_round.specs.declared.round.Next.{Next}
@@ -25,8 +25,8 @@ qfp_of spec [] = 1000 * spec.q
 qfp_of spec (outcome ∷ before) = qfp_after spec.c outcome (qfp_of spec before)
 
 -- Annex D: what Q is to be, Qfp rounded to a whole number
-abbrev pub rounded : ℕ → ℕ
-rounded qfp = (qfp + 500) / 1000
+abbrev pub q_nearest : ℕ → ℕ
+q_nearest qfp = (qfp + 500) / 1000
 
 abbrev pub is_silent : Outcome → Bool
 is_silent Silence = true
@@ -51,18 +51,18 @@ abbrev pub turn_after : (most sent qfp q slots : ℕ) → Bool → Turn
 turn_after most sent qfp q slots silent =
     if slots == 2 ^ q && silent then quiet else
     if sent == most then limit else
-    if nat_lt q (rounded qfp) then adjust Up else
-    if nat_lt (rounded qfp) q then adjust Down else
+    if nat_lt q (q_nearest qfp) then adjust Up else
+    if nat_lt (q_nearest qfp) q then adjust Down else
     if slots == 2 ^ q then adjust Same else rep
 
 -- 6.3.2.11.2.2 QueryAdjust: it moves Q by one, or leaves it
-abbrev pub adjusted : UpDn → ℕ → ℕ
-adjusted Up q = q + 1
-adjusted Same q = q
-adjusted Down q = q - 1
+abbrev pub q_moved_by : UpDn → ℕ → ℕ
+q_moved_by Up q = q + 1
+q_moved_by Same q = q
+q_moved_by Down q = q - 1
 
 abbrev pub q_after : Turn → ℕ → ℕ
-q_after (adjust updn) q = adjusted updn q
+q_after (adjust updn) q = q_moved_by updn q
 q_after query q = q
 q_after rep q = q
 q_after quiet q = q
@@ -82,15 +82,15 @@ pub record Course : Type 0 where
   pub q : ℕ
   pub frame : List Outcome
 
-abbrev pub turned : Turn → ℕ → List Outcome → Course
-turned turn q frame = record { turn = turn; q = q_after turn q; frame = frame_after turn frame }
+abbrev pub course_with : Turn → ℕ → List Outcome → Course
+course_with turn q frame = record { turn = turn; q = q_after turn q; frame = frame_after turn frame }
 
 abbrev pub course_of : SpecValue → List Outcome → Course
-course_of spec [] = turned query spec.q []
+course_of spec [] = course_with query spec.q []
 course_of spec (outcome ∷ before) =
     let course = course_of spec before in
     let frame = outcome ∷ course.frame in
-    turned (turn_after spec.limit (length before + 1) (qfp_of spec (outcome ∷ before)) course.q (length frame) (all_silent frame)) course.q frame
+    course_with (turn_after spec.limit (length before + 1) (qfp_of spec (outcome ∷ before)) course.q (length frame) (all_silent frame)) course.q frame
 
 abbrev pub turn_of : SpecValue → List Outcome → Turn
 turn_of spec outcomes = (course_of spec outcomes).turn

@@ -1,7 +1,7 @@
 -- What a round that keeps no outcomes knows of them (profile).
 use Rattle.std.specs.Prelude.{◌≡◌, ℕ, ◌+◌, ◌*◌, ◌^◌, ◌<◌, ◌≤◌, ◌==◌, ◌&&◌, nat_lt, true, false, List, length, Option, Some, None, if◌then◌else◌}
-use Rattle.command_grammar.specs.declared.command.UpDn.{UpDn}
-use Rattle.command_grammar.specs.declared.command.UpDn.TheVariants.{Up, Same, Down}
+use Rattle.command_grammar.specs.declared.field_values.UpDn.{UpDn}
+use Rattle.command_grammar.specs.declared.field_values.UpDn.TheVariants.{Up, Same, Down}
 use Rattle.q_round.specs.declared.frame.Frame.{Frame}
 use Rattle.q_round.specs.declared.frame.Outcome.{Outcome}
 use Rattle.pie_line.specs.Link.{LinkValue}
@@ -10,7 +10,7 @@ use Rattle.q_round.specs.declared.round.Next.TheVariants as nexts
 use Rattle.q_round.specs.declared.round.Stage.{Stage}
 use Rattle.q_round.specs.declared.round.Stage.TheVariants.{Underway, Quiet, Limit}
 use Rattle.q_round.specs.SpecValue.{SpecValue}
-use Rattle.q_round.specs.Rounds.{qfp_after, qfp_of, rounded, is_silent, all_silent, adjusted, quiet, limit, turn_of, q_of, frame_of, is_over, is_end, AreOutcomes, slots_of, next_command}
+use Rattle.q_round.specs.Rounds.{qfp_after, qfp_of, q_nearest, is_silent, all_silent, q_moved_by, quiet, limit, turn_of, q_of, frame_of, is_over, is_end, AreOutcomes, slots_of, next_command}
 
 -- what a contract sees of a round
 pub record RoundValue : Type 0 where
@@ -19,7 +19,7 @@ pub record RoundValue : Type 0 where
   pub slots_sent : ℕ
 
 -- before the outcome of a slot: Q is the rounded Qfp, and the frame has a slot left
-pub record IsSound (frame : Frame) : Type 0 where
+pub record IsSoundFrame (frame : Frame) : Type 0 where
   pub q : frame.q ≤ 15
   pub qfp : frame.qfp ≤ 15000
   pub low : 1000 * frame.q ≤ frame.qfp + 500
@@ -34,8 +34,8 @@ pub record IsCounted (frame : Frame) : Type 0 where
   pub high : frame.qfp < 1000 * frame.q + 1000
   pub slots : frame.slots ≤ 2 ^ frame.q
 
-abbrev pub counted : ℕ → Outcome → Frame → Frame
-counted c outcome frame = record {
+abbrev pub frame_after_outcome : ℕ → Outcome → Frame → Frame
+frame_after_outcome c outcome frame = record {
   q = frame.q;
   qfp = qfp_after c outcome frame.qfp;
   slots = frame.slots + 1;
@@ -45,15 +45,15 @@ counted c outcome frame = record {
 -- how Q changes behind a slot that doesn't end the round; none where the frame goes on
 abbrev pub change_of : Frame → Option UpDn
 change_of frame =
-    if nat_lt frame.q (rounded frame.qfp) then Some Up else
-    if nat_lt (rounded frame.qfp) frame.q then Some Down else
+    if nat_lt frame.q (q_nearest frame.qfp) then Some Up else
+    if nat_lt (q_nearest frame.qfp) frame.q then Some Down else
     if frame.slots == 2 ^ frame.q then Some Same else None
 
-abbrev pub begun : UpDn → Frame → Frame
-begun updn frame = record { q = adjusted updn frame.q; qfp = frame.qfp; slots = 0; silent = true }
+abbrev pub frame_begun_by : UpDn → Frame → Frame
+frame_begun_by updn frame = record { q = q_moved_by updn frame.q; qfp = frame.qfp; slots = 0; silent = true }
 
 abbrev pub IsSoundStage : Stage → Type 0
-IsSoundStage (Underway frame) = IsSound frame
+IsSoundStage (Underway frame) = IsSoundFrame frame
 IsSoundStage Quiet = Unit {0}
 IsSoundStage Limit = Unit {0}
 
@@ -76,15 +76,15 @@ IsStageOf Quiet spec outcomes = turn_of spec outcomes ≡ quiet
 IsStageOf Limit spec outcomes = turn_of spec outcomes ≡ limit
 
 -- the round has these parameters, and was given these outcomes
-pub record StandsFor (round : RoundValue) (spec : SpecValue) (outcomes : List Outcome) : Type 0 where
+pub record RoundStandsFor (round : RoundValue) (spec : SpecValue) (outcomes : List Outcome) : Type 0 where
   pub spec_is : round.spec ≡ spec
   pub outcomes_are : AreOutcomes spec outcomes
   pub stage : IsStageOf round.stage spec outcomes
   pub sent : round.slots_sent ≡ slots_of spec outcomes
 
 -- the round stands for these outcomes, and this is what follows them
-pub record Answers (answer : Next) (round : RoundValue) (spec : SpecValue) (outcomes : List Outcome) : Type 0 where
-  pub stands : StandsFor round spec outcomes
+pub record IsNextAnswer (answer : Next) (round : RoundValue) (spec : SpecValue) (outcomes : List Outcome) : Type 0 where
+  pub stands : RoundStandsFor round spec outcomes
   pub next : (link : LinkValue) → answer ≡ next_command spec link outcomes
   pub over : is_over spec outcomes ≡ is_end answer
 

@@ -1,7 +1,7 @@
 //! Q, and the slots since the command that set it.
 ghost use Rattle.std.specs.Prelude.{◌≡◌, ◌==◌, ◌^◌, ◌*◌, ◌≤◌, ◌&&◌, true};
 ghost use Rattle.q_round.specs.SpecValue.{IsStep};
-ghost use Rattle.q_round.specs.Standing.{IsSound, IsCounted, counted, change_of, begun};
+ghost use Rattle.q_round.specs.Standing.{IsSoundFrame, IsCounted, frame_after_outcome, change_of, frame_begun_by};
 
 use crate::{QValue, UpDn};
 
@@ -33,7 +33,7 @@ impl Frame {
     /// The frame that a Query begins.
     pub(crate) fn new(q: QValue) -> Frame
         ensures value { result ≡ record { q = q; qfp = 1000 * q; slots = 0; silent = true } }
-        ensures sound { IsSound result }
+        ensures sound { IsSoundFrame result }
     {
         let q = u32::from(q.get());
         Frame {
@@ -46,9 +46,9 @@ impl Frame {
 
     /// The frame with the outcome of one more slot, which moves Qfp by `c`.
     pub(crate) fn counting(self, outcome: Outcome, c: u32) -> Frame
-        requires sound { IsSound self }
+        requires sound { IsSoundFrame self }
         requires step { IsStep c }
-        ensures value { result ≡ counted c outcome self }
+        ensures value { result ≡ frame_after_outcome c outcome self }
         ensures counted { IsCounted result }
     {
         let qfp = match outcome {
@@ -102,8 +102,8 @@ impl Frame {
     pub(crate) fn begin(self, updn: UpDn) -> Frame
         requires counted { IsCounted self }
         requires due { change_of self ≡ Some updn }
-        ensures value { result ≡ begun updn self }
-        ensures sound { IsSound result }
+        ensures value { result ≡ frame_begun_by updn self }
+        ensures sound { IsSoundFrame result }
     {
         let q = match updn {
             UpDn::Up => self.q + 1,

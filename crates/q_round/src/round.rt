@@ -61,12 +61,12 @@ impl Round {
     ghost use Rattle.q_round.specs.declared.round.Next.TheVariants.{Send};
     ghost use Rattle.q_round.specs.SpecValue.{SpecValue};
     ghost use Rattle.q_round.specs.Rounds.{next_command, is_over, slots_of};
-    ghost use Rattle.q_round.specs.Standing.{StandsFor, Answers, slots_in};
+    ghost use Rattle.q_round.specs.Standing.{RoundStandsFor, IsNextAnswer, slots_in};
 
     /// A round with these parameters, and the Query that begins it, which asks for replies as the link
     /// has them.
     pub fn start(spec: &RoundSpec, link: &Link) -> (Round, Command)
-        ensures stands { StandsFor result.0 spec.now [] }
+        ensures stands { RoundStandsFor result.0 spec.now [] }
         ensures query { Send result.1 ≡ next_command spec.now link.now [] }
     {
         let query = Command::Query {
@@ -91,10 +91,10 @@ impl Round {
     /// whatever the outcome.
     pub fn next(&mut self, outcome: Outcome) -> Next
         // The round stands for the list of outcomes that it was given, the latest first.
-        ensures answer { (spec : SpecValue) (outcomes : List Outcome) → StandsFor self.old spec outcomes → is_over spec outcomes ≡ false →
-            Answers result self.new spec (outcome ∷ outcomes) }
-        ensures again { (spec : SpecValue) (outcomes : List Outcome) → StandsFor self.old spec outcomes → is_over spec outcomes ≡ true →
-            (self.new ≡ self.old) × Answers result self.new spec outcomes }
+        ensures answer { (spec : SpecValue) (outcomes : List Outcome) → RoundStandsFor self.old spec outcomes → is_over spec outcomes ≡ false →
+            IsNextAnswer result self.new spec (outcome ∷ outcomes) }
+        ensures again { (spec : SpecValue) (outcomes : List Outcome) → RoundStandsFor self.old spec outcomes → is_over spec outcomes ≡ true →
+            (self.new ≡ self.old) × IsNextAnswer result self.new spec outcomes }
         ensures spec { self.new.spec ≡ self.old.spec }
         ensures sent { self.new.slots_sent ≡ self.old.slots_sent + slots_in result }
         ensures limit { self.new.slots_sent ≤ self.new.spec.limit }
@@ -126,7 +126,7 @@ impl Round {
     /// How many slot commands the round has given so far, its Query among them.
     pub fn slots_sent(&self) -> u32
         ensures value { result ≡ self.now.slots_sent }
-        ensures stands { (spec : SpecValue) (outcomes : List Outcome) → StandsFor self.now spec outcomes → result ≡ slots_of spec outcomes }
+        ensures stands { (spec : SpecValue) (outcomes : List Outcome) → RoundStandsFor self.now spec outcomes → result ≡ slots_of spec outcomes }
         ensures limit { result ≤ self.now.spec.limit }
     {
         self.slots_sent

@@ -4,7 +4,7 @@ use Rattle.std.specs.Prelude.{◌↔◌}
 use Rattle.std.proofs.lemmas.List.{take-append-drop}
 use Rattle.gen2_crc.specs.Crc.{crc16_of}
 use Rattle.gen2_crc.specs.CrcLaws.{length-crc16_of}
-use Rattle.reply_grammar.specs.Faults.{EndsWithCheck}
+use Rattle.reply_grammar.specs.Refusals.{EndsWithCheck}
 
 -- what the register says of a message is what the last 16 bits say
 pub check_decides : (P : Type 0) (bits : List Bool) → 16 ≤ length bits → ((front last : List Bool) → bits ≡ front ++ last → length last ≡ 16 → P ↔ (last ≡ crc16_of front)) → P ↔ EndsWithCheck bits

@@ -4,15 +4,15 @@ use Rattle.std.specs.Prelude.{Result, Ok, Err, IfOk, IfErr}
 use Rattle.reply_grammar.specs.declared.expected.Expect.{Expect}
 use Rattle.reply_grammar.specs.declared.expected.Reply.{Reply}
 use Rattle.reply_grammar.specs.declared.expected.ReplyRefusal.{ReplyRefusal}
-use Rattle.reply_grammar.specs.Table.{Answers}
-use Rattle.reply_grammar.specs.Faults.{Faults}
+use Rattle.reply_grammar.specs.Table.{AnswersExpected}
+use Rattle.reply_grammar.specs.Refusals.{RefusesReply}
 use Rattle.reply_grammar.specs.PassingLaws.{answers_pass}
 use Rattle.reply_grammar.specs.ReplyLaws.{one_reply, one_fault, passes_apart}
 
-pub decided : (result : Result Reply ReplyRefusal) (e : Expect) (bits : List Bool) → IfOk result (λ reply. Answers reply e bits) → IfErr result (λ refusal. Faults refusal e bits) → (reply : Reply) → Answers reply e bits → result ≡ Ok reply
+pub decided : (result : Result Reply ReplyRefusal) (e : Expect) (bits : List Bool) → IfOk result (λ reply. AnswersExpected reply e bits) → IfErr result (λ refusal. RefusesReply refusal e bits) → (reply : Reply) → AnswersExpected reply e bits → result ≡ Ok reply
 decided (Ok found) e bits ok refused reply answers = ap (λ (r : Reply). Ok r) (one_reply found reply e bits ok answers)
 decided (Err fault) e bits ok refused reply answers = absurd (passes_apart fault e bits (answers_pass reply e bits answers) refused)
 
-pub decided_first : (result : Result Reply ReplyRefusal) (e : Expect) (bits : List Bool) → IfOk result (λ reply. Answers reply e bits) → IfErr result (λ refusal. Faults refusal e bits) → (refusal : ReplyRefusal) → Faults refusal e bits → result ≡ Err refusal
+pub decided_first : (result : Result Reply ReplyRefusal) (e : Expect) (bits : List Bool) → IfOk result (λ reply. AnswersExpected reply e bits) → IfErr result (λ refusal. RefusesReply refusal e bits) → (refusal : ReplyRefusal) → RefusesReply refusal e bits → result ≡ Err refusal
 decided_first (Ok found) e bits ok refused refusal fault = absurd (passes_apart refusal e bits (answers_pass found e bits ok) fault)
 decided_first (Err found) e bits ok refused refusal fault = ap (λ (f : ReplyRefusal). Err f) (one_fault found refusal e bits refused fault)

@@ -10,8 +10,8 @@ use Rattle.gen2_crc.specs.Crc.{crc16_of}
 use Rattle.reply_grammar.specs.declared.expected.Expect.{Expect}
 use Rattle.reply_grammar.specs.declared.expected.Expect.TheVariants.{Rn16 as OneRn16, Epc as OneEpc, Handle as OneHandle, Same, Words as SomeWords, AnyWords, Header as OneHeader}
 use Rattle.reply_grammar.specs.declared.expected.Reply.TheVariants.{Rn16, Epc, Handle, Words, Header, Error}
-use Rattle.reply_grammar.specs.Table.{Answers, Suits, AreWords, handle_of, spelling, with_check}
-use Rattle.reply_grammar.specs.Faults.{FitsLength, EndsWithCheck, HasHeader, HasHandle, Passes}
+use Rattle.reply_grammar.specs.Table.{AnswersExpected, Suits, AreWords, handle_of, spelling, with_check}
+use Rattle.reply_grammar.specs.Refusals.{FitsLength, EndsWithCheck, HasHeader, HasHandle, Passes}
 use Rattle.reply_grammar.specs.PassingLaws.{length-with_check, first-five}
 use Rattle.reply_grammar.proofs.Reading.{part-field, value_of-part, part-add}
 
@@ -57,7 +57,7 @@ handle-fits : (bits : List Bool) (handle : ℕ) → 32 ≤ length bits → HasHa
 handle-fits bits handle long number = omega (arith, value_of-part bits (length bits - 32) 16 (omega arith))
 
 -- one word alone
-pub rn16_answers : (bits : List Bool) (rn : ℕ) → length bits ≡ 16 → rn ≡ value_of (part_of bits 0 16) → Answers (Rn16 rn) OneRn16 bits
+pub rn16_answers : (bits : List Bool) (rn : ℕ) → length bits ≡ 16 → rn ≡ value_of (part_of bits 0 16) → AnswersExpected (Rn16 rn) OneRn16 bits
 unfolding spelling
 rn16_answers bits rn long read = record {
   suits = tt;
@@ -72,7 +72,7 @@ one_word bits rn long check read =
     rejoin bits (field_of rn 16) check
     (sym (part-field bits 0 16 rn (omega arith) read ∙ part-split bits 0 16 check (omega arith) ∙ take_all 16 check.front (omega arith)))
 
-pub handle_answers : (bits : List Bool) (rn : ℕ) → length bits ≡ 32 → EndsWithCheck bits → rn ≡ value_of (part_of bits 0 16) → Answers (Handle rn) OneHandle bits
+pub handle_answers : (bits : List Bool) (rn : ℕ) → length bits ≡ 32 → EndsWithCheck bits → rn ≡ value_of (part_of bits 0 16) → AnswersExpected (Handle rn) OneHandle bits
 unfolding spelling
 handle_answers bits rn long check read = record {
   suits = tt;
@@ -81,7 +81,7 @@ handle_answers bits rn long check read = record {
   spelled = one_word bits rn long check read;
 }
 
-pub same_answers : (bits : List Bool) (rn handle : ℕ) → length bits ≡ 32 → EndsWithCheck bits → HasHandle handle bits → rn ≡ value_of (part_of bits 0 16) → Answers (Handle rn) (Same handle) bits
+pub same_answers : (bits : List Bool) (rn handle : ℕ) → length bits ≡ 32 → EndsWithCheck bits → HasHandle handle bits → rn ≡ value_of (part_of bits 0 16) → AnswersExpected (Handle rn) (Same handle) bits
 unfolding spelling
 same_answers bits rn handle long check number read =
     let place : length bits - 32 ≡ 0 = omega arith in
@@ -93,7 +93,7 @@ same_answers bits rn handle long check number read =
       spelled = one_word bits rn long check read;
     }
 
-pub epc_answers : (bits : List Bool) (pc : ℕ) (epc : List ℕ) → FitsLength OneEpc bits → EndsWithCheck bits → pc ≡ value_of (part_of bits 0 16) → length epc ≡ value_of (take 5 bits) → AreWords epc → bits_of_words epc ≡ part_of bits 16 (16 * length epc) → Answers (Epc pc epc) OneEpc bits
+pub epc_answers : (bits : List Bool) (pc : ℕ) (epc : List ℕ) → FitsLength OneEpc bits → EndsWithCheck bits → pc ≡ value_of (part_of bits 0 16) → length epc ≡ value_of (take 5 bits) → AreWords epc → bits_of_words epc ≡ part_of bits 16 (16 * length epc) → AnswersExpected (Epc pc epc) OneEpc bits
 unfolding spelling
 epc_answers bits pc epc length_fits check read count range words =
     let front : List Bool = check.front in
@@ -138,65 +138,65 @@ header_spelled bits handle long check header number =
     header_row bits [] false 0 handle long check (bit-at-length bits header (λ same. omega arith)) number refl
 
 -- the same, from the expectation that was found
-pub rn16_passed : (expect : Expect) (bits : List Bool) (rn : ℕ) → expect ≡ OneRn16 → Passes expect bits → rn ≡ value_of (part_of bits 0 16) → Answers (Rn16 rn) expect bits
+pub rn16_passed : (expect : Expect) (bits : List Bool) (rn : ℕ) → expect ≡ OneRn16 → Passes expect bits → rn ≡ value_of (part_of bits 0 16) → AnswersExpected (Rn16 rn) expect bits
 rn16_passed expect bits rn found passes read =
     let here : Passes OneRn16 bits = subst (λ (e : Expect). Passes e bits) found passes in
-    subst (λ (e : Expect). Answers (Rn16 rn) e bits) (sym found) (rn16_answers bits rn here.length_fits read)
+    subst (λ (e : Expect). AnswersExpected (Rn16 rn) e bits) (sym found) (rn16_answers bits rn here.length_fits read)
 
-pub handle_passed : (expect : Expect) (bits : List Bool) (rn : ℕ) → expect ≡ OneHandle → Passes expect bits → rn ≡ value_of (part_of bits 0 16) → Answers (Handle rn) expect bits
+pub handle_passed : (expect : Expect) (bits : List Bool) (rn : ℕ) → expect ≡ OneHandle → Passes expect bits → rn ≡ value_of (part_of bits 0 16) → AnswersExpected (Handle rn) expect bits
 handle_passed expect bits rn found passes read =
     let here : Passes OneHandle bits = subst (λ (e : Expect). Passes e bits) found passes in
-    subst (λ (e : Expect). Answers (Handle rn) e bits) (sym found) (handle_answers bits rn here.length_fits here.check read)
+    subst (λ (e : Expect). AnswersExpected (Handle rn) e bits) (sym found) (handle_answers bits rn here.length_fits here.check read)
 
-pub same_passed : (expect : Expect) (bits : List Bool) (rn handle : ℕ) → expect ≡ Same handle → Passes expect bits → rn ≡ value_of (part_of bits 0 16) → Answers (Handle rn) expect bits
+pub same_passed : (expect : Expect) (bits : List Bool) (rn handle : ℕ) → expect ≡ Same handle → Passes expect bits → rn ≡ value_of (part_of bits 0 16) → AnswersExpected (Handle rn) expect bits
 same_passed expect bits rn handle found passes read =
     let here : Passes (Same handle) bits = subst (λ (e : Expect). Passes e bits) found passes in
-    subst (λ (e : Expect). Answers (Handle rn) e bits) (sym found) (same_answers bits rn handle here.length_fits here.check here.number read)
+    subst (λ (e : Expect). AnswersExpected (Handle rn) e bits) (sym found) (same_answers bits rn handle here.length_fits here.check here.number read)
 
-pub epc_passed : (expect : Expect) (bits : List Bool) (pc : ℕ) (epc : List ℕ) → expect ≡ OneEpc → Passes expect bits → pc ≡ value_of (part_of bits 0 16) → length epc ≡ value_of (take 5 bits) → AreWords epc → bits_of_words epc ≡ part_of bits 16 (16 * length epc) → Answers (Epc pc epc) expect bits
+pub epc_passed : (expect : Expect) (bits : List Bool) (pc : ℕ) (epc : List ℕ) → expect ≡ OneEpc → Passes expect bits → pc ≡ value_of (part_of bits 0 16) → length epc ≡ value_of (take 5 bits) → AreWords epc → bits_of_words epc ≡ part_of bits 16 (16 * length epc) → AnswersExpected (Epc pc epc) expect bits
 epc_passed expect bits pc epc found passes read count range words =
     let here : Passes OneEpc bits = subst (λ (e : Expect). Passes e bits) found passes in
-    subst (λ (e : Expect). Answers (Epc pc epc) e bits) (sym found) (epc_answers bits pc epc here.length_fits here.check read count range words)
+    subst (λ (e : Expect). AnswersExpected (Epc pc epc) e bits) (sym found) (epc_answers bits pc epc here.length_fits here.check read count range words)
 
-pub words_passed : (expect : Expect) (bits : List Bool) (count handle n : ℕ) (words : List ℕ) → expect ≡ SomeWords count handle → Passes expect bits → length bits ≢ 41 → n ≡ count → length words ≡ n → AreWords words → bits_of_words words ≡ part_of bits 1 (16 * n) → Answers (Words words) expect bits
+pub words_passed : (expect : Expect) (bits : List Bool) (count handle n : ℕ) (words : List ℕ) → expect ≡ SomeWords count handle → Passes expect bits → length bits ≢ 41 → n ≡ count → length words ≡ n → AreWords words → bits_of_words words ≡ part_of bits 1 (16 * n) → AnswersExpected (Words words) expect bits
 words_passed expect bits count handle n words found passes other asked number range words_are =
     let here : Passes (SomeWords count handle) bits = subst (λ (e : Expect). Passes e bits) found passes in
     let long : length bits ≡ 33 + 16 * count = elim here.length_fits [ inl whole ↦ whole | inr error ↦ absurd (other error) ] in
-    let answers : Answers (Words words) (SomeWords count handle) bits = record {
+    let answers : AnswersExpected (Words words) (SomeWords count handle) bits = record {
       suits = number ∙ asked;
       in_range = range;
       handle_in_range = handle-fits bits handle (omega arith) here.number;
       spelled = words_spelled bits handle words (omega arith) here.check here.header here.number (words_are ∙ ap (λ k. part_of bits 1 (16 * k)) (sym number));
     } in
-    subst (λ (e : Expect). Answers (Words words) e bits) (sym found) answers
+    subst (λ (e : Expect). AnswersExpected (Words words) e bits) (sym found) answers
 
-pub any_words_passed : (expect : Expect) (bits : List Bool) (handle n : ℕ) (words : List ℕ) → expect ≡ AnyWords handle → Passes expect bits → length bits ≢ 41 → n ≡ (length bits - 33) / 16 → length words ≡ n → AreWords words → bits_of_words words ≡ part_of bits 1 (16 * n) → Answers (Words words) expect bits
+pub any_words_passed : (expect : Expect) (bits : List Bool) (handle n : ℕ) (words : List ℕ) → expect ≡ AnyWords handle → Passes expect bits → length bits ≢ 41 → n ≡ (length bits - 33) / 16 → length words ≡ n → AreWords words → bits_of_words words ≡ part_of bits 1 (16 * n) → AnswersExpected (Words words) expect bits
 any_words_passed expect bits handle n words found passes other asked number range words_are =
     let here : Passes (AnyWords handle) bits = subst (λ (e : Expect). Passes e bits) found passes in
     let long : (1 ≤ n) × (n ≤ 512) × (length bits ≡ 33 + 16 * n) =
     elim here.length_fits [ inl whole ↦ (omega (arith, whole.1, whole.2, whole.3), omega (arith, whole.1, whole.2, whole.3), omega (arith, whole.1, whole.2, whole.3)) | inr error ↦ absurd (other error) ] in
-    let answers : Answers (Words words) (AnyWords handle) bits = record {
+    let answers : AnswersExpected (Words words) (AnyWords handle) bits = record {
       suits = (omega (arith, long.0), omega (arith, long.1));
       in_range = range;
       handle_in_range = handle-fits bits handle (omega (arith, long.2)) here.number;
       spelled = words_spelled bits handle words (omega (arith, long.2)) here.check here.header here.number (words_are ∙ ap (λ k. part_of bits 1 (16 * k)) (sym number));
     } in
-    subst (λ (e : Expect). Answers (Words words) e bits) (sym found) answers
+    subst (λ (e : Expect). AnswersExpected (Words words) e bits) (sym found) answers
 
-pub header_passed : (expect : Expect) (bits : List Bool) (handle : ℕ) → expect ≡ OneHeader handle → Passes expect bits → length bits ≢ 41 → Answers Header expect bits
+pub header_passed : (expect : Expect) (bits : List Bool) (handle : ℕ) → expect ≡ OneHeader handle → Passes expect bits → length bits ≢ 41 → AnswersExpected Header expect bits
 header_passed expect bits handle found passes other =
     let here : Passes (OneHeader handle) bits = subst (λ (e : Expect). Passes e bits) found passes in
     let long : length bits ≡ 33 = elim here.length_fits [ inl short ↦ short | inr error ↦ absurd (other error) ] in
-    let answers : Answers Header (OneHeader handle) bits = record {
+    let answers : AnswersExpected Header (OneHeader handle) bits = record {
       suits = tt;
       in_range = tt;
       handle_in_range = handle-fits bits handle (omega arith) here.number;
       spelled = header_spelled bits handle long here.check here.header here.number;
     } in
-    subst (λ (e : Expect). Answers Header e bits) (sym found) answers
+    subst (λ (e : Expect). AnswersExpected Header e bits) (sym found) answers
 
 -- an error, by the row
-error_row : (bits : List Bool) (handle code : ℕ) → length bits ≡ 41 → EndsWithCheck bits → HasHeader bits → HasHandle handle bits → code ≡ value_of (part_of bits 1 8) → (expect : Expect) → handle_of expect ≡ handle → Suits (Error code) expect → Answers (Error code) expect bits
+error_row : (bits : List Bool) (handle code : ℕ) → length bits ≡ 41 → EndsWithCheck bits → HasHeader bits → HasHandle handle bits → code ≡ value_of (part_of bits 1 8) → (expect : Expect) → handle_of expect ≡ handle → Suits (Error code) expect → AnswersExpected (Error code) expect bits
 error_row bits handle code long check header number read expect named suits = record {
   suits = suits;
   in_range = omega (arith, value_of-part bits 1 8 (omega arith));
@@ -204,17 +204,17 @@ error_row bits handle code long check header number read expect named suits = re
   spelled = error_spelled bits handle code long check header number read ∙ ap (λ h. spelling (Error code) h) (sym named);
 }
 
-pub words_error : (expect : Expect) (bits : List Bool) (count handle code : ℕ) → expect ≡ SomeWords count handle → Passes expect bits → length bits ≡ 41 → code ≡ value_of (part_of bits 1 8) → Answers (Error code) expect bits
+pub words_error : (expect : Expect) (bits : List Bool) (count handle code : ℕ) → expect ≡ SomeWords count handle → Passes expect bits → length bits ≡ 41 → code ≡ value_of (part_of bits 1 8) → AnswersExpected (Error code) expect bits
 words_error expect bits count handle code found passes long read =
     let here : Passes (SomeWords count handle) bits = subst (λ (e : Expect). Passes e bits) found passes in
-    subst (λ (e : Expect). Answers (Error code) e bits) (sym found) (error_row bits handle code long here.check here.header here.number read (SomeWords count handle) refl tt)
+    subst (λ (e : Expect). AnswersExpected (Error code) e bits) (sym found) (error_row bits handle code long here.check here.header here.number read (SomeWords count handle) refl tt)
 
-pub any_words_error : (expect : Expect) (bits : List Bool) (handle code : ℕ) → expect ≡ AnyWords handle → Passes expect bits → length bits ≡ 41 → code ≡ value_of (part_of bits 1 8) → Answers (Error code) expect bits
+pub any_words_error : (expect : Expect) (bits : List Bool) (handle code : ℕ) → expect ≡ AnyWords handle → Passes expect bits → length bits ≡ 41 → code ≡ value_of (part_of bits 1 8) → AnswersExpected (Error code) expect bits
 any_words_error expect bits handle code found passes long read =
     let here : Passes (AnyWords handle) bits = subst (λ (e : Expect). Passes e bits) found passes in
-    subst (λ (e : Expect). Answers (Error code) e bits) (sym found) (error_row bits handle code long here.check here.header here.number read (AnyWords handle) refl tt)
+    subst (λ (e : Expect). AnswersExpected (Error code) e bits) (sym found) (error_row bits handle code long here.check here.header here.number read (AnyWords handle) refl tt)
 
-pub header_error : (expect : Expect) (bits : List Bool) (handle code : ℕ) → expect ≡ OneHeader handle → Passes expect bits → length bits ≡ 41 → code ≡ value_of (part_of bits 1 8) → Answers (Error code) expect bits
+pub header_error : (expect : Expect) (bits : List Bool) (handle code : ℕ) → expect ≡ OneHeader handle → Passes expect bits → length bits ≡ 41 → code ≡ value_of (part_of bits 1 8) → AnswersExpected (Error code) expect bits
 header_error expect bits handle code found passes long read =
     let here : Passes (OneHeader handle) bits = subst (λ (e : Expect). Passes e bits) found passes in
-    subst (λ (e : Expect). Answers (Error code) e bits) (sym found) (error_row bits handle code long here.check here.header here.number read (OneHeader handle) refl tt)
+    subst (λ (e : Expect). AnswersExpected (Error code) e bits) (sym found) (error_row bits handle code long here.check here.header here.number read (OneHeader handle) refl tt)

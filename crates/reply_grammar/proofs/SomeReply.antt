@@ -14,8 +14,8 @@ use Rattle.reply_grammar.specs.declared.expected.Reply.{Reply}
 use Rattle.reply_grammar.specs.declared.expected.Reply.TheVariants.{Rn16, Epc, Handle, Words, Header, Error}
 use Rattle.reply_grammar.specs.declared.expected.ReplyRefusal.{ReplyRefusal}
 use Rattle.reply_grammar.specs.declared.expected.ReplyRefusal.TheVariants.{Length, Crc, Header as HeaderBit, Number}
-use Rattle.reply_grammar.specs.Table.{Answers}
-use Rattle.reply_grammar.specs.Faults.{Faults, FitsLength, EndsWithCheck, PassesCheck, PassesHeader, PassesNumber, Passes}
+use Rattle.reply_grammar.specs.Table.{AnswersExpected}
+use Rattle.reply_grammar.specs.Refusals.{RefusesReply, FitsLength, EndsWithCheck, PassesCheck, PassesHeader, PassesNumber, Passes}
 use Rattle.reply_grammar.proofs.Reading.{ReadTo, read_none, read_more}
 use Rattle.reply_grammar.proofs.Passing.{rn16_passed, handle_passed, same_passed, epc_passed, words_passed, any_words_passed, header_passed, words_error, any_words_error, header_error}
 
@@ -117,7 +117,7 @@ number-row (SomeWords n h) bits = cases_eq (value_of (part_of bits (length bits 
 number-row (AnyWords h) bits = cases_eq (value_of (part_of bits (length bits - 32) 16)) h
 number-row (OneHeader h) bits = cases_eq (value_of (part_of bits (length bits - 32) 16)) h
 
-passes-or-fault : (e : Expect) (bits : List Bool) → Passes e bits ⊎ ((f : ReplyRefusal) × Faults f e bits)
+passes-or-fault : (e : Expect) (bits : List Bool) → Passes e bits ⊎ ((f : ReplyRefusal) × RefusesReply f e bits)
 passes-or-fault e bits =
     elim (length-decided e bits) [
       | inr wrong ↦ inr (Length, wrong)
@@ -143,7 +143,7 @@ all-words bits from (suc n) within =
     (front.0 ++ word ∷ [], omega (arith, length-append front.0 (word ∷ []), front.1), subst (λ k. ReadTo bits from k (front.0 ++ word ∷ [])) (omega arith) more)
 
 -- what passes is a reply
-reply-there : (e : Expect) (bits : List Bool) → Passes e bits → (reply : Reply) × Answers reply e bits
+reply-there : (e : Expect) (bits : List Bool) → Passes e bits → (reply : Reply) × AnswersExpected reply e bits
 reply-there OneRn16 bits passes = (Rn16 (value_of (part_of bits 0 16)), rn16_passed OneRn16 bits (value_of (part_of bits 0 16)) refl passes refl)
 reply-there OneEpc bits passes =
     let n : ℕ = value_of (take 5 bits) in
@@ -174,5 +174,5 @@ reply-there (OneHeader h) bits passes =
       | inr other ↦ (Header, header_passed (OneHeader h) bits h refl passes other)
     ]
 
-pub reply_or_fault : (e : Expect) (bits : List Bool) → ((reply : Reply) × Answers reply e bits) ⊎ ((f : ReplyRefusal) × Faults f e bits)
+pub reply_or_fault : (e : Expect) (bits : List Bool) → ((reply : Reply) × AnswersExpected reply e bits) ⊎ ((f : ReplyRefusal) × RefusesReply f e bits)
 reply_or_fault e bits = elim (passes-or-fault e bits) [ inl passes ↦ inl (reply-there e bits passes) | inr fault ↦ inr fault ]

@@ -1,4 +1,4 @@
-pub mod Faults
+pub mod Refusals
 pub mod PassingLaws
 pub mod ReplyLaws
 pub mod SuitingLaws

@@ -13,8 +13,8 @@ use Rattle.reply_grammar.specs.declared.expected.Expect.{Expect}
 use Rattle.reply_grammar.specs.declared.expected.Expect.TheVariants.{Rn16 as OneRn16, Epc as OneEpc, Handle as OneHandle, Same, Words as SomeWords, AnyWords, Header as OneHeader}
 use Rattle.reply_grammar.specs.declared.expected.Reply.{Reply}
 use Rattle.reply_grammar.specs.declared.expected.Reply.TheVariants.{Rn16, Epc, Handle, Words, Header, Error}
-use Rattle.reply_grammar.specs.Table.{Answers, Suits, IsReply, handle_of, spelling, with_check}
-use Rattle.reply_grammar.specs.Faults.{EndsWithCheck, HasHeader, HasHandle, Passes}
+use Rattle.reply_grammar.specs.Table.{AnswersExpected, Suits, IsReply, handle_of, spelling, with_check}
+use Rattle.reply_grammar.specs.Refusals.{EndsWithCheck, HasHeader, HasHandle, Passes}
 
 pub length-with_check : (front : List Bool) → length (with_check front) ≡ length front + 16
 length-with_check front = omega (arith, length-append front (crc16_of front), length-crc16_of front)
@@ -127,5 +127,5 @@ spelled-passes (Error code) (OneHeader handle) suits range fits =
     }
 spelled-passes reply expect suits range fits = absurd suits
 
-pub answers_pass : (reply : Reply) (expect : Expect) (bits : List Bool) → Answers reply expect bits → Passes expect bits
+pub answers_pass : (reply : Reply) (expect : Expect) (bits : List Bool) → AnswersExpected reply expect bits → Passes expect bits
 answers_pass reply expect bits answers = subst (Passes expect) (sym answers.spelled) (spelled-passes reply expect answers.suits answers.in_range answers.handle_in_range)

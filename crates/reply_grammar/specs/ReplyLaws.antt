@@ -14,11 +14,11 @@ use Rattle.reply_grammar.specs.declared.expected.Reply.{Reply}
 use Rattle.reply_grammar.specs.declared.expected.Reply.TheVariants.{Rn16, Epc, Handle, Words, Header, Error}
 use Rattle.reply_grammar.specs.declared.expected.ReplyRefusal.{ReplyRefusal}
 use Rattle.reply_grammar.specs.declared.expected.ReplyRefusal.TheVariants.{Length, Crc, Header as HeaderBit, Number}
-use Rattle.reply_grammar.specs.Table.{Answers, Suits, Carries, IsReply, AreWords, handle_of, spelling, with_check}
-use Rattle.reply_grammar.specs.Faults.{Faults, Passes}
+use Rattle.reply_grammar.specs.Table.{AnswersExpected, Suits, Carries, IsReply, AreWords, handle_of, spelling, with_check}
+use Rattle.reply_grammar.specs.Refusals.{RefusesReply, Passes}
 
 -- a reply that suits an expectation answers it
-pub answers_from : (reply : Reply) (expect : Expect) (handle : ℕ) → Suits reply expect → Carries expect handle → IsReply reply → handle < 2 ^ 16 → Answers reply expect (spelling reply handle)
+pub answers_from : (reply : Reply) (expect : Expect) (handle : ℕ) → Suits reply expect → Carries expect handle → IsReply reply → handle < 2 ^ 16 → AnswersExpected reply expect (spelling reply handle)
 unfolding spelling
 answers_from (Rn16 rn) OneRn16 handle suits carries range fits = record { suits = suits; in_range = range; handle_in_range = omega arith; spelled = refl }
 answers_from (Epc pc epc) OneEpc handle suits carries range fits = record { suits = suits; in_range = range; handle_in_range = omega arith; spelled = refl }
@@ -100,17 +100,17 @@ one-spelling (OneHeader h) Header s left right p q same = absurd right
 one-spelling (OneHeader h) (Error a) s left right p q same = absurd right
 one-spelling e r s left right p q same = absurd left
 
-pub one_reply : (r s : Reply) (e : Expect) (bits : List Bool) → Answers r e bits → Answers s e bits → r ≡ s
+pub one_reply : (r s : Reply) (e : Expect) (bits : List Bool) → AnswersExpected r e bits → AnswersExpected s e bits → r ≡ s
 one_reply r s e bits left right = one-spelling e r s left.suits right.suits left.in_range right.in_range (sym left.spelled ∙ right.spelled)
 
 -- what passes has no fault
-pub passes_apart : (f : ReplyRefusal) (e : Expect) (bits : List Bool) → Passes e bits → Faults f e bits → ⊥
+pub passes_apart : (f : ReplyRefusal) (e : Expect) (bits : List Bool) → Passes e bits → RefusesReply f e bits → ⊥
 passes_apart Length e bits passes fault = fault passes.length_fits
 passes_apart Crc e bits passes fault = fault.1 passes.check
 passes_apart HeaderBit e bits passes fault = fault.2 passes.header
 passes_apart Number e bits passes fault = fault.3 passes.number
 
-pub one_fault : (f g : ReplyRefusal) (e : Expect) (bits : List Bool) → Faults f e bits → Faults g e bits → f ≡ g
+pub one_fault : (f g : ReplyRefusal) (e : Expect) (bits : List Bool) → RefusesReply f e bits → RefusesReply g e bits → f ≡ g
 one_fault Length Length e bits left right = refl
 one_fault Length Crc e bits left right = absurd (left right.0)
 one_fault Length HeaderBit e bits left right = absurd (left right.0)

@@ -8,6 +8,10 @@ use Rattle.reply_grammar.specs.declared.expected.Expect.TheVariants.{Rn16 as One
 use Rattle.reply_grammar.specs.declared.expected.Reply.{Reply}
 use Rattle.reply_grammar.specs.declared.expected.Reply.TheVariants.{Rn16, Epc, Handle, Words, Header, Error}
 
+-- the room, in bits, in which each reply fits
+abbrev pub reply_room : ℕ
+reply_room = 8240
+
 -- each number is a word
 abbrev pub AreWords : List ℕ → Type 0
 AreWords words = All (λ word. word < 2 ^ 16) words
@@ -82,7 +86,7 @@ suits (Error code) (OneHeader handle) = true
 suits reply expect = false
 
 -- the bits are the reply, and it is one that is expected
-pub record Answers (reply : Reply) (expect : Expect) (bits : List Bool) : Type 0 where
+pub record AnswersExpected (reply : Reply) (expect : Expect) (bits : List Bool) : Type 0 where
   pub suits : Suits reply expect
   pub in_range : IsReply reply
   pub handle_in_range : handle_of expect < 2 ^ 16

@@ -2,14 +2,14 @@
 ghost use Rattle.std.specs.Prelude.{◌≡◌, ℕ, ◌+◌, ◌*◌, ◌≤◌, ◌==◌, ◌↔◌, length, take, IsTrue, IfOk, IfErr, Ok, Err};
 ghost use Rattle.bit_strings.specs.Numbers.{value_of, part_of};
 ghost use Rattle.bit_strings.specs.Words.{bits_of_words};
-ghost use Rattle.reply_grammar.specs.Table.{Answers, AreWords};
-ghost use Rattle.reply_grammar.specs.Faults.{Faults, FitsLength, PassesCheck, PassesHeader, PassesNumber, EndsWithCheck, HasHeader, HasHandle, Passes};
+ghost use Rattle.reply_grammar.specs.Table.{AnswersExpected, AreWords};
+ghost use Rattle.reply_grammar.specs.Refusals.{RefusesReply, FitsLength, PassesCheck, PassesHeader, PassesNumber, EndsWithCheck, HasHeader, HasHandle, Passes};
 ghost use Rattle.reply_grammar.specs.declared.expected.Expect.TheVariants.{Epc as OneEpc};
 ghost use Rattle.reply_grammar.specs.declared.expected.Reply.{Reply};
 ghost use Rattle.reply_grammar.specs.declared.expected.ReplyRefusal.{ReplyRefusal};
 
 use crate::expected::{Expect, Reply, ReplyRefusal};
-use crate::words::{EpcWords, ReadWords};
+use crate::reply_words::{EpcWords, ReadWords};
 use bit_strings::Bits;
 use gen2_crc::residue_ok;
 
@@ -20,18 +20,18 @@ const ERROR_LENGTH: u32 = 41;
 /// expected; where there is none, the first refusal that applies, in the order Length, Crc, Header,
 /// Number.
 pub fn decode_reply(bits: &Bits, expect: &Expect) -> Result<Reply, ReplyRefusal>
-    ensures ok { IfOk result (λ reply. Answers reply expect.now bits.now.items) }
-    ensures refused { IfErr result (λ refusal. Faults refusal expect.now bits.now.items) }
-    ensures only { (reply : Reply) → Answers reply expect.now bits.now.items → result ≡ Ok reply }
-    ensures first { (refusal : ReplyRefusal) → Faults refusal expect.now bits.now.items → result ≡ Err refusal }
+    ensures ok { IfOk result (λ reply. AnswersExpected reply expect.now bits.now.items) }
+    ensures refused { IfErr result (λ refusal. RefusesReply refusal expect.now bits.now.items) }
+    ensures only { (reply : Reply) → AnswersExpected reply expect.now bits.now.items → result ≡ Ok reply }
+    ensures first { (refusal : ReplyRefusal) → RefusesReply refusal expect.now bits.now.items → result ≡ Err refusal }
 {
     take_apart(bits, expect)
 }
 
 /// Asks the four things in order, and then reads.
 fn take_apart(bits: &Bits, expect: &Expect) -> Result<Reply, ReplyRefusal>
-    ensures ok { IfOk result (λ reply. Answers reply expect.now bits.now.items) }
-    ensures refused { IfErr result (λ refusal. Faults refusal expect.now bits.now.items) }
+    ensures ok { IfOk result (λ reply. AnswersExpected reply expect.now bits.now.items) }
+    ensures refused { IfErr result (λ refusal. RefusesReply refusal expect.now bits.now.items) }
 {
     if !fits_length(bits, expect) {
         return Err(ReplyRefusal::Length);
@@ -157,7 +157,7 @@ fn word_at(bits: &Bits, at: u32) -> u16
 /// The reply that bits are which pass.
 fn read_reply(bits: &Bits, expect: &Expect) -> Reply
     requires { Passes expect.now bits.now.items }
-    ensures { Answers result expect.now bits.now.items }
+    ensures { AnswersExpected result expect.now bits.now.items }
 {
     match expect {
         Expect::Rn16 => Reply::Rn16(word_at(bits, 0)),

@@ -2,7 +2,7 @@
 ghost use Rattle.std.specs.Prelude.{◌≡◌, ◌+◌, ◌*◌, ◌^◌, ◌<◌, ◌≤◌, [], ◌∷◌, ◌++◌, length};
 ghost use Rattle.bit_strings.specs.Numbers.{field_of};
 ghost use Rattle.bit_strings.specs.Words.{bits_of_words};
-ghost use Rattle.reply_grammar.specs.Table.{Answers, CanBeSent, Carries, FitsBank, IsReply, Suits, spelling, with_check};
+ghost use Rattle.reply_grammar.specs.Table.{AnswersExpected, CanBeSent, Carries, FitsBank, IsReply, Suits, spelling, with_check, reply_room};
 ghost use Rattle.reply_grammar.specs.declared.expected.Expect.{Expect};
 
 use crate::expected::Reply;
@@ -13,21 +13,21 @@ use gen2_crc::crc16;
 /// `Header` and `Error`. A PC must count the words of its EPC in its first five bits, and a Read must
 /// bring at least one word.
 pub fn encode_reply(reply: &Reply, handle: u16, out: &mut Bits)
-    requires room { 8240 ≤ out.old.capacity }
+    requires room { reply_room ≤ out.old.capacity }
     requires sendable { CanBeSent reply.now }
     ensures bits { out.new ≡ record out.old { items = spelling reply.now handle } }
     ensures in_range { IsReply reply.now }
     ensures few_words { FitsBank reply.now }
     ensures least { 16 ≤ length out.new.items }
     ensures most { length out.new.items ≤ 8225 }
-    ensures answers { (expect : Expect) → Suits reply.now expect → Carries expect handle → Answers reply.now expect out.new.items }
+    ensures answers { (expect : Expect) → Suits reply.now expect → Carries expect handle → AnswersExpected reply.now expect out.new.items }
 {
     write_reply(reply, handle, out);
 }
 
 /// Writes the bits of a reply.
 fn write_reply(reply: &Reply, handle: u16, out: &mut Bits)
-    requires room { 8240 ≤ out.old.capacity }
+    requires room { reply_room ≤ out.old.capacity }
     requires sendable { CanBeSent reply.now }
     ensures bits { out.new ≡ record out.old { items = spelling reply.now handle } }
     ensures in_range { IsReply reply.now }

@@ -1,6 +1,6 @@
 //! What an interrogator may expect in reply to a command, and what came.
 
-use crate::words::{EpcWords, ReadWords};
+use crate::reply_words::{EpcWords, ReadWords};
 use bit_strings::Count1;
 
 /// Which replies a command allows. The number in it is the handle that the reply must carry.

@@ -5,13 +5,13 @@ mod decode;
 mod encode;
 mod expected;
 mod laws;
-mod words;
+mod reply_words;
 
 pub use decode::decode_reply;
 pub use encode::encode_reply;
 pub use expected::{Expect, Received, Reply, ReplyRefusal};
 pub use laws::{reply_laws, reply_length, suiting_law};
-pub use words::{EpcWords, ReadWords};
+pub use reply_words::{EpcWords, ReadWords};
 
 #[cfg(test)]
 mod tests;

@@ -5,7 +5,7 @@ ghost use Rattle.reply_text.specs.ReplyText.{refusal_line, reply_line};
 
 use bit_strings::OutOfMemory;
 use reply_grammar::{Reply, ReplyRefusal};
-use text_fields::{next_words, push_byte_hex, push_named_word};
+use text_fields::{push_next_words, push_byte_hex, push_named_word};
 
 /// Writes a reply at the end of the text, without a line feed. After an error the text may hold a part
 /// of it.
@@ -20,12 +20,12 @@ pub fn push_reply(text: &mut String, reply: &Reply) -> Result<(), OutOfMemory>
         Reply::Rn16(rn) => push_named_word(text, "rn16", *rn),
         Reply::Epc { pc, epc } => {
             push_named_word(text, "epc", *pc)?;
-            next_words(text, epc.as_slice())
+            push_next_words(text, epc.as_slice())
         }
         Reply::Handle(rn) => push_named_word(text, "handle", *rn),
         Reply::Words(words) => {
             text.push_str("words")?;
-            next_words(text, words.as_slice())
+            push_next_words(text, words.as_slice())
         }
         Reply::Header => text.push_str("header"),
         Reply::Error(code) => {

@@ -2,7 +2,7 @@
 use Rattle.std.proofs.Common.{◌⊎◌, ℕ, zero, suc, ◌+◌, ◌<◌, ◌≤◌, Bool, true, false, List, [], ◌∷◌, ◌++◌, length, arith, inl, inr, Result, Ok, Err}
 use Rattle.std.proofs.lemmas.Bool.{cases_lt}
 use Rattle.std.specs.List.{slice_range}
-use Rattle.sample_slicer.specs.Samples.{IsOnSide, IsPure, AreLevels, IsRestAt, IsAnswer}
+use Rattle.sample_slicer.specs.Samples.{IsOnSide, IsPure, AreLevels, IsRestAt, IsSliceAnswer}
 use Rattle.sample_slicer.specs.declared.slicer.SliceRefusal.{SliceRefusal}
 use Rattle.sample_slicer.specs.declared.slicer.SliceRefusal.TheVariants.{Mixed, Rest}
 use Rattle.sample_slicer.proofs.SlicedSoFar.{SlicedTo, sliced_none, sliced_more, pure_before, mixed_here}
@@ -55,7 +55,7 @@ level_decided threshold group =
     ]
 
 abbrev SomeAnswer : ℕ → ℕ → List ℕ → Type 0
-SomeAnswer threshold per samples = (answer : Result (List Bool) SliceRefusal) × IsAnswer threshold per samples answer
+SomeAnswer threshold per samples = (answer : Result (List Bool) SliceRefusal) × IsSliceAnswer threshold per samples answer
 
 -- behind the last whole group
 at_end : (threshold per : ℕ) (samples : List ℕ) (levels : List Bool) (place : ℕ) → SlicedTo threshold per samples levels place → length samples < place + per → SomeAnswer threshold per samples

@@ -5,7 +5,7 @@ use Rattle.std.proofs.lemmas.List.{length-drop, length-take-le}
 use Rattle.std.proofs.lemmas.Bool.{cases_lt}
 use Rattle.std.proofs.lemmas.Option.{slice_get_within}
 use Rattle.std.specs.List.{slice_get}
-use Rattle.sample_slicer.specs.Samples.{group_of, IsPure, ArePureBefore, AreLevels, IsMixedAt, IsRestAt, IsAnswer}
+use Rattle.sample_slicer.specs.Samples.{group_of, IsPure, ArePureBefore, AreLevels, IsMixedAt, IsRestAt, IsSliceAnswer}
 use Rattle.sample_slicer.specs.declared.slicer.SliceRefusal.{SliceRefusal}
 use Rattle.sample_slicer.specs.declared.slicer.SliceRefusal.TheVariants.{Mixed, Rest}
 
@@ -117,7 +117,7 @@ same_rest threshold per samples left right l r =
     let same : l.group ≡ r.group = omega (arith, one, other) in
     l.begins ∙ ap (λ group. group * per) same ∙ sym r.begins
 
-pub same_answer : (threshold per : ℕ) (samples : List ℕ) (left right : Result (List Bool) SliceRefusal) → 1 ≤ per → IsAnswer threshold per samples left → IsAnswer threshold per samples right → left ≡ right
+pub same_answer : (threshold per : ℕ) (samples : List ℕ) (left right : Result (List Bool) SliceRefusal) → 1 ≤ per → IsSliceAnswer threshold per samples left → IsSliceAnswer threshold per samples right → left ≡ right
 same_answer threshold per samples (Ok left) (Ok right) least l r = ap Ok (same_levels threshold per samples left right least l r)
 same_answer threshold per samples (Ok left) (Err (Mixed place)) least l r = absurd (levels_or_mixed threshold per samples left place least l r)
 same_answer threshold per samples (Ok left) (Err (Rest place)) least l r = absurd (levels_or_rest threshold per samples left place l r)

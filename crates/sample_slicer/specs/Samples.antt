@@ -4,6 +4,10 @@ use Rattle.std.specs.List.{All}
 use Rattle.sample_slicer.specs.declared.slicer.SliceRefusal.{SliceRefusal}
 use Rattle.sample_slicer.specs.declared.slicer.SliceRefusal.TheVariants.{Mixed, Rest}
 
+-- the most samples of a capture
+abbrev pub most_samples : ℕ
+most_samples = 132000
+
 -- the samples of a group; the last group may be short
 abbrev pub group_of : List ℕ → ℕ → ℕ → List ℕ
 group_of samples per group = take per (drop (group * per) samples)
@@ -43,11 +47,11 @@ pub record IsRestAt (threshold per : ℕ) (samples : List ℕ) (place : ℕ) : T
   pub short : length samples < place + per
   pub before : ArePureBefore threshold per samples group
 
-abbrev pub Refuses : ℕ → ℕ → List ℕ → SliceRefusal → Type 0
-Refuses threshold per samples (Mixed place) = IsMixedAt threshold per samples place
-Refuses threshold per samples (Rest place) = IsRestAt threshold per samples place
+abbrev pub RefusesSamples : ℕ → ℕ → List ℕ → SliceRefusal → Type 0
+RefusesSamples threshold per samples (Mixed place) = IsMixedAt threshold per samples place
+RefusesSamples threshold per samples (Rest place) = IsRestAt threshold per samples place
 
 -- the answer to samples: the levels of their groups, or why they are no whole levels
-abbrev pub IsAnswer : ℕ → ℕ → List ℕ → Result (List Bool) SliceRefusal → Type 0
-IsAnswer threshold per samples (Ok levels) = AreLevels threshold per samples levels
-IsAnswer threshold per samples (Err refusal) = Refuses threshold per samples refusal
+abbrev pub IsSliceAnswer : ℕ → ℕ → List ℕ → Result (List Bool) SliceRefusal → Type 0
+IsSliceAnswer threshold per samples (Ok levels) = AreLevels threshold per samples levels
+IsSliceAnswer threshold per samples (Err refusal) = RefusesSamples threshold per samples refusal

@@ -1,6 +1,6 @@
 //! The slicer.
 ghost use Rattle.std.specs.Prelude.{◌≡◌, ◌≤◌, Bool, [], length, IsTrue, ◌↔◌, OnOk, OnErr, IfErr, IfSome, IfNone, IfOk};
-ghost use Rattle.sample_slicer.specs.Samples.{AreLevels, IsPure, Refuses};
+ghost use Rattle.sample_slicer.specs.Samples.{AreLevels, IsPure, RefusesSamples, most_samples};
 
 use bit_strings::Levels;
 
@@ -40,10 +40,10 @@ pub fn slice_levels(
 ) -> Result<(), SliceRefusal>
     requires least { 1 ≤ per_level }
     requires most { per_level ≤ 64 }
-    requires few { length samples.now ≤ 132000 }
+    requires few { length samples.now ≤ most_samples }
     requires room { length samples.now ≤ out.old.capacity }
     ensures ok { OnOk result (AreLevels threshold per_level samples.now out.new.items) }
-    ensures refused { IfErr result (Refuses threshold per_level samples.now) }
+    ensures refused { IfErr result (RefusesSamples threshold per_level samples.now) }
     ensures err { OnErr result (out.new.items ≡ []) }
     ensures capacity { out.new.capacity ≡ out.old.capacity }
 {

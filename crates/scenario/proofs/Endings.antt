@@ -1,7 +1,7 @@
 -- Each standing can end.
 use Rattle.std.proofs.Common.{true, false, List, [], ◌∷◌, refl, arith}
 use Rattle.bit_strings.specs.declared.code.Code.TheVariants.{Fm0}
-use Rattle.pie_line.specs.Link.{LinkValue, IsLegal}
+use Rattle.pie_line.specs.Link.{LinkValue, IsLegalLink}
 use Rattle.scenario_lines.specs.declared.line.Line.{Line}
 use Rattle.scenario_lines.specs.declared.line.Line.TheVariants as lines
 use Rattle.scenario_lines.specs.LineForm.{IsLine}
@@ -11,7 +11,7 @@ use Rattle.scenario.specs.Standing.{DraftValue, Follows, Leads, Standing, begun,
 some_link : LinkValue
 some_link = record { tari = 12500; rtcal = 31250; trcal = 50000; pw = 6250; dr = true; code = Fm0; trext = false }
 
-some_link_is_legal : IsLegal some_link
+some_link_is_legal : IsLegalLink some_link
 unfolding some_link
 some_link_is_legal = record {
   tari_range = (omega arith, omega arith);

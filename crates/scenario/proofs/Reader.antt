@@ -8,7 +8,7 @@ use Rattle.scenario_lines.specs.declared.line.Line.{Line}
 use Rattle.scenario_lines.specs.declared.line.Line.TheVariants as lines
 use Rattle.scenario_lines.specs.declared.line.Happening.{Happening}
 use Rattle.scenario_lines.specs.Spelling.{line_text}
-use Rattle.scenario_lines.specs.LineFaults.{Spells}
+use Rattle.scenario_lines.specs.LineFaults.{SpellsLine}
 use Rattle.scenario.specs.declared.fault.Fault.{Fault}
 use Rattle.scenario.specs.declared.fault.Fault.TheVariants.{Extra, End}
 use Rattle.scenario.specs.Standing.{DraftValue, Follows, Leads, Standing, after, ended, grown, new_draft, scenario_of, size, with_air, with_step, within}
@@ -23,7 +23,7 @@ use Rattle.scenario.specs.declared.draft.Taken.{Taken}
 use Rattle.scenario.specs.declared.values.Scenario.{Scenario}
 use Rattle.scenario.specs.declared.fault.ScenarioFault.{ScenarioFault}
 use Rattle.scenario.specs.declared.fault.ScenarioFault.TheVariants as scenario_faults
-use Rattle.scenario.specs.Rest.{AreLeft, Finishes, IsExtra, IsFirstFaultBehind, IsRefusedBehind}
+use Rattle.scenario.specs.Rest.{AreLeft, FinishesScenario, IsExtra, IsFirstFaultBehind, IsRefusedBehind}
 use Rattle.scenario.proofs.Leading.{leads_one}
 use Rattle.scenario.proofs.Texts.{nothing_left, some_line, spells_text, text_spelled}
 
@@ -96,7 +96,7 @@ read_more link text rest line behind draft draft' so_far first by = record {
 pub record NextLeft (line behind : List ℕ) (draft last : DraftValue) : Type 0 where
   pub next : Line
   pub todo : List Line
-  pub spells : Spells (fields_of line) next
+  pub spells : SpellsLine (fields_of line) next
   pub follows : Follows (within draft) next
   pub leads : Leads (after (within draft) next) todo (ended last)
   pub cut : lines_of behind ≡ map line_text todo ++ [] ∷ []
@@ -126,7 +126,7 @@ ended_left draft last (next ∷ todo) leads = absurd leads.0.stands
 
 pub says_more : LineLaws → (link : LinkValue) (text rest line behind : List ℕ) (draft draft' : DraftValue) → StillSays link text rest draft
     → lines_of rest ≡ line ∷ lines_of behind
-    → ((said : Line) → Spells (fields_of line) said → Follows (within draft) said → after (within draft) said ≡ within draft')
+    → ((said : Line) → SpellsLine (fields_of line) said → Follows (within draft) said → after (within draft) said ≡ within draft')
     → StillSays link text behind draft'
 says_more laws link text rest line behind draft draft' still_says first only = λ whole last left.
     let here = still_says whole last left in
@@ -209,7 +209,7 @@ read_end link text rest line behind draft draft' so_far first by =
 
 -- where nothing stands behind the end, the lines say the scenario
 pub end_finishes : (link : LinkValue) (text behind : List ℕ) (draft : DraftValue) (scenario : Scenario) → EndRead link text behind draft
-    → scenario ≡ scenario_of draft → behind ≡ [] → Finishes link text scenario
+    → scenario ≡ scenario_of draft → behind ≡ [] → FinishesScenario link text scenario
 end_finishes link text behind draft scenario read says nothing = record {
   said = read.said;
   draft = draft;
@@ -249,7 +249,7 @@ no_extra behind draft scenario_faults.OutOfMemory nothing extra = refl
 -- where what is left ends here, it says this draft, and nothing stands behind
 pub end_said : LineLaws → (link : LinkValue) (text rest line behind : List ℕ) (draft draft' last : DraftValue) (whole : List Line)
     → StillSays link text rest draft → lines_of rest ≡ line ∷ lines_of behind → AreLeft text (within (new_draft link)) whole last
-    → ((said : Line) → Spells (fields_of line) said → Follows (within draft) said → after (within draft) said ≡ ended draft')
+    → ((said : Line) → SpellsLine (fields_of line) said → Follows (within draft) said → after (within draft) said ≡ ended draft')
     → (draft' ≡ last) × (behind ≡ [])
 end_said laws link text rest line behind draft draft' last whole still_says first left only =
     let here = still_says whole last left in
@@ -261,7 +261,7 @@ end_said laws link text rest line behind draft draft' last whole still_says firs
 -- where what is left says something, the next line is not faulty
 pub not_faulty : LineLaws → (link : LinkValue) (text rest line behind : List ℕ) (draft last : DraftValue) (whole : List Line) → StillSays link text rest draft
     → lines_of rest ≡ line ∷ lines_of behind → AreLeft text (within (new_draft link)) whole last
-    → ((said : Line) → Spells (fields_of line) said → Follows (within draft) said → ⊥) → ⊥
+    → ((said : Line) → SpellsLine (fields_of line) said → Follows (within draft) said → ⊥) → ⊥
 not_faulty laws link text rest line behind draft last whole still_says first left none =
     let here = still_says whole last left in
     let next = next_left laws rest line behind draft last here.0 first here.1 in

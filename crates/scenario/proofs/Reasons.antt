@@ -1,13 +1,13 @@
 -- The first reason for which a line is faulty is one, and a line that may follow has none.
 use Rattle.std.proofs.Common.{◌≡◌, ℕ, List, [], ◌∷◌, length, refl, sym, ◌∙◌, ap, subst}
 use Rattle.text_fields.specs.Lines.{fields_of}
-use Rattle.scenario_lines.specs.declared.words.Word.{Word}
+use Rattle.scenario_lines.specs.declared.first_fields.Word.{Word}
 use Rattle.scenario_lines.specs.declared.line.Line.{Line}
 use Rattle.scenario_lines.specs.declared.line.Line.TheVariants as lines
 use Rattle.scenario_lines.specs.declared.fault.LineFault.{LineFault}
 use Rattle.scenario_lines.specs.declared.fault.LineFault.TheVariants as line_faults
 use Rattle.scenario_lines.specs.Spelling.{line_text, word_of_line}
-use Rattle.scenario_lines.specs.LineFaults.{BeginsWith, Spells}
+use Rattle.scenario_lines.specs.LineFaults.{BeginsWith, SpellsLine}
 use Rattle.scenario.specs.declared.fault.Fault.{Fault}
 use Rattle.scenario.specs.declared.fault.Fault.TheVariants.{Word as WordFault, Limit, Shape, Number, Tari, RtCal, TrCal, Pw, Pc, Tag, Order, Twice}
 use Rattle.scenario.specs.Standing.{AgreesWith, DraftValue, Follows, HasRoom, KeepsOrder, MayStand, NamesTag, Standing, begun, ended, start, within}
@@ -126,7 +126,7 @@ one_reason laws (next ∷ more) begun line fault reason faulty faulty' = one_rea
 one_reason laws (next ∷ more) (within draft) line fault reason faulty faulty' = one_reason_at laws (within draft) (fields_of line) fault reason faulty faulty'
 
 -- a line that may follow doesn't disagree with the lines before it
-no_disagreement_at : LineLaws → (standing : Standing) (fields : List (List ℕ)) (line : Line) (fault : Fault) → Follows standing line → Spells fields line
+no_disagreement_at : LineLaws → (standing : Standing) (fields : List (List ℕ)) (line : Line) (fault : Fault) → Follows standing line → SpellsLine fields line
     → Disagrees standing fields fault → ⊥
 no_disagreement_at laws standing fields line fault follows spells disagrees =
     let same = laws.lines_are_told_apart fields line disagrees.line spells disagrees.spells in
@@ -134,7 +134,7 @@ no_disagreement_at laws standing fields line fault follows spells disagrees =
     subst (λ (l : Line). AgreesWith (within disagrees.draft) l) same (subst (λ (s : Standing). AgreesWith s line) disagrees.here follows.agrees) in
     no_disagreement disagrees.draft disagrees.line fault agrees disagrees.disagrees
 
-follows_at_no_stage : LineLaws → (standing : Standing) (fields : List (List ℕ)) (line : Line) (fault : Fault) → Follows standing line → Spells fields line
+follows_at_no_stage : LineLaws → (standing : Standing) (fields : List (List ℕ)) (line : Line) (fault : Fault) → Follows standing line → SpellsLine fields line
     → Stage standing fields fault → ⊥
 follows_at_no_stage laws standing fields line fault follows spells (no_place is none) =
     none (word_of_line line) (spelled_begins fields line spells) follows.stands

@@ -8,7 +8,7 @@ use Rattle.std.proofs.lemmas.List.Elements.{All-append, All-nil, All-push, All-w
 use Rattle.air_events.specs.declared.Event.{Event}
 use Rattle.air_events.specs.declared.Entry.{Entry}
 use Rattle.command_grammar.specs.declared.commands.Command.TheVariants as commands
-use Rattle.pie_line.specs.Link.{LinkValue, IsLegal}
+use Rattle.pie_line.specs.Link.{LinkValue, IsLegalLink}
 use Rattle.scenario_lines.specs.declared.tag.TagSpec.{TagSpec}
 use Rattle.scenario_lines.specs.declared.line.Happening.{Happening}
 use Rattle.scenario_lines.specs.declared.line.Happening.TheVariants as happenings
@@ -45,7 +45,7 @@ IsBelow exchange entry = entry.0 < exchange
 
 -- a draft that keeps the limits
 pub record Keeps (draft : DraftValue) : Type 0 where
-  pub link : IsLegal draft.link
+  pub link : IsLegalLink draft.link
   pub tags : All IsTag draft.tags
   pub closed : All (IsEntry (length draft.tags)) draft.closed
   pub last : IsLast (length draft.tags) draft.exchange draft.latest
@@ -165,7 +165,7 @@ happening_keeps tags exchange entry (happenings.Choice choice) number is names e
   something = inr (inr (λ none. cc));
 }
 
-new_draft_keeps : (link : LinkValue) → IsLegal link → Keeps (new_draft link)
+new_draft_keeps : (link : LinkValue) → IsLegalLink link → Keeps (new_draft link)
 new_draft_keeps link legal = record {
   link = legal;
   tags = All-nil IsTag;

@@ -8,7 +8,7 @@ use Rattle.air_events.specs.declared.Event.{Event}
 use Rattle.air_events.specs.declared.Choice.{Choice}
 use Rattle.air_events.specs.declared.Entry.{Entry}
 use Rattle.command_grammar.specs.declared.commands.Command.TheVariants as commands
-use Rattle.pie_line.specs.Link.{LinkValue, IsLegal}
+use Rattle.pie_line.specs.Link.{LinkValue, IsLegalLink}
 use Rattle.scenario_lines.specs.declared.tag.TagSpec.{TagSpec}
 use Rattle.scenario_lines.specs.declared.line.Happening.{Happening}
 use Rattle.scenario_lines.specs.declared.line.Happening.TheVariants as happenings
@@ -26,7 +26,7 @@ use Rattle.scenario.specs.Standing.{ChoosesOnce, DraftValue, Follows, IsSaid, Le
 use Rattle.scenario.proofs.Leading.{leads_on}
 
 -- a link that keeps its ranges has the form of a line's
-legal_form : (link : LinkValue) → IsLegal link → IsLinkForm link
+legal_form : (link : LinkValue) → IsLegalLink link → IsLinkForm link
 legal_form link legal =
     let tari = legal.tari_range in
     let rtcal = legal.rtcal_range in

@@ -1,12 +1,12 @@
 -- What a line does to a draft.
 use Rattle.std.proofs.Common.{◌≡◌, ◌≢◌, ℕ, List, Some, refl}
-use Rattle.scenario_lines.specs.declared.words.Word.{Word}
-use Rattle.scenario_lines.specs.declared.words.Word.TheVariants as words
+use Rattle.scenario_lines.specs.declared.first_fields.Word.{Word}
+use Rattle.scenario_lines.specs.declared.first_fields.Word.TheVariants as words
 use Rattle.scenario_lines.specs.declared.line.Line.{Line}
 use Rattle.scenario_lines.specs.declared.line.Line.TheVariants as lines
 use Rattle.scenario_lines.specs.Names.{air_kind, event_kind}
 use Rattle.scenario_lines.specs.Spelling.{other_fields, word_of_line}
-use Rattle.scenario_lines.specs.LineFaults.{BeginsWith, HasKnownKind, Spells}
+use Rattle.scenario_lines.specs.LineFaults.{BeginsWith, HasKnownKind, SpellsLine}
 use Rattle.scenario.specs.declared.fault.Fault.{Fault}
 use Rattle.scenario.specs.declared.fault.Fault.TheVariants.{Extra, End, Version, Word as WordFault, Limit, Shape, Number, Tari, RtCal, TrCal, Pw, Pc, Tag, Order, Twice}
 use Rattle.scenario.specs.Standing.{Agrees, DraftValue, after, ended, grown, within}
@@ -24,7 +24,7 @@ known_kind (lines.Round spec) = tt
 known_kind lines.End = tt
 
 -- the fields of a line begin with its word
-pub spelled_begins : (fields : List (List ℕ)) (said : Line) → Spells fields said → BeginsWith fields (word_of_line said)
+pub spelled_begins : (fields : List (List ℕ)) (said : Line) → SpellsLine fields said → BeginsWith fields (word_of_line said)
 spelled_begins fields said spells = record { others = other_fields said; first = spells.spelling; kind = known_kind said }
 
 pub same_word : {word other : Word} → Some word ≡ Some other → word ≡ other

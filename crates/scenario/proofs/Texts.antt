@@ -9,7 +9,7 @@ use Rattle.text_fields.specs.LineLaws.{fields_come_back, lines_come_back}
 use Rattle.scenario_lines.specs.declared.line.Line.{Line}
 use Rattle.scenario_lines.specs.LineForm.{IsLine}
 use Rattle.scenario_lines.specs.Spelling.{line_fields, line_text}
-use Rattle.scenario_lines.specs.LineFaults.{Spells}
+use Rattle.scenario_lines.specs.LineFaults.{SpellsLine}
 use Rattle.scenario.specs.LineLaws.{LineLaws}
 use Rattle.scenario.specs.Standing.{Leads, Standing, after}
 
@@ -24,10 +24,10 @@ fields_spelled laws said is =
     (All-weaker IsFieldText (Lacks space) (λ field text. text.no_space) (line_fields said) (laws.lines_are_field_texts said is))
 
 -- a line that spells something is its text
-pub text_spelled : (line : List ℕ) (said : Line) → Spells (fields_of line) said → line ≡ line_text said
+pub text_spelled : (line : List ℕ) (said : Line) → SpellsLine (fields_of line) said → line ≡ line_text said
 text_spelled line said spells = sym (join_with_byte-slice_split space line) ∙ ap line_with spells.spelling
 
-pub spells_text : LineLaws → (line : List ℕ) (said : Line) → line ≡ line_text said → IsLine said → Spells (fields_of line) said
+pub spells_text : LineLaws → (line : List ℕ) (said : Line) → line ≡ line_text said → IsLine said → SpellsLine (fields_of line) said
 spells_text laws line said same is = record { spelling = ap fields_of same ∙ fields_spelled laws said is; is = is }
 
 join_lacks : (fields : List (List ℕ)) → All (Lacks line_feed) fields → Lacks line_feed (line_with fields)

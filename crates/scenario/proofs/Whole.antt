@@ -8,7 +8,7 @@ use Rattle.scenario_lines.specs.declared.line.Line.{Line}
 use Rattle.scenario_lines.specs.declared.line.Line.TheVariants as lines
 use Rattle.scenario_lines.specs.LineForm.{IsLine}
 use Rattle.scenario_lines.specs.Spelling.{line_text}
-use Rattle.scenario_lines.specs.LineFaults.{Spells}
+use Rattle.scenario_lines.specs.LineFaults.{SpellsLine}
 use Rattle.scenario.specs.declared.values.Scenario.{Scenario}
 use Rattle.scenario.specs.declared.fault.Fault.{Fault}
 use Rattle.scenario.specs.declared.fault.Fault.TheVariants.{End, Version}
@@ -19,7 +19,7 @@ use Rattle.scenario.specs.Limits.{IsScenario}
 use Rattle.scenario.specs.LineLaws.{LineLaws}
 use Rattle.scenario.specs.Standing.{DraftValue, Follows, Leads, Standing, begun, ended, new_draft, scenario_of, start, within}
 use Rattle.scenario.specs.Faults.{IsFaultyAt, IsFaultyBefore, IsFirstFault, IsRefused, Settles}
-use Rattle.scenario.specs.Rest.{AreLeft, Finishes, IsFirstFaultBehind, IsRefusedBehind}
+use Rattle.scenario.specs.Rest.{AreLeft, FinishesScenario, IsFirstFaultBehind, IsRefusedBehind}
 use Rattle.scenario.proofs.Settled.{said_scenario}
 use Rattle.scenario.proofs.Spoken.{scenario_is_said}
 use Rattle.scenario.proofs.Texts.{lines_said, some_line, spells_text, text_of_lines, text_spelled}
@@ -108,7 +108,7 @@ pub record Heads (text version behind line rest : List ℕ) (link : LinkValue) :
   pub cut : lines_of text ≡ version ∷ lines_of behind
   pub same : version ≡ line_text lines.Version
   pub cut_behind : lines_of behind ≡ line ∷ lines_of rest
-  pub spells : Spells (fields_of line) (lines.Link link)
+  pub spells : SpellsLine (fields_of line) (lines.Link link)
 
 heads_cut : (text version behind line rest : List ℕ) (link : LinkValue) → Heads text version behind line rest link
     → lines_of text ≡ line_text lines.Version ∷ line_text (lines.Link link) ∷ lines_of rest
@@ -123,7 +123,7 @@ heads_lead to link said is leads = (version_follows, (link_follows link is, lead
 
 -- what is read is spelled so
 pub read_is_spelled : (text version behind line rest : List ℕ) (link : LinkValue) (scenario : Scenario) → Heads text version behind line rest link
-    → Finishes link rest scenario → IsScenario scenario × (text ≡ scenario_text scenario)
+    → FinishesScenario link rest scenario → IsScenario scenario × (text ≡ scenario_text scenario)
 read_is_spelled text version behind line rest link scenario heads finishes =
     let said = lines.Version ∷ lines.Link link ∷ finishes.said in
     let leads = heads_lead (ended finishes.draft) link finishes.said heads.spells.is finishes.left.leads in
@@ -190,7 +190,7 @@ second_is_there text version behind scenario opened cut one =
 -- ... which is the link's
 pub second_is_link : LineLaws → (text version behind line rest : List ℕ) (scenario : Scenario) (opened : Opens text scenario)
     → lines_of text ≡ version ∷ lines_of behind → lines_of behind ≡ line ∷ lines_of rest
-    → Spells (fields_of line) (lines.Link scenario.link) × AreLeft rest (within (new_draft scenario.link)) opened.todo opened.draft
+    → SpellsLine (fields_of line) (lines.Link scenario.link) × AreLeft rest (within (new_draft scenario.link)) opened.todo opened.draft
 second_is_link laws text version behind line rest scenario opened cut cut' =
     let same = sym (cut ∙ ap (λ (list : List (List ℕ)). version ∷ list) cut') ∙ opened.cut in
     let link : line ≡ line_text (lines.Link scenario.link) = cc in

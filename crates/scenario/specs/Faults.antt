@@ -1,13 +1,13 @@
 -- Profile: the first faulty line of a text that is no scenario.
 use Rattle.std.specs.Prelude.{◌≡◌, ◌≢◌, ℕ, ◌+◌, List, [], ◌∷◌, ◌++◌, length, map}
 use Rattle.text_fields.specs.Lines.{fields_of, lines_of}
-use Rattle.scenario_lines.specs.declared.words.Word.{Word}
+use Rattle.scenario_lines.specs.declared.first_fields.Word.{Word}
 use Rattle.scenario_lines.specs.declared.line.Line.{Line}
 use Rattle.scenario_lines.specs.declared.line.Line.TheVariants as lines
 use Rattle.scenario_lines.specs.declared.fault.LineFault.{LineFault}
 use Rattle.scenario_lines.specs.declared.fault.LineFault.TheVariants as line_faults
 use Rattle.scenario_lines.specs.Spelling.{line_text, word_of_line}
-use Rattle.scenario_lines.specs.LineFaults.{BeginsWith, IsFaulty, Spells}
+use Rattle.scenario_lines.specs.LineFaults.{BeginsWith, IsFaultyLine, SpellsLine}
 use Rattle.scenario.specs.declared.fault.Fault.{Fault}
 use Rattle.scenario.specs.declared.fault.Fault.TheVariants.{Extra, End, Version, Word as WordFault, Limit, Shape, Number, Tari, RtCal, TrCal, Pw, Pc, Tag, Order, Twice}
 use Rattle.scenario.specs.declared.fault.ScenarioFault.{ScenarioFault}
@@ -42,7 +42,7 @@ pub record IsTooMuch (standing : Standing) (fields : List (List ℕ)) : Type 0 w
 -- the line has its place, and says nothing
 pub record SaysNothing (standing : Standing) (fields : List (List ℕ)) (fault : LineFault) : Type 0 where
   pub place : HasPlace standing fields
-  pub faulty : IsFaulty fields fault
+  pub faulty : IsFaultyLine fields fault
 
 -- the first reason for which a line that may stand here doesn't agree with the lines before it
 abbrev pub DisagreesBy : DraftValue → Line → Fault → Type 0
@@ -56,7 +56,7 @@ pub record Disagrees (standing : Standing) (fields : List (List ℕ)) (fault : F
   pub draft : DraftValue
   pub here : standing ≡ within draft
   pub line : Line
-  pub spells : Spells fields line
+  pub spells : SpellsLine fields line
   pub stands : MayStand standing (word_of_line line)
   pub room : HasRoom standing (word_of_line line)
   pub disagrees : DisagreesBy draft line fault

@@ -3,7 +3,7 @@ use Rattle.std.specs.Prelude.{◌≡◌, ◌≢◌, ℕ, ◌<◌, ◌≤◌, Lis
 use Rattle.air_events.specs.declared.Entry.{Entry}
 use Rattle.access_ops.specs.declared.OpList.{OpList}
 use Rattle.command_grammar.specs.declared.commands.Command.TheVariants as commands
-use Rattle.pie_line.specs.Link.{IsLegal}
+use Rattle.pie_line.specs.Link.{IsLegalLink}
 use Rattle.scenario_lines.specs.TagForm.{IsTag}
 use Rattle.scenario_lines.specs.LineForm.{IsEvent, IsPlace, IsChoice, IsExchange, IsRound, IsSelection}
 use Rattle.scenario.specs.declared.values.Step.{Step}
@@ -53,7 +53,7 @@ IsStep tags (steps.Round spec operations) = IsRound spec × (operations ≡ no_o
 
 -- the scenario keeps the limits, and so has a text
 pub record IsScenario (scenario : Scenario) : Type 0 where
-  pub link : IsLegal scenario.link
+  pub link : IsLegalLink scenario.link
   pub tags : All IsTag scenario.tags
   pub entries : All (IsEntry (length scenario.tags)) scenario.entries
   pub rising : Rises 0 scenario.entries

@@ -1,16 +1,16 @@
 -- What the laws of scenario_lines say of lines: each field holds what the function of its name ensures.
 use Rattle.std.specs.Prelude.{◌≡◌, ℕ, List, All}
 use Rattle.text_fields.specs.Lines.{IsFieldText}
-use Rattle.scenario_lines.specs.declared.words.Word.{Word}
+use Rattle.scenario_lines.specs.declared.first_fields.Word.{Word}
 use Rattle.scenario_lines.specs.declared.line.Line.{Line}
 use Rattle.scenario_lines.specs.declared.fault.LineFault.{LineFault}
 use Rattle.scenario_lines.specs.LineForm.{IsLine}
-use Rattle.scenario_lines.specs.LineFaults.{BeginsWith, IsFaulty, Spells}
+use Rattle.scenario_lines.specs.LineFaults.{BeginsWith, IsFaultyLine, SpellsLine}
 use Rattle.scenario_lines.specs.Spelling.{line_fields}
 
 pub record LineLaws : Type 0 where
   pub lines_are_field_texts : (line : Line) → IsLine line → All IsFieldText (line_fields line)
-  pub lines_are_told_apart : (fields : List (List ℕ)) (one other : Line) → Spells fields one → Spells fields other → one ≡ other
+  pub lines_are_told_apart : (fields : List (List ℕ)) (one other : Line) → SpellsLine fields one → SpellsLine fields other → one ≡ other
   pub lines_begin_with_one_word : (fields : List (List ℕ)) (one other : Word) → BeginsWith fields one → BeginsWith fields other → one ≡ other
-  pub spelled_lines_are_not_faulty : (fields : List (List ℕ)) (line : Line) (fault : LineFault) → Spells fields line → IsFaulty fields fault → ⊥
-  pub lines_have_one_fault : (fields : List (List ℕ)) (one other : LineFault) → IsFaulty fields one → IsFaulty fields other → one ≡ other
+  pub spelled_lines_are_not_faulty : (fields : List (List ℕ)) (line : Line) (fault : LineFault) → SpellsLine fields line → IsFaultyLine fields fault → ⊥
+  pub lines_have_one_fault : (fields : List (List ℕ)) (one other : LineFault) → IsFaultyLine fields one → IsFaultyLine fields other → one ≡ other

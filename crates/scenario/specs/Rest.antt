@@ -18,7 +18,7 @@ pub record AreLeft (rest : List ℕ) (from : Standing) (said : List Line) (draft
   pub leads : Leads from said (ended draft)
 
 -- the lines behind a link say the scenario
-pub record Finishes (link : LinkValue) (rest : List ℕ) (scenario : Scenario) : Type 0 where
+pub record FinishesScenario (link : LinkValue) (rest : List ℕ) (scenario : Scenario) : Type 0 where
   pub said : List Line
   pub draft : DraftValue
   pub left : AreLeft rest (within (new_draft link)) said draft

@@ -7,8 +7,8 @@ use Rattle.command_grammar.specs.declared.commands.Command.TheVariants as comman
 use Rattle.pie_line.specs.Link.{LinkValue}
 use Rattle.air_events.specs.Entries.{no_entry}
 use Rattle.scenario_lines.specs.declared.tag.TagSpec.{TagSpec}
-use Rattle.scenario_lines.specs.declared.words.Word.{Word}
-use Rattle.scenario_lines.specs.declared.words.Word.TheVariants as words
+use Rattle.scenario_lines.specs.declared.first_fields.Word.{Word}
+use Rattle.scenario_lines.specs.declared.first_fields.Word.TheVariants as words
 use Rattle.scenario_lines.specs.declared.line.Happening.{Happening}
 use Rattle.scenario_lines.specs.declared.line.Happening.TheVariants as happenings
 use Rattle.scenario_lines.specs.declared.line.Line.{Line}

@@ -1,7 +1,7 @@
 -- What a line does to a draft.
 use Rattle.std.specs.Prelude.{◌≡◌, ℕ, List}
 use Rattle.scenario_lines.specs.declared.line.Line.{Line}
-use Rattle.scenario_lines.specs.LineFaults.{Spells}
+use Rattle.scenario_lines.specs.LineFaults.{SpellsLine}
 use Rattle.scenario.specs.declared.draft.Taken.{Taken}
 use Rattle.scenario.specs.declared.draft.Taken.TheVariants.{More, End, Faulty}
 use Rattle.scenario.specs.Standing.{DraftValue, Standing, within, ended, Follows, after}
@@ -10,7 +10,7 @@ use Rattle.scenario.specs.Faults.{IsFaultyAt}
 -- the fields spell a line that may follow, and it leads there
 pub record LeadsBy (fields : List (List ℕ)) (old new : Standing) : Type 0 where
   pub line : Line
-  pub spelling : Spells fields line
+  pub spelling : SpellsLine fields line
   pub follows : Follows old line
   pub leads : after old line ≡ new
 

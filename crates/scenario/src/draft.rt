@@ -4,7 +4,7 @@ ghost use Rattle.text_fields.specs.Lines.{fields_of};
 ghost use Rattle.scenario.specs.Standing.{Agrees, ChoosesOnce, Follows, HasRoom, KeepsOrder, MayFollow, MayStand, NamesTag, after, entries_of, grown, last_entry, new_draft, scenario_of, size, turned, with_air, with_happening, with_step, within};
 ghost use Rattle.scenario.specs.Faults.{DisagreesBy, fault_of_line};
 ghost use Rattle.scenario_lines.specs.declared.line.Line.{Line};
-ghost use Rattle.scenario_lines.specs.LineFaults.{Spells};
+ghost use Rattle.scenario_lines.specs.LineFaults.{SpellsLine};
 ghost use Rattle.scenario_lines.specs.Spelling.{word_of_line};
 ghost use Rattle.scenario.specs.Limits.{most_air_lines, most_steps, most_tags, no_operations};
 ghost use Rattle.scenario.specs.Taking.{LeadsTo, Takes};
@@ -302,7 +302,7 @@ impl Draft {
     /// part of what the line says.
     pub(crate) fn take(&mut self, alloc: Global, line: &[u8]) -> Result<Taken, OutOfMemory>
         ensures taken { IfOk result (Takes self.old (fields_of line.now) self.new) }
-        ensures only { (said : Line) → Spells (fields_of line.now) said → Follows (within self.old) said
+        ensures only { (said : Line) → SpellsLine (fields_of line.now) said → Follows (within self.old) said
             → IfOk result (LeadsTo (after (within self.old) said) self.new) }
     {
         let Some(word) = word_of(line) else {

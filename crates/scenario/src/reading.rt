@@ -6,10 +6,10 @@ ghost use Rattle.scenario.specs.Limits.{IsScenario};
 ghost use Rattle.scenario.specs.ScenarioText.{scenario_text};
 ghost use Rattle.scenario.specs.Standing.{DraftValue, Follows, begun, new_draft, scenario_of, within};
 ghost use Rattle.scenario.specs.Faults.{IsFaultyAt, IsFirstFault, IsRefused};
-ghost use Rattle.scenario.specs.Rest.{AreLeft, Finishes, IsExtra, IsRefusedBehind};
+ghost use Rattle.scenario.specs.Rest.{AreLeft, FinishesScenario, IsExtra, IsRefusedBehind};
 ghost use Rattle.text_fields.specs.Lines.{fields_of};
 ghost use Rattle.scenario_lines.specs.Spelling.{line_text};
-ghost use Rattle.scenario_lines.specs.LineFaults.{Spells};
+ghost use Rattle.scenario_lines.specs.LineFaults.{SpellsLine};
 
 use crate::draft::{Draft, Taken, fault_of};
 use crate::laws::line_laws;
@@ -35,8 +35,8 @@ fn is_version(line: &[u8]) -> bool
 ///
 /// The first reason for which the line is faulty.
 fn link_of(line: &[u8]) -> Result<Link, Fault>
-    ensures ok { IfOk result (λ link. Spells (fields_of line.now) (Line.Link link)) }
-    ensures only { (said : Line) → Spells (fields_of line.now) said → Follows begun said → IsOkAnd result (λ link. said ≡ Line.Link link) }
+    ensures ok { IfOk result (λ link. SpellsLine (fields_of line.now) (Line.Link link)) }
+    ensures only { (said : Line) → SpellsLine (fields_of line.now) said → Follows begun said → IsOkAnd result (λ link. said ≡ Line.Link link) }
     ensures refused { IfErr result (IsFaultyAt begun (fields_of line.now)) }
 {
     let Some(word) = word_of(line) else {
@@ -69,7 +69,7 @@ fn finish(draft: Draft, rest: &[u8]) -> Result<Scenario, ScenarioFault>
 
 /// The scenario of a link, which the lines behind that of the link spell.
 fn read_behind_link(alloc: Global, link: Link, text: &[u8]) -> Result<Scenario, ScenarioFault>
-    ensures ok { IfOk result (Finishes link text.now) }
+    ensures ok { IfOk result (FinishesScenario link text.now) }
     ensures only { (said : List Line) (draft : DraftValue) → AreLeft text.now (within (new_draft link)) said draft
         → IfOk result (λ scenario. scenario ≡ scenario_of draft) × IfErr result (λ fault. fault ≡ ScenarioFault.OutOfMemory) }
     ensures refused { IfErr result (IsRefusedBehind link text.now) }

@@ -1,19 +1,19 @@
 -- Fields spell a line, or are faulty for one reason.
 use Rattle.std.proofs.Common.{◌≡◌, ℕ, true, false, List, ◌∷◌, ap, refl, sym, ◌∙◌, subst}
 use Rattle.tag_memory.specs.Image.{pc_fits}
-use Rattle.pie_line.specs.Link.{IsLegal, LinkValue}
+use Rattle.pie_line.specs.Link.{IsLegalLink, LinkValue}
 use Rattle.pie_line.specs.LinkRefusal.{IsFirstBroken}
 use Rattle.pie_line.specs.declared.link.LinkRefusal.{LinkRefusal}
 use Rattle.pie_line.specs.declared.link.LinkRefusal.TheVariants as refusals
-use Rattle.scenario_lines.specs.declared.words.Word.{Word}
-use Rattle.scenario_lines.specs.declared.words.Word.TheVariants as words
+use Rattle.scenario_lines.specs.declared.first_fields.Word.{Word}
+use Rattle.scenario_lines.specs.declared.first_fields.Word.TheVariants as words
 use Rattle.scenario_lines.specs.declared.line.Line.{Line}
 use Rattle.scenario_lines.specs.declared.line.Line.TheVariants as lines
 use Rattle.scenario_lines.specs.declared.fault.LineFault.{LineFault}
 use Rattle.scenario_lines.specs.declared.fault.LineFault.TheVariants.{Word as WordFault, Shape, Number, Tari, RtCal, TrCal, Pw, Pc}
 use Rattle.scenario_lines.specs.Names.{word_text}
 use Rattle.scenario_lines.specs.LineForm.{HasForm, IsCoherent}
-use Rattle.scenario_lines.specs.LineFaults.{BeginsWith, BreaksLink, HasShape, IsFaulty, IsFaultyBehind, Spells}
+use Rattle.scenario_lines.specs.LineFaults.{BeginsWith, BreaksLink, HasShape, IsFaultyLine, IsFaultyBehind, SpellsLine}
 use Rattle.scenario_lines.specs.Spelling.{line_fields, other_fields, word_of_line}
 use Rattle.scenario_lines.specs.Reading.{link_fault}
 use Rattle.scenario_lines.proofs.LineShapes.{line_shape, shaped_known}
@@ -82,7 +82,7 @@ disagrees_once (lines.Tag tag) one other broken broken' = broken.0 ∙ sym broke
 disagrees_once line one other broken broken' = absurd broken
 
 -- a link that is refused is not legal
-broken_illegal : (refusal : LinkRefusal) (link : LinkValue) → IsFirstBroken refusal link.tari link.rtcal link.trcal link.pw → IsLegal link → ⊥
+broken_illegal : (refusal : LinkRefusal) (link : LinkValue) → IsFirstBroken refusal link.tari link.rtcal link.trcal link.pw → IsLegalLink link → ⊥
 broken_illegal refusals.Tari link broken legal = broken legal.tari_range
 broken_illegal refusals.RtCal link broken legal = broken.1 legal.rtcal_range
 broken_illegal refusals.TrCal link broken legal = broken.2 legal.trcal_range
@@ -146,7 +146,7 @@ tag_stop fields words.Tag others first breaks =
     (refl, breaks.broken)
 tag_stop fields word others first breaks = absurd breaks
 
-stop_of : (fields : List (List ℕ)) (fault : LineFault) → IsFaulty fields fault → Stops fields fault
+stop_of : (fields : List (List ℕ)) (fault : LineFault) → IsFaultyLine fields fault → Stops fields fault
 stop_of fields WordFault faulty = unknown refl (λ begins. faulty begins.0 begins.1)
 stop_of fields Shape faulty =
     unshaped refl (faulty.word, record { others = faulty.others; first = faulty.first; kind = faulty.faulty.0 })
@@ -170,9 +170,9 @@ goes_on fields fault formed coherent (unformed is shape none) = none formed
 goes_on fields fault formed coherent (apart formed' broken) =
     disagrees_incoherent formed.line fault (subst (λ line. Disagrees line fault) (formed_same fields formed' formed) broken) coherent
 
-pub spelled_not_faulty : (fields : List (List ℕ)) (line : Line) (fault : LineFault) → Spells fields line → IsFaulty fields fault → ⊥
+pub spelled_not_faulty : (fields : List (List ℕ)) (line : Line) (fault : LineFault) → SpellsLine fields line → IsFaultyLine fields fault → ⊥
 spelled_not_faulty fields line fault spells faulty =
     goes_on fields fault (record { line = line; spelling = spells.spelling; form = spells.is.form }) spells.is.coherent (stop_of fields fault faulty)
 
-pub faulty_once : (fields : List (List ℕ)) (one other : LineFault) → IsFaulty fields one → IsFaulty fields other → one ≡ other
+pub faulty_once : (fields : List (List ℕ)) (one other : LineFault) → IsFaultyLine fields one → IsFaultyLine fields other → one ≡ other
 faulty_once fields one other faulty faulty' = stops_once fields one other (stop_of fields one faulty) (stop_of fields other faulty')

@@ -6,8 +6,8 @@ use Rattle.std.proofs.lemmas.List.Elements.{All-head, All-weaker}
 use Rattle.text_fields.specs.Lines.{IsFieldText}
 use Rattle.scenario_lines.specs.declared.line.Line.{Line}
 use Rattle.scenario_lines.specs.declared.line.Line.TheVariants as lines
-use Rattle.scenario_lines.specs.declared.words.Word.{Word}
-use Rattle.scenario_lines.specs.declared.words.Word.TheVariants as words
+use Rattle.scenario_lines.specs.declared.first_fields.Word.{Word}
+use Rattle.scenario_lines.specs.declared.first_fields.Word.TheVariants as words
 use Rattle.scenario_lines.specs.Names.{air_kind, air_word, event_kind, word_text}
 use Rattle.scenario_lines.specs.LineForm.{HasForm, IsLine}
 use Rattle.scenario_lines.specs.LineFaults.{BeginsWith, HasKnownKind, HasShape}

@@ -20,7 +20,7 @@ use Rattle.scenario_lines.specs.declared.line.Line.TheVariants as lines
 use Rattle.scenario_lines.specs.Names.{air_kind, air_word, event_kind, event_word, sel_text, word_text}
 use Rattle.scenario_lines.specs.TagForm.{IsTagForm}
 use Rattle.scenario_lines.specs.LineForm.{HasForm, IsEvent, IsHappening, IsLinkForm, IsRound, IsSelection}
-use Rattle.scenario_lines.specs.LineFaults.{Spells}
+use Rattle.scenario_lines.specs.LineFaults.{SpellsLine}
 use Rattle.scenario_lines.specs.Spelling.{event_fields, flag_text, happening_fields, line_fields, link_fields, locks_text, other_fields, password_text, round_fields, select_fields, tag_fields, word_of_line}
 use Rattle.scenario_lines.proofs.TagFields.{same_7, same_tag}
 use Rattle.scenario_lines.proofs.ToldNames.{air_word_told, bank_told, code_told, event_word_told, flag_told, sel_told, side_told, word_told}
@@ -180,5 +180,5 @@ line_told one other form form' same =
     let fields = same_fields (word_text (word_of_line one)) (word_text (word_of_line other)) (other_fields one) (other_fields other) same in
     behind_told one other form form' (word_told (word_of_line one) (word_of_line other) fields.0) fields.1
 
-pub spelled_told : (fields : List (List ℕ)) (one other : Line) → Spells fields one → Spells fields other → one ≡ other
+pub spelled_told : (fields : List (List ℕ)) (one other : Line) → SpellsLine fields one → SpellsLine fields other → one ≡ other
 spelled_told fields one other spells spells' = line_told one other spells.is.form spells'.is.form (sym spells.spelling ∙ spells'.spelling)

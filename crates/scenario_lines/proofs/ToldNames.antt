@@ -5,20 +5,20 @@ use Rattle.bit_strings.specs.declared.code.Code.TheVariants as line_codes
 use Rattle.text_fields.specs.Binary.{binary_digit}
 use Rattle.text_fields.specs.CodeNames.{code_word}
 use Rattle.command_text.specs.CommandText.{flag_word, mask_bank_word, side_word}
-use Rattle.command_grammar.specs.declared.command.FlagName.{FlagName}
-use Rattle.command_grammar.specs.declared.command.FlagName.TheVariants as flags
-use Rattle.command_grammar.specs.declared.command.MaskBank.{MaskBank}
-use Rattle.command_grammar.specs.declared.command.MaskBank.TheVariants as banks
-use Rattle.command_grammar.specs.declared.command.Sel.{Sel}
-use Rattle.command_grammar.specs.declared.command.Sel.TheVariants as sels
-use Rattle.command_grammar.specs.declared.command.Side.{Side}
-use Rattle.command_grammar.specs.declared.command.Side.TheVariants as sides
-use Rattle.scenario_lines.specs.declared.words.Word.{Word}
-use Rattle.scenario_lines.specs.declared.words.Word.TheVariants as words
-use Rattle.scenario_lines.specs.declared.words.EventKind.{EventKind}
-use Rattle.scenario_lines.specs.declared.words.EventKind.TheVariants as events
-use Rattle.scenario_lines.specs.declared.words.AirKind.{AirKind}
-use Rattle.scenario_lines.specs.declared.words.AirKind.TheVariants as airs
+use Rattle.command_grammar.specs.declared.field_values.FlagName.{FlagName}
+use Rattle.command_grammar.specs.declared.field_values.FlagName.TheVariants as flags
+use Rattle.command_grammar.specs.declared.field_values.MaskBank.{MaskBank}
+use Rattle.command_grammar.specs.declared.field_values.MaskBank.TheVariants as banks
+use Rattle.command_grammar.specs.declared.field_values.Sel.{Sel}
+use Rattle.command_grammar.specs.declared.field_values.Sel.TheVariants as sels
+use Rattle.command_grammar.specs.declared.field_values.Side.{Side}
+use Rattle.command_grammar.specs.declared.field_values.Side.TheVariants as sides
+use Rattle.scenario_lines.specs.declared.first_fields.Word.{Word}
+use Rattle.scenario_lines.specs.declared.first_fields.Word.TheVariants as words
+use Rattle.scenario_lines.specs.declared.first_fields.EventKind.{EventKind}
+use Rattle.scenario_lines.specs.declared.first_fields.EventKind.TheVariants as events
+use Rattle.scenario_lines.specs.declared.first_fields.AirKind.{AirKind}
+use Rattle.scenario_lines.specs.declared.first_fields.AirKind.TheVariants as airs
 use Rattle.scenario_lines.specs.Names.{air_word, event_word, sel_text, word_text}
 
 -- the letter at a place of two equal texts

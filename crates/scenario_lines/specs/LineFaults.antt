@@ -6,10 +6,10 @@ use Rattle.pie_line.specs.LinkRefusal.{IsFirstBroken}
 use Rattle.pie_line.specs.declared.link.LinkRefusal.{LinkRefusal}
 use Rattle.pie_line.specs.declared.link.LinkRefusal.TheVariants as refusals
 use Rattle.scenario_lines.specs.declared.tag.TagSpec.{TagSpec}
-use Rattle.scenario_lines.specs.declared.words.Word.{Word}
-use Rattle.scenario_lines.specs.declared.words.Word.TheVariants as words
-use Rattle.scenario_lines.specs.declared.words.EventKind.{EventKind}
-use Rattle.scenario_lines.specs.declared.words.AirKind.{AirKind}
+use Rattle.scenario_lines.specs.declared.first_fields.Word.{Word}
+use Rattle.scenario_lines.specs.declared.first_fields.Word.TheVariants as words
+use Rattle.scenario_lines.specs.declared.first_fields.EventKind.{EventKind}
+use Rattle.scenario_lines.specs.declared.first_fields.AirKind.{AirKind}
 use Rattle.scenario_lines.specs.declared.line.Line.{Line}
 use Rattle.scenario_lines.specs.declared.fault.LineFault.{LineFault}
 use Rattle.scenario_lines.specs.declared.fault.LineFault.TheVariants.{Word as WordFault, Shape, Number, Tari, RtCal, TrCal, Pw, Pc}
@@ -89,10 +89,10 @@ pub record Misspells (fields : List (List ℕ)) (fault : LineFault) : Type 0 whe
   pub faulty : IsFaultyBehind word others fault
 
 -- the first reason for which the fields of a line say nothing, whatever the lines before it say
-abbrev pub IsFaulty : List (List ℕ) → LineFault → Type 0
+abbrev pub IsFaultyLine : List (List ℕ) → LineFault → Type 0
 -- no word of a scenario stands at their head, with a kind that is known where a kind is there
-IsFaulty fields WordFault = (word : Word) → ¬ BeginsWith fields word
-IsFaulty fields fault = Misspells fields fault
+IsFaultyLine fields WordFault = (word : Word) → ¬ BeginsWith fields word
+IsFaultyLine fields fault = Misspells fields fault
 
 -- behind this first field, these fields spell the line, which may stand in a scenario
 pub record SpellsBehind (first : Word) (others : List (List ℕ)) (line : Line) : Type 0 where
@@ -101,6 +101,6 @@ pub record SpellsBehind (first : Word) (others : List (List ℕ)) (line : Line) 
   pub is : IsLine line
 
 -- the fields spell the line, which may stand in a scenario
-pub record Spells (fields : List (List ℕ)) (line : Line) : Type 0 where
+pub record SpellsLine (fields : List (List ℕ)) (line : Line) : Type 0 where
   pub spelling : fields ≡ line_fields line
   pub is : IsLine line

@@ -1,13 +1,13 @@
 -- Profile: what a line of a scenario may say.
 use Rattle.std.specs.Prelude.{◌≡◌, ◌≢◌, ℕ, ◌≤◌, true, length}
-use Rattle.command_grammar.specs.declared.command.FlagName.TheVariants.{S0}
-use Rattle.command_grammar.specs.declared.command.Sel.TheVariants.{All01}
+use Rattle.command_grammar.specs.declared.field_values.FlagName.TheVariants.{S0}
+use Rattle.command_grammar.specs.declared.field_values.Sel.TheVariants.{All01}
 use Rattle.air_events.specs.declared.Event.{Event}
 use Rattle.air_events.specs.declared.Event.TheVariants.{Expire}
 use Rattle.air_events.specs.declared.Choice.{Choice}
 use Rattle.air_events.specs.declared.Choice.TheVariants.{Pick, Silent, Break}
 use Rattle.tag_memory.specs.Image.{pc_fits}
-use Rattle.pie_line.specs.Link.{LinkValue, IsLegal}
+use Rattle.pie_line.specs.Link.{LinkValue, IsLegalLink}
 use Rattle.q_round.specs.SpecValue.{SpecValue, IsLegalSpec}
 use Rattle.scenario_lines.specs.TagForm.{IsTagForm}
 use Rattle.scenario_lines.specs.declared.line.Happening.{Happening}
@@ -19,6 +19,10 @@ use Rattle.scenario_lines.specs.declared.line.Line.TheVariants as lines
 -- the greatest length of time in a line, in nanoseconds
 abbrev pub most_nanoseconds : ℕ
 most_nanoseconds = 999999
+
+-- the greatest number of a level that a break names
+abbrev pub most_level : ℕ
+most_level = 999999
 
 -- each length of a link is in the range of its field
 pub record IsLinkForm (link : LinkValue) : Type 0 where
@@ -39,7 +43,7 @@ pub record IsEvent (event : Event) (tag : ℕ) : Type 0 where
 abbrev pub IsChoice : Choice → Type 0
 IsChoice (Pick reply) = IsPlace reply
 IsChoice Silent = Unit {0}
-IsChoice (Break place) = place ≤ 999999
+IsChoice (Break place) = place ≤ most_level
 
 abbrev pub IsHappening : Happening → Type 0
 IsHappening (happenings.Event event tag) = IsEvent event tag
@@ -75,7 +79,7 @@ HasForm lines.End = Unit {0}
 
 -- the fields of the line agree with one another
 abbrev pub IsCoherent : Line → Type 0
-IsCoherent (lines.Link link) = IsLegal link
+IsCoherent (lines.Link link) = IsLegalLink link
 IsCoherent (lines.Tag tag) = pc_fits tag.image ≡ true
 IsCoherent line = Unit {0}
 

@@ -15,9 +15,9 @@ use Rattle.scenario_lines.specs.LineForm.{IsLinkForm, IsEvent, IsHappening, IsEx
 use Rattle.scenario_lines.specs.Spelling.{link_fields, tag_fields, event_fields, happening_fields}
 use Rattle.scenario_lines.specs.Names.{event_kind, event_word, event_field_count, air_kind, air_word, air_field_count}
 use Rattle.scenario_lines.specs.LineFaults.{AreFilled, HasKnownKind, HasShape, BreaksLink, BreaksPc}
-use Rattle.scenario_lines.specs.declared.words.Word.TheVariants as words
-use Rattle.scenario_lines.specs.declared.words.EventKind.{EventKind}
-use Rattle.scenario_lines.specs.declared.words.AirKind.{AirKind}
+use Rattle.scenario_lines.specs.declared.first_fields.Word.TheVariants as words
+use Rattle.scenario_lines.specs.declared.first_fields.EventKind.{EventKind}
+use Rattle.scenario_lines.specs.declared.first_fields.AirKind.{AirKind}
 use Rattle.scenario_lines.specs.declared.line.Happening.{Happening}
 
 -- The fields have not the shape that is wanted; or they have it, and spell no value in its ranges.

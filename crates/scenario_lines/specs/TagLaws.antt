@@ -2,7 +2,7 @@
 use Rattle.std.proofs.Common.{◌≡◌, ◌≤◌, ℕ, nat_le, Bool, true, ◌&&◌, length, refl, arith}
 use Rattle.std.proofs.lemmas.Bool.Decides.{nat_tests}
 use Rattle.tag_memory.specs.Image.{banks_of, pc_fits, sizes_fit}
-use Rattle.tag_memory.specs.Memory.{IsLegal}
+use Rattle.tag_memory.specs.Memory.{IsLegalMemory}
 use Rattle.scenario_lines.specs.declared.tag.TagSpec.{TagSpec}
 use Rattle.scenario_lines.specs.TagForm.{IsTag, IsTagForm}
 
@@ -19,7 +19,7 @@ sizes-fit tag form =
     (passes _ _ form.user.room)
 
 -- the banks of the memory
-pub banks-legal : (tag : TagSpec) → IsTag tag → IsLegal (banks_of tag.image)
+pub banks-legal : (tag : TagSpec) → IsTag tag → IsLegalMemory (banks_of tag.image)
 banks-legal tag is = record {
   reserved_size = refl;
   epc_least = omega (arith, is.form.epc.some);

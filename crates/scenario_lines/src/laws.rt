@@ -3,14 +3,14 @@
 ghost use Rattle.std.specs.Prelude.{◌≡◌, ℕ, true, List, All};
 ghost use Rattle.text_fields.specs.Lines.{IsFieldText};
 ghost use Rattle.tag_memory.specs.Image.{banks_of, pc_fits, sizes_fit};
-ghost use Rattle.tag_memory.specs.Memory.{IsLegal};
+ghost use Rattle.tag_memory.specs.Memory.{IsLegalMemory};
 ghost use Rattle.scenario_lines.specs.declared.tag.TagSpec.{TagSpec};
 ghost use Rattle.scenario_lines.specs.TagForm.{IsTag};
-ghost use Rattle.scenario_lines.specs.declared.words.Word.{Word};
+ghost use Rattle.scenario_lines.specs.declared.first_fields.Word.{Word};
 ghost use Rattle.scenario_lines.specs.declared.line.Line.{Line};
 ghost use Rattle.scenario_lines.specs.declared.fault.LineFault.{LineFault};
 ghost use Rattle.scenario_lines.specs.LineForm.{IsLine};
-ghost use Rattle.scenario_lines.specs.LineFaults.{BeginsWith, IsFaulty, Spells};
+ghost use Rattle.scenario_lines.specs.LineFaults.{BeginsWith, IsFaultyLine, SpellsLine};
 ghost use Rattle.scenario_lines.specs.Spelling.{line_fields, word_of_line};
 
 /// Each field of a line may stand as a field.
@@ -21,7 +21,7 @@ pub fn lines_are_field_texts()
 
 /// A list of fields spells at most one line.
 pub fn lines_are_told_apart()
-    ensures { (fields : List (List ℕ)) (one other : Line) → Spells fields one → Spells fields other → one ≡ other }
+    ensures { (fields : List (List ℕ)) (one other : Line) → SpellsLine fields one → SpellsLine fields other → one ≡ other }
 {}
 
 /// The fields of a line begin with its word.
@@ -37,12 +37,12 @@ pub fn lines_begin_with_one_word()
 
 /// Fields that spell a line are not faulty.
 pub fn spelled_lines_are_not_faulty()
-    ensures { (fields : List (List ℕ)) (line : Line) (fault : LineFault) → Spells fields line → IsFaulty fields fault → ⊥ }
+    ensures { (fields : List (List ℕ)) (line : Line) (fault : LineFault) → SpellsLine fields line → IsFaultyLine fields fault → ⊥ }
 {}
 
 /// Fields are faulty for at most one reason.
 pub fn lines_have_one_fault()
-    ensures { (fields : List (List ℕ)) (one other : LineFault) → IsFaulty fields one → IsFaulty fields other → one ≡ other }
+    ensures { (fields : List (List ℕ)) (one other : LineFault) → IsFaultyLine fields one → IsFaultyLine fields other → one ≡ other }
 {}
 
 /// A memory can be made of the image of each tag line (6.3.2.1 Tag memory), and its banks have the sizes
@@ -50,5 +50,5 @@ pub fn lines_have_one_fault()
 pub fn tag_lines_fit_memories()
     ensures sizes { (tag : TagSpec) → IsTag tag → sizes_fit tag.image ≡ true }
     ensures pc { (tag : TagSpec) → IsTag tag → pc_fits tag.image ≡ true }
-    ensures banks { (tag : TagSpec) → IsTag tag → IsLegal (banks_of tag.image) }
+    ensures banks { (tag : TagSpec) → IsTag tag → IsLegalMemory (banks_of tag.image) }
 {}

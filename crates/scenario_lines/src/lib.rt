@@ -8,7 +8,7 @@ mod line;
 mod printing;
 mod reading;
 mod tag;
-mod words;
+mod first_fields;
 
 pub use fault::LineFault;
 pub use laws::{
@@ -21,4 +21,4 @@ pub use printing::{
 };
 pub use reading::{read_line, word_of};
 pub use tag::{TagSpec, TagText};
-pub use words::{AirKind, EventKind, Word};
+pub use first_fields::{AirKind, EventKind, Word};

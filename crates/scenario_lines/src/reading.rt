@@ -3,9 +3,9 @@ ghost use Rattle.std.specs.Prelude.{◌≡◌, ◌↔◌, [], IfOk, IfErr, IfSom
 ghost use Rattle.text_fields.specs.Lines.{fields_of};
 ghost use Rattle.scenario_lines.specs.Spelling.{line_fields, other_fields};
 ghost use Rattle.scenario_lines.specs.declared.line.Line.{Line};
-ghost use Rattle.scenario_lines.specs.declared.words.Word.{Word};
+ghost use Rattle.scenario_lines.specs.declared.first_fields.Word.{Word};
 ghost use Rattle.scenario_lines.specs.Reading.{Misreads};
-ghost use Rattle.scenario_lines.specs.LineFaults.{AreFilled, BeginsWith, HasKnownKind, IsFaulty, IsFaultyBehind, Spells, SpellsBehind};
+ghost use Rattle.scenario_lines.specs.LineFaults.{AreFilled, BeginsWith, HasKnownKind, IsFaultyLine, IsFaultyBehind, SpellsLine, SpellsBehind};
 
 mod air;
 mod event;
@@ -65,7 +65,7 @@ fn has_known_kind(word: Word, others: Fields) -> bool
 pub fn word_of(line: &[u8]) -> Option<Word>
     ensures value { IfSome result (BeginsWith (fields_of line.now)) }
     ensures only { (word : Word) → BeginsWith (fields_of line.now) word → result ≡ Some word }
-    ensures none { IfNone result (IsFaulty (fields_of line.now) LineFault.Word) }
+    ensures none { IfNone result (IsFaultyLine (fields_of line.now) LineFault.Word) }
 {
     let mut fields = Fields::new(line);
     let word = word_named(fields.next()?)?;
@@ -145,10 +145,10 @@ fn read_behind<'a>(word: Word, others: Fields<'a>) -> Result<Line<'a>, LineFault
 /// The first reason for which the line says nothing, whatever the lines before it say.
 pub fn read_line(line: &[u8]) -> Result<Line<'_>, LineFault>
     // What is read is spelled so.
-    ensures ok { IfOk result (Spells (fields_of line.now)) }
+    ensures ok { IfOk result (SpellsLine (fields_of line.now)) }
     // What is spelled so is read.
-    ensures only { (said : Line) → Spells (fields_of line.now) said → IsOkAnd result (λ it. it ≡ said) }
-    ensures refused { IfErr result (IsFaulty (fields_of line.now)) }
+    ensures only { (said : Line) → SpellsLine (fields_of line.now) said → IsOkAnd result (λ it. it ≡ said) }
+    ensures refused { IfErr result (IsFaultyLine (fields_of line.now)) }
 {
     let mut fields = Fields::new(line);
     let Some(first) = fields.next() else {

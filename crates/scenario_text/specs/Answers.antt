@@ -16,6 +16,6 @@ pub record Reports (text line : List ℕ) : Type 0 where
   pub line_is : line ≡ fault_line number fault
 
 -- the text again, where it is that of a scenario, or the line that reports its first faulty line
-abbrev pub IsAnswer : List ℕ → Written → Type 0
-IsAnswer text (Again again) = (again ≡ text) × IsText text
-IsAnswer text (Faulty line) = Reports text (string_bytes line)
+abbrev pub IsRewriteAnswer : List ℕ → Written → Type 0
+IsRewriteAnswer text (Again again) = (again ≡ text) × IsText text
+IsRewriteAnswer text (Faulty line) = Reports text (string_bytes line)

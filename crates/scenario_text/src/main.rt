@@ -3,7 +3,7 @@
 #![tactic(auto)]
 
 ghost use Rattle.std.specs.Prelude.{IfOk};
-ghost use Rattle.scenario_text.specs.Answers.{IsAnswer};
+ghost use Rattle.scenario_text.specs.Answers.{IsRewriteAnswer};
 
 use air_io::{Bytes, ReadEnd, StdSink, StdSource, read_to_end, write_all};
 use bit_strings::OutOfMemory;
@@ -28,7 +28,7 @@ enum Written {
 
 /// What is written for a text.
 fn answer(alloc: Global, text: &[u8]) -> Result<Written, OutOfMemory>
-    ensures { IfOk result (IsAnswer text.now) }
+    ensures { IfOk result (IsRewriteAnswer text.now) }
 {
     match read_and_print(alloc, text) {
         Ok(again) => Ok(Written::Again(again)),

@@ -3,18 +3,7 @@ use Rattle.std.proofs.Common.{◌≡◌, ℕ, zero, suc, ◌+◌, ◌-◌, ◌/�
 use Rattle.bit_strings.specs.Numbers.{field_of}
 use Rattle.bit_strings.specs.NumberLaws.{length-field_of}
 use Rattle.bit_strings.specs.Words.{bits_of_words}
-
-slice_get-append_left : (xs ys : List Bool) (i : ℕ) → i < length xs → slice_get (xs ++ ys) i ≡ slice_get xs i
-slice_get-append_left [] ys i inside = absurd (omega arith)
-slice_get-append_left (x ∷ xs) ys zero inside = refl
-slice_get-append_left (x ∷ xs) ys (suc i) inside = slice_get-append_left xs ys i (omega arith)
-
-slice_get-append_right : (xs ys : List Bool) (i j : ℕ) → j ≡ length xs + i → slice_get (xs ++ ys) j ≡ slice_get ys i
-slice_get-append_right [] ys i j place =
-    let same : j ≡ i = omega arith in
-    rw same refl
-slice_get-append_right (x ∷ xs) ys i zero place = absurd (omega arith)
-slice_get-append_right (x ∷ xs) ys i (suc j) place = slice_get-append_right xs ys i j (omega arith)
+use Rattle.bit_strings.specs.ListLaws.{slice_get-append_left, slice_get-append_right}
 
 slice_get-field_of : (value width i : ℕ) → i < width → slice_get (field_of value width) i ≡ Some (value / 2 ^ (width - 1 - i) % 2 == 1)
 unfolding field_of

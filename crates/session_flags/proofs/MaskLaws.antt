@@ -8,7 +8,7 @@ use Rattle.std.specs.Bool.{beq}
 use Rattle.std.specs.Int.{div_ceil}
 use Rattle.bit_strings.specs.Words.{bits_of_words}
 use Rattle.bit_strings.specs.WordLaws.{length-bits_of_words}
-use Rattle.session_flags.specs.MaskMatch.{begins_with, mask_match, StandsAt}
+use Rattle.session_flags.specs.MaskMatch.{begins_with, mask_match, MaskStandsAt}
 
 pub begins_with-none : (bits : List Bool) → begins_with bits [] ≡ true
 begins_with-none [] = refl
@@ -53,7 +53,7 @@ begins_with-front (true ∷ mask) rest = begins_with-front mask rest
 begins_with-front (false ∷ mask) rest = begins_with-front mask rest
 
 -- the mask stands there exactly where the comparison says so
-stands_from_match : (words : List ℕ) (pointer : ℕ) (mask : List Bool) → pointer ≤ length (bits_of_words words) → begins_with (drop pointer (bits_of_words words)) mask ≡ true → StandsAt (bits_of_words words) pointer mask
+stands_from_match : (words : List ℕ) (pointer : ℕ) (mask : List Bool) → pointer ≤ length (bits_of_words words) → begins_with (drop pointer (bits_of_words words)) mask ≡ true → MaskStandsAt (bits_of_words words) pointer mask
 stands_from_match words pointer mask inside holds =
     let bits = bits_of_words words in
     let parts = begins_with-parts (drop pointer bits) mask holds in
@@ -64,7 +64,7 @@ stands_from_match words pointer mask inside holds =
       parts = sym (take-append-drop pointer bits) ∙ ap (λ (l : List Bool). take pointer bits ++ l) parts.1 ∙ sym (append_assoc (take pointer bits) mask parts.0);
     }
 
-match_from_stands : (words : List ℕ) (pointer : ℕ) (mask : List Bool) → StandsAt (bits_of_words words) pointer mask → (pointer ≤ length (bits_of_words words)) × (begins_with (drop pointer (bits_of_words words)) mask ≡ true)
+match_from_stands : (words : List ℕ) (pointer : ℕ) (mask : List Bool) → MaskStandsAt (bits_of_words words) pointer mask → (pointer ≤ length (bits_of_words words)) × (begins_with (drop pointer (bits_of_words words)) mask ≡ true)
 match_from_stands words pointer mask stands =
     let front = stands.front in
     let behind = mask ++ stands.rest in
@@ -78,22 +78,22 @@ nat_le_true : (m n : ℕ) → m ≤ n → nat_le m n ≡ true
 nat_le_true m n small = grind (arith, nat_tests)
 
 -- the comparison behind the test of the place is the definition, and means that the mask stands there
-pub match_is : (words : List ℕ) (pointer : ℕ) (mask : List Bool) (answer : Bool) → pointer ≤ 16 * length words → answer ≡ begins_with (drop pointer (bits_of_words words)) mask → (answer ≡ mask_match words pointer mask) × (IsTrue answer ↔ StandsAt (bits_of_words words) pointer mask)
+pub match_is : (words : List ℕ) (pointer : ℕ) (mask : List Bool) (answer : Bool) → pointer ≤ 16 * length words → answer ≡ begins_with (drop pointer (bits_of_words words)) mask → (answer ≡ mask_match words pointer mask) × (IsTrue answer ↔ MaskStandsAt (bits_of_words words) pointer mask)
 match_is words pointer mask answer small is =
     let inside : pointer ≤ length (bits_of_words words) = omega (arith, length-bits_of_words words) in
     let test : nat_le pointer (length (bits_of_words words)) ≡ true = nat_le_true pointer (length (bits_of_words words)) inside in
     let value : answer ≡ mask_match words pointer mask = rw test is in
-    let there : answer ≡ true → StandsAt (bits_of_words words) pointer mask = λ e. stands_from_match words pointer mask inside (cc) in
-    let back : StandsAt (bits_of_words words) pointer mask → answer ≡ true = λ s. is ∙ (match_from_stands words pointer mask s).1 in
+    let there : answer ≡ true → MaskStandsAt (bits_of_words words) pointer mask = λ e. stands_from_match words pointer mask inside (cc) in
+    let back : MaskStandsAt (bits_of_words words) pointer mask → answer ≡ true = λ s. is ∙ (match_from_stands words pointer mask s).1 in
     (value, (there, back))
 
 -- a pointer behind the bank
-pub match_past : (words : List ℕ) (pointer : ℕ) (mask : List Bool) (answer : Bool) → 16 * length words < pointer → answer ≡ false → (answer ≡ mask_match words pointer mask) × (IsTrue answer ↔ StandsAt (bits_of_words words) pointer mask)
+pub match_past : (words : List ℕ) (pointer : ℕ) (mask : List Bool) (answer : Bool) → 16 * length words < pointer → answer ≡ false → (answer ≡ mask_match words pointer mask) × (IsTrue answer ↔ MaskStandsAt (bits_of_words words) pointer mask)
 match_past words pointer mask answer large is =
     let past : length (bits_of_words words) < pointer = omega (arith, length-bits_of_words words) in
     let test : nat_le pointer (length (bits_of_words words)) ≡ false = grind (arith, nat_tests) in
     let value : answer ≡ mask_match words pointer mask = rw (test, is) refl in
-    let back : StandsAt (bits_of_words words) pointer mask → ⊥ = λ s. let inside = (match_from_stands words pointer mask s).0 in omega arith in
+    let back : MaskStandsAt (bits_of_words words) pointer mask → ⊥ = λ s. let inside = (match_from_stands words pointer mask s).0 in omega arith in
     (value, (λ e. cc, λ s. absurd (back s)))
 
 -- as many words as the place of the pointer needs, or fewer

@@ -1,12 +1,12 @@
 -- 6.3.2.2 Sessions and inventoried flags, 6.3.2.3 Selected flag: what changes a tag's flags, and which tags a
 -- Query speaks to. A session is its number; no session is 4 or above: there nothing changes, and the flag is that of S3.
 use Rattle.std.specs.Prelude.{ℕ, Bool, true, false, not, ◌==◌, ◌&&◌, if◌then◌else◌}
-use Rattle.command_grammar.specs.declared.command.Side.{Side}
-use Rattle.command_grammar.specs.declared.command.Side.TheVariants.{A, B}
-use Rattle.command_grammar.specs.declared.command.Sel.{Sel}
-use Rattle.command_grammar.specs.declared.command.Sel.TheVariants.{All00, All01, NotSl, Sl as OnlySl}
-use Rattle.command_grammar.specs.declared.command.FlagName.{FlagName}
-use Rattle.command_grammar.specs.declared.command.FlagName.TheVariants.{S0, S1, S2, S3, Sl}
+use Rattle.command_grammar.specs.declared.field_values.Side.{Side}
+use Rattle.command_grammar.specs.declared.field_values.Side.TheVariants.{A, B}
+use Rattle.command_grammar.specs.declared.field_values.Sel.{Sel}
+use Rattle.command_grammar.specs.declared.field_values.Sel.TheVariants.{All00, All01, NotSl, Sl as OnlySl}
+use Rattle.command_grammar.specs.declared.field_values.FlagName.{FlagName}
+use Rattle.command_grammar.specs.declared.field_values.FlagName.TheVariants.{S0, S1, S2, S3, Sl}
 use Rattle.session_flags.specs.declared.flags.Flags.{Flags}
 use Rattle.session_flags.specs.declared.flags.Effect.{Effect}
 use Rattle.session_flags.specs.declared.flags.Effect.TheVariants.{Negate}
@@ -22,24 +22,24 @@ side_of flags session =
     (if session == 0 then flags.s0 else (if session == 1 then flags.s1 else (if session == 2 then flags.s2 else flags.s3)))
 
 -- one flag changed by an effect, and all others as they were
-abbrev pub changed : Flags → FlagName → Effect → Flags
-changed flags S0 effect = record flags { s0 = side_after effect flags.s0 }
-changed flags S1 effect = record flags { s1 = side_after effect flags.s1 }
-changed flags S2 effect = record flags { s2 = side_after effect flags.s2 }
-changed flags S3 effect = record flags { s3 = side_after effect flags.s3 }
-changed flags Sl effect = record flags { sl = sl_after effect flags.sl }
+abbrev pub flags_after_effect : Flags → FlagName → Effect → Flags
+flags_after_effect flags S0 effect = record flags { s0 = side_after effect flags.s0 }
+flags_after_effect flags S1 effect = record flags { s1 = side_after effect flags.s1 }
+flags_after_effect flags S2 effect = record flags { s2 = side_after effect flags.s2 }
+flags_after_effect flags S3 effect = record flags { s3 = side_after effect flags.s3 }
+flags_after_effect flags Sl effect = record flags { sl = sl_after effect flags.sl }
 
 -- after a Select
-abbrev pub selected : Flags → FlagName → ℕ → Bool → Flags
-selected flags target action matching = changed flags target (effect_of action matching)
+abbrev pub flags_after_select : Flags → FlagName → ℕ → Bool → Flags
+flags_after_select flags target action matching = flags_after_effect flags target (effect_of action matching)
 
 -- the inventoried flag of a session changed from A to B or from B to A
-abbrev pub inverted : Flags → ℕ → Flags
-inverted flags session =
-    (if session == 0 then changed flags S0 Negate
-    else (if session == 1 then changed flags S1 Negate
-    else (if session == 2 then changed flags S2 Negate
-    else (if session == 3 then changed flags S3 Negate else flags))))
+abbrev pub flags_after_inversion : Flags → ℕ → Flags
+flags_after_inversion flags session =
+    (if session == 0 then flags_after_effect flags S0 Negate
+    else (if session == 1 then flags_after_effect flags S1 Negate
+    else (if session == 2 then flags_after_effect flags S2 Negate
+    else (if session == 3 then flags_after_effect flags S3 Negate else flags))))
 
 -- 6.3.2.11.2.1 Query: the tags that Sel and Target name
 abbrev pub sel_allows : Sel → Bool → Bool
@@ -58,18 +58,18 @@ abbrev pub matches : Sel → ℕ → Side → Flags → Bool
 matches sel session target flags = sel_allows sel flags.sl && is_side target (side_of flags session)
 
 -- the inventoried flag of S0 is kept by power alone (6.3.2.2, the table of persistence)
-abbrev pub without_power : Flags → Flags
-without_power flags = record flags { s0 = A }
+abbrev pub flags_after_power_loss : Flags → Flags
+flags_after_power_loss flags = record flags { s0 = A }
 
 -- the end of a flag's persistence (6.3.2.2, the table of persistence). That of S1 has no effect on a tag that takes
 -- part in a round (profile); S2, S3 and SL are kept by power; S0 has no such end.
-abbrev pub expired : Flags → FlagName → Bool → Bool → Flags
-expired flags S0 powered takes_part = flags
-expired flags S1 powered true = flags
-expired flags S1 powered false = record flags { s1 = A }
-expired flags S2 true takes_part = flags
-expired flags S2 false takes_part = record flags { s2 = A }
-expired flags S3 true takes_part = flags
-expired flags S3 false takes_part = record flags { s3 = A }
-expired flags Sl true takes_part = flags
-expired flags Sl false takes_part = record flags { sl = false }
+abbrev pub flags_after_expiry : Flags → FlagName → Bool → Bool → Flags
+flags_after_expiry flags S0 powered takes_part = flags
+flags_after_expiry flags S1 powered true = flags
+flags_after_expiry flags S1 powered false = record flags { s1 = A }
+flags_after_expiry flags S2 true takes_part = flags
+flags_after_expiry flags S2 false takes_part = record flags { s2 = A }
+flags_after_expiry flags S3 true takes_part = flags
+flags_after_expiry flags S3 false takes_part = record flags { s3 = A }
+flags_after_expiry flags Sl true takes_part = flags
+flags_after_expiry flags Sl false takes_part = record flags { sl = false }

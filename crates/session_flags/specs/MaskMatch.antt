@@ -15,7 +15,7 @@ mask_match words pointer mask =
 
 -- the same as a fact: the bank's bits are as many bits as the pointer says, the mask, and some rest. So an empty mask
 -- stands at each place up to the bank's number of bits (profile), and no mask reaches past the bank
-pub record StandsAt (bits : List Bool) (pointer : ℕ) (mask : List Bool) : Type 0 where
+pub record MaskStandsAt (bits : List Bool) (pointer : ℕ) (mask : List Bool) : Type 0 where
   pub front : List Bool
   pub rest : List Bool
   pub place : length front ≡ pointer

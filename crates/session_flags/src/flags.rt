@@ -1,7 +1,7 @@
 //! The inventoried flags of the four sessions and the selected flag.
 ghost use Rattle.std.specs.Prelude.{◌≡◌};
 ghost use Rattle.session_flags.specs.Actions.{effect_of, side_after, sl_after};
-ghost use Rattle.session_flags.specs.Flags.{new_flags, side_of, changed, selected, inverted, sel_allows, matches, without_power, expired};
+ghost use Rattle.session_flags.specs.Flags.{new_flags, side_of, flags_after_effect, flags_after_select, flags_after_inversion, sel_allows, matches, flags_after_power_loss, flags_after_expiry};
 
 use bit_strings::{Action, Session};
 use command_grammar::{FlagName, Sel, Side};
@@ -112,7 +112,7 @@ impl Flags {
 
     /// Lets the flag of this name take the effect.
     fn change(&mut self, target: FlagName, effect: Effect)
-        ensures { self.new ≡ changed self.old target effect }
+        ensures { self.new ≡ flags_after_effect self.old target effect }
     {
         match target {
             FlagName::S0 => self.s0 = effect.on_side(self.s0),
@@ -126,7 +126,7 @@ impl Flags {
     /// What a Select does to the flag that it names, at a tag that matches its mask or doesn't
     /// (6.3.2.11.1.1 Select).
     pub fn select(&mut self, target: FlagName, action: Action, matching: bool)
-        ensures { self.new ≡ selected self.old target action matching }
+        ensures { self.new ≡ flags_after_select self.old target action matching }
     {
         self.change(target, Effect::of(action, matching));
     }
@@ -145,7 +145,7 @@ impl Flags {
 
     /// Changes the inventoried flag of a session from A to B or from B to A.
     pub fn invert(&mut self, session: Session)
-        ensures { self.new ≡ inverted self.old session }
+        ensures { self.new ≡ flags_after_inversion self.old session }
     {
         let flag = match session.get() {
             0 => FlagName::S0,
@@ -158,7 +158,7 @@ impl Flags {
 
     /// What a loss of power does at once: the inventoried flag of S0 becomes A.
     pub fn lose_power(&mut self)
-        ensures { self.new ≡ without_power self.old }
+        ensures { self.new ≡ flags_after_power_loss self.old }
     {
         self.s0 = Side::A;
     }
@@ -167,7 +167,7 @@ impl Flags {
     /// a round or doesn't. S1 becomes A unless the tag takes part; S2 and S3 become A, and SL is
     /// deasserted, where there is no power; S0 has no such end (6.3.2.2; that S1 stays in a round is profile).
     pub fn expire(&mut self, flag: FlagName, powered: bool, takes_part: bool)
-        ensures { self.new ≡ expired self.old flag powered takes_part }
+        ensures { self.new ≡ flags_after_expiry self.old flag powered takes_part }
     {
         match flag {
             FlagName::S1 if !takes_part => self.s1 = Side::A,

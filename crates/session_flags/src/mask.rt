@@ -1,7 +1,7 @@
 //! The comparison of a mask with a bank.
 ghost use Rattle.std.specs.Prelude.{◌≡◌, ◌^◌, ◌<◌, ◌↔◌, IsTrue, drop, slice_get};
 ghost use Rattle.bit_strings.specs.Words.{bits_of_words};
-ghost use Rattle.session_flags.specs.MaskMatch.{begins_with, mask_match, StandsAt};
+ghost use Rattle.session_flags.specs.MaskMatch.{begins_with, mask_match, MaskStandsAt};
 
 use bit_strings::Pointer;
 use command_grammar::Mask;
@@ -39,7 +39,7 @@ fn begins_at(words: &[u16], start: u32, mask: &Mask) -> bool
 /// up to the place after the bank's last bit (profile).
 pub fn mask_matches(words: &[u16], pointer: Pointer, mask: &Mask) -> bool
     ensures value { result ≡ mask_match words.now pointer mask.now }
-    ensures meaning { IsTrue result ↔ StandsAt (bits_of_words words.now) pointer mask.now }
+    ensures meaning { IsTrue result ↔ MaskStandsAt (bits_of_words words.now) pointer mask.now }
 {
     let start = pointer.get();
     start.div_ceil(16) as usize <= words.len() && begins_at(words, start, mask)

@@ -1,11 +1,11 @@
 -- Which preamble the answer to a command has, and that an error leaves what the tag holds in every state as it was.
 use Rattle.std.proofs.Common.{◌≡◌, ℕ, ◌==◌, Bool, true, false, List, [], ◌∷◌, Option, Some, None, Result, Ok, Err, is_some, if◌then◌else◌, refl, sym, ◌∙◌, ap}
-use Rattle.command_grammar.specs.declared.command.Bank.{Bank}
-use Rattle.command_grammar.specs.declared.command.FlagName.{FlagName}
-use Rattle.command_grammar.specs.declared.command.MaskBank.{MaskBank}
-use Rattle.command_grammar.specs.declared.command.Sel.{Sel}
-use Rattle.command_grammar.specs.declared.command.Side.{Side}
-use Rattle.command_grammar.specs.declared.command.UpDn.{UpDn}
+use Rattle.command_grammar.specs.declared.field_values.Bank.{Bank}
+use Rattle.command_grammar.specs.declared.field_values.FlagName.{FlagName}
+use Rattle.command_grammar.specs.declared.field_values.MaskBank.{MaskBank}
+use Rattle.command_grammar.specs.declared.field_values.Sel.{Sel}
+use Rattle.command_grammar.specs.declared.field_values.Side.{Side}
+use Rattle.command_grammar.specs.declared.field_values.UpDn.{UpDn}
 use Rattle.command_grammar.specs.declared.commands.Command.{Command}
 use Rattle.command_grammar.specs.declared.commands.Command.TheVariants as commands
 use Rattle.lock_rules.specs.declared.terms.ErrorCode.{ErrorCode}
@@ -14,21 +14,21 @@ use Rattle.lock_rules.specs.declared.terms.Level.{Level}
 use Rattle.lock_rules.specs.declared.terms.Level.TheVariants as levels
 use Rattle.lock_rules.specs.declared.locks.Locks.{Locks}
 use Rattle.lock_rules.specs.Codes.{code_of}
-use Rattle.lock_rules.specs.Lock.{locked}
+use Rattle.lock_rules.specs.Lock.{locks_after}
 use Rattle.reply_grammar.specs.declared.expected.Reply.{Reply}
 use Rattle.reply_grammar.specs.declared.expected.Reply.TheVariants.{Rn16, Handle, Header, Error}
 use Rattle.session_flags.specs.Flags.{matches}
 use Rattle.tag_memory.specs.Memory.{Banks, kill_word_of, access_word_of}
-use Rattle.tag_memory.specs.Access.{words_read, written, erased}
+use Rattle.tag_memory.specs.Access.{words_read, banks_after_write, banks_after_erase}
 use Rattle.tag_machine.specs.declared.states.Half.{Half}
 use Rattle.tag_machine.specs.declared.states.Held.{Held}
-use Rattle.tag_machine.specs.declared.states.Kind.{Kind}
-use Rattle.tag_machine.specs.declared.states.Kind.TheVariants as kinds
+use Rattle.tag_machine.specs.declared.states.Password.{Password}
+use Rattle.tag_machine.specs.declared.states.Password.TheVariants as passwords
 use Rattle.tag_machine.specs.TagValue.{StateValue, ReadyState, ArbitrateState, ReplyState, AcknowledgedState, OpenState, SecuredState, KilledState, UnpoweredState, BodyValue}
 use Rattle.tag_machine.specs.Answers.{Sent, Outcome, silent, plain, extended}
-use Rattle.tag_machine.specs.Draws.{drawn, after_draw, slot_drawn, begin_reply, enter, inverted_body, close, back}
-use Rattle.tag_machine.specs.Inventory.{take_part, closed_before, query, unless_half, end_turn, slot_below, count_down, query_rep, adjusted, query_adjust, epc_reply, ack, nak, selected_body, select}
-use Rattle.tag_machine.specs.Access.{held_state, first_level, new_held, req_rn_held, req_rn, with_handle, unless_any_half, is_kind, unless_other_half, uncover, refuse, read_answer, read_held, read, memory_changed, write_held, write, whole_of, kill_half, kill_held, kill, has_user, locks_changed, lock, access_half, access_held, access, block_write, block_erase}
+use Rattle.tag_machine.specs.Draws.{draw_of, body_after_draw, slot_of_draw, begin_reply, enter, body_after_inversion, close, back}
+use Rattle.tag_machine.specs.Inventory.{take_part, body_after_close, query, unless_half, end_turn, slot_below, count_down, query_rep, q_after_adjust, query_adjust, epc_reply, ack, nak, selected_body, select}
+use Rattle.tag_machine.specs.Access.{held_state, first_level, new_held, req_rn_held, req_rn, with_handle, unless_any_half, is_password, unless_other_half, uncover, refuse, read_answer, read_held, read, memory_outcome, write_held, write, whole_of, kill_half, kill_held, kill, has_user, locks_outcome, lock, access_half, access_held, access, block_write, block_erase}
 use Rattle.tag_machine.specs.Extended.{has_half, is_extended}
 use Rattle.tag_machine.specs.Step.{step}
 use Rattle.tag_machine.specs.declared.any_tag.Answered.{Answered}
@@ -96,27 +96,27 @@ heard_is delayed level rn held body outcome given =
     with_handle_is delayed level rn held body (unless_any_half held body outcome)
     (unless_half_is delayed body held.half (back held.session held.q body) outcome (silent_is delayed body (ArbitrateState held.session held.q 0) body) given)
 
-unless_other_half_is : (delayed : Bool) (body : BodyValue) (kind : Kind) (half : Option Half) (instead outcome : Outcome) → AnswersAs delayed body instead → AnswersAs delayed body outcome → AnswersAs delayed body (unless_other_half kind half instead outcome)
-unless_other_half_is delayed body kind None instead outcome of_instead given = given
-unless_other_half_is delayed body kind (Some half) instead outcome of_instead given = either delayed body (is_kind kind half.kind) outcome instead given of_instead
+unless_other_half_is : (delayed : Bool) (body : BodyValue) (password : Password) (half : Option Half) (instead outcome : Outcome) → AnswersAs delayed body instead → AnswersAs delayed body outcome → AnswersAs delayed body (unless_other_half password half instead outcome)
+unless_other_half_is delayed body password None instead outcome of_instead given = given
+unless_other_half_is delayed body password (Some half) instead outcome of_instead given = either delayed body (is_password password half.password) outcome instead given of_instead
 
 uncover_is : (delayed : Bool) (level : Level) (held : Held) (body : BodyValue) (covered : ℕ) (cover : Option ℕ) (follows : Held → ℕ → Outcome) → ((value : ℕ) → AnswersAs delayed body (follows (record held { cover = None }) value)) → AnswersAs delayed body (uncover level held body covered cover follows)
 uncover_is delayed level held body covered None follows given = silent_is delayed body (held_state level held) body
 uncover_is delayed level held body covered (Some cover) follows given = given _
 
-memory_changed_is : (level : Level) (held : Held) (body : BodyValue) (change : Result Banks ErrorCode) → AnswersAs true body (memory_changed level held body change)
+memory_changed_is : (level : Level) (held : Held) (body : BodyValue) (change : Result Banks ErrorCode) → AnswersAs true body (memory_outcome level held body change)
 memory_changed_is level held body (Ok memory) = header_is body (held_state level held) (record body { memory = memory }) held.handle
 memory_changed_is level held body (Err code) = delayed_same_is (held_state level held) body (Error (code_of code)) held.handle
 
-locks_changed_is : (held : Held) (body : BodyValue) (change : Result Locks ErrorCode) → AnswersAs true body (locks_changed held body change)
+locks_changed_is : (held : Held) (body : BodyValue) (change : Result Locks ErrorCode) → AnswersAs true body (locks_outcome held body change)
 locks_changed_is held body (Ok locks) = header_is body (SecuredState held) (record body { locks = locks }) held.handle
 locks_changed_is held body (Err code) = delayed_same_is (SecuredState held) body (Error (code_of code)) held.handle
 
 -- Req_RN
 give_cover_is : (level : Level) (rn : ℕ) (held : Held) (body : BodyValue) → AnswersAs false body (req_rn_held level rn held body)
 give_cover_is level rn held body =
-    either false body (held.handle == rn) (plain (held_state level (record held { cover = Some (drawn body) })) (after_draw body) (Handle (drawn body)) 0) (silent (held_state level held) body)
-    (number_is body (held_state level (record held { cover = Some (drawn body) })) (after_draw body) (drawn body) 0)
+    either false body (held.handle == rn) (plain (held_state level (record held { cover = Some (draw_of body) })) (body_after_draw body) (Handle (draw_of body)) 0) (silent (held_state level held) body)
+    (number_is body (held_state level (record held { cover = Some (draw_of body) })) (body_after_draw body) (draw_of body) 0)
     (silent_is false body (held_state level held) body)
 
 req_rn_is : (rn : ℕ) (state : StateValue) (body : BodyValue) → AnswersAs false body (req_rn rn state body)
@@ -124,8 +124,8 @@ req_rn_is rn ReadyState body = silent_is false body ReadyState body
 req_rn_is rn (ArbitrateState session q slot) body = silent_is false body (ArbitrateState session q slot) body
 req_rn_is rn (ReplyState session q own) body = silent_is false body (ArbitrateState session q 0) body
 req_rn_is rn (AcknowledgedState session q own) body =
-    either false body (own == rn) (plain (held_state (first_level body) (new_held session q (drawn body))) (after_draw body) (Handle (drawn body)) 0) (silent (AcknowledgedState session q own) body)
-    (number_is body (held_state (first_level body) (new_held session q (drawn body))) (after_draw body) (drawn body) 0)
+    either false body (own == rn) (plain (held_state (first_level body) (new_held session q (draw_of body))) (body_after_draw body) (Handle (draw_of body)) 0) (silent (AcknowledgedState session q own) body)
+    (number_is body (held_state (first_level body) (new_held session q (draw_of body))) (body_after_draw body) (draw_of body) 0)
     (silent_is false body (AcknowledgedState session q own) body)
 req_rn_is rn (OpenState held) body = give_cover_is levels.Opened rn held body
 req_rn_is rn (SecuredState held) body = give_cover_is levels.Secured rn held body
@@ -151,8 +151,8 @@ read_is bank pointer count rn UnpoweredState body = silent_is false body Unpower
 write_held_is : (level : Level) (bank : Bank) (pointer covered rn : ℕ) (held : Held) (body : BodyValue) → AnswersAs true body (write_held level bank pointer covered rn held body)
 write_held_is level bank pointer covered rn held body =
     heard_is true level rn held body _
-    (uncover_is true level held body covered held.cover (λ bare word. memory_changed level bare body (written body.memory body.locks level bank pointer (word ∷ [])))
-    (λ word. memory_changed_is level (record held { cover = None }) body (written body.memory body.locks level bank pointer (word ∷ []))))
+    (uncover_is true level held body covered held.cover (λ bare word. memory_outcome level bare body (banks_after_write body.memory body.locks level bank pointer (word ∷ [])))
+    (λ word. memory_changed_is level (record held { cover = None }) body (banks_after_write body.memory body.locks level bank pointer (word ∷ []))))
 
 write_is : (bank : Bank) (pointer covered rn : ℕ) (state : StateValue) (body : BodyValue) → AnswersAs true body (write bank pointer covered rn state body)
 write_is bank pointer covered rn ReadyState body = silent_is true body ReadyState body
@@ -171,9 +171,9 @@ block_write_is bank pointer words rn (ArbitrateState session q slot) body = sile
 block_write_is bank pointer words rn (ReplyState session q own) body = silent_is true body (ArbitrateState session q 0) body
 block_write_is bank pointer words rn (AcknowledgedState session q own) body = silent_is true body (ArbitrateState session q 0) body
 block_write_is bank pointer words rn (OpenState held) body =
-    heard_is true levels.Opened rn held body _ (memory_changed_is levels.Opened held body (written body.memory body.locks levels.Opened bank pointer words))
+    heard_is true levels.Opened rn held body _ (memory_changed_is levels.Opened held body (banks_after_write body.memory body.locks levels.Opened bank pointer words))
 block_write_is bank pointer words rn (SecuredState held) body =
-    heard_is true levels.Secured rn held body _ (memory_changed_is levels.Secured held body (written body.memory body.locks levels.Secured bank pointer words))
+    heard_is true levels.Secured rn held body _ (memory_changed_is levels.Secured held body (banks_after_write body.memory body.locks levels.Secured bank pointer words))
 block_write_is bank pointer words rn KilledState body = silent_is true body KilledState body
 block_write_is bank pointer words rn UnpoweredState body = silent_is true body UnpoweredState body
 
@@ -184,9 +184,9 @@ block_erase_is bank pointer count rn (ArbitrateState session q slot) body = sile
 block_erase_is bank pointer count rn (ReplyState session q own) body = silent_is true body (ArbitrateState session q 0) body
 block_erase_is bank pointer count rn (AcknowledgedState session q own) body = silent_is true body (ArbitrateState session q 0) body
 block_erase_is bank pointer count rn (OpenState held) body =
-    heard_is true levels.Opened rn held body _ (memory_changed_is levels.Opened held body (erased body.memory body.locks levels.Opened bank pointer count))
+    heard_is true levels.Opened rn held body _ (memory_changed_is levels.Opened held body (banks_after_erase body.memory body.locks levels.Opened bank pointer count))
 block_erase_is bank pointer count rn (SecuredState held) body =
-    heard_is true levels.Secured rn held body _ (memory_changed_is levels.Secured held body (erased body.memory body.locks levels.Secured bank pointer count))
+    heard_is true levels.Secured rn held body _ (memory_changed_is levels.Secured held body (banks_after_erase body.memory body.locks levels.Secured bank pointer count))
 block_erase_is bank pointer count rn KilledState body = silent_is true body KilledState body
 block_erase_is bank pointer count rn UnpoweredState body = silent_is true body UnpoweredState body
 
@@ -198,13 +198,13 @@ lock_is payload rn (ReplyState session q own) body = silent_is true body (Arbitr
 lock_is payload rn (AcknowledgedState session q own) body = silent_is true body (ArbitrateState session q 0) body
 lock_is payload rn (OpenState held) body = heard_is true levels.Opened rn held body _ (silent_is true body (OpenState held) body)
 lock_is payload rn (SecuredState held) body =
-    heard_is true levels.Secured rn held body _ (locks_changed_is held body (locked body.locks payload (has_user body)))
+    heard_is true levels.Secured rn held body _ (locks_changed_is held body (locks_after body.locks payload (has_user body)))
 lock_is payload rn KilledState body = silent_is true body KilledState body
 lock_is payload rn UnpoweredState body = silent_is true body UnpoweredState body
 
 -- Kill: the answer to a first half is plain, and that to a second is delayed
 kill_half_is : (level : Level) (half : Option Half) (value : ℕ) (held : Held) (body : BodyValue) → AnswersAs (is_some half) body (kill_half level half value held body)
-kill_half_is level None value held body = number_is body (held_state level (record held { half = Some (record { kind = kinds.Kill; value = value }) })) body held.handle 0
+kill_half_is level None value held body = number_is body (held_state level (record held { half = Some (record { password = passwords.Kill; value = value }) })) body held.handle 0
 kill_half_is level (Some half) value held body =
     either true body (kill_word_of body.memory == 0) (refuse level (record held { half = None }) body errors.Other) _
     (delayed_same_is (held_state level (record held { half = None })) body (Error (code_of errors.Other)) held.handle)
@@ -215,7 +215,7 @@ kill_half_is level (Some half) value held body =
 kill_held_is : (level : Level) (covered rn : ℕ) (held : Held) (body : BodyValue) → AnswersAs (is_some held.half) body (kill_held level covered rn held body)
 kill_held_is level covered rn held body =
     with_handle_is (is_some held.half) level rn held body _
-    (unless_other_half_is (is_some held.half) body kinds.Kill held.half (back held.session held.q body) _ (silent_is (is_some held.half) body (ArbitrateState held.session held.q 0) body)
+    (unless_other_half_is (is_some held.half) body passwords.Kill held.half (back held.session held.q body) _ (silent_is (is_some held.half) body (ArbitrateState held.session held.q 0) body)
     (uncover_is (is_some held.half) level held body covered held.cover (λ bare value. kill_half level bare.half value bare body)
     (λ value. kill_half_is level held.half value (record held { cover = None }) body)))
 
@@ -231,7 +231,7 @@ kill_is covered rn UnpoweredState body = silent_is false body UnpoweredState bod
 
 -- Access
 access_half_is : (level : Level) (half : Option Half) (value : ℕ) (held : Held) (body : BodyValue) → AnswersAs false body (access_half level half value held body)
-access_half_is level None value held body = number_is body (held_state level (record held { half = Some (record { kind = kinds.Access; value = value }) })) body held.handle 0
+access_half_is level None value held body = number_is body (held_state level (record held { half = Some (record { password = passwords.Access; value = value }) })) body held.handle 0
 access_half_is level (Some half) value held body =
     either false body (access_word_of body.memory == whole_of half.value value) (plain (SecuredState (record held { half = None })) body (Handle held.handle) 0) (back held.session held.q body)
     (number_is body (SecuredState (record held { half = None })) body held.handle 0)
@@ -240,7 +240,7 @@ access_half_is level (Some half) value held body =
 access_held_is : (level : Level) (covered rn : ℕ) (held : Held) (body : BodyValue) → AnswersAs false body (access_held level covered rn held body)
 access_held_is level covered rn held body =
     with_handle_is false level rn held body _
-    (unless_other_half_is false body kinds.Access held.half (back held.session held.q body) _ (silent_is false body (ArbitrateState held.session held.q 0) body)
+    (unless_other_half_is false body passwords.Access held.half (back held.session held.q body) _ (silent_is false body (ArbitrateState held.session held.q 0) body)
     (uncover_is false level held body covered held.cover (λ bare value. access_half level bare.half value bare body)
     (λ value. access_half_is level held.half value (record held { cover = None }) body)))
 
@@ -256,13 +256,13 @@ access_is covered rn UnpoweredState body = silent_is false body UnpoweredState b
 
 -- Query, QueryRep and QueryAdjust
 begin_reply_is : (before : BodyValue) (session q : ℕ) (body : BodyValue) → AnswersAs false before (begin_reply session q body)
-begin_reply_is before session q body = slot_is before (ReplyState session q (drawn body)) (after_draw body) (drawn body) 0
+begin_reply_is before session q body = slot_is before (ReplyState session q (draw_of body)) (body_after_draw body) (draw_of body) 0
 
 enter_is : (before : BodyValue) (session q : ℕ) (body : BodyValue) → AnswersAs false before (enter session q body)
 enter_is before session q body =
-    either false before (slot_drawn q body == 0) (begin_reply session q (after_draw body)) (silent (ArbitrateState session q (slot_drawn q body)) (after_draw body))
-    (begin_reply_is before session q (after_draw body))
-    (silent_is false before (ArbitrateState session q (slot_drawn q body)) (after_draw body))
+    either false before (slot_of_draw q body == 0) (begin_reply session q (body_after_draw body)) (silent (ArbitrateState session q (slot_of_draw q body)) (body_after_draw body))
+    (begin_reply_is before session q (body_after_draw body))
+    (silent_is false before (ArbitrateState session q (slot_of_draw q body)) (body_after_draw body))
 
 take_part_is : (before : BodyValue) (sel : Sel) (session : ℕ) (target : Side) (q : ℕ) (body : BodyValue) → AnswersAs false before (take_part sel session target q body)
 take_part_is before sel session target q body =
@@ -273,9 +273,9 @@ query_is : (sel : Sel) (session : ℕ) (target : Side) (q : ℕ) (state : StateV
 query_is sel session target q ReadyState body = take_part_is body sel session target q body
 query_is sel session target q (ArbitrateState own own_q slot) body = take_part_is body sel session target q body
 query_is sel session target q (ReplyState own own_q rn) body = take_part_is body sel session target q body
-query_is sel session target q (AcknowledgedState own own_q rn) body = take_part_is body sel session target q (closed_before own session body)
-query_is sel session target q (OpenState held) body = take_part_is body sel session target q (closed_before held.session session body)
-query_is sel session target q (SecuredState held) body = take_part_is body sel session target q (closed_before held.session session body)
+query_is sel session target q (AcknowledgedState own own_q rn) body = take_part_is body sel session target q (body_after_close own session body)
+query_is sel session target q (OpenState held) body = take_part_is body sel session target q (body_after_close held.session session body)
+query_is sel session target q (SecuredState held) body = take_part_is body sel session target q (body_after_close held.session session body)
 query_is sel session target q KilledState body = silent_is false body KilledState body
 query_is sel session target q UnpoweredState body = silent_is false body UnpoweredState body
 
@@ -284,7 +284,7 @@ of_session : (own session : ℕ) (state : StateValue) (body : BodyValue) (outcom
 of_session own session state body outcome given = either false body (own == session) outcome (silent state body) given (silent_is false body state body)
 
 close_is : (session : ℕ) (body : BodyValue) → AnswersAs false body (close session body)
-close_is session body = silent_is false body ReadyState (inverted_body session body)
+close_is session body = silent_is false body ReadyState (body_after_inversion session body)
 
 end_turn_is : (session : ℕ) (held : Held) (body : BodyValue) → AnswersAs false body (end_turn session held body)
 end_turn_is session held body =
@@ -305,8 +305,8 @@ query_rep_is session UnpoweredState body = silent_is false body UnpoweredState b
 
 query_adjust_is : (session : ℕ) (updn : UpDn) (state : StateValue) (body : BodyValue) → AnswersAs false body (query_adjust session updn state body)
 query_adjust_is session updn ReadyState body = silent_is false body ReadyState body
-query_adjust_is session updn (ArbitrateState own q slot) body = of_session own session (ArbitrateState own q slot) body _ (enter_is body session (adjusted updn q) body)
-query_adjust_is session updn (ReplyState own q rn) body = of_session own session (ReplyState own q rn) body _ (enter_is body session (adjusted updn q) body)
+query_adjust_is session updn (ArbitrateState own q slot) body = of_session own session (ArbitrateState own q slot) body _ (enter_is body session (q_after_adjust updn q) body)
+query_adjust_is session updn (ReplyState own q rn) body = of_session own session (ReplyState own q rn) body _ (enter_is body session (q_after_adjust updn q) body)
 query_adjust_is session updn (AcknowledgedState own q rn) body = of_session own session (AcknowledgedState own q rn) body _ (close_is session body)
 query_adjust_is session updn (OpenState held) body = of_session held.session session (OpenState held) body _ (end_turn_is session held body)
 query_adjust_is session updn (SecuredState held) body = of_session held.session session (SecuredState held) body _ (end_turn_is session held body)

@@ -1,32 +1,32 @@
 -- What is said of the flags after a step: it holds where it holds of the flags before it, and, for the commands that
 -- change a flag, of the flags with that change.
 use Rattle.std.proofs.Common.{ℕ, ◌==◌, Bool, true, false, List, [], ◌∷◌, Option, Some, None, Result, Ok, Err, if◌then◌else◌}
-use Rattle.command_grammar.specs.declared.command.Bank.{Bank}
-use Rattle.command_grammar.specs.declared.command.FlagName.{FlagName}
-use Rattle.command_grammar.specs.declared.command.MaskBank.{MaskBank}
-use Rattle.command_grammar.specs.declared.command.Sel.{Sel}
-use Rattle.command_grammar.specs.declared.command.Side.{Side}
-use Rattle.command_grammar.specs.declared.command.UpDn.{UpDn}
+use Rattle.command_grammar.specs.declared.field_values.Bank.{Bank}
+use Rattle.command_grammar.specs.declared.field_values.FlagName.{FlagName}
+use Rattle.command_grammar.specs.declared.field_values.MaskBank.{MaskBank}
+use Rattle.command_grammar.specs.declared.field_values.Sel.{Sel}
+use Rattle.command_grammar.specs.declared.field_values.Side.{Side}
+use Rattle.command_grammar.specs.declared.field_values.UpDn.{UpDn}
 use Rattle.lock_rules.specs.declared.locks.Locks.{Locks}
 use Rattle.lock_rules.specs.declared.terms.ErrorCode.{ErrorCode}
 use Rattle.lock_rules.specs.declared.terms.ErrorCode.TheVariants as errors
 use Rattle.lock_rules.specs.declared.terms.Level.{Level}
 use Rattle.lock_rules.specs.declared.terms.Level.TheVariants as levels
-use Rattle.lock_rules.specs.Lock.{locked}
+use Rattle.lock_rules.specs.Lock.{locks_after}
 use Rattle.reply_grammar.specs.declared.expected.Reply.TheVariants.{Handle, Header}
 use Rattle.session_flags.specs.declared.flags.Flags.{Flags}
-use Rattle.session_flags.specs.Flags.{inverted, matches}
+use Rattle.session_flags.specs.Flags.{flags_after_inversion, matches}
 use Rattle.tag_memory.specs.Memory.{Banks, kill_word_of, access_word_of}
-use Rattle.tag_memory.specs.Access.{words_read, written, erased}
+use Rattle.tag_memory.specs.Access.{words_read, banks_after_write, banks_after_erase}
 use Rattle.tag_machine.specs.declared.states.Half.{Half}
-use Rattle.tag_machine.specs.declared.states.Kind.{Kind}
-use Rattle.tag_machine.specs.declared.states.Kind.TheVariants as kinds
+use Rattle.tag_machine.specs.declared.states.Password.{Password}
+use Rattle.tag_machine.specs.declared.states.Password.TheVariants as passwords
 use Rattle.tag_machine.specs.declared.states.Held.{Held}
 use Rattle.tag_machine.specs.TagValue.{StateValue, ReadyState, ArbitrateState, ReplyState, AcknowledgedState, OpenState, SecuredState, KilledState, UnpoweredState, BodyValue}
 use Rattle.tag_machine.specs.Answers.{Outcome, silent, plain, extended}
-use Rattle.tag_machine.specs.Draws.{enter, begin_reply, slot_drawn, after_draw, inverted_body, close, back}
-use Rattle.tag_machine.specs.Inventory.{take_part, closed_before, query, unless_half, end_turn, slot_below, count_down, query_rep, adjusted, query_adjust, epc_reply, ack, nak, selected_body, selected_ready, select}
-use Rattle.tag_machine.specs.Access.{held_state, give_handle, give_cover, req_rn_held, req_rn, with_handle, unless_any_half, is_kind, unless_other_half, uncover, refuse, read_answer, read_held, read, memory_changed, write_held, write, whole_of, kill_whole, kill_half, kill_held, kill, has_user, locks_changed, lock, access_whole, access_half, access_held, access, block_write, block_erase}
+use Rattle.tag_machine.specs.Draws.{enter, begin_reply, slot_of_draw, body_after_draw, body_after_inversion, close, back}
+use Rattle.tag_machine.specs.Inventory.{take_part, body_after_close, query, unless_half, end_turn, slot_below, count_down, query_rep, q_after_adjust, query_adjust, epc_reply, ack, nak, selected_body, selected_ready, select}
+use Rattle.tag_machine.specs.Access.{held_state, give_handle, give_cover, req_rn_held, req_rn, with_handle, unless_any_half, is_password, unless_other_half, uncover, refuse, read_answer, read_held, read, memory_outcome, write_held, write, whole_of, kill_whole, kill_half, kill_held, kill, has_user, locks_outcome, lock, access_whole, access_half, access_held, access, block_write, block_erase}
 
 -- what is said of the flags after an outcome
 abbrev Holds : (Flags → Type 0) → Outcome → Type 0
@@ -39,13 +39,13 @@ either P false x y p q = q
 -- moves
 entered : (P : Flags → Type 0) (session q : ℕ) (body : BodyValue) → P body.flags → Holds P (enter session q body)
 entered P session q body p =
-    either P (slot_drawn q body == 0) (begin_reply session q (after_draw body)) (silent (ArbitrateState session q (slot_drawn q body)) (after_draw body)) p p
+    either P (slot_of_draw q body == 0) (begin_reply session q (body_after_draw body)) (silent (ArbitrateState session q (slot_of_draw q body)) (body_after_draw body)) p p
 
 half_or : (P : Flags → Type 0) (half : Option Half) (instead outcome : Outcome) → Holds P instead → Holds P outcome → Holds P (unless_half half instead outcome)
 half_or P None instead outcome p q = q
 half_or P (Some half) instead outcome p q = p
 
-turn_ended : (P : Flags → Type 0) (session : ℕ) (held : Held) (body : BodyValue) → P body.flags → P (inverted body.flags session) → Holds P (end_turn session held body)
+turn_ended : (P : Flags → Type 0) (session : ℕ) (held : Held) (body : BodyValue) → P body.flags → P (flags_after_inversion body.flags session) → Holds P (end_turn session held body)
 turn_ended P session held body p q = half_or P held.half (back session held.q body) (close session body) p q
 
 -- Query
@@ -57,11 +57,11 @@ body_either : (P : Flags → Type 0) (test : Bool) (x y : BodyValue) → P x.fla
 body_either P true x y p q = p
 body_either P false x y p q = q
 
-closed_then : (P : Flags → Type 0) (sel : Sel) (session : ℕ) (target : Side) (q own : ℕ) (body : BodyValue) → P body.flags → P (inverted body.flags session) → Holds P (take_part sel session target q (closed_before own session body))
+closed_then : (P : Flags → Type 0) (sel : Sel) (session : ℕ) (target : Side) (q own : ℕ) (body : BodyValue) → P body.flags → P (flags_after_inversion body.flags session) → Holds P (take_part sel session target q (body_after_close own session body))
 closed_then P sel session target q own body p inv =
-    took_part P sel session target q (closed_before own session body) (body_either P (own == session) (inverted_body session body) body inv p)
+    took_part P sel session target q (body_after_close own session body) (body_either P (own == session) (body_after_inversion session body) body inv p)
 
-pub after_query : (P : Flags → Type 0) (sel : Sel) (session : ℕ) (target : Side) (q : ℕ) (state : StateValue) (body : BodyValue) → P body.flags → P (inverted body.flags session) → Holds P (query sel session target q state body)
+pub after_query : (P : Flags → Type 0) (sel : Sel) (session : ℕ) (target : Side) (q : ℕ) (state : StateValue) (body : BodyValue) → P body.flags → P (flags_after_inversion body.flags session) → Holds P (query sel session target q state body)
 after_query P sel session target q ReadyState body p inv = took_part P sel session target q body p
 after_query P sel session target q (ArbitrateState own own_q slot) body p inv = took_part P sel session target q body p
 after_query P sel session target q (ReplyState own own_q rn) body p inv = took_part P sel session target q body p
@@ -76,7 +76,7 @@ counted_down : (P : Flags → Type 0) (session q slot : ℕ) (body : BodyValue) 
 counted_down P session q slot body p =
     either P (slot_below slot == 0) (begin_reply session q body) (silent (ArbitrateState session q (slot_below slot)) body) p p
 
-pub after_query_rep : (P : Flags → Type 0) (session : ℕ) (state : StateValue) (body : BodyValue) → P body.flags → P (inverted body.flags session) → Holds P (query_rep session state body)
+pub after_query_rep : (P : Flags → Type 0) (session : ℕ) (state : StateValue) (body : BodyValue) → P body.flags → P (flags_after_inversion body.flags session) → Holds P (query_rep session state body)
 after_query_rep P session ReadyState body p inv = p
 after_query_rep P session (ArbitrateState own q slot) body p inv =
     either P (own == session) (count_down session q slot body) (silent (ArbitrateState own q slot) body) (counted_down P session q slot body p) p
@@ -92,12 +92,12 @@ after_query_rep P session KilledState body p inv = p
 after_query_rep P session UnpoweredState body p inv = p
 
 -- QueryAdjust
-pub after_query_adjust : (P : Flags → Type 0) (session : ℕ) (updn : UpDn) (state : StateValue) (body : BodyValue) → P body.flags → P (inverted body.flags session) → Holds P (query_adjust session updn state body)
+pub after_query_adjust : (P : Flags → Type 0) (session : ℕ) (updn : UpDn) (state : StateValue) (body : BodyValue) → P body.flags → P (flags_after_inversion body.flags session) → Holds P (query_adjust session updn state body)
 after_query_adjust P session updn ReadyState body p inv = p
 after_query_adjust P session updn (ArbitrateState own q slot) body p inv =
-    either P (own == session) (enter session (adjusted updn q) body) (silent (ArbitrateState own q slot) body) (entered P session (adjusted updn q) body p) p
+    either P (own == session) (enter session (q_after_adjust updn q) body) (silent (ArbitrateState own q slot) body) (entered P session (q_after_adjust updn q) body p) p
 after_query_adjust P session updn (ReplyState own q rn) body p inv =
-    either P (own == session) (enter session (adjusted updn q) body) (silent (ReplyState own q rn) body) (entered P session (adjusted updn q) body p) p
+    either P (own == session) (enter session (q_after_adjust updn q) body) (silent (ReplyState own q rn) body) (entered P session (q_after_adjust updn q) body p) p
 after_query_adjust P session updn (AcknowledgedState own q rn) body p inv =
     either P (own == session) (close session body) (silent (AcknowledgedState own q rn) body) inv p
 after_query_adjust P session updn (OpenState held) body p inv =
@@ -154,19 +154,19 @@ handled P level rn held body outcome p q = either P (held.handle == rn) outcome 
 any_half_or : (P : Flags → Type 0) (held : Held) (body : BodyValue) (outcome : Outcome) → P body.flags → Holds P outcome → Holds P (unless_any_half held body outcome)
 any_half_or P held body outcome p q = half_or P held.half (back held.session held.q body) outcome p q
 
-other_half_or : (P : Flags → Type 0) (kind : Kind) (half : Option Half) (instead outcome : Outcome) → Holds P instead → Holds P outcome → Holds P (unless_other_half kind half instead outcome)
-other_half_or P kind None instead outcome p q = q
-other_half_or P kind (Some half) instead outcome p q = either P (is_kind kind half.kind) outcome instead q p
+other_half_or : (P : Flags → Type 0) (password : Password) (half : Option Half) (instead outcome : Outcome) → Holds P instead → Holds P outcome → Holds P (unless_other_half password half instead outcome)
+other_half_or P password None instead outcome p q = q
+other_half_or P password (Some half) instead outcome p q = either P (is_password password half.password) outcome instead q p
 
 uncovered : (P : Flags → Type 0) (level : Level) (held : Held) (body : BodyValue) (covered : ℕ) (cover : Option ℕ) (follows : Held → ℕ → Outcome) → P body.flags → ((bare : Held) (value : ℕ) → Holds P (follows bare value)) → Holds P (uncover level held body covered cover follows)
 uncovered P level held body covered None follows p q = p
 uncovered P level held body covered (Some cover) follows p q = q _ _
 
-memory_set : (P : Flags → Type 0) (level : Level) (held : Held) (body : BodyValue) (after : Result Banks ErrorCode) → P body.flags → Holds P (memory_changed level held body after)
+memory_set : (P : Flags → Type 0) (level : Level) (held : Held) (body : BodyValue) (after : Result Banks ErrorCode) → P body.flags → Holds P (memory_outcome level held body after)
 memory_set P level held body (Ok memory) p = p
 memory_set P level held body (Err code) p = p
 
-locks_set : (P : Flags → Type 0) (held : Held) (body : BodyValue) (after : Result Locks ErrorCode) → P body.flags → Holds P (locks_changed held body after)
+locks_set : (P : Flags → Type 0) (held : Held) (body : BodyValue) (after : Result Locks ErrorCode) → P body.flags → Holds P (locks_outcome held body after)
 locks_set P held body (Ok locks) p = p
 locks_set P held body (Err code) p = p
 
@@ -200,11 +200,11 @@ after_read P bank pointer count rn UnpoweredState body p = p
 
 write_at : (P : Flags → Type 0) (level : Level) (bank : Bank) (pointer covered rn : ℕ) (held : Held) (body : BodyValue) → P body.flags → Holds P (write_held level bank pointer covered rn held body)
 write_at P level bank pointer covered rn held body p =
-    let follows = λ (bare : Held) (word : ℕ). memory_changed level bare body (written body.memory body.locks level bank pointer (word ∷ [])) in
+    let follows = λ (bare : Held) (word : ℕ). memory_outcome level bare body (banks_after_write body.memory body.locks level bank pointer (word ∷ [])) in
     handled P level rn held body (unless_any_half held body (uncover level held body covered held.cover follows)) p
     (any_half_or P held body (uncover level held body covered held.cover follows) p
     (uncovered P level held body covered held.cover follows p
-    (λ bare word. memory_set P level bare body (written body.memory body.locks level bank pointer (word ∷ [])) p)))
+    (λ bare word. memory_set P level bare body (banks_after_write body.memory body.locks level bank pointer (word ∷ [])) p)))
 
 pub after_write : (P : Flags → Type 0) (bank : Bank) (pointer covered rn : ℕ) (state : StateValue) (body : BodyValue) → P body.flags → Holds P (write bank pointer covered rn state body)
 after_write P bank pointer covered rn ReadyState body p = p
@@ -233,8 +233,8 @@ kill_at P level covered rn held body p =
     let gone = back held.session held.q body in
     let follows = λ (bare : Held) (value : ℕ). kill_half level bare.half value bare body in
     let rest = uncover level held body covered held.cover follows in
-    handled P level rn held body (unless_other_half kinds.Kill held.half gone rest) p
-    (other_half_or P kinds.Kill held.half gone rest p
+    handled P level rn held body (unless_other_half passwords.Kill held.half gone rest) p
+    (other_half_or P passwords.Kill held.half gone rest p
     (uncovered P level held body covered held.cover follows p (λ bare value. half_killed P level bare.half value bare body p)))
 
 pub after_kill : (P : Flags → Type 0) (covered rn : ℕ) (state : StateValue) (body : BodyValue) → P body.flags → Holds P (kill covered rn state body)
@@ -256,9 +256,9 @@ after_lock P payload rn (OpenState held) body p =
     handled P levels.Opened rn held body (unless_any_half held body (silent (OpenState held) body)) p
     (any_half_or P held body (silent (OpenState held) body) p p)
 after_lock P payload rn (SecuredState held) body p =
-    let after = locked body.locks payload (has_user body) in
-    handled P levels.Secured rn held body (unless_any_half held body (locks_changed held body after)) p
-    (any_half_or P held body (locks_changed held body after) p (locks_set P held body after p))
+    let after = locks_after body.locks payload (has_user body) in
+    handled P levels.Secured rn held body (unless_any_half held body (locks_outcome held body after)) p
+    (any_half_or P held body (locks_outcome held body after) p (locks_set P held body after p))
 after_lock P payload rn KilledState body p = p
 after_lock P payload rn UnpoweredState body p = p
 
@@ -275,8 +275,8 @@ access_at P level covered rn held body p =
     let gone = back held.session held.q body in
     let follows = λ (bare : Held) (value : ℕ). access_half level bare.half value bare body in
     let rest = uncover level held body covered held.cover follows in
-    handled P level rn held body (unless_other_half kinds.Access held.half gone rest) p
-    (other_half_or P kinds.Access held.half gone rest p
+    handled P level rn held body (unless_other_half passwords.Access held.half gone rest) p
+    (other_half_or P passwords.Access held.half gone rest p
     (uncovered P level held body covered held.cover follows p (λ bare value. half_accessed P level bare.half value bare body p)))
 
 pub after_access : (P : Flags → Type 0) (covered rn : ℕ) (state : StateValue) (body : BodyValue) → P body.flags → Holds P (access covered rn state body)
@@ -289,18 +289,18 @@ after_access P covered rn (SecuredState held) body p = access_at P levels.Secure
 after_access P covered rn KilledState body p = p
 after_access P covered rn UnpoweredState body p = p
 
-changed_at : (P : Flags → Type 0) (level : Level) (rn : ℕ) (held : Held) (body : BodyValue) (after : Result Banks ErrorCode) → P body.flags → Holds P (with_handle level rn held body (unless_any_half held body (memory_changed level held body after)))
+changed_at : (P : Flags → Type 0) (level : Level) (rn : ℕ) (held : Held) (body : BodyValue) (after : Result Banks ErrorCode) → P body.flags → Holds P (with_handle level rn held body (unless_any_half held body (memory_outcome level held body after)))
 changed_at P level rn held body after p =
-    handled P level rn held body (unless_any_half held body (memory_changed level held body after)) p
-    (any_half_or P held body (memory_changed level held body after) p (memory_set P level held body after p))
+    handled P level rn held body (unless_any_half held body (memory_outcome level held body after)) p
+    (any_half_or P held body (memory_outcome level held body after) p (memory_set P level held body after p))
 
 pub after_block_write : (P : Flags → Type 0) (bank : Bank) (pointer : ℕ) (words : List ℕ) (rn : ℕ) (state : StateValue) (body : BodyValue) → P body.flags → Holds P (block_write bank pointer words rn state body)
 after_block_write P bank pointer words rn ReadyState body p = p
 after_block_write P bank pointer words rn (ArbitrateState session q slot) body p = p
 after_block_write P bank pointer words rn (ReplyState session q own) body p = p
 after_block_write P bank pointer words rn (AcknowledgedState session q own) body p = p
-after_block_write P bank pointer words rn (OpenState held) body p = changed_at P levels.Opened rn held body (written body.memory body.locks levels.Opened bank pointer words) p
-after_block_write P bank pointer words rn (SecuredState held) body p = changed_at P levels.Secured rn held body (written body.memory body.locks levels.Secured bank pointer words) p
+after_block_write P bank pointer words rn (OpenState held) body p = changed_at P levels.Opened rn held body (banks_after_write body.memory body.locks levels.Opened bank pointer words) p
+after_block_write P bank pointer words rn (SecuredState held) body p = changed_at P levels.Secured rn held body (banks_after_write body.memory body.locks levels.Secured bank pointer words) p
 after_block_write P bank pointer words rn KilledState body p = p
 after_block_write P bank pointer words rn UnpoweredState body p = p
 
@@ -309,7 +309,7 @@ after_block_erase P bank pointer count rn ReadyState body p = p
 after_block_erase P bank pointer count rn (ArbitrateState session q slot) body p = p
 after_block_erase P bank pointer count rn (ReplyState session q own) body p = p
 after_block_erase P bank pointer count rn (AcknowledgedState session q own) body p = p
-after_block_erase P bank pointer count rn (OpenState held) body p = changed_at P levels.Opened rn held body (erased body.memory body.locks levels.Opened bank pointer count) p
-after_block_erase P bank pointer count rn (SecuredState held) body p = changed_at P levels.Secured rn held body (erased body.memory body.locks levels.Secured bank pointer count) p
+after_block_erase P bank pointer count rn (OpenState held) body p = changed_at P levels.Opened rn held body (banks_after_erase body.memory body.locks levels.Opened bank pointer count) p
+after_block_erase P bank pointer count rn (SecuredState held) body p = changed_at P levels.Secured rn held body (banks_after_erase body.memory body.locks levels.Secured bank pointer count) p
 after_block_erase P bank pointer count rn KilledState body p = p
 after_block_erase P bank pointer count rn UnpoweredState body p = p

@@ -4,9 +4,9 @@ use Rattle.std.proofs.lemmas.Bool.Decides.{nat_tests}
 use Rattle.command_grammar.specs.declared.commands.Command.{Command}
 use Rattle.command_grammar.specs.declared.commands.Command.TheVariants as commands
 use Rattle.session_flags.specs.declared.flags.Flags.{Flags}
-use Rattle.session_flags.specs.Flags.{side_of, inverted}
+use Rattle.session_flags.specs.Flags.{side_of, flags_after_inversion}
 use Rattle.session_flags.specs.Actions.{effect_of}
-use Rattle.session_flags.specs.FlagLaws.{side_of-changed, side_of-inverted, sl-changed, sl-inverted}
+use Rattle.session_flags.specs.FlagLaws.{side_of-flags_after_effect, side_of-flags_after_inversion, sl-flags_after_effect, sl-flags_after_inversion}
 use Rattle.tag_machine.specs.TagValue.{StateValue, BodyValue}
 use Rattle.tag_machine.specs.Step.{step}
 use Rattle.tag_machine.specs.Isolation.{IsIsolated}
@@ -17,37 +17,37 @@ unchanged : (command : Command) (flags : Flags) → IsIsolated command flags fla
 unchanged command flags = record { sides = λ session small other. refl; sl = λ other. refl }
 
 -- no session is 4 or above
-no_session : (flags : Flags) (session : ℕ) → inverted flags (suc (suc (suc (suc session)))) ≡ flags
+no_session : (flags : Flags) (session : ℕ) → flags_after_inversion flags (suc (suc (suc (suc session)))) ≡ flags
 no_session flags session = grind (arith, nat_tests)
 
-side_inverted : (flags : Flags) (changes session : ℕ) → session < 4 → changes ≢ session → side_of (inverted flags changes) session ≡ side_of flags session
-side_inverted flags zero session small other = side_of-inverted flags 0 session (omega arith) small other
-side_inverted flags (suc zero) session small other = side_of-inverted flags 1 session (omega arith) small other
-side_inverted flags (suc (suc zero)) session small other = side_of-inverted flags 2 session (omega arith) small other
-side_inverted flags (suc (suc (suc zero))) session small other = side_of-inverted flags 3 session (omega arith) small other
+side_inverted : (flags : Flags) (changes session : ℕ) → session < 4 → changes ≢ session → side_of (flags_after_inversion flags changes) session ≡ side_of flags session
+side_inverted flags zero session small other = side_of-flags_after_inversion flags 0 session (omega arith) small other
+side_inverted flags (suc zero) session small other = side_of-flags_after_inversion flags 1 session (omega arith) small other
+side_inverted flags (suc (suc zero)) session small other = side_of-flags_after_inversion flags 2 session (omega arith) small other
+side_inverted flags (suc (suc (suc zero))) session small other = side_of-flags_after_inversion flags 3 session (omega arith) small other
 side_inverted flags (suc (suc (suc (suc more)))) session small other = ap (λ (f : Flags). side_of f session) (no_session flags more)
 
 pub isolated : (command : Command) (state : StateValue) (body : BodyValue) → IsIsolated command body.flags (step command state body).tag.body.flags
 isolated (commands.QueryRep own) state body =
     let command = commands.QueryRep own in
     after_query_rep (λ flags. IsIsolated command body.flags flags) own state body (unchanged command body.flags)
-    (record { sides = side_inverted body.flags own; sl = λ other. sl-inverted body.flags own })
+    (record { sides = side_inverted body.flags own; sl = λ other. sl-flags_after_inversion body.flags own })
 isolated (commands.Ack rn) state body =
     after_ack (λ flags. IsIsolated (commands.Ack rn) body.flags flags) rn state body (unchanged (commands.Ack rn) body.flags)
 isolated (commands.Query dr line_code trext sel own target q) state body =
     let command = commands.Query dr line_code trext sel own target q in
     after_query (λ flags. IsIsolated command body.flags flags) sel own target q state body (unchanged command body.flags)
-    (record { sides = side_inverted body.flags own; sl = λ other. sl-inverted body.flags own })
+    (record { sides = side_inverted body.flags own; sl = λ other. sl-flags_after_inversion body.flags own })
 isolated (commands.QueryAdjust own updn) state body =
     let command = commands.QueryAdjust own updn in
     after_query_adjust (λ flags. IsIsolated command body.flags flags) own updn state body (unchanged command body.flags)
-    (record { sides = side_inverted body.flags own; sl = λ other. sl-inverted body.flags own })
+    (record { sides = side_inverted body.flags own; sl = λ other. sl-flags_after_inversion body.flags own })
 isolated (commands.Select target action bank pointer mask) state body =
     let command = commands.Select target action bank pointer mask in
     after_select (λ flags. IsIsolated command body.flags flags) target action bank pointer mask state body (unchanged command body.flags)
     (record {
-      sides = λ session small other. side_of-changed body.flags target (effect_of action _) session small other;
-      sl = λ other. sl-changed body.flags target (effect_of action _) other;
+      sides = λ session small other. side_of-flags_after_effect body.flags target (effect_of action _) session small other;
+      sl = λ other. sl-flags_after_effect body.flags target (effect_of action _) other;
     })
 isolated commands.Nak state body =
     after_nak (λ flags. IsIsolated commands.Nak body.flags flags) state body (unchanged commands.Nak body.flags)

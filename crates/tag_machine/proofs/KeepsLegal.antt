@@ -6,38 +6,38 @@ use Rattle.std.proofs.lemmas.Bool.Decides.{eqb_tells}
 use Rattle.std.proofs.lemmas.List.Elements.{All-cons, All-nil, All-get_or, All-from_recursion}
 use Rattle.air_events.specs.declared.Event.{Event}
 use Rattle.air_events.specs.declared.Event.TheVariants as events
-use Rattle.command_grammar.specs.declared.command.Bank.{Bank}
-use Rattle.command_grammar.specs.declared.command.FlagName.{FlagName}
-use Rattle.command_grammar.specs.declared.command.MaskBank.{MaskBank}
-use Rattle.command_grammar.specs.declared.command.Sel.{Sel}
-use Rattle.command_grammar.specs.declared.command.Side.{Side}
-use Rattle.command_grammar.specs.declared.command.UpDn.{UpDn}
-use Rattle.command_grammar.specs.declared.command.UpDn.TheVariants.{Up, Same, Down}
+use Rattle.command_grammar.specs.declared.field_values.Bank.{Bank}
+use Rattle.command_grammar.specs.declared.field_values.FlagName.{FlagName}
+use Rattle.command_grammar.specs.declared.field_values.MaskBank.{MaskBank}
+use Rattle.command_grammar.specs.declared.field_values.Sel.{Sel}
+use Rattle.command_grammar.specs.declared.field_values.Side.{Side}
+use Rattle.command_grammar.specs.declared.field_values.UpDn.{UpDn}
+use Rattle.command_grammar.specs.declared.field_values.UpDn.TheVariants.{Up, Same, Down}
 use Rattle.command_grammar.specs.declared.commands.Command.{Command}
 use Rattle.command_grammar.specs.declared.commands.Command.TheVariants as commands
-use Rattle.command_grammar.specs.Commands.{IsLegal as IsLegalCommand}
+use Rattle.command_grammar.specs.Commands.{IsLegalCommand}
 use Rattle.lock_rules.specs.declared.locks.Locks.{Locks}
 use Rattle.lock_rules.specs.declared.terms.ErrorCode.{ErrorCode}
 use Rattle.lock_rules.specs.declared.terms.ErrorCode.TheVariants as errors
 use Rattle.lock_rules.specs.declared.terms.Level.{Level}
 use Rattle.lock_rules.specs.declared.terms.Level.TheVariants as levels
-use Rattle.lock_rules.specs.Lock.{locked}
+use Rattle.lock_rules.specs.Lock.{locks_after}
 use Rattle.reply_grammar.specs.declared.expected.Reply.TheVariants.{Handle, Header}
 use Rattle.reply_grammar.specs.Table.{AreWords}
 use Rattle.session_flags.specs.declared.flags.Flags.{Flags}
-use Rattle.session_flags.specs.Flags.{matches, without_power, expired}
+use Rattle.session_flags.specs.Flags.{matches, flags_after_power_loss, flags_after_expiry}
 use Rattle.tag_memory.specs.Memory.{Banks, kill_word_of, access_word_of, with_stored_crc}
-use Rattle.tag_memory.specs.Access.{words_read, written, erased}
+use Rattle.tag_memory.specs.Access.{words_read, banks_after_write, banks_after_erase}
 use Rattle.tag_machine.specs.declared.states.Half.{Half}
 use Rattle.tag_machine.specs.declared.states.Held.{Held}
-use Rattle.tag_machine.specs.declared.states.Kind.{Kind}
-use Rattle.tag_machine.specs.declared.states.Kind.TheVariants as kinds
+use Rattle.tag_machine.specs.declared.states.Password.{Password}
+use Rattle.tag_machine.specs.declared.states.Password.TheVariants as passwords
 use Rattle.tag_machine.specs.TagValue.{StateValue, ReadyState, ArbitrateState, ReplyState, AcknowledgedState, OpenState, SecuredState, KilledState, UnpoweredState, BodyValue, IsWordOrNone, IsHalfOrNone, IsLegalHeld, IsLegalState, IsLegalBody, IsLegalTag}
 use Rattle.tag_machine.specs.Answers.{Outcome, silent, plain, extended}
-use Rattle.tag_machine.specs.Draws.{drawn, place_behind, after_draw, slot_drawn, begin_reply, enter, inverted_body, close, back}
-use Rattle.tag_machine.specs.Inventory.{take_part, closed_before, query, unless_half, end_turn, slot_below, count_down, query_rep, adjusted, query_adjust, epc_reply, ack, nak, selected_body, selected_ready, select}
-use Rattle.tag_machine.specs.Access.{held_state, first_level, new_held, give_handle, give_cover, req_rn_held, req_rn, with_handle, unless_any_half, is_kind, unless_other_half, uncover, refuse, read_answer, read_held, read, memory_changed, write_held, write, whole_of, keep_half, kill_half, kill_held, kill, has_user, locks_changed, lock, access_half, access_held, access, block_write, block_erase}
-use Rattle.tag_machine.specs.Events.{after_timeout, powered_off, after_off, after_on, with_expired, after_expiry, happens}
+use Rattle.tag_machine.specs.Draws.{draw_of, place_behind, body_after_draw, slot_of_draw, begin_reply, enter, body_after_inversion, close, back}
+use Rattle.tag_machine.specs.Inventory.{take_part, body_after_close, query, unless_half, end_turn, slot_below, count_down, query_rep, q_after_adjust, query_adjust, epc_reply, ack, nak, selected_body, selected_ready, select}
+use Rattle.tag_machine.specs.Access.{held_state, first_level, new_held, give_handle, give_cover, req_rn_held, req_rn, with_handle, unless_any_half, is_password, unless_other_half, uncover, refuse, read_answer, read_held, read, memory_outcome, write_held, write, whole_of, keep_half, kill_half, kill_held, kill, has_user, locks_outcome, lock, access_half, access_held, access, block_write, block_erase}
+use Rattle.tag_machine.specs.Events.{after_timeout, tag_without_power, after_off, after_on, body_after_expiry, after_expiry, tag_after_event}
 use Rattle.tag_machine.specs.Step.{step}
 use Rattle.tag_machine.proofs.LegalMemory.{AreSound, written_sound, erased_sound, stored_crc_sound}
 
@@ -75,7 +75,7 @@ place_inside count place inside =
       | inr w ↦ rw w.0 (omega (arith, w.1))
     ]
 
-behind_draw : (body : BodyValue) → IsLegalBody body → IsLegalBody (after_draw body)
+behind_draw : (body : BodyValue) → IsLegalBody body → IsLegalBody (body_after_draw body)
 behind_draw body legal = record {
   memory = legal.memory;
   memory_words = legal.memory_words;
@@ -83,7 +83,7 @@ behind_draw body legal = record {
   place = place_inside (length body.words) body.place legal.place;
 }
 
-word_drawn : (body : BodyValue) → IsLegalBody body → drawn body < 2 ^ 16
+word_drawn : (body : BodyValue) → IsLegalBody body → draw_of body < 2 ^ 16
 word_drawn body legal = All-get_or (λ (word : ℕ). word < 2 ^ 16) body.words body.place 0 legal.place legal.words.small
 
 -- moves
@@ -91,11 +91,11 @@ gone_back : (session q : ℕ) (body : BodyValue) → session ≤ 3 → q ≤ 15 
 gone_back session q body of_session of_q of_body = tag_is (ArbitrateState session q 0) body (of_session, of_q, omega arith) of_body
 
 closed : (session : ℕ) (body : BodyValue) → IsLegalBody body → Leaves (close session body)
-closed session body of_body = tag_is ReadyState (inverted_body session body) tt (with_flags body (inverted_body session body).flags of_body)
+closed session body of_body = tag_is ReadyState (body_after_inversion session body) tt (with_flags body (body_after_inversion session body).flags of_body)
 
 begun : (session q : ℕ) (body : BodyValue) → session ≤ 3 → q ≤ 15 → IsLegalBody body → Leaves (begin_reply session q body)
 begun session q body of_session of_q of_body =
-    tag_is (ReplyState session q (drawn body)) (after_draw body) (of_session, of_q, word_drawn body of_body) (behind_draw body of_body)
+    tag_is (ReplyState session q (draw_of body)) (body_after_draw body) (of_session, of_q, word_drawn body of_body) (behind_draw body of_body)
 
 slot_small : (word q : ℕ) → q ≤ 15 → word % 2 ^ q < 2 ^ 15
 slot_small word q of_q =
@@ -106,9 +106,9 @@ slot_small word q of_q =
 
 entered : (session q : ℕ) (body : BodyValue) → session ≤ 3 → q ≤ 15 → IsLegalBody body → Leaves (enter session q body)
 entered session q body of_session of_q of_body =
-    either (slot_drawn q body == 0) (begin_reply session q (after_draw body)) (silent (ArbitrateState session q (slot_drawn q body)) (after_draw body))
-    (begun session q (after_draw body) of_session of_q (behind_draw body of_body))
-    (tag_is (ArbitrateState session q (slot_drawn q body)) (after_draw body) (of_session, of_q, slot_small (drawn body) q of_q) (behind_draw body of_body))
+    either (slot_of_draw q body == 0) (begin_reply session q (body_after_draw body)) (silent (ArbitrateState session q (slot_of_draw q body)) (body_after_draw body))
+    (begun session q (body_after_draw body) of_session of_q (behind_draw body of_body))
+    (tag_is (ArbitrateState session q (slot_of_draw q body)) (body_after_draw body) (of_session, of_q, slot_small (draw_of body) q of_q) (behind_draw body of_body))
 
 half_or : (half : Option Half) (instead outcome : Outcome) → Leaves instead → Leaves outcome → Leaves (unless_half half instead outcome)
 half_or None instead outcome of_instead given = given
@@ -132,20 +132,20 @@ body_either : (test : Bool) (x y : BodyValue) → IsLegalBody x → IsLegalBody 
 body_either true x y of_x of_y = of_x
 body_either false x y of_x of_y = of_y
 
-closed_body : (own session : ℕ) (body : BodyValue) → IsLegalBody body → IsLegalBody (closed_before own session body)
+closed_body : (own session : ℕ) (body : BodyValue) → IsLegalBody body → IsLegalBody (body_after_close own session body)
 closed_body own session body of_body =
-    body_either (own == session) (inverted_body session body) body (with_flags body (inverted_body session body).flags of_body) of_body
+    body_either (own == session) (body_after_inversion session body) body (with_flags body (body_after_inversion session body).flags of_body) of_body
 
 after_query : (sel : Sel) (session : ℕ) (target : Side) (q : ℕ) (state : StateValue) (body : BodyValue) → session ≤ 3 → q ≤ 15 → IsLegalAt state body → Leaves (query sel session target q state body)
 after_query sel session target q ReadyState body of_session of_q before = took_part sel session target q body of_session of_q before.body
 after_query sel session target q (ArbitrateState own own_q slot) body of_session of_q before = took_part sel session target q body of_session of_q before.body
 after_query sel session target q (ReplyState own own_q rn) body of_session of_q before = took_part sel session target q body of_session of_q before.body
 after_query sel session target q (AcknowledgedState own own_q rn) body of_session of_q before =
-    took_part sel session target q (closed_before own session body) of_session of_q (closed_body own session body before.body)
+    took_part sel session target q (body_after_close own session body) of_session of_q (closed_body own session body before.body)
 after_query sel session target q (OpenState held) body of_session of_q before =
-    took_part sel session target q (closed_before held.session session body) of_session of_q (closed_body held.session session body before.body)
+    took_part sel session target q (body_after_close held.session session body) of_session of_q (closed_body held.session session body before.body)
 after_query sel session target q (SecuredState held) body of_session of_q before =
-    took_part sel session target q (closed_before held.session session body) of_session of_q (closed_body held.session session body before.body)
+    took_part sel session target q (body_after_close held.session session body) of_session of_q (closed_body held.session session body before.body)
 after_query sel session target q KilledState body of_session of_q before = before
 after_query sel session target q UnpoweredState body of_session of_q before = before
 
@@ -180,7 +180,7 @@ after_query_rep session KilledState body of_session before = before
 after_query_rep session UnpoweredState body of_session before = before
 
 -- QueryAdjust
-q_stays_small : (updn : UpDn) (q : ℕ) → q ≤ 15 → adjusted updn q ≤ 15
+q_stays_small : (updn : UpDn) (q : ℕ) → q ≤ 15 → q_after_adjust updn q ≤ 15
 q_stays_small Up q small =
     elim (eqb_tells q 15) [
       | inl w ↦ rw w.0 (omega arith)
@@ -196,9 +196,9 @@ q_stays_small Down q small =
 after_query_adjust : (session : ℕ) (updn : UpDn) (state : StateValue) (body : BodyValue) → session ≤ 3 → IsLegalAt state body → Leaves (query_adjust session updn state body)
 after_query_adjust session updn ReadyState body of_session before = before
 after_query_adjust session updn (ArbitrateState own q slot) body of_session before =
-    of_round own session (ArbitrateState own q slot) body (enter session (adjusted updn q) body) (entered session (adjusted updn q) body of_session (q_stays_small updn q before.state.1) before.body) before
+    of_round own session (ArbitrateState own q slot) body (enter session (q_after_adjust updn q) body) (entered session (q_after_adjust updn q) body of_session (q_stays_small updn q before.state.1) before.body) before
 after_query_adjust session updn (ReplyState own q rn) body of_session before =
-    of_round own session (ReplyState own q rn) body (enter session (adjusted updn q) body) (entered session (adjusted updn q) body of_session (q_stays_small updn q before.state.1) before.body) before
+    of_round own session (ReplyState own q rn) body (enter session (q_after_adjust updn q) body) (entered session (q_after_adjust updn q) body of_session (q_stays_small updn q before.state.1) before.body) before
 after_query_adjust session updn (AcknowledgedState own q rn) body of_session before =
     of_round own session (AcknowledgedState own q rn) body (close session body) (closed session body before.body) before
 after_query_adjust session updn (OpenState held) body of_session before =
@@ -283,33 +283,33 @@ heard level rn held body outcome of_held of_body given =
     handled level rn held body (unless_any_half held body outcome) of_held of_body
     (half_or held.half (back held.session held.q body) outcome (held_back held body of_held of_body) given)
 
-other_half_or : (kind : Kind) (half : Option Half) (instead outcome : Outcome) → Leaves instead → Leaves outcome → Leaves (unless_other_half kind half instead outcome)
-other_half_or kind None instead outcome of_instead given = given
-other_half_or kind (Some half) instead outcome of_instead given = either (is_kind kind half.kind) outcome instead given of_instead
+other_half_or : (password : Password) (half : Option Half) (instead outcome : Outcome) → Leaves instead → Leaves outcome → Leaves (unless_other_half password half instead outcome)
+other_half_or password None instead outcome of_instead given = given
+other_half_or password (Some half) instead outcome of_instead given = either (is_password password half.password) outcome instead given of_instead
 
 uncovered : (level : Level) (held : Held) (body : BodyValue) (covered : ℕ) (cover : Option ℕ) (follows : Held → ℕ → Outcome) → IsLegalHeld held → IsLegalBody body → covered < 2 ^ 16 → IsWordOrNone cover → ((bare : Held) (value : ℕ) → IsLegalHeld bare → value < 2 ^ 16 → Leaves (follows bare value)) → Leaves (uncover level held body covered cover follows)
 uncovered level held body covered None follows of_held of_body small of_cover given = held_tag level held body of_held of_body
 uncovered level held body covered (Some cover) follows of_held of_body small of_cover given =
     given _ _ (with_cover held None of_held tt) (xor_of_16 covered cover small of_cover)
 
-memory_after : (level : Level) (held : Held) (body : BodyValue) (change : Result Banks ErrorCode) → IsLegalHeld held → IsLegalBody body → IfOk change AreSound → Leaves (memory_changed level held body change)
+memory_after : (level : Level) (held : Held) (body : BodyValue) (change : Result Banks ErrorCode) → IsLegalHeld held → IsLegalBody body → IfOk change AreSound → Leaves (memory_outcome level held body change)
 memory_after level held body (Ok memory) of_held of_body sound = held_tag level held (record body { memory = memory }) of_held (with_memory body memory of_body sound)
 memory_after level held body (Err code) of_held of_body sound = held_tag level held body of_held of_body
 
-locks_after : (held : Held) (body : BodyValue) (change : Result Locks ErrorCode) → IsLegalHeld held → IsLegalBody body → Leaves (locks_changed held body change)
+locks_after : (held : Held) (body : BodyValue) (change : Result Locks ErrorCode) → IsLegalHeld held → IsLegalBody body → Leaves (locks_outcome held body change)
 locks_after held body (Ok locks) of_held of_body = tag_is (SecuredState held) (record body { locks = locks }) of_held (with_locks body locks of_body)
 locks_after held body (Err code) of_held of_body = tag_is (SecuredState held) body of_held of_body
 
 -- Req_RN
 handle_given : (session q : ℕ) (body : BodyValue) → session ≤ 3 → q ≤ 15 → IsLegalBody body → Leaves (give_handle session q body)
 handle_given session q body of_session of_q of_body =
-    held_tag (first_level body) (new_held session q (drawn body)) (after_draw body)
+    held_tag (first_level body) (new_held session q (draw_of body)) (body_after_draw body)
     (record { session = of_session; q = of_q; handle = word_drawn body of_body; cover = tt; half = tt }) (behind_draw body of_body)
 
 req_rn_at : (level : Level) (rn : ℕ) (held : Held) (body : BodyValue) → IsLegalHeld held → IsLegalBody body → Leaves (req_rn_held level rn held body)
 req_rn_at level rn held body of_held of_body =
     either (held.handle == rn) (give_cover level held body) (silent (held_state level held) body)
-    (held_tag level (record held { cover = Some (drawn body) }) (after_draw body) (with_cover held (Some (drawn body)) of_held (word_drawn body of_body)) (behind_draw body of_body))
+    (held_tag level (record held { cover = Some (draw_of body) }) (body_after_draw body) (with_cover held (Some (draw_of body)) of_held (word_drawn body of_body)) (behind_draw body of_body))
     (held_tag level held body of_held of_body)
 
 after_req_rn : (rn : ℕ) (state : StateValue) (body : BodyValue) → IsLegalAt state body → Leaves (req_rn rn state body)
@@ -342,8 +342,8 @@ after_read bank pointer count rn UnpoweredState body before = before
 -- Write
 write_at : (level : Level) (bank : Bank) (pointer covered rn : ℕ) (held : Held) (body : BodyValue) → covered < 2 ^ 16 → IsLegalHeld held → IsLegalBody body → Leaves (write_held level bank pointer covered rn held body)
 write_at level bank pointer covered rn held body small of_held of_body =
-    let change = λ (word : ℕ). written body.memory body.locks level bank pointer (word ∷ []) in
-    let follows = λ (bare : Held) (word : ℕ). memory_changed level bare body (change word) in
+    let change = λ (word : ℕ). banks_after_write body.memory body.locks level bank pointer (word ∷ []) in
+    let follows = λ (bare : Held) (word : ℕ). memory_outcome level bare body (change word) in
     heard level rn held body (uncover level held body covered held.cover follows) of_held of_body
     (uncovered level held body covered held.cover follows of_held of_body small of_held.cover
     (λ bare word of_bare of_word.
@@ -362,13 +362,13 @@ after_write bank pointer covered rn KilledState body small before = before
 after_write bank pointer covered rn UnpoweredState body small before = before
 
 -- Kill
-half_kept : (level : Level) (kind : Kind) (value : ℕ) (held : Held) (body : BodyValue) → value < 2 ^ 16 → IsLegalHeld held → IsLegalBody body → Leaves (keep_half level kind value held body)
-half_kept level kind value held body small of_held of_body =
-    let half = Some (record { kind = kind; value = value }) in
+half_kept : (level : Level) (password : Password) (value : ℕ) (held : Held) (body : BodyValue) → value < 2 ^ 16 → IsLegalHeld held → IsLegalBody body → Leaves (keep_half level password value held body)
+half_kept level password value held body small of_held of_body =
+    let half = Some (record { password = password; value = value }) in
     held_tag level (record held { half = half }) body (with_half held half of_held small) of_body
 
 half_killed : (level : Level) (half : Option Half) (value : ℕ) (held : Held) (body : BodyValue) → value < 2 ^ 16 → IsLegalHeld held → IsLegalBody body → Leaves (kill_half level half value held body)
-half_killed level None value held body small of_held of_body = half_kept level kinds.Kill value held body small of_held of_body
+half_killed level None value held body small of_held of_body = half_kept level passwords.Kill value held body small of_held of_body
 half_killed level (Some half) value held body small of_held of_body =
     let bare = record held { half = None } in
     let killed = extended KilledState body Header held.handle in
@@ -382,8 +382,8 @@ kill_at level covered rn held body small of_held of_body =
     let gone = back held.session held.q body in
     let follows = λ (bare : Held) (value : ℕ). kill_half level bare.half value bare body in
     let rest = uncover level held body covered held.cover follows in
-    handled level rn held body (unless_other_half kinds.Kill held.half gone rest) of_held of_body
-    (other_half_or kinds.Kill held.half gone rest (held_back held body of_held of_body)
+    handled level rn held body (unless_other_half passwords.Kill held.half gone rest) of_held of_body
+    (other_half_or passwords.Kill held.half gone rest (held_back held body of_held of_body)
     (uncovered level held body covered held.cover follows of_held of_body small of_held.cover
     (λ bare value of_bare of_value. half_killed level bare.half value bare body of_value of_bare of_body)))
 
@@ -405,14 +405,14 @@ after_lock payload rn (ReplyState session q own) body before = gone_back session
 after_lock payload rn (AcknowledgedState session q own) body before = gone_back session q body before.state.0 before.state.1 before.body
 after_lock payload rn (OpenState held) body before = heard levels.Opened rn held body (silent (OpenState held) body) before.state before.body before
 after_lock payload rn (SecuredState held) body before =
-    let change = locked body.locks payload (has_user body) in
-    heard levels.Secured rn held body (locks_changed held body change) before.state before.body (locks_after held body change before.state before.body)
+    let change = locks_after body.locks payload (has_user body) in
+    heard levels.Secured rn held body (locks_outcome held body change) before.state before.body (locks_after held body change before.state before.body)
 after_lock payload rn KilledState body before = before
 after_lock payload rn UnpoweredState body before = before
 
 -- Access
 half_accessed : (level : Level) (half : Option Half) (value : ℕ) (held : Held) (body : BodyValue) → value < 2 ^ 16 → IsLegalHeld held → IsLegalBody body → Leaves (access_half level half value held body)
-half_accessed level None value held body small of_held of_body = half_kept level kinds.Access value held body small of_held of_body
+half_accessed level None value held body small of_held of_body = half_kept level passwords.Access value held body small of_held of_body
 half_accessed level (Some half) value held body small of_held of_body =
     let bare = record held { half = None } in
     either (access_word_of body.memory == whole_of half.value value) (plain (SecuredState bare) body (Handle held.handle) 0) (back held.session held.q body)
@@ -423,8 +423,8 @@ access_at level covered rn held body small of_held of_body =
     let gone = back held.session held.q body in
     let follows = λ (bare : Held) (value : ℕ). access_half level bare.half value bare body in
     let rest = uncover level held body covered held.cover follows in
-    handled level rn held body (unless_other_half kinds.Access held.half gone rest) of_held of_body
-    (other_half_or kinds.Access held.half gone rest (held_back held body of_held of_body)
+    handled level rn held body (unless_other_half passwords.Access held.half gone rest) of_held of_body
+    (other_half_or passwords.Access held.half gone rest (held_back held body of_held of_body)
     (uncovered level held body covered held.cover follows of_held of_body small of_held.cover
     (λ bare value of_bare of_value. half_accessed level bare.half value bare body of_value of_bare of_body)))
 
@@ -439,9 +439,9 @@ after_access covered rn KilledState body small before = before
 after_access covered rn UnpoweredState body small before = before
 
 -- BlockWrite and BlockErase
-changed_at : (level : Level) (rn : ℕ) (held : Held) (body : BodyValue) (change : Result Banks ErrorCode) → IsLegalHeld held → IsLegalBody body → IfOk change AreSound → Leaves (with_handle level rn held body (unless_any_half held body (memory_changed level held body change)))
+changed_at : (level : Level) (rn : ℕ) (held : Held) (body : BodyValue) (change : Result Banks ErrorCode) → IsLegalHeld held → IsLegalBody body → IfOk change AreSound → Leaves (with_handle level rn held body (unless_any_half held body (memory_outcome level held body change)))
 changed_at level rn held body change of_held of_body sound =
-    heard level rn held body (memory_changed level held body change) of_held of_body (memory_after level held body change of_held of_body sound)
+    heard level rn held body (memory_outcome level held body change) of_held of_body (memory_after level held body change of_held of_body sound)
 
 after_block_write : (bank : Bank) (pointer : ℕ) (words : List ℕ) (rn : ℕ) (state : StateValue) (body : BodyValue) → AreWords words → IsLegalAt state body → Leaves (block_write bank pointer words rn state body)
 after_block_write bank pointer words rn ReadyState body small before = before
@@ -449,10 +449,10 @@ after_block_write bank pointer words rn (ArbitrateState session q slot) body sma
 after_block_write bank pointer words rn (ReplyState session q own) body small before = gone_back session q body before.state.0 before.state.1 before.body
 after_block_write bank pointer words rn (AcknowledgedState session q own) body small before = gone_back session q body before.state.0 before.state.1 before.body
 after_block_write bank pointer words rn (OpenState held) body small before =
-    changed_at levels.Opened rn held body (written body.memory body.locks levels.Opened bank pointer words) before.state before.body
+    changed_at levels.Opened rn held body (banks_after_write body.memory body.locks levels.Opened bank pointer words) before.state before.body
     (written_sound body.memory body.locks levels.Opened bank pointer words (sound_of body before.body) small)
 after_block_write bank pointer words rn (SecuredState held) body small before =
-    changed_at levels.Secured rn held body (written body.memory body.locks levels.Secured bank pointer words) before.state before.body
+    changed_at levels.Secured rn held body (banks_after_write body.memory body.locks levels.Secured bank pointer words) before.state before.body
     (written_sound body.memory body.locks levels.Secured bank pointer words (sound_of body before.body) small)
 after_block_write bank pointer words rn KilledState body small before = before
 after_block_write bank pointer words rn UnpoweredState body small before = before
@@ -463,10 +463,10 @@ after_block_erase bank pointer count rn (ArbitrateState session q slot) body bef
 after_block_erase bank pointer count rn (ReplyState session q own) body before = gone_back session q body before.state.0 before.state.1 before.body
 after_block_erase bank pointer count rn (AcknowledgedState session q own) body before = gone_back session q body before.state.0 before.state.1 before.body
 after_block_erase bank pointer count rn (OpenState held) body before =
-    changed_at levels.Opened rn held body (erased body.memory body.locks levels.Opened bank pointer count) before.state before.body
+    changed_at levels.Opened rn held body (banks_after_erase body.memory body.locks levels.Opened bank pointer count) before.state before.body
     (erased_sound body.memory body.locks levels.Opened bank pointer count (sound_of body before.body))
 after_block_erase bank pointer count rn (SecuredState held) body before =
-    changed_at levels.Secured rn held body (erased body.memory body.locks levels.Secured bank pointer count) before.state before.body
+    changed_at levels.Secured rn held body (banks_after_erase body.memory body.locks levels.Secured bank pointer count) before.state before.body
     (erased_sound body.memory body.locks levels.Secured bank pointer count (sound_of body before.body))
 after_block_erase bank pointer count rn KilledState body before = before
 after_block_erase bank pointer count rn UnpoweredState body before = before
@@ -499,8 +499,8 @@ timed_out (SecuredState held) body before = before
 timed_out KilledState body before = before
 timed_out UnpoweredState body before = before
 
-without : (body : BodyValue) → IsLegalBody body → IsLegalTag (powered_off body)
-without body of_body = tag_is UnpoweredState (record body { flags = without_power body.flags }) tt (with_flags body (without_power body.flags) of_body)
+without : (body : BodyValue) → IsLegalBody body → IsLegalTag (tag_without_power body)
+without body of_body = tag_is UnpoweredState (record body { flags = flags_after_power_loss body.flags }) tt (with_flags body (flags_after_power_loss body.flags) of_body)
 
 turned_off : (state : StateValue) (body : BodyValue) → IsLegalAt state body → IsLegalTag (after_off state body)
 turned_off ReadyState body before = without body before.body
@@ -524,9 +524,9 @@ turned_on UnpoweredState body before =
     let memory = with_stored_crc body.memory in
     tag_is ReadyState (record body { memory = memory }) tt (with_memory body memory before.body (stored_crc_sound body.memory (sound_of body before.body)))
 
-flag_ended : (flag : FlagName) (powered takes_part : Bool) (state : StateValue) (body : BodyValue) → IsLegalAt state body → IsLegalAt state (with_expired flag powered takes_part body)
+flag_ended : (flag : FlagName) (powered takes_part : Bool) (state : StateValue) (body : BodyValue) → IsLegalAt state body → IsLegalAt state (body_after_expiry flag powered takes_part body)
 flag_ended flag powered takes_part state body before =
-    tag_is state (with_expired flag powered takes_part body) before.state (with_flags body (expired body.flags flag powered takes_part) before.body)
+    tag_is state (body_after_expiry flag powered takes_part body) before.state (with_flags body (flags_after_expiry body.flags flag powered takes_part) before.body)
 
 expiry_keeps : (flag : FlagName) (state : StateValue) (body : BodyValue) → IsLegalAt state body → IsLegalTag (after_expiry flag state body)
 expiry_keeps flag ReadyState body before = flag_ended flag true false ReadyState body before
@@ -538,7 +538,7 @@ expiry_keeps flag (SecuredState held) body before = flag_ended flag true true (S
 expiry_keeps flag KilledState body before = before
 expiry_keeps flag UnpoweredState body before = flag_ended flag false false UnpoweredState body before
 
-pub event_keeps : (event : Event) (state : StateValue) (body : BodyValue) → IsLegalAt state body → IsLegalTag (happens event state body)
+pub event_keeps : (event : Event) (state : StateValue) (body : BodyValue) → IsLegalAt state body → IsLegalTag (tag_after_event event state body)
 event_keeps events.Timeout state body before = timed_out state body before
 event_keeps events.Off state body before = turned_off state body before
 event_keeps events.On state body before = turned_on state body before

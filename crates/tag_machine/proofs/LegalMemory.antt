@@ -6,42 +6,42 @@ use Rattle.std.proofs.lemmas.List.Elements.{All-cons, All-append, All-take, All-
 use Rattle.bit_strings.specs.NumberLaws.{value_of-within}
 use Rattle.gen2_crc.specs.Crc.{crc16_of}
 use Rattle.gen2_crc.specs.CrcLaws.{length-crc16_of}
-use Rattle.command_grammar.specs.declared.command.Bank.{Bank}
-use Rattle.command_grammar.specs.declared.command.Bank.TheVariants.{Reserved, Epc, Tid, User}
+use Rattle.command_grammar.specs.declared.field_values.Bank.{Bank}
+use Rattle.command_grammar.specs.declared.field_values.Bank.TheVariants.{Reserved, Epc, Tid, User}
 use Rattle.lock_rules.specs.declared.locks.Locks.{Locks}
 use Rattle.lock_rules.specs.declared.terms.ErrorCode.TheVariants.{Overrun, Locked}
 use Rattle.lock_rules.specs.declared.terms.Level.{Level}
 use Rattle.bit_strings.specs.Words.{bits_of_words}
 use Rattle.reply_grammar.specs.Table.{AreWords}
-use Rattle.tag_memory.specs.Memory.{Banks, IsLegal, AreBanksOfWords, bank_of, pc_of, epc_of, length_in, stored_crc_of, with_stored_crc}
-use Rattle.tag_memory.specs.Access.{may_write_word, all_words, replaced, replaced_in, length_fits, written, erased}
+use Rattle.tag_memory.specs.Memory.{Banks, IsLegalMemory, AreBanksOfWords, bank_of, pc_of, epc_of, length_in, stored_crc_of, with_stored_crc}
+use Rattle.tag_memory.specs.Access.{may_write_word, all_words, with_words_at, banks_with_words_at, length_fits, banks_after_write, banks_after_erase}
 
 -- legal banks whose words are numbers of 16 bits
 pub record AreSound (banks : Banks) : Type 0 where
-  pub legal : IsLegal banks
+  pub legal : IsLegalMemory banks
   pub words : AreBanksOfWords banks
 
 abbrev IsWord : ℕ → Type 0
 IsWord word = word < 2 ^ 16
 
 -- words in place of others
-length_replaced : (old words : List ℕ) (pointer : ℕ) → pointer + length words ≤ length old → length (replaced old pointer words) ≡ length old
+length_replaced : (old words : List ℕ) (pointer : ℕ) → pointer + length words ≤ length old → length (with_words_at old pointer words) ≡ length old
 length_replaced old words pointer inside =
     let front : length (take pointer old) ≡ pointer = length-take-le pointer old (omega arith) in
     omega (arith, front, length-append (take pointer old ++ words) (drop (pointer + length words) old), length-append (take pointer old) words, length-drop (pointer + length words) old)
 
-words_replaced : (old words : List ℕ) (pointer : ℕ) → AreWords old → AreWords words → AreWords (replaced old pointer words)
+words_replaced : (old words : List ℕ) (pointer : ℕ) → AreWords old → AreWords words → AreWords (with_words_at old pointer words)
 words_replaced old words pointer small new =
     All-append IsWord (take pointer old ++ words) (drop (pointer + length words) old)
     (All-append IsWord (take pointer old) words (All-take IsWord pointer old small) new) (All-drop IsWord (pointer + length words) old small)
 
-banks_of_words : (banks : Banks) (bank : Bank) (pointer : ℕ) (words : List ℕ) → AreBanksOfWords banks → AreWords words → AreBanksOfWords (replaced_in banks bank pointer words)
+banks_of_words : (banks : Banks) (bank : Bank) (pointer : ℕ) (words : List ℕ) → AreBanksOfWords banks → AreWords words → AreBanksOfWords (banks_with_words_at banks bank pointer words)
 banks_of_words banks Reserved pointer words small new = record { reserved = words_replaced banks.reserved words pointer small.reserved new; epc = small.epc; tid = small.tid; user = small.user }
 banks_of_words banks Epc pointer words small new = record { reserved = small.reserved; epc = words_replaced banks.epc words pointer small.epc new; tid = small.tid; user = small.user }
 banks_of_words banks Tid pointer words small new = record { reserved = small.reserved; epc = small.epc; tid = words_replaced banks.tid words pointer small.tid new; user = small.user }
 banks_of_words banks User pointer words small new = record { reserved = small.reserved; epc = small.epc; tid = small.tid; user = words_replaced banks.user words pointer small.user new }
 
-legal_banks : (banks : Banks) (bank : Bank) (pointer : ℕ) (words : List ℕ) → IsLegal banks → pointer + length words ≤ length (bank_of banks bank) → 2 + length_in (pc_of (replaced_in banks bank pointer words)) ≤ length (replaced_in banks bank pointer words).epc → IsLegal (replaced_in banks bank pointer words)
+legal_banks : (banks : Banks) (bank : Bank) (pointer : ℕ) (words : List ℕ) → IsLegalMemory banks → pointer + length words ≤ length (bank_of banks bank) → 2 + length_in (pc_of (banks_with_words_at banks bank pointer words)) ≤ length (banks_with_words_at banks bank pointer words).epc → IsLegalMemory (banks_with_words_at banks bank pointer words)
 legal_banks banks Reserved pointer words legal inside fits =
     let same = length_replaced banks.reserved words pointer inside in
     record { reserved_size = same ∙ legal.reserved_size; epc_least = legal.epc_least; epc_most = legal.epc_most; tid_least = legal.tid_least; tid_most = legal.tid_most; user_most = legal.user_most; length_fits = fits }
@@ -65,9 +65,9 @@ where_ok true permitted after sound = tt
 where_ok false true after sound = sound refl
 where_ok false false after sound = tt
 
-pub written_sound : (banks : Banks) (locks : Locks) (level : Level) (bank : Bank) (pointer : ℕ) (words : List ℕ) → AreSound banks → AreWords words → IfOk (written banks locks level bank pointer words) AreSound
+pub written_sound : (banks : Banks) (locks : Locks) (level : Level) (bank : Bank) (pointer : ℕ) (words : List ℕ) → AreSound banks → AreWords words → IfOk (banks_after_write banks locks level bank pointer words) AreSound
 written_sound banks locks level bank pointer words sound new =
-    let after = replaced_in banks bank pointer words in
+    let after = banks_with_words_at banks bank pointer words in
     let past = nat_lt (length (bank_of banks bank)) (pointer + length words) in
     where_ok (past || not (length_fits after)) (all_words (may_write_word locks level bank) pointer (length words)) after
     (λ kept.
@@ -77,7 +77,7 @@ written_sound banks locks level bank pointer words sound new =
       words = banks_of_words banks bank pointer words sound.words new;
     })
 
-pub erased_sound : (banks : Banks) (locks : Locks) (level : Level) (bank : Bank) (pointer count : ℕ) → AreSound banks → IfOk (erased banks locks level bank pointer count) AreSound
+pub erased_sound : (banks : Banks) (locks : Locks) (level : Level) (bank : Bank) (pointer count : ℕ) → AreSound banks → IfOk (banks_after_erase banks locks level bank pointer count) AreSound
 erased_sound banks locks level bank pointer count sound =
     written_sound banks locks level bank pointer (replicate count 0) sound (All-replicate IsWord count 0 (omega arith))
 

@@ -2,25 +2,25 @@
 -- doesn't name stays as it is, without a reply. In open and secured a command with another handle changes nothing and
 -- gets no reply. How an unfinished Kill or Access ends, and what becomes of a cover, is profile.
 use Rattle.std.specs.Prelude.{ℕ, ◌+◌, ◌*◌, ◌^◌, ◌==◌, nat_lt, Bool, true, false, List, [], ◌∷◌, length, Option, Some, None, Result, Ok, Err, bit_xor, if◌then◌else◌}
-use Rattle.command_grammar.specs.declared.command.Bank.{Bank}
+use Rattle.command_grammar.specs.declared.field_values.Bank.{Bank}
 use Rattle.lock_rules.specs.declared.locks.Locks.{Locks}
 use Rattle.lock_rules.specs.declared.terms.ErrorCode.{ErrorCode}
 use Rattle.lock_rules.specs.declared.terms.ErrorCode.TheVariants as errors
 use Rattle.lock_rules.specs.declared.terms.Level.{Level}
 use Rattle.lock_rules.specs.declared.terms.Level.TheVariants as levels
 use Rattle.lock_rules.specs.Codes.{code_of}
-use Rattle.lock_rules.specs.Lock.{locked}
+use Rattle.lock_rules.specs.Lock.{locks_after}
 use Rattle.reply_grammar.specs.declared.expected.Reply.{Reply}
 use Rattle.reply_grammar.specs.declared.expected.Reply.TheVariants.{Handle, Words, Header, Error}
 use Rattle.tag_memory.specs.Memory.{Banks, kill_word_of, access_word_of}
-use Rattle.tag_memory.specs.Access.{words_read, written, erased}
+use Rattle.tag_memory.specs.Access.{words_read, banks_after_write, banks_after_erase}
 use Rattle.tag_machine.specs.declared.states.Half.{Half}
-use Rattle.tag_machine.specs.declared.states.Kind.{Kind}
-use Rattle.tag_machine.specs.declared.states.Kind.TheVariants as kinds
+use Rattle.tag_machine.specs.declared.states.Password.{Password}
+use Rattle.tag_machine.specs.declared.states.Password.TheVariants as passwords
 use Rattle.tag_machine.specs.declared.states.Held.{Held}
 use Rattle.tag_machine.specs.TagValue.{StateValue, ReadyState, ArbitrateState, ReplyState, AcknowledgedState, OpenState, SecuredState, KilledState, UnpoweredState, BodyValue}
 use Rattle.tag_machine.specs.Answers.{Outcome, silent, plain, extended}
-use Rattle.tag_machine.specs.Draws.{drawn, after_draw, back}
+use Rattle.tag_machine.specs.Draws.{draw_of, body_after_draw, back}
 use Rattle.tag_machine.specs.Inventory.{unless_half}
 
 -- open or secured, with what the tag holds there: the permissions are those of the state
@@ -37,12 +37,12 @@ first_level body = (if access_word_of body.memory == 0 then levels.Secured else 
 
 abbrev pub give_handle : ℕ → ℕ → BodyValue → Outcome
 give_handle session q body =
-    plain (held_state (first_level body) (new_held session q (drawn body))) (after_draw body) (Handle (drawn body)) 0
+    plain (held_state (first_level body) (new_held session q (draw_of body))) (body_after_draw body) (Handle (draw_of body)) 0
 
 -- ... in open and secured: what is drawn covers the next Write, Kill or Access; a first half stays
 abbrev pub give_cover : Level → Held → BodyValue → Outcome
 give_cover level held body =
-    plain (held_state level (record held { cover = Some (drawn body) })) (after_draw body) (Handle (drawn body)) 0
+    plain (held_state level (record held { cover = Some (draw_of body) })) (body_after_draw body) (Handle (draw_of body)) 0
 
 abbrev pub req_rn_held : Level → ℕ → Held → BodyValue → Outcome
 req_rn_held level rn held body =
@@ -68,15 +68,15 @@ with_handle level rn held body outcome =
 abbrev pub unless_any_half : Held → BodyValue → Outcome → Outcome
 unless_any_half held body outcome = unless_half held.half (back held.session held.q body) outcome
 
-abbrev pub is_kind : Kind → Kind → Bool
-is_kind kinds.Kill kinds.Kill = true
-is_kind kinds.Kill kinds.Access = false
-is_kind kinds.Access kinds.Kill = false
-is_kind kinds.Access kinds.Access = true
+abbrev pub is_password : Password → Password → Bool
+is_password passwords.Kill passwords.Kill = true
+is_password passwords.Kill passwords.Access = false
+is_password passwords.Access passwords.Kill = false
+is_password passwords.Access passwords.Access = true
 
-abbrev pub unless_other_half : Kind → Option Half → Outcome → Outcome → Outcome
-unless_other_half kind None instead outcome = outcome
-unless_other_half kind (Some half) instead outcome = (if is_kind kind half.kind then outcome else instead)
+abbrev pub unless_other_half : Password → Option Half → Outcome → Outcome → Outcome
+unless_other_half password None instead outcome = outcome
+unless_other_half password (Some half) instead outcome = (if is_password password half.password then outcome else instead)
 
 -- a Write, Kill or Access without a cover changes nothing and gets no reply. With one, the cover is used up, whatever
 -- follows, and the value is the covered number XOR the cover.
@@ -109,15 +109,15 @@ read bank pointer count rn KilledState body = silent KilledState body
 read bank pointer count rn UnpoweredState body = silent UnpoweredState body
 
 -- what a change of the memory gives: the new memory and the header, or an error and the memory as it was
-abbrev pub memory_changed : Level → Held → BodyValue → Result Banks ErrorCode → Outcome
-memory_changed level held body (Ok memory) = extended (held_state level held) (record body { memory = memory }) Header held.handle
-memory_changed level held body (Err code) = refuse level held body code
+abbrev pub memory_outcome : Level → Held → BodyValue → Result Banks ErrorCode → Outcome
+memory_outcome level held body (Ok memory) = extended (held_state level held) (record body { memory = memory }) Header held.handle
+memory_outcome level held body (Err code) = refuse level held body code
 
 -- 6.3.2.11.3.3 Write
 abbrev pub write_held : Level → Bank → ℕ → ℕ → ℕ → Held → BodyValue → Outcome
 write_held level bank pointer covered rn held body =
     with_handle level rn held body (unless_any_half held body (uncover level held body covered held.cover
-    (λ bare word. memory_changed level bare body (written body.memory body.locks level bank pointer (word ∷ [])))))
+    (λ bare word. memory_outcome level bare body (banks_after_write body.memory body.locks level bank pointer (word ∷ [])))))
 
 abbrev pub write : Bank → ℕ → ℕ → ℕ → StateValue → BodyValue → Outcome
 write bank pointer covered rn ReadyState body = silent ReadyState body
@@ -134,9 +134,9 @@ abbrev pub whole_of : ℕ → ℕ → ℕ
 whole_of upper lower = upper * 2 ^ 16 + lower
 
 -- the first half is kept, and the handle answered
-abbrev pub keep_half : Level → Kind → ℕ → Held → BodyValue → Outcome
-keep_half level kind value held body =
-    plain (held_state level (record held { half = Some (record { kind = kind; value = value }) })) body (Handle held.handle) 0
+abbrev pub keep_half : Level → Password → ℕ → Held → BodyValue → Outcome
+keep_half level password value held body =
+    plain (held_state level (record held { half = Some (record { password = password; value = value }) })) body (Handle held.handle) 0
 
 -- 6.3.2.11.3.4 Kill: what both halves give. With the kill password 0 the answer is an error (its code is profile), the
 -- first half is forgotten, and the state stays. With the kill password the tag is killed. With another value it goes
@@ -148,12 +148,12 @@ kill_whole level value held body =
     else back held.session held.q body))
 
 abbrev pub kill_half : Level → Option Half → ℕ → Held → BodyValue → Outcome
-kill_half level None value held body = keep_half level kinds.Kill value held body
+kill_half level None value held body = keep_half level passwords.Kill value held body
 kill_half level (Some half) value held body = kill_whole level (whole_of half.value value) held body
 
 abbrev pub kill_held : Level → ℕ → ℕ → Held → BodyValue → Outcome
 kill_held level covered rn held body =
-    with_handle level rn held body (unless_other_half kinds.Kill held.half (back held.session held.q body)
+    with_handle level rn held body (unless_other_half passwords.Kill held.half (back held.session held.q body)
     (uncover level held body covered held.cover (λ bare value. kill_half level bare.half value bare body)))
 
 abbrev pub kill : ℕ → ℕ → StateValue → BodyValue → Outcome
@@ -170,9 +170,9 @@ kill covered rn UnpoweredState body = silent UnpoweredState body
 abbrev pub has_user : BodyValue → Bool
 has_user body = nat_lt 0 (length body.memory.user)
 
-abbrev pub locks_changed : Held → BodyValue → Result Locks ErrorCode → Outcome
-locks_changed held body (Ok locks) = extended (SecuredState held) (record body { locks = locks }) Header held.handle
-locks_changed held body (Err code) = refuse levels.Secured held body code
+abbrev pub locks_outcome : Held → BodyValue → Result Locks ErrorCode → Outcome
+locks_outcome held body (Ok locks) = extended (SecuredState held) (record body { locks = locks }) Header held.handle
+locks_outcome held body (Err code) = refuse levels.Secured held body code
 
 abbrev pub lock : ℕ → ℕ → StateValue → BodyValue → Outcome
 lock payload rn ReadyState body = silent ReadyState body
@@ -183,7 +183,7 @@ lock payload rn (OpenState held) body =
     with_handle levels.Opened rn held body (unless_any_half held body (silent (OpenState held) body))
 lock payload rn (SecuredState held) body =
     with_handle levels.Secured rn held body (unless_any_half held body
-    (locks_changed held body (locked body.locks payload (has_user body))))
+    (locks_outcome held body (locks_after body.locks payload (has_user body))))
 lock payload rn KilledState body = silent KilledState body
 lock payload rn UnpoweredState body = silent UnpoweredState body
 
@@ -196,12 +196,12 @@ access_whole value held body =
     else back held.session held.q body)
 
 abbrev pub access_half : Level → Option Half → ℕ → Held → BodyValue → Outcome
-access_half level None value held body = keep_half level kinds.Access value held body
+access_half level None value held body = keep_half level passwords.Access value held body
 access_half level (Some half) value held body = access_whole (whole_of half.value value) held body
 
 abbrev pub access_held : Level → ℕ → ℕ → Held → BodyValue → Outcome
 access_held level covered rn held body =
-    with_handle level rn held body (unless_other_half kinds.Access held.half (back held.session held.q body)
+    with_handle level rn held body (unless_other_half passwords.Access held.half (back held.session held.q body)
     (uncover level held body covered held.cover (λ bare value. access_half level bare.half value bare body)))
 
 abbrev pub access : ℕ → ℕ → StateValue → BodyValue → Outcome
@@ -218,7 +218,7 @@ access covered rn UnpoweredState body = silent UnpoweredState body
 abbrev pub block_write_held : Level → Bank → ℕ → List ℕ → ℕ → Held → BodyValue → Outcome
 block_write_held level bank pointer words rn held body =
     with_handle level rn held body (unless_any_half held body
-    (memory_changed level held body (written body.memory body.locks level bank pointer words)))
+    (memory_outcome level held body (banks_after_write body.memory body.locks level bank pointer words)))
 
 abbrev pub block_write : Bank → ℕ → List ℕ → ℕ → StateValue → BodyValue → Outcome
 block_write bank pointer words rn ReadyState body = silent ReadyState body
@@ -234,7 +234,7 @@ block_write bank pointer words rn UnpoweredState body = silent UnpoweredState bo
 abbrev pub block_erase_held : Level → Bank → ℕ → ℕ → ℕ → Held → BodyValue → Outcome
 block_erase_held level bank pointer count rn held body =
     with_handle level rn held body (unless_any_half held body
-    (memory_changed level held body (erased body.memory body.locks level bank pointer count)))
+    (memory_outcome level held body (banks_after_erase body.memory body.locks level bank pointer count)))
 
 abbrev pub block_erase : Bank → ℕ → ℕ → ℕ → StateValue → BodyValue → Outcome
 block_erase bank pointer count rn ReadyState body = silent ReadyState body

@@ -2,13 +2,13 @@
 -- the tables of Annex B share. That draws come from a list which begins again at its end is profile.
 use Rattle.std.specs.Prelude.{ℕ, zero, suc, ◌+◌, ◌%◌, ◌^◌, ◌==◌, length, slice_index, if◌then◌else◌}
 use Rattle.reply_grammar.specs.declared.expected.Reply.TheVariants.{Rn16}
-use Rattle.session_flags.specs.Flags.{inverted}
+use Rattle.session_flags.specs.Flags.{flags_after_inversion}
 use Rattle.tag_machine.specs.TagValue.{StateValue, ReadyState, ArbitrateState, ReplyState, AcknowledgedState, OpenState, SecuredState, KilledState, UnpoweredState, BodyValue, TagValue}
 use Rattle.tag_machine.specs.Answers.{Outcome, silent, plain}
 
 -- a draw is the word at the tag's place
-abbrev pub drawn : BodyValue → ℕ
-drawn body = slice_index body.words body.place
+abbrev pub draw_of : BodyValue → ℕ
+draw_of body = slice_index body.words body.place
 
 -- the place rises by one, and is 0 again where it reaches the number of words
 abbrev pub place_behind : ℕ → ℕ → ℕ
@@ -22,30 +22,30 @@ unfoldable pub place_of_draw : ℕ → ℕ → ℕ
 place_of_draw count zero = 0
 place_of_draw count (suc number) = place_behind count (place_of_draw count number)
 
-abbrev pub after_draw : BodyValue → BodyValue
-after_draw body = record body { place = place_after body }
+abbrev pub body_after_draw : BodyValue → BodyValue
+body_after_draw body = record body { place = place_after body }
 
 -- an RN16 is drawn and answered, and the tag is in reply
 abbrev pub begin_reply : ℕ → ℕ → BodyValue → Outcome
-begin_reply session q body = plain (ReplyState session q (drawn body)) (after_draw body) (Rn16 (drawn body)) 0
+begin_reply session q body = plain (ReplyState session q (draw_of body)) (body_after_draw body) (Rn16 (draw_of body)) 0
 
 -- ENTER: a slot is drawn, the last Q bits of the draw. With slot 0 the tag replies at once, with a further draw.
-abbrev pub slot_drawn : ℕ → BodyValue → ℕ
-slot_drawn q body = drawn body % 2 ^ q
+abbrev pub slot_of_draw : ℕ → BodyValue → ℕ
+slot_of_draw q body = draw_of body % 2 ^ q
 
 abbrev pub enter : ℕ → ℕ → BodyValue → Outcome
 enter session q body =
-    (if slot_drawn q body == 0
-    then begin_reply session q (after_draw body)
-    else silent (ArbitrateState session q (slot_drawn q body)) (after_draw body))
+    (if slot_of_draw q body == 0
+    then begin_reply session q (body_after_draw body)
+    else silent (ArbitrateState session q (slot_of_draw q body)) (body_after_draw body))
 
 -- the body with the inventoried flag of a session inverted
-abbrev pub inverted_body : ℕ → BodyValue → BodyValue
-inverted_body session body = record body { flags = inverted body.flags session }
+abbrev pub body_after_inversion : ℕ → BodyValue → BodyValue
+body_after_inversion session body = record body { flags = flags_after_inversion body.flags session }
 
 -- CLOSE: the tag was inventoried, so that its flag of the session is inverted, and it is ready
 abbrev pub close : ℕ → BodyValue → Outcome
-close session body = silent ReadyState (inverted_body session body)
+close session body = silent ReadyState (body_after_inversion session body)
 
 -- BACK: arbitrate with slot 0
 abbrev pub tag_back : ℕ → ℕ → BodyValue → TagValue
@@ -55,12 +55,12 @@ abbrev pub back : ℕ → ℕ → BodyValue → Outcome
 back session q body = silent (ArbitrateState session q 0) body
 
 -- BACK of a tag, with the session and Q that its state holds
-abbrev pub gone_back : StateValue → BodyValue → TagValue
-gone_back ReadyState body = record { state = ReadyState; body = body }
-gone_back (ArbitrateState session q slot) body = tag_back session q body
-gone_back (ReplyState session q rn) body = tag_back session q body
-gone_back (AcknowledgedState session q rn) body = tag_back session q body
-gone_back (OpenState held) body = tag_back held.session held.q body
-gone_back (SecuredState held) body = tag_back held.session held.q body
-gone_back KilledState body = record { state = KilledState; body = body }
-gone_back UnpoweredState body = record { state = UnpoweredState; body = body }
+abbrev pub tag_gone_back : StateValue → BodyValue → TagValue
+tag_gone_back ReadyState body = record { state = ReadyState; body = body }
+tag_gone_back (ArbitrateState session q slot) body = tag_back session q body
+tag_gone_back (ReplyState session q rn) body = tag_back session q body
+tag_gone_back (AcknowledgedState session q rn) body = tag_back session q body
+tag_gone_back (OpenState held) body = tag_back held.session held.q body
+tag_gone_back (SecuredState held) body = tag_back held.session held.q body
+tag_gone_back KilledState body = record { state = KilledState; body = body }
+tag_gone_back UnpoweredState body = record { state = UnpoweredState; body = body }

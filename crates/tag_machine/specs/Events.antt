@@ -2,8 +2,8 @@
 -- timing (T2), 6.3.2.2 Sessions and inventoried flags (the table of persistence) and Annex B. An event that a clause doesn't
 -- name changes nothing, and none changes a killed tag.
 use Rattle.std.specs.Prelude.{ℕ, Bool, true, false, List}
-use Rattle.command_grammar.specs.declared.command.FlagName.{FlagName}
-use Rattle.session_flags.specs.Flags.{new_flags, without_power, expired}
+use Rattle.command_grammar.specs.declared.field_values.FlagName.{FlagName}
+use Rattle.session_flags.specs.Flags.{new_flags, flags_after_power_loss, flags_after_expiry}
 use Rattle.lock_rules.specs.declared.locks.Locks.{Locks}
 use Rattle.tag_memory.specs.Memory.{Banks, with_stored_crc}
 use Rattle.air_events.specs.declared.Event.{Event}
@@ -25,18 +25,18 @@ after_timeout KilledState body = tag_at KilledState body
 after_timeout UnpoweredState body = tag_at UnpoweredState body
 
 -- power is lost, and the inventoried flag of S0 with it
-abbrev pub powered_off : BodyValue → TagValue
-powered_off body = tag_at UnpoweredState (record body { flags = without_power body.flags })
+abbrev pub tag_without_power : BodyValue → TagValue
+tag_without_power body = tag_at UnpoweredState (record body { flags = flags_after_power_loss body.flags })
 
 abbrev pub after_off : StateValue → BodyValue → TagValue
-after_off ReadyState body = powered_off body
-after_off (ArbitrateState session q slot) body = powered_off body
-after_off (ReplyState session q rn) body = powered_off body
-after_off (AcknowledgedState session q rn) body = powered_off body
-after_off (OpenState held) body = powered_off body
-after_off (SecuredState held) body = powered_off body
+after_off ReadyState body = tag_without_power body
+after_off (ArbitrateState session q slot) body = tag_without_power body
+after_off (ReplyState session q rn) body = tag_without_power body
+after_off (AcknowledgedState session q rn) body = tag_without_power body
+after_off (OpenState held) body = tag_without_power body
+after_off (SecuredState held) body = tag_without_power body
 after_off KilledState body = tag_at KilledState body
-after_off UnpoweredState body = powered_off body
+after_off UnpoweredState body = tag_without_power body
 
 -- power comes: a tag that had none is ready, with StoredCRC computed again
 abbrev pub after_on : StateValue → BodyValue → TagValue
@@ -51,24 +51,24 @@ after_on UnpoweredState body = tag_at ReadyState (record body { memory = with_st
 
 -- the persistence of a flag ends: it goes by whether the tag has power, and whether it takes part in a round, as it does
 -- in every state but ready, killed and without power
-abbrev pub with_expired : FlagName → Bool → Bool → BodyValue → BodyValue
-with_expired flag powered takes_part body = record body { flags = expired body.flags flag powered takes_part }
+abbrev pub body_after_expiry : FlagName → Bool → Bool → BodyValue → BodyValue
+body_after_expiry flag powered takes_part body = record body { flags = flags_after_expiry body.flags flag powered takes_part }
 
 abbrev pub after_expiry : FlagName → StateValue → BodyValue → TagValue
-after_expiry flag ReadyState body = tag_at ReadyState (with_expired flag true false body)
-after_expiry flag (ArbitrateState session q slot) body = tag_at (ArbitrateState session q slot) (with_expired flag true true body)
-after_expiry flag (ReplyState session q rn) body = tag_at (ReplyState session q rn) (with_expired flag true true body)
-after_expiry flag (AcknowledgedState session q rn) body = tag_at (AcknowledgedState session q rn) (with_expired flag true true body)
-after_expiry flag (OpenState held) body = tag_at (OpenState held) (with_expired flag true true body)
-after_expiry flag (SecuredState held) body = tag_at (SecuredState held) (with_expired flag true true body)
+after_expiry flag ReadyState body = tag_at ReadyState (body_after_expiry flag true false body)
+after_expiry flag (ArbitrateState session q slot) body = tag_at (ArbitrateState session q slot) (body_after_expiry flag true true body)
+after_expiry flag (ReplyState session q rn) body = tag_at (ReplyState session q rn) (body_after_expiry flag true true body)
+after_expiry flag (AcknowledgedState session q rn) body = tag_at (AcknowledgedState session q rn) (body_after_expiry flag true true body)
+after_expiry flag (OpenState held) body = tag_at (OpenState held) (body_after_expiry flag true true body)
+after_expiry flag (SecuredState held) body = tag_at (SecuredState held) (body_after_expiry flag true true body)
 after_expiry flag KilledState body = tag_at KilledState body
-after_expiry flag UnpoweredState body = tag_at UnpoweredState (with_expired flag false false body)
+after_expiry flag UnpoweredState body = tag_at UnpoweredState (body_after_expiry flag false false body)
 
-abbrev pub happens : Event → StateValue → BodyValue → TagValue
-happens events.Timeout state body = after_timeout state body
-happens events.Off state body = after_off state body
-happens events.On state body = after_on state body
-happens (events.Expire flag) state body = after_expiry flag state body
+abbrev pub tag_after_event : Event → StateValue → BodyValue → TagValue
+tag_after_event events.Timeout state body = after_timeout state body
+tag_after_event events.Off state body = after_off state body
+tag_after_event events.On state body = after_on state body
+tag_after_event (events.Expire flag) state body = after_expiry flag state body
 
 -- a tag as it is when it is made: powered, in ready, with new flags and no draw made
 abbrev pub new_tag : Banks → Locks → List ℕ → TagValue

@@ -11,15 +11,15 @@ use Rattle.tag_machine.specs.declared.states.StateName.TheVariants as names
 use Rattle.tag_machine.specs.TagValue.{TagValue}
 use Rattle.tag_machine.specs.Answers.{Sent, Outcome, bits_sent, IsSent}
 
-abbrev pub value_of : AnyTag → TagValue
-value_of (tags.Ready tag) = tag
-value_of (tags.Arbitrate tag) = tag
-value_of (tags.InReply tag) = tag
-value_of (tags.Acknowledged tag) = tag
-value_of (tags.Opened tag) = tag
-value_of (tags.Secured tag) = tag
-value_of (tags.Killed tag) = tag
-value_of (tags.Unpowered tag) = tag
+abbrev pub tag_value_of : AnyTag → TagValue
+tag_value_of (tags.Ready tag) = tag
+tag_value_of (tags.Arbitrate tag) = tag
+tag_value_of (tags.InReply tag) = tag
+tag_value_of (tags.Acknowledged tag) = tag
+tag_value_of (tags.Opened tag) = tag
+tag_value_of (tags.Secured tag) = tag
+tag_value_of (tags.Killed tag) = tag
+tag_value_of (tags.Unpowered tag) = tag
 
 -- the name of the state that a tag's type says
 abbrev pub typed_name_of : AnyTag → StateName
@@ -38,8 +38,8 @@ mark_of None = Silent
 mark_of (Some sent) = (if sent.extended then Extended else Plain)
 
 -- a tag that heard a command, and a buffer before and after it, are what an outcome says
-pub record Gives (outcome : Outcome) (heard : Heard) (old new : BitString) : Type 0 where
-  pub tag : value_of heard.tag ≡ outcome.tag
+pub record GivesOutcome (outcome : Outcome) (heard : Heard) (old new : BitString) : Type 0 where
+  pub tag : tag_value_of heard.tag ≡ outcome.tag
   pub answered : heard.answered ≡ mark_of outcome.answer
   pub bits : new ≡ record old { items = bits_sent outcome.answer }
   pub in_range : IsSent outcome.answer

@@ -2,22 +2,22 @@
 -- each of these commands does in each state. A state that a command doesn't name stays as it is, without a reply. A
 -- session in an effect is the command's, which is the tag's where the two are compared.
 use Rattle.std.specs.Prelude.{ℕ, ◌+◌, ◌-◌, ◌==◌, Bool, List, Option, Some, None, if◌then◌else◌}
-use Rattle.command_grammar.specs.declared.command.FlagName.{FlagName}
-use Rattle.command_grammar.specs.declared.command.MaskBank.{MaskBank}
-use Rattle.command_grammar.specs.declared.command.Sel.{Sel}
-use Rattle.command_grammar.specs.declared.command.Side.{Side}
-use Rattle.command_grammar.specs.declared.command.UpDn.{UpDn}
-use Rattle.command_grammar.specs.declared.command.UpDn.TheVariants.{Up, Same, Down}
+use Rattle.command_grammar.specs.declared.field_values.FlagName.{FlagName}
+use Rattle.command_grammar.specs.declared.field_values.MaskBank.{MaskBank}
+use Rattle.command_grammar.specs.declared.field_values.Sel.{Sel}
+use Rattle.command_grammar.specs.declared.field_values.Side.{Side}
+use Rattle.command_grammar.specs.declared.field_values.UpDn.{UpDn}
+use Rattle.command_grammar.specs.declared.field_values.UpDn.TheVariants.{Up, Same, Down}
 use Rattle.reply_grammar.specs.declared.expected.Reply.{Reply}
 use Rattle.reply_grammar.specs.declared.expected.Reply.TheVariants.{Epc}
-use Rattle.session_flags.specs.Flags.{matches, selected}
+use Rattle.session_flags.specs.Flags.{matches, flags_after_select}
 use Rattle.session_flags.specs.MaskMatch.{mask_match}
 use Rattle.tag_memory.specs.Memory.{bank_of, bank_named, pc_of, epc_of}
 use Rattle.tag_machine.specs.declared.states.Half.{Half}
 use Rattle.tag_machine.specs.declared.states.Held.{Held}
 use Rattle.tag_machine.specs.TagValue.{StateValue, ReadyState, ArbitrateState, ReplyState, AcknowledgedState, OpenState, SecuredState, KilledState, UnpoweredState, BodyValue}
 use Rattle.tag_machine.specs.Answers.{Outcome, silent, plain}
-use Rattle.tag_machine.specs.Draws.{enter, begin_reply, inverted_body, close, back}
+use Rattle.tag_machine.specs.Draws.{enter, begin_reply, body_after_inversion, close, back}
 
 -- 6.3.2.11.2.1 Query: a tag that matches takes the session and Q and draws its slot, another is ready
 abbrev pub take_part : Sel → ℕ → Side → ℕ → BodyValue → Outcome
@@ -25,16 +25,16 @@ take_part sel session target q body =
     (if matches sel session target body.flags then enter session q body else silent ReadyState body)
 
 -- a tag that was inventoried in a session, and hears a Query of a session: where the two are one, its flag is inverted
-abbrev pub closed_before : ℕ → ℕ → BodyValue → BodyValue
-closed_before own session body = (if own == session then inverted_body session body else body)
+abbrev pub body_after_close : ℕ → ℕ → BodyValue → BodyValue
+body_after_close own session body = (if own == session then body_after_inversion session body else body)
 
 abbrev pub query : Sel → ℕ → Side → ℕ → StateValue → BodyValue → Outcome
 query sel session target q ReadyState body = take_part sel session target q body
 query sel session target q (ArbitrateState own own_q slot) body = take_part sel session target q body
 query sel session target q (ReplyState own own_q rn) body = take_part sel session target q body
-query sel session target q (AcknowledgedState own own_q rn) body = take_part sel session target q (closed_before own session body)
-query sel session target q (OpenState held) body = take_part sel session target q (closed_before held.session session body)
-query sel session target q (SecuredState held) body = take_part sel session target q (closed_before held.session session body)
+query sel session target q (AcknowledgedState own own_q rn) body = take_part sel session target q (body_after_close own session body)
+query sel session target q (OpenState held) body = take_part sel session target q (body_after_close held.session session body)
+query sel session target q (SecuredState held) body = take_part sel session target q (body_after_close held.session session body)
 query sel session target q KilledState body = silent KilledState body
 query sel session target q UnpoweredState body = silent UnpoweredState body
 
@@ -74,17 +74,17 @@ query_rep session KilledState body = silent KilledState body
 query_rep session UnpoweredState body = silent UnpoweredState body
 
 -- 6.3.2.11.2.2 QueryAdjust: Q rises or falls by 1 or stays, and never leaves 0 to 15
-abbrev pub adjusted : UpDn → ℕ → ℕ
-adjusted Up q = (if q == 15 then 15 else q + 1)
-adjusted Same q = q
-adjusted Down q = (if q == 0 then 0 else q - 1)
+abbrev pub q_after_adjust : UpDn → ℕ → ℕ
+q_after_adjust Up q = (if q == 15 then 15 else q + 1)
+q_after_adjust Same q = q
+q_after_adjust Down q = (if q == 0 then 0 else q - 1)
 
 abbrev pub query_adjust : ℕ → UpDn → StateValue → BodyValue → Outcome
 query_adjust session updn ReadyState body = silent ReadyState body
 query_adjust session updn (ArbitrateState own q slot) body =
-    (if own == session then enter session (adjusted updn q) body else silent (ArbitrateState own q slot) body)
+    (if own == session then enter session (q_after_adjust updn q) body else silent (ArbitrateState own q slot) body)
 query_adjust session updn (ReplyState own q rn) body =
-    (if own == session then enter session (adjusted updn q) body else silent (ReplyState own q rn) body)
+    (if own == session then enter session (q_after_adjust updn q) body else silent (ReplyState own q rn) body)
 query_adjust session updn (AcknowledgedState own q rn) body =
     (if own == session then close session body else silent (AcknowledgedState own q rn) body)
 query_adjust session updn (OpenState held) body =
@@ -129,7 +129,7 @@ nak UnpoweredState body = silent UnpoweredState body
 -- the body after a Select: its flag changes by the table of actions, where the mask matches or doesn't
 abbrev pub selected_body : FlagName → ℕ → MaskBank → ℕ → List Bool → BodyValue → BodyValue
 selected_body target action bank pointer mask body =
-    record body { flags = selected body.flags target action (mask_match (bank_of body.memory (bank_named bank)) pointer mask) }
+    record body { flags = flags_after_select body.flags target action (mask_match (bank_of body.memory (bank_named bank)) pointer mask) }
 
 abbrev pub selected_ready : FlagName → ℕ → MaskBank → ℕ → List Bool → BodyValue → Outcome
 selected_ready target action bank pointer mask body = silent ReadyState (selected_body target action bank pointer mask body)

@@ -4,7 +4,7 @@ use Rattle.std.specs.Prelude.{ℕ, ◌^◌, ◌<◌, ◌≤◌, Bool, true, fals
 use Rattle.lock_rules.specs.declared.locks.Locks.{Locks}
 use Rattle.session_flags.specs.declared.flags.Flags.{Flags}
 use Rattle.session_flags.specs.DrawList.{IsDrawList}
-use Rattle.tag_memory.specs.Memory.{Banks, IsLegal, AreBanksOfWords}
+use Rattle.tag_memory.specs.Memory.{Banks, IsLegalMemory, AreBanksOfWords}
 use Rattle.tag_machine.specs.declared.states.Half.{Half}
 use Rattle.tag_machine.specs.declared.states.Held.{Held}
 
@@ -63,7 +63,7 @@ IsLegalState UnpoweredState = Unit {0}
 -- the sizes of the banks are those that a tag's banks may have, the EPC that PC announces lies inside its bank, and each
 -- word of the banks is one of 16 bits; there are 1 to 256 words of 16 bits to draw, and the place is that of one of them
 pub record IsLegalBody (body : BodyValue) : Type 0 where
-  pub memory : IsLegal body.memory
+  pub memory : IsLegalMemory body.memory
   pub memory_words : AreBanksOfWords body.memory
   pub words : IsDrawList body.words
   pub place : body.place < length body.words

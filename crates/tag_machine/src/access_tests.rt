@@ -1,6 +1,7 @@
 //! What a tag does with access commands: lists of commands with the answer, the state, and what the flags, the locks and the
 //! memory become, all written out by hand.
 ghost use Rattle.std.specs.Prelude.{◌≡◌, ◌≤◌};
+ghost use Rattle.reply_grammar.specs.Table.{reply_room};
 
 mod rows;
 mod tables;
@@ -87,7 +88,7 @@ struct Bench {
     holds: Holds,
     handle: u16,
     out: Bits,
-    ghost room: { 8240 ≤ out.capacity },
+    ghost room: { reply_room ≤ out.capacity },
 }
 
 impl Bench {

@@ -3,7 +3,7 @@ ghost use Rattle.std.specs.Prelude.{◌≡◌};
 ghost use Rattle.tag_machine.specs.TagValue.{is_present, IsLegalTag};
 ghost use Rattle.tag_machine.specs.Events.{new_tag};
 ghost use Rattle.tag_machine.specs.Names.{name_of};
-ghost use Rattle.tag_machine.specs.Hearing.{value_of, typed_name_of};
+ghost use Rattle.tag_machine.specs.Hearing.{tag_value_of, typed_name_of};
 
 use crate::body::Body;
 use crate::states::{
@@ -58,7 +58,7 @@ pub struct Heard {
 impl AnyTag {
     /// A new tag: powered, in ready, with the flags of a new tag and no draw made.
     pub fn new(memory: Memory, locks: Locks, words: DrawWords) -> AnyTag
-        ensures { value_of result ≡ new_tag memory locks words }
+        ensures { tag_value_of result ≡ new_tag memory locks words }
     {
         AnyTag::Ready(Tag {
             state: Ready,
@@ -68,7 +68,7 @@ impl AnyTag {
 
     /// The name of the tag's state, which is that of its type.
     pub fn state(&self) -> StateName
-        ensures value { result ≡ name_of (value_of self.now).state }
+        ensures value { result ≡ name_of (tag_value_of self.now).state }
         ensures typed { result ≡ typed_name_of self.now }
     {
         match self {
@@ -85,14 +85,14 @@ impl AnyTag {
 
     /// Whether the tag has power and isn't killed.
     pub fn present(&self) -> bool
-        ensures { result ≡ is_present (value_of self.now).state }
+        ensures { result ≡ is_present (tag_value_of self.now).state }
     {
         !matches!(self.state(), StateName::Killed | StateName::Unpowered)
     }
 
     /// Changes nothing: each tag is legal.
     pub fn audit(&self)
-        ensures { IsLegalTag (value_of self.now) }
+        ensures { IsLegalTag (tag_value_of self.now) }
     {
         match self {
             AnyTag::Ready(tag) => tag.audit(),
@@ -108,7 +108,7 @@ impl AnyTag {
 
     /// What the tag holds in every state.
     fn body(&self) -> &Body
-        ensures { result.now ≡ (value_of self.now).body }
+        ensures { result.now ≡ (tag_value_of self.now).body }
     {
         match self {
             AnyTag::Ready(tag) => tag.body(),
@@ -124,21 +124,21 @@ impl AnyTag {
 
     /// The inventoried flags and the selected flag.
     pub fn flags(&self) -> &Flags
-        ensures { result.now ≡ (value_of self.now).body.flags }
+        ensures { result.now ≡ (tag_value_of self.now).body.flags }
     {
         self.body().flags()
     }
 
     /// The pairs of lock bits.
     pub fn locks(&self) -> &Locks
-        ensures { result.now ≡ (value_of self.now).body.locks }
+        ensures { result.now ≡ (tag_value_of self.now).body.locks }
     {
         self.body().locks()
     }
 
     /// The memory.
     pub fn memory(&self) -> &Memory
-        ensures { result.now ≡ (value_of self.now).body.memory }
+        ensures { result.now ≡ (tag_value_of self.now).body.memory }
     {
         self.body().memory()
     }

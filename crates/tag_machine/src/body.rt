@@ -1,12 +1,12 @@
 //! What a tag holds in every state.
 ghost use Rattle.std.specs.Prelude.{◌≡◌, ◌+◌, ◌==◌, ◌<◌, length, if◌then◌else◌};
 ghost use Rattle.reply_grammar.specs.Table.{CanBeSent};
-ghost use Rattle.session_flags.specs.Flags.{new_flags, matches, without_power};
+ghost use Rattle.session_flags.specs.Flags.{new_flags, matches, flags_after_power_loss};
 ghost use Rattle.tag_memory.specs.Memory.{with_stored_crc};
 ghost use Rattle.tag_machine.specs.TagValue.{IsLegalBody};
-ghost use Rattle.tag_machine.specs.Draws.{drawn, place_behind, after_draw, inverted_body};
+ghost use Rattle.tag_machine.specs.Draws.{draw_of, place_behind, body_after_draw, body_after_inversion};
 ghost use Rattle.tag_machine.specs.Inventory.{epc_reply, selected_body};
-ghost use Rattle.tag_machine.specs.Events.{with_expired};
+ghost use Rattle.tag_machine.specs.Events.{body_after_expiry};
 
 mod access;
 
@@ -95,8 +95,8 @@ impl Body {
 
     /// Draws a word (6.3.2.5 Tag random or pseudo-random number generator).
     pub fn draw(&mut self) -> u16
-        ensures word { result ≡ drawn self.old }
-        ensures after { self.new ≡ after_draw self.old }
+        ensures word { result ≡ draw_of self.old }
+        ensures after { self.new ≡ body_after_draw self.old }
     {
         let words = self.words.words();
         let word = words[self.place];
@@ -113,7 +113,7 @@ impl Body {
 
     /// Inverts the inventoried flag of a session.
     pub fn invert(&mut self, session: Session)
-        ensures { self.new ≡ inverted_body session self.old }
+        ensures { self.new ≡ body_after_inversion session self.old }
     {
         self.flags.invert(session);
     }
@@ -135,7 +135,7 @@ impl Body {
 
     /// Sets the inventoried flag of S0 to A, as a loss of power does.
     pub fn lose_power(&mut self)
-        ensures { self.new ≡ record self.old { flags = without_power self.old.flags } }
+        ensures { self.new ≡ record self.old { flags = flags_after_power_loss self.old.flags } }
     {
         self.flags.lose_power();
     }
@@ -149,7 +149,7 @@ impl Body {
 
     /// Ends the persistence of a flag.
     pub fn expire(&mut self, flag: FlagName, powered: bool, takes_part: bool)
-        ensures { self.new ≡ with_expired flag powered takes_part self.old }
+        ensures { self.new ≡ body_after_expiry flag powered takes_part self.old }
     {
         self.flags.expire(flag, powered, takes_part);
     }

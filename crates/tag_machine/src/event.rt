@@ -1,9 +1,9 @@
 //! What befalls a tag besides commands.
 ghost use Rattle.std.specs.Prelude.{◌≡◌};
-ghost use Rattle.tag_machine.specs.Events.{happens, after_timeout, after_off, after_on, after_expiry, powered_off};
+ghost use Rattle.tag_machine.specs.Events.{tag_after_event, after_timeout, after_off, after_on, after_expiry, tag_without_power};
 ghost use Rattle.tag_machine.specs.TagValue.{UnpoweredState, IsLegalTag};
-ghost use Rattle.tag_machine.specs.Events.{with_expired};
-ghost use Rattle.tag_machine.specs.Hearing.{value_of};
+ghost use Rattle.tag_machine.specs.Events.{body_after_expiry};
+ghost use Rattle.tag_machine.specs.Hearing.{tag_value_of};
 
 use crate::any_tag::AnyTag;
 use crate::body::Body;
@@ -15,7 +15,7 @@ use command_grammar::FlagName;
 impl Body {
     /// The tag without power, which loses the inventoried flag of S0.
     fn without_power(self) -> AnyTag
-        ensures { value_of result ≡ powered_off self }
+        ensures { tag_value_of result ≡ tag_without_power self }
     {
         let mut body = self;
         body.lose_power();
@@ -27,7 +27,7 @@ impl Body {
 
     /// The tag that gets power: it is ready, with StoredCRC computed again.
     fn with_power(self) -> AnyTag
-        ensures { value_of result ≡ after_on UnpoweredState self }
+        ensures { tag_value_of result ≡ after_on UnpoweredState self }
     {
         let mut body = self;
         body.power_on();
@@ -36,7 +36,7 @@ impl Body {
 
     /// The body after the persistence of a flag ended.
     fn with_expired(self, flag: FlagName, powered: bool, takes_part: bool) -> Body
-        ensures { result ≡ with_expired flag powered takes_part self }
+        ensures { result ≡ body_after_expiry flag powered takes_part self }
     {
         let mut body = self;
         body.expire(flag, powered, takes_part);
@@ -47,7 +47,7 @@ impl Body {
 impl AnyTag {
     /// The time T2 ran out: a tag in reply or acknowledged goes back to arbitrate.
     fn time_out(self) -> AnyTag
-        ensures { value_of result ≡ after_timeout (value_of self).state (value_of self).body }
+        ensures { tag_value_of result ≡ after_timeout (tag_value_of self).state (tag_value_of self).body }
     {
         match self {
             AnyTag::Ready(Tag { state, body }) => AnyTag::Ready(Tag { state, body }),
@@ -67,7 +67,7 @@ impl AnyTag {
 
     /// Power is lost. A killed tag stays as it is.
     fn lose_power(self) -> AnyTag
-        ensures { value_of result ≡ after_off (value_of self).state (value_of self).body }
+        ensures { tag_value_of result ≡ after_off (tag_value_of self).state (tag_value_of self).body }
     {
         match self {
             AnyTag::Ready(Tag { state: _, body }) => body.without_power(),
@@ -83,7 +83,7 @@ impl AnyTag {
 
     /// Power comes, which a tag that has it doesn't see.
     fn get_power(self) -> AnyTag
-        ensures { value_of result ≡ after_on (value_of self).state (value_of self).body }
+        ensures { tag_value_of result ≡ after_on (tag_value_of self).state (tag_value_of self).body }
     {
         match self {
             AnyTag::Ready(Tag { state, body }) => AnyTag::Ready(Tag { state, body }),
@@ -99,7 +99,7 @@ impl AnyTag {
 
     /// The persistence of a flag ends, by whether the tag has power and whether it takes part in a round.
     fn expire(self, flag: FlagName) -> AnyTag
-        ensures { value_of result ≡ after_expiry flag (value_of self).state (value_of self).body }
+        ensures { tag_value_of result ≡ after_expiry flag (tag_value_of self).state (tag_value_of self).body }
     {
         match self {
             AnyTag::Ready(Tag { state, body }) => {
@@ -136,7 +136,7 @@ impl AnyTag {
 
     /// What an event does to the tag, by the kind of the event.
     fn befall(self, event: Event) -> AnyTag
-        ensures { value_of result ≡ happens event (value_of self).state (value_of self).body }
+        ensures { tag_value_of result ≡ tag_after_event event (tag_value_of self).state (tag_value_of self).body }
     {
         match event {
             Event::Timeout => self.time_out(),
@@ -156,8 +156,8 @@ impl AnyTag {
     ///
     /// A killed tag stays as it is, and an event changes nothing besides.
     pub fn event(self, event: Event) -> AnyTag
-        ensures step { value_of result ≡ happens event (value_of self).state (value_of self).body }
-        ensures legal { IsLegalTag (value_of result) }
+        ensures step { tag_value_of result ≡ tag_after_event event (tag_value_of self).state (tag_value_of self).body }
+        ensures legal { IsLegalTag (tag_value_of result) }
     {
         let tag = self.befall(event);
         tag.audit();

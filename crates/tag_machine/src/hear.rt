@@ -4,9 +4,10 @@ ghost use Rattle.reply_grammar.specs.declared.expected.Reply.TheVariants as repl
 ghost use Rattle.tag_machine.specs.TagValue.{IsLegalTag, is_present};
 ghost use Rattle.tag_machine.specs.Answers.{Sent};
 ghost use Rattle.tag_machine.specs.Extended.{is_extended};
-ghost use Rattle.tag_machine.specs.Hearing.{Gives, value_of};
+ghost use Rattle.tag_machine.specs.Hearing.{GivesOutcome, tag_value_of};
 ghost use Rattle.tag_machine.specs.Step.{step};
 ghost use Rattle.tag_machine.specs.Isolation.{IsIsolated};
+ghost use Rattle.reply_grammar.specs.Table.{reply_room};
 
 use crate::any_tag::{Answered, AnyTag, Heard};
 use crate::moves::unanswered;
@@ -20,8 +21,8 @@ use std::sync::ledger::Ledger;
 impl Tag<Ready> {
     /// A tag in ready hears Query and Select alone.
     fn hear<L: Ledger>(self, command: &Command, out: &mut Bits, steps: &mut Steps<L>) -> Heard
-        requires room { 8240 ≤ out.old.capacity }
-        ensures step { Gives (step command.now self.state self.body) result out.old out.new }
+        requires room { reply_room ≤ out.old.capacity }
+        ensures step { GivesOutcome (step command.now self.state self.body) result out.old out.new }
         ensures counted { steps.new ≡ steps.old + 1 }
     {
         match command {
@@ -53,8 +54,8 @@ impl Tag<Ready> {
 impl Tag<Arbitrate> {
     /// A tag in arbitrate hears the commands of its round, Query and Select.
     fn hear<L: Ledger>(self, command: &Command, out: &mut Bits, steps: &mut Steps<L>) -> Heard
-        requires room { 8240 ≤ out.old.capacity }
-        ensures step { Gives (step command.now self.state self.body) result out.old out.new }
+        requires room { reply_room ≤ out.old.capacity }
+        ensures step { GivesOutcome (step command.now self.state self.body) result out.old out.new }
         ensures counted { steps.new ≡ steps.old + 1 }
     {
         match command {
@@ -91,8 +92,8 @@ impl Tag<Arbitrate> {
 impl Tag<InReply> {
     /// A tag in reply goes back to arbitrate at each access command.
     fn hear<L: Ledger>(self, command: &Command, out: &mut Bits, steps: &mut Steps<L>) -> Heard
-        requires room { 8240 ≤ out.old.capacity }
-        ensures step { Gives (step command.now self.state self.body) result out.old out.new }
+        requires room { reply_room ≤ out.old.capacity }
+        ensures step { GivesOutcome (step command.now self.state self.body) result out.old out.new }
         ensures counted { steps.new ≡ steps.old + 1 }
     {
         match command {
@@ -136,8 +137,8 @@ impl Tag<InReply> {
 impl Tag<Acknowledged> {
     /// A tag in acknowledged goes back to arbitrate at each access command but Req_RN.
     fn hear<L: Ledger>(self, command: &Command, out: &mut Bits, steps: &mut Steps<L>) -> Heard
-        requires room { 8240 ≤ out.old.capacity }
-        ensures step { Gives (step command.now self.state self.body) result out.old out.new }
+        requires room { reply_room ≤ out.old.capacity }
+        ensures step { GivesOutcome (step command.now self.state self.body) result out.old out.new }
         ensures counted { steps.new ≡ steps.old + 1 }
     {
         match command {
@@ -181,8 +182,8 @@ impl Tag<Acknowledged> {
 impl Tag<Opened> {
     /// A tag in open hears every command, but heeds no Lock.
     fn hear<L: Ledger>(self, command: &Command, out: &mut Bits, steps: &mut Steps<L>) -> Heard
-        requires room { 8240 ≤ out.old.capacity }
-        ensures step { Gives (step command.now self.state self.body) result out.old out.new }
+        requires room { reply_room ≤ out.old.capacity }
+        ensures step { GivesOutcome (step command.now self.state self.body) result out.old out.new }
         ensures counted { steps.new ≡ steps.old + 1 }
     {
         match command {
@@ -243,8 +244,8 @@ impl Tag<Opened> {
 impl Tag<Secured> {
     /// A tag in secured hears every command.
     fn hear<L: Ledger>(self, command: &Command, out: &mut Bits, steps: &mut Steps<L>) -> Heard
-        requires room { 8240 ≤ out.old.capacity }
-        ensures step { Gives (step command.now self.state self.body) result out.old out.new }
+        requires room { reply_room ≤ out.old.capacity }
+        ensures step { GivesOutcome (step command.now self.state self.body) result out.old out.new }
         ensures counted { steps.new ≡ steps.old + 1 }
     {
         match command {
@@ -305,7 +306,7 @@ impl Tag<Secured> {
 impl Tag<Killed> {
     /// A killed tag hears nothing.
     fn hear<L: Ledger>(self, _command: &Command, out: &mut Bits, steps: &mut Steps<L>) -> Heard
-        ensures step { Gives (step _command.now self.state self.body) result out.old out.new }
+        ensures step { GivesOutcome (step _command.now self.state self.body) result out.old out.new }
         ensures counted { steps.new ≡ steps.old + 1 }
     {
         steps.tick();
@@ -317,7 +318,7 @@ impl Tag<Killed> {
 impl Tag<Unpowered> {
     /// A tag without power hears nothing.
     fn hear<L: Ledger>(self, _command: &Command, out: &mut Bits, steps: &mut Steps<L>) -> Heard
-        ensures step { Gives (step _command.now self.state self.body) result out.old out.new }
+        ensures step { GivesOutcome (step _command.now self.state self.body) result out.old out.new }
         ensures counted { steps.new ≡ steps.old + 1 }
     {
         steps.tick();
@@ -329,8 +330,8 @@ impl Tag<Unpowered> {
 impl AnyTag {
     /// What the tag's state makes of a command.
     fn take<L: Ledger>(self, command: &Command, out: &mut Bits, steps: &mut Steps<L>) -> Heard
-        requires room { 8240 ≤ out.old.capacity }
-        ensures step { Gives (step command.now (value_of self).state (value_of self).body) result out.old out.new }
+        requires room { reply_room ≤ out.old.capacity }
+        ensures step { GivesOutcome (step command.now (tag_value_of self).state (tag_value_of self).body) result out.old out.new }
         ensures counted { steps.new ≡ steps.old + 1 }
     {
         match self {
@@ -357,14 +358,14 @@ impl AnyTag {
     /// after a first half. A tag that answers an error keeps its memory, locks, flags and draws. A killed tag and
     /// one without power stay as they are and are silent.
     pub fn hear<L: Ledger>(self, command: &Command, out: &mut Bits, steps: &mut Steps<L>) -> Heard
-        requires room { 8240 ≤ out.old.capacity }
-        ensures step { Gives (step command.now (value_of self).state (value_of self).body) result out.old out.new }
+        requires room { reply_room ≤ out.old.capacity }
+        ensures step { GivesOutcome (step command.now (tag_value_of self).state (tag_value_of self).body) result out.old out.new }
         ensures counted { steps.new ≡ steps.old + 1 }
-        ensures isolated { IsIsolated command.now (value_of self).body.flags (value_of result.tag).body.flags }
-        ensures legal { IsLegalTag (value_of result.tag) }
-        ensures marked { result.answered ≢ Answered.Silent → result.answered ≡ (if is_extended command.now (value_of self).state then Answered.Extended else Answered.Plain) }
-        ensures refused { (sent : Sent) (code : ℕ) → (step command.now (value_of self).state (value_of self).body).answer ≡ Some sent → sent.reply ≡ replies.Error code → (value_of result.tag).body ≡ (value_of self).body }
-        ensures absent { is_present (value_of self).state ≡ false → (value_of result.tag ≡ value_of self) × (result.answered ≡ Answered.Silent) }
+        ensures isolated { IsIsolated command.now (tag_value_of self).body.flags (tag_value_of result.tag).body.flags }
+        ensures legal { IsLegalTag (tag_value_of result.tag) }
+        ensures marked { result.answered ≢ Answered.Silent → result.answered ≡ (if is_extended command.now (tag_value_of self).state then Answered.Extended else Answered.Plain) }
+        ensures refused { (sent : Sent) (code : ℕ) → (step command.now (tag_value_of self).state (tag_value_of self).body).answer ≡ Some sent → sent.reply ≡ replies.Error code → (tag_value_of result.tag).body ≡ (tag_value_of self).body }
+        ensures absent { is_present (tag_value_of self).state ≡ false → (tag_value_of result.tag ≡ tag_value_of self) × (result.answered ≡ Answered.Silent) }
     {
         let heard = self.take(command, out, steps);
         heard.tag.audit();

@@ -1,10 +1,10 @@
 //! The moves that the commands share: how a tag answers, and where it goes.
 ghost use Rattle.std.specs.Prelude.{◌≡◌, ◌≤◌, Some, None, true, false};
-ghost use Rattle.reply_grammar.specs.Table.{CanBeSent};
+ghost use Rattle.reply_grammar.specs.Table.{CanBeSent, reply_room};
 ghost use Rattle.tag_machine.specs.TagValue.{ReadyState, ArbitrateState};
 ghost use Rattle.tag_machine.specs.Answers.{silent, plain, extended, HasFewWords};
 ghost use Rattle.tag_machine.specs.Draws.{begin_reply, enter, close, back, tag_back};
-ghost use Rattle.tag_machine.specs.Hearing.{Gives, value_of};
+ghost use Rattle.tag_machine.specs.Hearing.{GivesOutcome, tag_value_of};
 
 use crate::any_tag::{Answered, AnyTag, Heard};
 use crate::body::Body;
@@ -29,7 +29,7 @@ fn audit(reply: &Reply)
 
 /// No answer.
 pub fn unanswered(tag: AnyTag, out: &mut Bits) -> Heard
-    ensures { Gives (silent (value_of tag).state (value_of tag).body) result out.old out.new }
+    ensures { GivesOutcome (silent (tag_value_of tag).state (tag_value_of tag).body) result out.old out.new }
 {
     out.clear();
     Heard {
@@ -40,9 +40,9 @@ pub fn unanswered(tag: AnyTag, out: &mut Bits) -> Heard
 
 /// An answer whose preamble goes by the TRext of the Query.
 pub fn answer(tag: AnyTag, reply: &Reply, handle: u16, out: &mut Bits) -> Heard
-    requires room { 8240 ≤ out.old.capacity }
+    requires room { reply_room ≤ out.old.capacity }
     requires sendable { CanBeSent reply.now }
-    ensures { Gives (plain (value_of tag).state (value_of tag).body reply.now handle) result out.old out.new }
+    ensures { GivesOutcome (plain (tag_value_of tag).state (tag_value_of tag).body reply.now handle) result out.old out.new }
 {
     audit(reply);
     encode_reply(reply, handle, out);
@@ -54,9 +54,9 @@ pub fn answer(tag: AnyTag, reply: &Reply, handle: u16, out: &mut Bits) -> Heard
 
 /// An answer with the extended preamble.
 pub fn answer_extended(tag: AnyTag, reply: &Reply, handle: u16, out: &mut Bits) -> Heard
-    requires room { 8240 ≤ out.old.capacity }
+    requires room { reply_room ≤ out.old.capacity }
     requires sendable { CanBeSent reply.now }
-    ensures { Gives (extended (value_of tag).state (value_of tag).body reply.now handle) result out.old out.new }
+    ensures { GivesOutcome (extended (tag_value_of tag).state (tag_value_of tag).body reply.now handle) result out.old out.new }
 {
     audit(reply);
     encode_reply(reply, handle, out);
@@ -83,14 +83,14 @@ impl Body {
 
     /// BACK, without an answer.
     pub fn go_back(self, session: Session, q: QValue, out: &mut Bits) -> Heard
-        ensures { Gives (back session q self) result out.old out.new }
+        ensures { GivesOutcome (back session q self) result out.old out.new }
     {
         unanswered(AnyTag::Arbitrate(self.back(session, q)), out)
     }
 
     /// CLOSE: the flag of the session is inverted, and the tag is ready.
     pub fn close(self, session: Session, out: &mut Bits) -> Heard
-        ensures { Gives (close session self) result out.old out.new }
+        ensures { GivesOutcome (close session self) result out.old out.new }
     {
         let mut body = self;
         body.invert(session);
@@ -99,8 +99,8 @@ impl Body {
 
     /// Draws an RN16 and answers it.
     pub fn begin_reply(self, session: Session, q: QValue, out: &mut Bits) -> Heard
-        requires room { 8240 ≤ out.old.capacity }
-        ensures { Gives (begin_reply session q self) result out.old out.new }
+        requires room { reply_room ≤ out.old.capacity }
+        ensures { GivesOutcome (begin_reply session q self) result out.old out.new }
     {
         let mut body = self;
         let rn = body.draw();
@@ -113,8 +113,8 @@ impl Body {
 
     /// ENTER: draws a slot, the last Q bits of a word, and replies at once where it is 0.
     pub fn enter(self, session: Session, q: QValue, out: &mut Bits) -> Heard
-        requires room { 8240 ≤ out.old.capacity }
-        ensures { Gives (enter session q self) result out.old out.new }
+        requires room { reply_room ≤ out.old.capacity }
+        ensures { GivesOutcome (enter session q self) result out.old out.new }
     {
         let mut body = self;
         let slot = body.draw() % (1 << q.get());

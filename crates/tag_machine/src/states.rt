@@ -111,14 +111,14 @@ pub struct Held {
 #[derive(Clone, Copy, Debug, PartialEq, Eq)]
 pub struct Half {
     /// The command that it came with.
-    pub kind: Kind,
+    pub password: Password,
     /// The half, without its cover.
     pub value: u16,
 }
 
 /// The command that a half came with.
 #[derive(Clone, Copy, Debug, PartialEq, Eq)]
-pub enum Kind {
+pub enum Password {
     /// Half of the kill password (6.3.2.11.3.4 Kill).
     Kill,
     /// Half of the access password (6.3.2.11.3.6 Access).

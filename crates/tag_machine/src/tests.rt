@@ -1,12 +1,13 @@
 //! Short lists of commands and events, with what the tag is and answers after each, worked out by hand from the
 //! tables of the standard.
 ghost use Rattle.std.specs.Prelude.{◌≡◌, ◌<◌, ◌≤◌, length};
+ghost use Rattle.reply_grammar.specs.Table.{reply_room};
 
 mod tables;
 
 use crate::body::Body;
 use crate::states::{
-    Acknowledged, Arbitrate, Half, Held, InReply, Killed, Kind, Opened, Ready, Secured, Slot,
+    Acknowledged, Arbitrate, Half, Held, InReply, Killed, Password, Opened, Ready, Secured, Slot,
     Unpowered,
 };
 use crate::tag::Tag;
@@ -110,7 +111,7 @@ fn hear_counted<L: Ledger>(
     requires name { blank.name ≡ L.name }
     requires parts { blank.parts ≡ L.parts }
     requires one { blank.parts ≡ 1 }
-    requires room { 8240 ≤ out.old.capacity }
+    requires room { reply_room ≤ out.old.capacity }
 {
     let mut steps = Steps::<L>::new(blank);
     let heard = tag.hear(command, out, &mut steps);
@@ -217,13 +218,13 @@ fn body(alloc: Global) -> Result<Body, Fail> {
     Ok(body)
 }
 
-fn held(half: Option<Kind>) -> Result<Held, Fail> {
+fn held(half: Option<Password>) -> Result<Held, Fail> {
     Ok(Held {
         session: session(1)?,
         q: QValue::new(3).ok_or("a Q")?,
         handle: 0x2222,
         cover: None,
-        half: half.map(|kind| Half { kind, value: 0 }),
+        half: half.map(|password| Half { password, value: 0 }),
     })
 }
 
@@ -237,7 +238,7 @@ fn arbitrating(body: Body) -> Result<Tag<Arbitrate>, Fail> {
 }
 
 /// A tag in a state, with session 1, Q 3, slot 5 and the number 2222 where the state has them.
-fn tag_in(alloc: Global, name: StateName, half: Option<Kind>) -> Result<AnyTag, Fail> {
+fn tag_in(alloc: Global, name: StateName, half: Option<Password>) -> Result<AnyTag, Fail> {
     let body = body(alloc)?;
     let session = session(1)?;
     let q = QValue::new(3).ok_or("a Q")?;
@@ -295,7 +296,7 @@ fn follow_all(rt: &impl Abort, alloc: Global, tag: AnyTag, rows: &[Row]) -> Resu
 fn follow_each(
     rt: &impl Abort,
     alloc: Global,
-    rows: &[(StateName, Option<Kind>, Row)],
+    rows: &[(StateName, Option<Password>, Row)],
 ) -> Result<(), Fail> {
     for (before, half, row) in rows {
         let tag = tag_in(alloc, *before, *half)?;

@@ -1,8 +1,8 @@
 -- 6.3.2.11.3.2 Read, 6.3.2.11.3.3 Write, 6.3.2.11.3.7 BlockWrite, 6.3.2.11.3.8 BlockErase: what they do with a memory.
 -- Which code a refusal has, and that Overrun comes before Locked, is profile.
 use Rattle.std.specs.Prelude.{ℕ, zero, suc, ◌+◌, ◌-◌, nat_lt, nat_le, ◌==◌, Bool, true, false, not, ◌&&◌, ◌||◌, List, ◌++◌, length, take, drop, replicate, if◌then◌else◌, Result, Ok, Err}
-use Rattle.command_grammar.specs.declared.command.Bank.{Bank}
-use Rattle.command_grammar.specs.declared.command.Bank.TheVariants.{Reserved, Epc, Tid, User}
+use Rattle.command_grammar.specs.declared.field_values.Bank.{Bank}
+use Rattle.command_grammar.specs.declared.field_values.Bank.TheVariants.{Reserved, Epc, Tid, User}
 use Rattle.lock_rules.specs.declared.terms.Field.{Field}
 use Rattle.lock_rules.specs.declared.terms.Field.TheVariants.{KillWord, AccessWord, Epc as EpcField, Tid as TidField, User as UserField}
 use Rattle.lock_rules.specs.declared.terms.Level.{Level}
@@ -61,11 +61,11 @@ words_read banks locks level bank pointer count =
     else Err Locked))
 
 -- a list with these words from a place on, in place of those that stood there
-abbrev pub replaced : List ℕ → ℕ → List ℕ → List ℕ
-replaced old pointer words = take pointer old ++ words ++ drop (pointer + length words) old
+abbrev pub with_words_at : List ℕ → ℕ → List ℕ → List ℕ
+with_words_at old pointer words = take pointer old ++ words ++ drop (pointer + length words) old
 
-abbrev pub replaced_in : Banks → Bank → ℕ → List ℕ → Banks
-replaced_in banks bank pointer words = with_bank banks bank (replaced (bank_of banks bank) pointer words)
+abbrev pub banks_with_words_at : Banks → Bank → ℕ → List ℕ → Banks
+banks_with_words_at banks bank pointer words = with_bank banks bank (with_words_at (bank_of banks bank) pointer words)
 
 -- the EPC that PC announces lies inside its bank. It does so in each memory of a tag, so that only a new PC can break it.
 abbrev pub length_fits : Banks → Bool
@@ -73,12 +73,12 @@ length_fits banks = nat_le (2 + length_in (pc_of banks)) (length banks.epc)
 
 -- what a write of these words leaves: all of them written (profile), or Overrun where they pass the bank or a new PC
 -- announces more than the bank has, or Locked where one of them may not be written
-abbrev pub written : Banks → Locks → Level → Bank → ℕ → List ℕ → Result Banks ErrorCode
-written banks locks level bank pointer words =
-    let after = replaced_in banks bank pointer words in
+abbrev pub banks_after_write : Banks → Locks → Level → Bank → ℕ → List ℕ → Result Banks ErrorCode
+banks_after_write banks locks level bank pointer words =
+    let after = banks_with_words_at banks bank pointer words in
     (if nat_lt (length (bank_of banks bank)) (pointer + length words) || not (length_fits after) then Err Overrun
     else (if all_words (may_write_word locks level bank) pointer (length words) then Ok after else Err Locked))
 
 -- an erased word is 0000h (profile)
-abbrev pub erased : Banks → Locks → Level → Bank → ℕ → ℕ → Result Banks ErrorCode
-erased banks locks level bank pointer count = written banks locks level bank pointer (replicate count 0)
+abbrev pub banks_after_erase : Banks → Locks → Level → Bank → ℕ → ℕ → Result Banks ErrorCode
+banks_after_erase banks locks level bank pointer count = banks_after_write banks locks level bank pointer (replicate count 0)

@@ -5,10 +5,10 @@ use Rattle.bit_strings.specs.Numbers.{value_of}
 use Rattle.bit_strings.specs.Words.{bits_of_words}
 use Rattle.gen2_crc.specs.Crc.{crc16_of}
 use Rattle.reply_grammar.specs.Table.{AreWords}
-use Rattle.command_grammar.specs.declared.command.Bank.{Bank}
-use Rattle.command_grammar.specs.declared.command.Bank.TheVariants.{Reserved, Epc, Tid, User}
-use Rattle.command_grammar.specs.declared.command.MaskBank.{MaskBank}
-use Rattle.command_grammar.specs.declared.command.MaskBank.TheVariants.{Epc as EpcMask, Tid as TidMask, User as UserMask}
+use Rattle.command_grammar.specs.declared.field_values.Bank.{Bank}
+use Rattle.command_grammar.specs.declared.field_values.Bank.TheVariants.{Reserved, Epc, Tid, User}
+use Rattle.command_grammar.specs.declared.field_values.MaskBank.{MaskBank}
+use Rattle.command_grammar.specs.declared.field_values.MaskBank.TheVariants.{Epc as EpcMask, Tid as TidMask, User as UserMask}
 
 pub record Banks : Type 0 where
   -- kill password and access password, the upper half of each first (6.3.2.1.1)
@@ -62,7 +62,7 @@ abbrev pub with_stored_crc : Banks → Banks
 with_stored_crc banks = record banks { epc = stored_crc_of banks ∷ drop 1 banks.epc }
 
 -- the sizes that a bank may have (profile), and that the EPC which PC announces lies inside its bank
-pub record IsLegal (banks : Banks) : Type 0 where
+pub record IsLegalMemory (banks : Banks) : Type 0 where
   pub reserved_size : length banks.reserved ≡ 4
   pub epc_least : 2 ≤ length banks.epc
   pub epc_most : length banks.epc ≤ 33

@@ -2,9 +2,9 @@
 ghost use Rattle.std.specs.Prelude.{◌≡◌, ◌/◌, ◌%◌, ◌^◌, ◌<◌, ◌≤◌, ◌↔◌, List, Bool, ◌++◌, length, take, true, false, Err, IsNone, IfOk, slice_get};
 ghost use Rattle.bit_strings.specs.Numbers.{field_of, value_of};
 ghost use Rattle.bit_strings.specs.Words.{bits_of_words};
-ghost use Rattle.gen2_crc.specs.Crc.{StandsFor, crc16_of};
+ghost use Rattle.gen2_crc.specs.Crc.{RegisterStandsFor, crc16_of};
 ghost use Rattle.reply_grammar.specs.Table.{AreWords};
-ghost use Rattle.tag_memory.specs.Memory.{IsLegal, AreBanksOfWords, bank_of, bank_named, pc_of, epc_of, kill_word_of, access_word_of, length_in, stored_crc_of, with_stored_crc};
+ghost use Rattle.tag_memory.specs.Memory.{IsLegalMemory, AreBanksOfWords, bank_of, bank_named, pc_of, epc_of, kill_word_of, access_word_of, length_in, stored_crc_of, with_stored_crc};
 ghost use Rattle.tag_memory.specs.Image.{sizes_fit, pc_fits, image_banks, banks_of};
 
 mod access;
@@ -29,13 +29,13 @@ pub struct Memory {
 }
 
 impl Model for Memory {
-    ghost use Rattle.tag_memory.specs.Memory.{Banks, IsLegal};
+    ghost use Rattle.tag_memory.specs.Memory.{Banks, IsLegalMemory};
 
     ghost Value = { Banks };
 
     ghost view = { λ m. record { reserved = m.reserved; epc = m.epc.items; tid = m.tid.items; user = m.user.items } };
 
-    ghost invariant = { λ m. IsLegal (record { reserved = m.reserved; epc = m.epc.items; tid = m.tid.items; user = m.user.items }) };
+    ghost invariant = { λ m. IsLegalMemory (record { reserved = m.reserved; epc = m.epc.items; tid = m.tid.items; user = m.user.items }) };
 }
 
 /// Whether the banks of an image have the sizes that a tag's banks may have.
@@ -65,7 +65,7 @@ fn halves(password: u32) -> (u16, u16)
 
 /// Lets the check number take in the 16 bits of a word.
 fn push_word(crc: &mut Crc16, word: u16)
-    ensures { (bits : List Bool) → StandsFor crc.old bits → StandsFor crc.new (bits ++ field_of word 16) }
+    ensures { (bits : List Bool) → RegisterStandsFor crc.old bits → RegisterStandsFor crc.new (bits ++ field_of word 16) }
 {
     let mut places = 16u32;
     while places > 0 {
@@ -152,7 +152,7 @@ impl Memory {
     /// The whole of a bank.
     fn bank(&self, bank: Bank) -> &[u16]
         ensures value { result.now ≡ bank_of self.now bank }
-        ensures legal { IsLegal self.now }
+        ensures legal { IsLegalMemory self.now }
     {
         match bank {
             Bank::Reserved => &self.reserved,
@@ -164,7 +164,7 @@ impl Memory {
 
     /// Changes nothing: each memory is legal, and each of its words is a number of 16 bits.
     pub fn audit(&self)
-        ensures legal { IsLegal self.now }
+        ensures legal { IsLegalMemory self.now }
         ensures words { AreBanksOfWords self.now }
     {
         audit_words(&self.reserved);
@@ -187,7 +187,7 @@ impl Memory {
     /// How many words a bank has.
     pub fn size(&self, bank: Bank) -> u32
         ensures count { result ≡ length (bank_of self.now bank) }
-        ensures legal { IsLegal self.now }
+        ensures legal { IsLegalMemory self.now }
     {
         self.bank(bank).len() as u32
     }
@@ -203,7 +203,7 @@ impl Memory {
     /// PC, word 1 of the EPC bank (6.3.2.1.2.2 Protocol-control bits).
     pub fn pc(&self) -> u16
         ensures value { result ≡ pc_of self.now }
-        ensures legal { IsLegal self.now }
+        ensures legal { IsLegalMemory self.now }
     {
         self.epc[1]
     }

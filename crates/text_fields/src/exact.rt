@@ -4,7 +4,7 @@ ghost use Rattle.std.specs.Prelude.{◌≡◌, ◌≢◌, ◌↔◌, ℕ, List, 
 use crate::fields::Fields;
 
 /// The next field, where one is left and it is not empty. After none no more is known of what is left.
-pub(crate) fn next_filled<'a>(fields: &mut Fields<'a>) -> Option<&'a [u8]>
+pub(crate) fn filled_field<'a>(fields: &mut Fields<'a>) -> Option<&'a [u8]>
     ensures value { IfSome result (λ field. (fields.old ≡ field.now ∷ fields.new) × (field.now ≢ [])) }
     ensures only { (field : List ℕ) → (rest : List (List ℕ)) → fields.old ≡ field ∷ rest → field ≢ []
         → IsSomeAnd result (λ it. it.now ≡ field) × (fields.new ≡ rest) }
@@ -25,7 +25,7 @@ pub fn one_field<'a>(mut fields: Fields<'a>) -> Option<&'a [u8]>
     ensures value { IfSome result (λ it. (fields.entry ≡ it.now ∷ []) × (it.now ≢ [])) }
     ensures only { (a : List ℕ) → fields.entry ≡ a ∷ [] → a ≢ [] → IsSomeAnd result (λ it. it.now ≡ a) }
 {
-    let first = next_filled(&mut fields)?;
+    let first = filled_field(&mut fields)?;
     if is_at_end(fields) { Some(first) } else { None }
 }
 
@@ -35,7 +35,7 @@ pub fn two_fields<'a>(mut fields: Fields<'a>) -> Option<(&'a [u8], &'a [u8])>
     ensures only { (a b : List ℕ) → fields.entry ≡ a ∷ b ∷ [] → a ≢ [] → b ≢ []
         → IsSomeAnd result (λ it. (it.0.now ≡ a) × (it.1.now ≡ b)) }
 {
-    let first = next_filled(&mut fields)?;
+    let first = filled_field(&mut fields)?;
     let second = one_field(fields)?;
     Some((first, second))
 }
@@ -47,7 +47,7 @@ pub fn three_fields<'a>(mut fields: Fields<'a>) -> Option<(&'a [u8], &'a [u8], &
     ensures only { (a b c : List ℕ) → fields.entry ≡ a ∷ b ∷ c ∷ [] → a ≢ [] → b ≢ [] → c ≢ []
         → IsSomeAnd result (λ it. (it.0.now ≡ a) × (it.1.now ≡ b) × (it.2.now ≡ c)) }
 {
-    let first = next_filled(&mut fields)?;
+    let first = filled_field(&mut fields)?;
     let (second, third) = two_fields(fields)?;
     Some((first, second, third))
 }
@@ -59,7 +59,7 @@ pub fn four_fields<'a>(mut fields: Fields<'a>) -> Option<(&'a [u8], &'a [u8], &'
     ensures only { (a b c d : List ℕ) → fields.entry ≡ a ∷ b ∷ c ∷ d ∷ [] → a ≢ [] → b ≢ [] → c ≢ [] → d ≢ []
         → IsSomeAnd result (λ it. (it.0.now ≡ a) × (it.1.now ≡ b) × (it.2.now ≡ c) × (it.3.now ≡ d)) }
 {
-    let first = next_filled(&mut fields)?;
+    let first = filled_field(&mut fields)?;
     let (second, third, fourth) = three_fields(fields)?;
     Some((first, second, third, fourth))
 }

@@ -9,7 +9,7 @@ mod code_names;
 mod digits;
 mod exact;
 mod fields;
-mod flags;
+mod single_bits;
 mod hex_bytes;
 mod laws;
 mod lines;
@@ -19,13 +19,13 @@ mod numbers;
 #[cfg(test)]
 mod tests;
 mod word_lists;
-mod words;
+mod hex_words;
 
 pub use code_names::{code_named, name_of};
 pub use digits::{Digits, list_digits, push_bits};
 pub use exact::{four_fields, is_at_end, one_field, three_fields, two_fields};
 pub use fields::Fields;
-pub use flags::flag;
+pub use single_bits::one_bit;
 pub use hex_bytes::HexBytes;
 pub use laws::{
     bits_are_told_apart, fields_come_back, lines_come_back, numbers_are_told_apart,
@@ -34,9 +34,9 @@ pub use laws::{
 pub use lines::split_line;
 pub use more_fields::{five_fields, seven_fields, six_fields};
 pub use next_fields::{
-    next_bits, next_long_number, next_name, next_number, next_numbers, next_word, next_words,
+    push_next_bits, next_long_number, push_next_name, push_next_number, next_numbers, push_next_word, push_next_words,
     push_named_number, push_named_word,
 };
 pub use numbers::{number, push_long_number, push_number};
 pub use word_lists::Words;
-pub use words::{push_byte_hex, push_hex_digit, push_word, push_words, word};
+pub use hex_words::{push_byte_hex, push_hex_digit, push_word, push_words, word};

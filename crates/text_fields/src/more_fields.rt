@@ -1,7 +1,7 @@
 //! Lines with more fields, none of them empty.
 ghost use Rattle.std.specs.Prelude.{◌≡◌, ◌≢◌, ℕ, List, [], ◌∷◌, IfSome, IsSomeAnd};
 
-use crate::exact::{four_fields, next_filled};
+use crate::exact::{four_fields, filled_field};
 use crate::fields::Fields;
 
 /// The five fields that are left; none exactly where not five are left, or one of them is empty.
@@ -13,7 +13,7 @@ pub fn five_fields<'a>(
     ensures only { (a b c d e : List ℕ) → fields.entry ≡ a ∷ b ∷ c ∷ d ∷ e ∷ [] → a ≢ [] → b ≢ [] → c ≢ [] → d ≢ [] → e ≢ []
         → IsSomeAnd result (λ it. (it.0.now ≡ a) × (it.1.now ≡ b) × (it.2.now ≡ c) × (it.3.now ≡ d) × (it.4.now ≡ e)) }
 {
-    let first = next_filled(&mut fields)?;
+    let first = filled_field(&mut fields)?;
     let (second, third, fourth, fifth) = four_fields(fields)?;
     Some((first, second, third, fourth, fifth))
 }
@@ -28,7 +28,7 @@ pub fn six_fields<'a>(
         → a ≢ [] → b ≢ [] → c ≢ [] → d ≢ [] → e ≢ [] → f ≢ []
         → IsSomeAnd result (λ it. (it.0.now ≡ a) × (it.1.now ≡ b) × (it.2.now ≡ c) × (it.3.now ≡ d) × (it.4.now ≡ e) × (it.5.now ≡ f)) }
 {
-    let first = next_filled(&mut fields)?;
+    let first = filled_field(&mut fields)?;
     let (second, third, fourth, fifth, sixth) = five_fields(fields)?;
     Some((first, second, third, fourth, fifth, sixth))
 }
@@ -54,7 +54,7 @@ pub fn seven_fields<'a>(
         → IsSomeAnd result (λ it. (it.0.now ≡ a) × (it.1.now ≡ b) × (it.2.now ≡ c) × (it.3.now ≡ d) × (it.4.now ≡ e) × (it.5.now ≡ f)
         × (it.6.now ≡ g)) }
 {
-    let first = next_filled(&mut fields)?;
+    let first = filled_field(&mut fields)?;
     let (second, third, fourth, fifth, sixth, seventh) = six_fields(fields)?;
     Some((first, second, third, fourth, fifth, sixth, seventh))
 }

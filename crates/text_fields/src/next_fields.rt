@@ -8,11 +8,11 @@ ghost use Rattle.text_fields.specs.Lines.{fields_behind, line_with, space};
 
 use crate::digits::push_bits;
 use crate::numbers::{push_long_number, push_number};
-use crate::words::{push_word, push_words};
+use crate::hex_words::{push_word, push_words};
 use bit_strings::OutOfMemory;
 
 /// Writes a name as the next field. After an error the text may hold a part of it.
-pub fn next_name(text: &mut String, name: &str) -> Result<(), OutOfMemory>
+pub fn push_next_name(text: &mut String, name: &str) -> Result<(), OutOfMemory>
     ensures { OnOk result (string_bytes text.new ≡ string_bytes text.old ++ space ∷ name.now) }
 {
     text.push(' ')?;
@@ -20,7 +20,7 @@ pub fn next_name(text: &mut String, name: &str) -> Result<(), OutOfMemory>
 }
 
 /// Writes a number as the next field, in decimal digits. After an error the text may hold a part of it.
-pub fn next_number(text: &mut String, number: u32) -> Result<(), OutOfMemory>
+pub fn push_next_number(text: &mut String, number: u32) -> Result<(), OutOfMemory>
     ensures { OnOk result (string_bytes text.new ≡ string_bytes text.old ++ space ∷ decimal number) }
 {
     text.push(' ')?;
@@ -41,13 +41,13 @@ pub fn next_numbers(text: &mut String, numbers: &[u32]) -> Result<(), OutOfMemor
     ensures { OnOk result (string_bytes text.new ≡ string_bytes text.old ++ fields_behind (map decimal numbers.now)) }
 {
     for number in numbers {
-        next_number(text, *number)?;
+        push_next_number(text, *number)?;
     }
     Ok(())
 }
 
 /// Writes a word as the next field, in hexadecimal digits. After an error the text may hold a part of it.
-pub fn next_word(text: &mut String, word: u16) -> Result<(), OutOfMemory>
+pub fn push_next_word(text: &mut String, word: u16) -> Result<(), OutOfMemory>
     ensures { OnOk result (string_bytes text.new ≡ string_bytes text.old ++ space ∷ hex_word word) }
 {
     text.push(' ')?;
@@ -56,7 +56,7 @@ pub fn next_word(text: &mut String, word: u16) -> Result<(), OutOfMemory>
 
 /// Writes words as the next field, in hexadecimal digits, or a hyphen for none. After an error the text
 /// may hold a part of them.
-pub fn next_words(text: &mut String, words: &[u16]) -> Result<(), OutOfMemory>
+pub fn push_next_words(text: &mut String, words: &[u16]) -> Result<(), OutOfMemory>
     ensures { OnOk result (string_bytes text.new ≡ string_bytes text.old ++ space ∷ hex_words words.now) }
 {
     text.push(' ')?;
@@ -65,7 +65,7 @@ pub fn next_words(text: &mut String, words: &[u16]) -> Result<(), OutOfMemory>
 
 /// Writes bits as the next field, in binary digits, or a hyphen for none. After an error the text may
 /// hold a part of them.
-pub fn next_bits(text: &mut String, bits: &[bool]) -> Result<(), OutOfMemory>
+pub fn push_next_bits(text: &mut String, bits: &[bool]) -> Result<(), OutOfMemory>
     ensures { OnOk result (string_bytes text.new ≡ string_bytes text.old ++ space ∷ binary bits.now) }
 {
     text.push(' ')?;
@@ -78,7 +78,7 @@ pub fn push_named_number(text: &mut String, name: &str, number: u32) -> Result<(
     ensures { OnOk result (string_bytes text.new ≡ string_bytes text.old ++ line_with (name.now ∷ decimal number ∷ [])) }
 {
     text.push_str(name)?;
-    next_number(text, number)
+    push_next_number(text, number)
 }
 
 /// Writes a name and a word behind it, in hexadecimal digits. After an error the text may hold a part of
@@ -87,5 +87,5 @@ pub fn push_named_word(text: &mut String, name: &str, word: u16) -> Result<(), O
     ensures { OnOk result (string_bytes text.new ≡ string_bytes text.old ++ line_with (name.now ∷ hex_word word ∷ [])) }
 {
     text.push_str(name)?;
-    next_word(text, word)
+    push_next_word(text, word)
 }

@@ -50,7 +50,7 @@ fn flags_are_one_digit(rt: HostRuntime) {
         (b"01", None),
         (b"-", None),
     ] {
-        assert_eq!(rt; flag(field), wanted);
+        assert_eq!(rt; one_bit(field), wanted);
     }
 }
 
@@ -95,13 +95,13 @@ fn bits_are_read_and_written(rt: HostRuntime) -> Result<(), Fail> {
 fn next_fields_are_written(rt: HostRuntime) -> Result<(), Fail> {
     let mut text = String::new(rt.alloc());
     push_named_number(&mut text, "lock", 7)?;
-    next_name(&mut text, "epc")?;
-    next_number(&mut text, 4294967295)?;
-    next_word(&mut text, 0x0A9F)?;
-    next_words(&mut text, &[0x3000, 0x00EF])?;
-    next_words(&mut text, &[])?;
-    next_bits(&mut text, &[true, false])?;
-    next_bits(&mut text, &[])?;
+    push_next_name(&mut text, "epc")?;
+    push_next_number(&mut text, 4294967295)?;
+    push_next_word(&mut text, 0x0A9F)?;
+    push_next_words(&mut text, &[0x3000, 0x00EF])?;
+    push_next_words(&mut text, &[])?;
+    push_next_bits(&mut text, &[true, false])?;
+    push_next_bits(&mut text, &[])?;
     assert_eq!(rt; text.as_str(), "lock 7 epc 4294967295 0A9F 300000EF - 10 -");
     let mut text = String::new(rt.alloc());
     push_named_word(&mut text, "ack", 0x001D)?;

@@ -6,7 +6,7 @@ ghost use Rattle.text_fields.specs.Hexadecimal.{hex_word, hex_words};
 ghost use Rattle.text_fields.specs.WordLists.{AreWordDigits, is_upper_hex_digit, words_of_digits};
 
 use crate::digits::list_digits;
-use crate::words::word;
+use crate::hex_words::word;
 use bit_strings::OutOfMemory;
 use std::alloc::Global;
 use std::marker::Model;

@@ -1,5 +1,5 @@
 use Rattle.std.proofs.Common.{subst}
-use Rattle.gen2_crc.specs.Crc.{StandsFor}
+use Rattle.gen2_crc.specs.Crc.{RegisterStandsFor}
 use Rattle.gen2_crc.proofs.Registers.{stands_next, stands_all}
 use Rattle.gen2_crc.proofs.Residue.{residue_message}
 use Rattle.gen2_crc.proofs.residue_ok.Goals as goal
@@ -14,11 +14,11 @@ loop-bit-preserved c =
 pub returns-clause-register : goal.returns-clause-register
 returns-clause-register c =
     c.is_residue.ensures c.args.bits.now.items
-    (subst (StandsFor c.loop-bit.crc) c.as_slice-bit-items.ensures.value (stands_all c.as_slice-bit-items.result.now c.loop-bit.bit-index c.loop-bit.crc c.loop-bit-test.false c.loop-bit.invariant))
+    (subst (RegisterStandsFor c.loop-bit.crc) c.as_slice-bit-items.ensures.value (stands_all c.as_slice-bit-items.result.now c.loop-bit.bit-index c.loop-bit.crc c.loop-bit-test.false c.loop-bit.invariant))
 
 pub returns-clause-message : goal.returns-clause-message
 returns-clause-message c = λ front last split long.
     let register = c.is_residue.ensures c.args.bits.now.items
-    (subst (StandsFor c.loop-bit.crc) c.as_slice-bit-items.ensures.value (stands_all c.as_slice-bit-items.result.now c.loop-bit.bit-index c.loop-bit.crc c.loop-bit-test.false c.loop-bit.invariant)) in
+    (subst (RegisterStandsFor c.loop-bit.crc) c.as_slice-bit-items.ensures.value (stands_all c.as_slice-bit-items.result.now c.loop-bit.bit-index c.loop-bit.crc c.loop-bit-test.false c.loop-bit.invariant)) in
     let message = residue_message c.args.bits.now.items front last split long in
     (λ test. message.0 (register.0 test), λ ends. register.1 (message.1 ends))

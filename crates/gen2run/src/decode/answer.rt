@@ -2,8 +2,8 @@
 ghost use Rattle.std.specs.Prelude.{◌≡◌, ◌≤◌, ◌++◌, length, OnOk};
 ghost use Rattle.std.specs.String.{string_bytes};
 ghost use Rattle.gen2run.specs.Answer.{AddsAnswer, answer_line, streamed, sliced, replied, heard, framed, commanded, with_left};
-ghost use Rattle.gen2run.specs.Request.{IsWithinLimits};
-ghost use Rattle.command_grammar.specs.Commands.{Finishes};
+ghost use Rattle.gen2run.specs.Request.{IsWithinLimits, most_levels};
+ghost use Rattle.command_grammar.specs.Commands.{IsFinishAnswer};
 
 use crate::decode::request::{MOST_INTERVALS, MOST_LEVELS, Request};
 use air_channel::receive;
@@ -27,8 +27,8 @@ pub struct Workspace {
     levels: Levels,
     bits: Bits,
     intervals: Intervals,
-    ghost levels_room: { levels.capacity ≡ 132000 },
-    ghost bits_room: { bits.capacity ≡ 132000 },
+    ghost levels_room: { levels.capacity ≡ most_levels },
+    ghost bits_room: { bits.capacity ≡ most_levels },
     ghost intervals_room: { intervals.capacity ≡ 20000 },
 }
 
@@ -265,7 +265,7 @@ fn push_commanded(
 
 /// The command that bits are, or why they are none.
 fn command_of(bits: &[bool]) -> Result<Command, CommandRefusal>
-    ensures { Finishes result bits.now }
+    ensures { IsFinishAnswer result bits.now }
 {
     let mut framer = Framer::new();
     for bit in bits {

@@ -5,9 +5,9 @@ ghost use Rattle.gen2run.specs.DecodeLines.{IsGrammatical, IsFirstFault, IsAsked
 ghost use Rattle.gen2run.specs.Outcome.{input_limit, EndsSo};
 
 use crate::decode::answer::Workspace;
-use crate::decode::request::{Fault, Reason, request_of};
+use crate::decode::request::{DecodeFault, FaultReason, request_of};
 use crate::ending::{WriteEnd, Wrote};
-use crate::words::Form;
+use crate::forms::Form;
 use air_io::{Sink, write_all};
 use bit_strings::OutOfMemory;
 use std::alloc::Global;
@@ -38,7 +38,7 @@ pub fn decode_input<O: Sink>(alloc: Global, input: &[u8], output: &mut O) -> Res
 /// # Errors
 ///
 /// The first faulty line, with the first reason that applies to it.
-fn first_fault(input: &[u8]) -> Result<(), Fault>
+fn first_fault(input: &[u8]) -> Result<(), DecodeFault>
     requires { length input.now ≤ input_limit }
     ensures ok { OnOk result (IsGrammatical input.now) }
     ensures fault { IfErr result (IsFirstFault input.now) }
@@ -47,7 +47,7 @@ fn first_fault(input: &[u8]) -> Result<(), Fault>
     let mut number = 1;
     while let Some((line, behind)) = split_line(rest) {
         if let Err(reason) = request_of(line) {
-            return Err(Fault {
+            return Err(DecodeFault {
                 line: number,
                 reason,
             });
@@ -58,9 +58,9 @@ fn first_fault(input: &[u8]) -> Result<(), Fault>
     if rest.is_empty() {
         return Ok(());
     }
-    Err(Fault {
+    Err(DecodeFault {
         line: number,
-        reason: Reason::End,
+        reason: FaultReason::End,
     })
 }
 
@@ -91,16 +91,16 @@ fn answer_line(line: &[u8], workspace: &mut Workspace, text: &mut String) -> Res
 }
 
 /// The line that reports a fault.
-fn fault_text(alloc: Global, fault: Fault) -> Result<String, OutOfMemory>
+fn fault_text(alloc: Global, fault: DecodeFault) -> Result<String, OutOfMemory>
     ensures { IfOk result (λ text. string_bytes text ≡ fault_line fault) }
 {
     let mut text = String::from_str(alloc, "fault ")?;
     push_number(&mut text, fault.line)?;
     text.push_str(match fault.reason {
-        Reason::End => " end\n",
-        Reason::Word => " word\n",
-        Reason::Shape => " shape\n",
-        Reason::Number => " number\n",
+        FaultReason::End => " end\n",
+        FaultReason::Word => " word\n",
+        FaultReason::Shape => " shape\n",
+        FaultReason::Number => " number\n",
     })?;
     Ok(text)
 }

@@ -1,14 +1,14 @@
 //! A decode line, read.
 ghost use Rattle.std.specs.Prelude.{◌≡◌, ◌≢◌, ℕ, List, ◌∷◌, IfOk, IfErr, IfSome, IfNone};
 ghost use Rattle.text_fields.specs.Lines.{fields_of};
-ghost use Rattle.gen2run.specs.Request.{kind_word, NamesNoCode, Spells, AsksBehind, AreFaulty, IsFaulty};
+ghost use Rattle.gen2run.specs.Request.{request_word, NamesNoCode, AsksForRequest, AsksBehind, AreFaulty, IsFaultyRequest};
 
 use bit_strings::Code;
 use pie_text::{NotNumbers, Numbers};
 use reply_grammar::Expect;
 use reply_text::expect_of;
 use text_fields::{
-    Digits, Fields, HexBytes, code_named, flag, four_fields, number, one_field, three_fields,
+    Digits, Fields, HexBytes, code_named, one_bit, four_fields, number, one_field, three_fields,
     two_fields,
 };
 
@@ -32,7 +32,7 @@ const MOST_NANOSECONDS: u32 = 999_999;
 
 /// What a line is, by its first field.
 #[derive(Clone, Copy, Debug, PartialEq, Eq)]
-pub enum Kind {
+pub enum RequestKind {
     /// Levels of a tag's reply in this code.
     Stream(Code),
     /// Samples of a captured wave.
@@ -86,7 +86,7 @@ pub enum Request<'a> {
 
 /// Why a line is refused, in the order in which the reasons are looked for.
 #[derive(Clone, Copy, Debug, PartialEq, Eq)]
-pub enum Reason {
+pub enum FaultReason {
     /// The line has no line feed.
     End,
     /// The first field is none that a line may begin with.
@@ -99,73 +99,73 @@ pub enum Reason {
 
 /// The first faulty line of an input.
 #[derive(Clone, Copy, Debug, PartialEq, Eq)]
-pub struct Fault {
+pub struct DecodeFault {
     /// Its number, counted from 1.
     pub line: u32,
     /// The first reason that applies to it.
-    pub reason: Reason,
+    pub reason: FaultReason,
 }
 
 /// What a first field says; none exactly where no line begins with it.
-fn kind_of(word: &[u8]) -> Option<Kind>
-    ensures found { IfSome result (λ kind. word.now ≡ kind_word kind) }
-    ensures none { IfNone result ((kind : Kind) → word.now ≢ kind_word kind) }
+fn kind_of(word: &[u8]) -> Option<RequestKind>
+    ensures found { IfSome result (λ kind. word.now ≡ request_word kind) }
+    ensures none { IfNone result ((kind : RequestKind) → word.now ≢ request_word kind) }
 {
     match code_named(word) {
-        Some(code) => Some(Kind::Stream(code)),
+        Some(code) => Some(RequestKind::Stream(code)),
         None => other_kind(word),
     }
 }
 
 /// What a first field says that names no line code.
-fn other_kind(word: &[u8]) -> Option<Kind>
-    ensures found { IfSome result (λ kind. word.now ≡ kind_word kind) }
-    ensures none { IfNone result ((kind : Kind) → NamesNoCode kind → word.now ≢ kind_word kind) }
+fn other_kind(word: &[u8]) -> Option<RequestKind>
+    ensures found { IfSome result (λ kind. word.now ≡ request_word kind) }
+    ensures none { IfNone result ((kind : RequestKind) → NamesNoCode kind → word.now ≢ request_word kind) }
 {
     match word {
-        b"samples" => Some(Kind::Samples),
-        b"reply" => Some(Kind::Reply),
-        b"heard" => Some(Kind::Heard),
-        b"pie" => Some(Kind::Pie),
-        b"command" => Some(Kind::Command),
+        b"samples" => Some(RequestKind::Samples),
+        b"reply" => Some(RequestKind::Reply),
+        b"heard" => Some(RequestKind::Heard),
+        b"pie" => Some(RequestKind::Pie),
+        b"command" => Some(RequestKind::Command),
         _ => None,
     }
 }
 
 /// What a line asks for, or the first reason for which it asks for nothing. The line is given without
 /// its line feed.
-pub fn request_of(line: &[u8]) -> Result<Request<'_>, Reason>
-    ensures ok { IfOk result (Spells line.now) }
-    ensures refused { IfErr result (IsFaulty (fields_of line.now)) }
+pub fn request_of(line: &[u8]) -> Result<Request<'_>, FaultReason>
+    ensures ok { IfOk result (AsksForRequest line.now) }
+    ensures refused { IfErr result (IsFaultyRequest (fields_of line.now)) }
 {
     let mut fields = Fields::new(line);
     let Some(word) = fields.next() else {
-        return Err(Reason::Word);
+        return Err(FaultReason::Word);
     };
     match kind_of(word) {
-        Some(Kind::Stream(code)) => stream_of(code, fields),
-        Some(Kind::Samples) => samples_of(fields),
-        Some(Kind::Reply) => reply_of(fields),
-        Some(Kind::Heard) => heard_of(fields),
-        Some(Kind::Pie) => pie_of(fields),
-        Some(Kind::Command) => command_of(fields),
-        None => Err(Reason::Word),
+        Some(RequestKind::Stream(code)) => stream_of(code, fields),
+        Some(RequestKind::Samples) => samples_of(fields),
+        Some(RequestKind::Reply) => reply_of(fields),
+        Some(RequestKind::Heard) => heard_of(fields),
+        Some(RequestKind::Pie) => pie_of(fields),
+        Some(RequestKind::Command) => command_of(fields),
+        None => Err(FaultReason::Word),
     }
 }
 
 /// The request of a line that begins with a code's name, by its other fields.
-fn stream_of<'a>(code: Code, others: Fields<'a>) -> Result<Request<'a>, Reason>
-    ensures ok { IfOk result (AsksBehind (Kind.Stream code) others.entry) }
-    ensures refused { IfErr result (AreFaulty (Kind.Stream code) others.entry) }
+fn stream_of<'a>(code: Code, others: Fields<'a>) -> Result<Request<'a>, FaultReason>
+    ensures ok { IfOk result (AsksBehind (RequestKind.Stream code) others.entry) }
+    ensures refused { IfErr result (AreFaulty (RequestKind.Stream code) others.entry) }
 {
     let Some((trext, levels)) = two_fields(others) else {
-        return Err(Reason::Shape);
+        return Err(FaultReason::Shape);
     };
-    let Some(trext) = flag(trext) else {
-        return Err(Reason::Number);
+    let Some(trext) = one_bit(trext) else {
+        return Err(FaultReason::Number);
     };
     let Some(levels) = Digits::new(levels, MOST_LEVELS) else {
-        return Err(Reason::Number);
+        return Err(FaultReason::Number);
     };
     Ok(Request::Stream {
         code,
@@ -175,24 +175,24 @@ fn stream_of<'a>(code: Code, others: Fields<'a>) -> Result<Request<'a>, Reason>
 }
 
 /// The request of a line that begins with `samples`, by its other fields.
-fn samples_of<'a>(others: Fields<'a>) -> Result<Request<'a>, Reason>
-    ensures ok { IfOk result (AsksBehind Kind.Samples others.entry) }
-    ensures refused { IfErr result (AreFaulty Kind.Samples others.entry) }
+fn samples_of<'a>(others: Fields<'a>) -> Result<Request<'a>, FaultReason>
+    ensures ok { IfOk result (AsksBehind RequestKind.Samples others.entry) }
+    ensures refused { IfErr result (AreFaulty RequestKind.Samples others.entry) }
 {
     let Some((threshold, per_level, samples)) = three_fields(others) else {
-        return Err(Reason::Shape);
+        return Err(FaultReason::Shape);
     };
     let Some(threshold) = number(threshold, 255) else {
-        return Err(Reason::Number);
+        return Err(FaultReason::Number);
     };
     let Some(per_level) = number(per_level, MOST_PER_LEVEL) else {
-        return Err(Reason::Number);
+        return Err(FaultReason::Number);
     };
     if per_level == 0 {
-        return Err(Reason::Number);
+        return Err(FaultReason::Number);
     }
     let Some(samples) = HexBytes::new(samples, MOST_SAMPLES) else {
-        return Err(Reason::Number);
+        return Err(FaultReason::Number);
     };
     Ok(Request::Samples {
         threshold: threshold as u8,
@@ -202,41 +202,41 @@ fn samples_of<'a>(others: Fields<'a>) -> Result<Request<'a>, Reason>
 }
 
 /// The request of a line that begins with `reply`, by its other fields.
-fn reply_of<'a>(others: Fields<'a>) -> Result<Request<'a>, Reason>
-    ensures ok { IfOk result (AsksBehind Kind.Reply others.entry) }
-    ensures refused { IfErr result (AreFaulty Kind.Reply others.entry) }
+fn reply_of<'a>(others: Fields<'a>) -> Result<Request<'a>, FaultReason>
+    ensures ok { IfOk result (AsksBehind RequestKind.Reply others.entry) }
+    ensures refused { IfErr result (AreFaulty RequestKind.Reply others.entry) }
 {
     let Some((expect, bits)) = two_fields(others) else {
-        return Err(Reason::Shape);
+        return Err(FaultReason::Shape);
     };
     let Some(expect) = expect_of(expect) else {
-        return Err(Reason::Number);
+        return Err(FaultReason::Number);
     };
     let Some(bits) = Digits::new(bits, MOST_BITS) else {
-        return Err(Reason::Number);
+        return Err(FaultReason::Number);
     };
     Ok(Request::Reply { expect, bits })
 }
 
 /// The request of a line that begins with `heard`, by its other fields.
-fn heard_of<'a>(others: Fields<'a>) -> Result<Request<'a>, Reason>
-    ensures ok { IfOk result (AsksBehind Kind.Heard others.entry) }
-    ensures refused { IfErr result (AreFaulty Kind.Heard others.entry) }
+fn heard_of<'a>(others: Fields<'a>) -> Result<Request<'a>, FaultReason>
+    ensures ok { IfOk result (AsksBehind RequestKind.Heard others.entry) }
+    ensures refused { IfErr result (AreFaulty RequestKind.Heard others.entry) }
 {
     let Some((code, trext, expect, levels)) = four_fields(others) else {
-        return Err(Reason::Shape);
+        return Err(FaultReason::Shape);
     };
     let Some(code) = code_named(code) else {
-        return Err(Reason::Number);
+        return Err(FaultReason::Number);
     };
-    let Some(trext) = flag(trext) else {
-        return Err(Reason::Number);
+    let Some(trext) = one_bit(trext) else {
+        return Err(FaultReason::Number);
     };
     let Some(expect) = expect_of(expect) else {
-        return Err(Reason::Number);
+        return Err(FaultReason::Number);
     };
     let Some(levels) = Digits::new(levels, MOST_LEVELS) else {
-        return Err(Reason::Number);
+        return Err(FaultReason::Number);
     };
     Ok(Request::Heard {
         code,
@@ -247,27 +247,27 @@ fn heard_of<'a>(others: Fields<'a>) -> Result<Request<'a>, Reason>
 }
 
 /// The request of a line that begins with `pie`, by its other fields.
-fn pie_of<'a>(others: Fields<'a>) -> Result<Request<'a>, Reason>
-    ensures ok { IfOk result (AsksBehind Kind.Pie others.entry) }
-    ensures refused { IfErr result (AreFaulty Kind.Pie others.entry) }
+fn pie_of<'a>(others: Fields<'a>) -> Result<Request<'a>, FaultReason>
+    ensures ok { IfOk result (AsksBehind RequestKind.Pie others.entry) }
+    ensures refused { IfErr result (AreFaulty RequestKind.Pie others.entry) }
 {
     match Numbers::new(others, MOST_INTERVALS, MOST_NANOSECONDS) {
         Ok(intervals) => Ok(Request::Pie { intervals }),
-        Err(NotNumbers::Shape) => Err(Reason::Shape),
-        Err(NotNumbers::Number) => Err(Reason::Number),
+        Err(NotNumbers::Shape) => Err(FaultReason::Shape),
+        Err(NotNumbers::Number) => Err(FaultReason::Number),
     }
 }
 
 /// The request of a line that begins with `command`, by its other field.
-fn command_of<'a>(others: Fields<'a>) -> Result<Request<'a>, Reason>
-    ensures ok { IfOk result (AsksBehind Kind.Command others.entry) }
-    ensures refused { IfErr result (AreFaulty Kind.Command others.entry) }
+fn command_of<'a>(others: Fields<'a>) -> Result<Request<'a>, FaultReason>
+    ensures ok { IfOk result (AsksBehind RequestKind.Command others.entry) }
+    ensures refused { IfErr result (AreFaulty RequestKind.Command others.entry) }
 {
     let Some(bits) = one_field(others) else {
-        return Err(Reason::Shape);
+        return Err(FaultReason::Shape);
     };
     let Some(bits) = Digits::new(bits, MOST_BITS) else {
-        return Err(Reason::Number);
+        return Err(FaultReason::Number);
     };
     Ok(Request::Command { bits })
 }

@@ -11,7 +11,7 @@ use crate::Happening;
 use air_events::{Choice, Event};
 use bit_strings::OutOfMemory;
 use command_text::flag_name;
-use text_fields::{next_name, next_number};
+use text_fields::{push_next_name, push_next_number};
 
 /// The kind of an event.
 fn event_name(event: Event) -> &'static str
@@ -30,20 +30,20 @@ fn next_event(text: &mut String, event: Event, tag: u32) -> Result<(), OutOfMemo
     ensures { OnOk result (string_bytes text.new ≡ string_bytes text.old
         ++ space ∷ line_with (event_word (event_kind event) ∷ event_fields event tag)) }
 {
-    next_name(text, event_name(event))?;
+    push_next_name(text, event_name(event))?;
     if let Event::Expire(flag) = event {
-        next_name(text, flag_name(flag))?;
-        return next_number(text, tag);
+        push_next_name(text, flag_name(flag))?;
+        return push_next_number(text, tag);
     }
-    next_number(text, tag)
+    push_next_number(text, tag)
 }
 
 /// Writes a kind and the number behind it.
 fn next_numbered(text: &mut String, kind: &str, number: u32) -> Result<(), OutOfMemory>
     ensures { OnOk result (string_bytes text.new ≡ string_bytes text.old ++ space ∷ line_with (kind.now ∷ decimal number ∷ [])) }
 {
-    next_name(text, kind)?;
-    next_number(text, number)
+    push_next_name(text, kind)?;
+    push_next_number(text, number)
 }
 
 /// Writes the kind of an air line, and the fields behind it.
@@ -55,7 +55,7 @@ fn next_happening(text: &mut String, happening: Happening) -> Result<(), OutOfMe
         Happening::Event { event, tag } => next_event(text, event, tag),
         Happening::Miss(tag) => next_numbered(text, "miss", tag),
         Happening::Choice(Choice::Pick(reply)) => next_numbered(text, "pick", reply),
-        Happening::Choice(Choice::Silent) => next_name(text, "silent"),
+        Happening::Choice(Choice::Silent) => push_next_name(text, "silent"),
         Happening::Choice(Choice::Break(place)) => next_numbered(text, "break", place),
     }
 }
@@ -65,7 +65,7 @@ pub fn push_air(text: &mut String, exchange: u32, happening: Happening) -> Resul
     ensures { OnOk result (string_bytes text.new ≡ string_bytes text.old ++ (line_text (lines.Air exchange happening) ++ line_feed ∷ [])) }
 {
     text.push_str("air")?;
-    next_number(text, exchange)?;
+    push_next_number(text, exchange)?;
     next_happening(text, happening)?;
     text.push('\n')
 }

@@ -10,7 +10,7 @@ ghost use Rattle.scenario_lines.specs.declared.line.Line.TheVariants as lines;
 use bit_strings::OutOfMemory;
 use command_text::bit_name;
 use pie_line::Link;
-use text_fields::{name_of, next_name, next_number};
+use text_fields::{name_of, push_next_name, push_next_number};
 
 /// Writes `link` and the four lengths of a link, in nanoseconds.
 fn push_lengths(text: &mut String, link: &Link) -> Result<(), OutOfMemory>
@@ -18,10 +18,10 @@ fn push_lengths(text: &mut String, link: &Link) -> Result<(), OutOfMemory>
         ++ line_with (codes "link" ∷ decimal link.now.tari ∷ decimal link.now.rtcal ∷ decimal link.now.trcal ∷ decimal link.now.pw ∷ [])) }
 {
     text.push_str("link")?;
-    next_number(text, link.tari())?;
-    next_number(text, link.rtcal())?;
-    next_number(text, link.trcal())?;
-    next_number(text, link.pw())
+    push_next_number(text, link.tari())?;
+    push_next_number(text, link.rtcal())?;
+    push_next_number(text, link.trcal())?;
+    push_next_number(text, link.pw())
 }
 
 /// Writes what a Query says of the replies: DR, the code and TRext.
@@ -29,9 +29,9 @@ fn next_replies(text: &mut String, link: &Link) -> Result<(), OutOfMemory>
     ensures { OnOk result (string_bytes text.new ≡ string_bytes text.old
         ++ space ∷ line_with (flag_text link.now.dr ∷ code_word link.now.code ∷ flag_text link.now.trext ∷ [])) }
 {
-    next_name(text, bit_name(link.dr()))?;
-    next_name(text, name_of(link.code()))?;
-    next_name(text, bit_name(link.trext()))
+    push_next_name(text, bit_name(link.dr()))?;
+    push_next_name(text, name_of(link.code()))?;
+    push_next_name(text, bit_name(link.trext()))
 }
 
 /// Writes `link TARI RTCAL TRCAL PW DR CODE TREXT`.

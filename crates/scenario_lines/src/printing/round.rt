@@ -12,7 +12,7 @@ use bit_strings::OutOfMemory;
 use command_grammar::Sel;
 use command_text::side_name;
 use q_round::RoundSpec;
-use text_fields::{next_name, next_number};
+use text_fields::{push_next_name, push_next_number};
 
 /// The word for the tags that a round speaks to. The code 01, which means all as well, has none.
 fn sel_name(sel: Sel) -> &'static str
@@ -32,9 +32,9 @@ fn push_tags(text: &mut String, spec: &RoundSpec) -> Result<(), OutOfMemory>
         ++ line_with (codes "round" ∷ sel_text spec.now.sel ∷ decimal spec.now.session ∷ side_word spec.now.target ∷ [])) }
 {
     text.push_str("round")?;
-    next_name(text, sel_name(spec.sel()))?;
-    next_number(text, u32::from(spec.session().get()))?;
-    next_name(text, side_name(spec.target()))
+    push_next_name(text, sel_name(spec.sel()))?;
+    push_next_number(text, u32::from(spec.session().get()))?;
+    push_next_name(text, side_name(spec.target()))
 }
 
 /// Writes `round SEL SESSION TARGET Q C LIMIT`.
@@ -42,8 +42,8 @@ pub fn push_round(text: &mut String, spec: &RoundSpec) -> Result<(), OutOfMemory
     ensures { OnOk result (string_bytes text.new ≡ string_bytes text.old ++ (line_text (lines.Round spec.now) ++ line_feed ∷ [])) }
 {
     push_tags(text, spec)?;
-    next_number(text, u32::from(spec.q().get()))?;
-    next_number(text, spec.c())?;
-    next_number(text, spec.limit())?;
+    push_next_number(text, u32::from(spec.q().get()))?;
+    push_next_number(text, spec.c())?;
+    push_next_number(text, spec.limit())?;
     text.push('\n')
 }

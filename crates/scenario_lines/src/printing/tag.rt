@@ -11,7 +11,7 @@ use bit_strings::OutOfMemory;
 use command_text::bit_name;
 use lock_rules::{Locks, Pair};
 use tag_memory::BankImage;
-use text_fields::{next_words, push_word};
+use text_fields::{push_next_words, push_word};
 
 /// Writes a password as the next field, in two words.
 fn next_password(text: &mut String, password: u32) -> Result<(), OutOfMemory>
@@ -58,9 +58,9 @@ fn next_banks(text: &mut String, image: &BankImage) -> Result<(), OutOfMemory>
     ensures { OnOk result (string_bytes text.new ≡ string_bytes text.old
         ++ space ∷ line_with (hex_words image.now.epc ∷ hex_words image.now.tid ∷ hex_words image.now.user ∷ [])) }
 {
-    next_words(text, image.epc.as_slice())?;
-    next_words(text, image.tid.as_slice())?;
-    next_words(text, image.user.as_slice())
+    push_next_words(text, image.epc.as_slice())?;
+    push_next_words(text, image.tid.as_slice())?;
+    push_next_words(text, image.user.as_slice())
 }
 
 /// Writes `tag KILL ACCESS LOCKS EPC TID USER WORDS`.
@@ -69,6 +69,6 @@ pub fn push_tag(text: &mut String, tag: &TagSpec) -> Result<(), OutOfMemory>
 {
     push_secrets(text, &tag.image, &tag.locks)?;
     next_banks(text, &tag.image)?;
-    next_words(text, tag.words.words())?;
+    push_next_words(text, tag.words.words())?;
     text.push('\n')
 }

@@ -1,6 +1,6 @@
 //! Link lines, read.
 ghost use Rattle.std.specs.Prelude.{◌≡◌, IfOk, IfErr, IsOkAnd};
-ghost use Rattle.pie_line.specs.Link.{LinkValue, IsLegal};
+ghost use Rattle.pie_line.specs.Link.{LinkValue, IsLegalLink};
 ghost use Rattle.scenario_lines.specs.LineForm.{IsLinkForm};
 ghost use Rattle.scenario_lines.specs.Spelling.{link_fields};
 ghost use Rattle.scenario_lines.specs.LineFaults.{AreFilled};
@@ -9,7 +9,7 @@ ghost use Rattle.scenario_lines.specs.Reading.{Misreads, MisreadsLink, link_faul
 use crate::LineFault;
 use bit_strings::Code;
 use pie_line::{Link, LinkRefusal};
-use text_fields::{Fields, code_named, flag, number, seven_fields};
+use text_fields::{Fields, code_named, one_bit, number, seven_fields};
 
 /// The greatest length of time in a line, in nanoseconds.
 const MOST_NANOSECONDS: u32 = 999_999;
@@ -47,13 +47,13 @@ fn read_parameters(others: Fields) -> Result<Parameters, LineFault>
     let Some(pw) = number(pw, MOST_NANOSECONDS) else {
         return Err(LineFault::Number);
     };
-    let Some(dr) = flag(dr) else {
+    let Some(dr) = one_bit(dr) else {
         return Err(LineFault::Number);
     };
     let Some(code) = code_named(code) else {
         return Err(LineFault::Number);
     };
-    let Some(trext) = flag(trext) else {
+    let Some(trext) = one_bit(trext) else {
         return Err(LineFault::Number);
     };
     Ok(Parameters {
@@ -81,8 +81,8 @@ fn fault_of(refusal: LinkRefusal) -> LineFault
 
 /// The link that the fields behind `link` spell.
 pub(crate) fn read_link(others: Fields) -> Result<Link, LineFault>
-    ensures ok { IfOk result (λ link. (others.entry ≡ link_fields link) × IsLinkForm link × IsLegal link) }
-    ensures only { (link : LinkValue) → IsLinkForm link → IsLegal link → others.entry ≡ link_fields link → IsOkAnd result (λ it. it ≡ link) }
+    ensures ok { IfOk result (λ link. (others.entry ≡ link_fields link) × IsLinkForm link × IsLegalLink link) }
+    ensures only { (link : LinkValue) → IsLinkForm link → IsLegalLink link → others.entry ≡ link_fields link → IsOkAnd result (λ it. it ≡ link) }
     ensures refused { IfErr result (MisreadsLink others.entry) }
 {
     let of = read_parameters(others)?;

@@ -2,7 +2,8 @@
 ghost use Rattle.std.specs.Prelude.{◌≡◌, ◌+◌, ◌≤◌, ℕ};
 ghost use Rattle.tag_machine.specs.TagValue.{SecuredState};
 ghost use Rattle.tag_machine.specs.Access.{lock};
-ghost use Rattle.tag_machine.specs.Hearing.{Gives};
+ghost use Rattle.tag_machine.specs.Hearing.{GivesOutcome};
+ghost use Rattle.reply_grammar.specs.Table.{reply_room};
 
 use super::tag_with_handle::TagWithHandle;
 use crate::any_tag::{AnyTag, Heard};
@@ -17,9 +18,9 @@ use std::sync::ledger::Ledger;
 impl TagWithHandle {
     /// Changes the pairs of lock bits, or refuses and changes none. After a first half the tag goes back.
     fn lock(self, payload: Payload, rn: u16, out: &mut Bits) -> Heard
-        requires room { 8240 ≤ out.old.capacity }
+        requires room { reply_room ≤ out.old.capacity }
         requires secured { self.level ≡ Level.Secured }
-        ensures { Gives (lock payload rn (SecuredState self.held) self.body) result out.old out.new }
+        ensures { GivesOutcome (lock payload rn (SecuredState self.held) self.body) result out.old out.new }
     {
         if self.held.handle != rn {
             return self.stay(out);
@@ -43,8 +44,8 @@ impl Tag<Secured> {
         out: &mut Bits,
         steps: &mut Steps<L>,
     ) -> Heard
-        requires room { 8240 ≤ out.old.capacity }
-        ensures step { Gives (lock payload rn self.state self.body) result out.old out.new }
+        requires room { reply_room ≤ out.old.capacity }
+        ensures step { GivesOutcome (lock payload rn self.state self.body) result out.old out.new }
         ensures counted { steps.new ≡ steps.old + 1 }
     {
         steps.tick();
@@ -61,7 +62,7 @@ impl Tag<Opened> {
         out: &mut Bits,
         steps: &mut Steps<L>,
     ) -> Heard
-        ensures step { (payload : ℕ) → Gives (lock payload rn self.state self.body) result out.old out.new }
+        ensures step { (payload : ℕ) → GivesOutcome (lock payload rn self.state self.body) result out.old out.new }
         ensures counted { steps.new ≡ steps.old + 1 }
     {
         if self.state.held.handle == rn && self.state.held.half.is_some() {

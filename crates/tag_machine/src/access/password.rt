@@ -3,12 +3,13 @@
 ghost use Rattle.std.specs.Prelude.{◌≡◌, ◌+◌, ◌≤◌, if◌then◌else◌};
 ghost use Rattle.tag_machine.specs.Answers.{Outcome};
 ghost use Rattle.tag_machine.specs.Access.{unless_other_half, whole_of, keep_half, kill_whole, kill_held, kill, access_whole, access_held, access};
-ghost use Rattle.tag_machine.specs.Hearing.{Gives};
+ghost use Rattle.tag_machine.specs.Hearing.{GivesOutcome};
+ghost use Rattle.reply_grammar.specs.Table.{reply_room};
 
 use super::tag_with_handle::TagWithHandle;
 use crate::any_tag::{AnyTag, Heard};
 use crate::moves::answer_extended;
-use crate::states::{Half, Held, Killed, Kind, Opened, Secured};
+use crate::states::{Half, Held, Killed, Password, Opened, Secured};
 use crate::steps::Steps;
 use crate::tag::Tag;
 use bit_strings::{Bits, xor16};
@@ -25,23 +26,23 @@ fn whole(upper: u16, lower: u16) -> u32
 
 impl TagWithHandle {
     /// Whether there is a first half of the other kind.
-    fn has_half_but(&self, kind: Kind) -> bool
-        ensures { (instead outcome : Outcome) → unless_other_half kind self.now.held.half instead outcome ≡ (if result then instead else outcome) }
+    fn has_half_but(&self, password: Password) -> bool
+        ensures { (instead outcome : Outcome) → unless_other_half password self.now.held.half instead outcome ≡ (if result then instead else outcome) }
     {
         match self.held.half {
-            Some(half) => half.kind != kind,
+            Some(half) => half.password != password,
             None => false,
         }
     }
 
     /// Keeps the value as a first half, and answers the handle.
-    fn keep_half(self, kind: Kind, value: u16, out: &mut Bits) -> Heard
-        requires { 8240 ≤ out.old.capacity }
-        ensures { Gives (keep_half self.level kind value self.held self.body) result out.old out.new }
+    fn keep_half(self, password: Password, value: u16, out: &mut Bits) -> Heard
+        requires { reply_room ≤ out.old.capacity }
+        ensures { GivesOutcome (keep_half self.level password value self.held self.body) result out.old out.new }
     {
         let handle = self.held.handle;
         let held = Held {
-            half: Some(Half { kind, value }),
+            half: Some(Half { password, value }),
             ..self.held
         };
         TagWithHandle { held, ..self }.answer_number(handle, out)
@@ -60,8 +61,8 @@ impl TagWithHandle {
 
     /// What both halves of a Kill give.
     fn kill_whole(self, password: u32, out: &mut Bits) -> Heard
-        requires { 8240 ≤ out.old.capacity }
-        ensures { Gives (kill_whole self.level password self.held self.body) result out.old out.new }
+        requires { reply_room ≤ out.old.capacity }
+        ensures { GivesOutcome (kill_whole self.level password self.held self.body) result out.old out.new }
     {
         let own = self.body.kill_word();
         if own == 0 {
@@ -84,8 +85,8 @@ impl TagWithHandle {
 
     /// What both halves of an Access give.
     fn access_whole(self, password: u32, out: &mut Bits) -> Heard
-        requires { 8240 ≤ out.old.capacity }
-        ensures { Gives (access_whole password self.held self.body) result out.old out.new }
+        requires { reply_room ≤ out.old.capacity }
+        ensures { GivesOutcome (access_whole password self.held self.body) result out.old out.new }
     {
         if self.body.access_word() != password {
             return self.go_back(out);
@@ -101,13 +102,13 @@ impl TagWithHandle {
     /// A Kill: the first half is kept, and the second acts. Without a cover nothing changes; with one, it is used up. After a
     /// first half of an Access the tag goes back.
     fn kill(self, covered: u16, rn: u16, out: &mut Bits) -> Heard
-        requires { 8240 ≤ out.old.capacity }
-        ensures { Gives (kill_held self.level covered rn self.held self.body) result out.old out.new }
+        requires { reply_room ≤ out.old.capacity }
+        ensures { GivesOutcome (kill_held self.level covered rn self.held self.body) result out.old out.new }
     {
         if self.held.handle != rn {
             return self.stay(out);
         }
-        if self.has_half_but(Kind::Kill) {
+        if self.has_half_but(Password::Kill) {
             return self.go_back(out);
         }
         let Some(cover) = self.held.cover else {
@@ -116,7 +117,7 @@ impl TagWithHandle {
         let value = xor16(covered, cover);
         let tag = self.without_cover();
         match tag.held.half {
-            None => tag.keep_half(Kind::Kill, value, out),
+            None => tag.keep_half(Password::Kill, value, out),
             Some(half) => tag.kill_whole(whole(half.value, value), out),
         }
     }
@@ -124,13 +125,13 @@ impl TagWithHandle {
     /// An Access: the first half is kept, and the second acts. Without a cover nothing changes; with one, it is used up. After
     /// a first half of a Kill the tag goes back.
     fn access(self, covered: u16, rn: u16, out: &mut Bits) -> Heard
-        requires { 8240 ≤ out.old.capacity }
-        ensures { Gives (access_held self.level covered rn self.held self.body) result out.old out.new }
+        requires { reply_room ≤ out.old.capacity }
+        ensures { GivesOutcome (access_held self.level covered rn self.held self.body) result out.old out.new }
     {
         if self.held.handle != rn {
             return self.stay(out);
         }
-        if self.has_half_but(Kind::Access) {
+        if self.has_half_but(Password::Access) {
             return self.go_back(out);
         }
         let Some(cover) = self.held.cover else {
@@ -139,7 +140,7 @@ impl TagWithHandle {
         let value = xor16(covered, cover);
         let tag = self.without_cover();
         match tag.held.half {
-            None => tag.keep_half(Kind::Access, value, out),
+            None => tag.keep_half(Password::Access, value, out),
             Some(half) => tag.access_whole(whole(half.value, value), out),
         }
     }
@@ -157,8 +158,8 @@ impl Tag<Opened> {
         out: &mut Bits,
         steps: &mut Steps<L>,
     ) -> Heard
-        requires room { 8240 ≤ out.old.capacity }
-        ensures step { Gives (kill covered rn self.state self.body) result out.old out.new }
+        requires room { reply_room ≤ out.old.capacity }
+        ensures step { GivesOutcome (kill covered rn self.state self.body) result out.old out.new }
         ensures counted { steps.new ≡ steps.old + 1 }
     {
         steps.tick();
@@ -176,8 +177,8 @@ impl Tag<Opened> {
         out: &mut Bits,
         steps: &mut Steps<L>,
     ) -> Heard
-        requires room { 8240 ≤ out.old.capacity }
-        ensures step { Gives (access covered rn self.state self.body) result out.old out.new }
+        requires room { reply_room ≤ out.old.capacity }
+        ensures step { GivesOutcome (access covered rn self.state self.body) result out.old out.new }
         ensures counted { steps.new ≡ steps.old + 1 }
     {
         steps.tick();
@@ -197,8 +198,8 @@ impl Tag<Secured> {
         out: &mut Bits,
         steps: &mut Steps<L>,
     ) -> Heard
-        requires room { 8240 ≤ out.old.capacity }
-        ensures step { Gives (kill covered rn self.state self.body) result out.old out.new }
+        requires room { reply_room ≤ out.old.capacity }
+        ensures step { GivesOutcome (kill covered rn self.state self.body) result out.old out.new }
         ensures counted { steps.new ≡ steps.old + 1 }
     {
         steps.tick();
@@ -216,8 +217,8 @@ impl Tag<Secured> {
         out: &mut Bits,
         steps: &mut Steps<L>,
     ) -> Heard
-        requires room { 8240 ≤ out.old.capacity }
-        ensures step { Gives (access covered rn self.state self.body) result out.old out.new }
+        requires room { reply_room ≤ out.old.capacity }
+        ensures step { GivesOutcome (access covered rn self.state self.body) result out.old out.new }
         ensures counted { steps.new ≡ steps.old + 1 }
     {
         steps.tick();

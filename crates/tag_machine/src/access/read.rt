@@ -1,7 +1,8 @@
 //! Read (6.3.2.11.3.2).
 ghost use Rattle.std.specs.Prelude.{◌≡◌, ◌+◌, ◌≤◌};
 ghost use Rattle.tag_machine.specs.Access.{read_held, read};
-ghost use Rattle.tag_machine.specs.Hearing.{Gives};
+ghost use Rattle.tag_machine.specs.Hearing.{GivesOutcome};
+ghost use Rattle.reply_grammar.specs.Table.{reply_room};
 
 use super::tag_with_handle::TagWithHandle;
 use crate::any_tag::Heard;
@@ -15,8 +16,8 @@ use std::sync::ledger::Ledger;
 impl TagWithHandle {
     /// The words, or an error. After a first half the tag goes back.
     fn read(self, bank: Bank, pointer: Pointer, count: u8, rn: u16, out: &mut Bits) -> Heard
-        requires { 8240 ≤ out.old.capacity }
-        ensures { Gives (read_held self.level bank pointer count rn self.held self.body) result out.old out.new }
+        requires { reply_room ≤ out.old.capacity }
+        ensures { GivesOutcome (read_held self.level bank pointer count rn self.held self.body) result out.old out.new }
     {
         if self.held.handle != rn {
             return self.stay(out);
@@ -41,8 +42,8 @@ impl Tag<Opened> {
         out: &mut Bits,
         steps: &mut Steps<L>,
     ) -> Heard
-        requires room { 8240 ≤ out.old.capacity }
-        ensures step { Gives (read bank pointer count rn self.state self.body) result out.old out.new }
+        requires room { reply_room ≤ out.old.capacity }
+        ensures step { GivesOutcome (read bank pointer count rn self.state self.body) result out.old out.new }
         ensures counted { steps.new ≡ steps.old + 1 }
     {
         steps.tick();
@@ -62,8 +63,8 @@ impl Tag<Secured> {
         out: &mut Bits,
         steps: &mut Steps<L>,
     ) -> Heard
-        requires room { 8240 ≤ out.old.capacity }
-        ensures step { Gives (read bank pointer count rn self.state self.body) result out.old out.new }
+        requires room { reply_room ≤ out.old.capacity }
+        ensures step { GivesOutcome (read bank pointer count rn self.state self.body) result out.old out.new }
         ensures counted { steps.new ≡ steps.old + 1 }
     {
         steps.tick();

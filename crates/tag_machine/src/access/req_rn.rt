@@ -1,7 +1,8 @@
 //! Req_RN (6.3.2.11.3.1).
 ghost use Rattle.std.specs.Prelude.{◌≡◌, ◌+◌, ◌≤◌};
 ghost use Rattle.tag_machine.specs.Access.{first_level, give_handle, req_rn_held, req_rn};
-ghost use Rattle.tag_machine.specs.Hearing.{Gives};
+ghost use Rattle.tag_machine.specs.Hearing.{GivesOutcome};
+ghost use Rattle.reply_grammar.specs.Table.{reply_room};
 
 use super::tag_with_handle::TagWithHandle;
 use crate::any_tag::{AnyTag, Heard};
@@ -28,8 +29,8 @@ impl Body {
 
     /// Draws a handle and answers it.
     fn give_handle(self, session: Session, q: QValue, out: &mut Bits) -> Heard
-        requires { 8240 ≤ out.old.capacity }
-        ensures { Gives (give_handle session q self) result out.old out.new }
+        requires { reply_room ≤ out.old.capacity }
+        ensures { GivesOutcome (give_handle session q self) result out.old out.new }
     {
         let mut body = self;
         let level = body.first_level();
@@ -48,8 +49,8 @@ impl Body {
 impl TagWithHandle {
     /// With the handle the tag draws a cover and answers it; a first half stays.
     fn req_rn(self, rn: u16, out: &mut Bits) -> Heard
-        requires { 8240 ≤ out.old.capacity }
-        ensures { Gives (req_rn_held self.level rn self.held self.body) result out.old out.new }
+        requires { reply_room ≤ out.old.capacity }
+        ensures { GivesOutcome (req_rn_held self.level rn self.held self.body) result out.old out.new }
     {
         if self.held.handle != rn {
             return self.stay(out);
@@ -71,8 +72,8 @@ impl TagWithHandle {
 impl Tag<InReply> {
     /// The tag goes back to arbitrate, whatever the number.
     pub fn req_rn<L: Ledger>(self, _rn: u16, out: &mut Bits, steps: &mut Steps<L>) -> Heard
-        requires room { 8240 ≤ out.old.capacity }
-        ensures step { Gives (req_rn _rn self.state self.body) result out.old out.new }
+        requires room { reply_room ≤ out.old.capacity }
+        ensures step { GivesOutcome (req_rn _rn self.state self.body) result out.old out.new }
         ensures counted { steps.new ≡ steps.old + 1 }
     {
         steps.tick();
@@ -85,8 +86,8 @@ impl Tag<Acknowledged> {
     /// With the RN16 that was acknowledged the tag draws a handle and answers it. It is then in secured where the access
     /// password is 0, else in open. Another number changes nothing.
     pub fn req_rn<L: Ledger>(self, rn: u16, out: &mut Bits, steps: &mut Steps<L>) -> Heard
-        requires room { 8240 ≤ out.old.capacity }
-        ensures step { Gives (req_rn rn self.state self.body) result out.old out.new }
+        requires room { reply_room ≤ out.old.capacity }
+        ensures step { GivesOutcome (req_rn rn self.state self.body) result out.old out.new }
         ensures counted { steps.new ≡ steps.old + 1 }
     {
         steps.tick();
@@ -101,8 +102,8 @@ impl Tag<Acknowledged> {
 impl Tag<Opened> {
     /// With the handle the tag draws a cover and answers it; a first half stays. Another number changes nothing.
     pub fn req_rn<L: Ledger>(self, rn: u16, out: &mut Bits, steps: &mut Steps<L>) -> Heard
-        requires room { 8240 ≤ out.old.capacity }
-        ensures step { Gives (req_rn rn self.state self.body) result out.old out.new }
+        requires room { reply_room ≤ out.old.capacity }
+        ensures step { GivesOutcome (req_rn rn self.state self.body) result out.old out.new }
         ensures counted { steps.new ≡ steps.old + 1 }
     {
         steps.tick();
@@ -113,8 +114,8 @@ impl Tag<Opened> {
 impl Tag<Secured> {
     /// With the handle the tag draws a cover and answers it; a first half stays. Another number changes nothing.
     pub fn req_rn<L: Ledger>(self, rn: u16, out: &mut Bits, steps: &mut Steps<L>) -> Heard
-        requires room { 8240 ≤ out.old.capacity }
-        ensures step { Gives (req_rn rn self.state self.body) result out.old out.new }
+        requires room { reply_room ≤ out.old.capacity }
+        ensures step { GivesOutcome (req_rn rn self.state self.body) result out.old out.new }
         ensures counted { steps.new ≡ steps.old + 1 }
     {
         steps.tick();

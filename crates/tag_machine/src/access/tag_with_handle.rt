@@ -1,11 +1,11 @@
 //! What open and secured share.
 ghost use Rattle.std.specs.Prelude.{◌≡◌, ◌≤◌, IfErr, OnOk};
 ghost use Rattle.reply_grammar.specs.declared.expected.Reply.TheVariants.{Handle, Header};
-ghost use Rattle.reply_grammar.specs.Table.{CanBeSent};
+ghost use Rattle.reply_grammar.specs.Table.{CanBeSent, reply_room};
 ghost use Rattle.tag_machine.specs.Answers.{silent, plain, extended};
 ghost use Rattle.tag_machine.specs.Draws.{back};
 ghost use Rattle.tag_machine.specs.Access.{held_state, refuse};
-ghost use Rattle.tag_machine.specs.Hearing.{Gives, value_of};
+ghost use Rattle.tag_machine.specs.Hearing.{GivesOutcome, tag_value_of};
 
 use crate::any_tag::{AnyTag, Heard};
 use crate::body::Body;
@@ -60,7 +60,7 @@ impl From<Tag<Secured>> for TagWithHandle {
 impl TagWithHandle {
     /// The tag in the state of its level.
     pub fn into_tag(self) -> AnyTag
-        ensures { value_of result ≡ record { state = held_state self.level self.held; body = self.body } }
+        ensures { tag_value_of result ≡ record { state = held_state self.level self.held; body = self.body } }
     {
         let TagWithHandle { level, held, body } = self;
         match level {
@@ -88,14 +88,14 @@ impl TagWithHandle {
 
     /// Stays as it is, without an answer.
     pub fn stay(self, out: &mut Bits) -> Heard
-        ensures { Gives (silent (held_state self.level self.held) self.body) result out.old out.new }
+        ensures { GivesOutcome (silent (held_state self.level self.held) self.body) result out.old out.new }
     {
         unanswered(self.into_tag(), out)
     }
 
     /// BACK, without an answer.
     pub fn go_back(self, out: &mut Bits) -> Heard
-        ensures { Gives (back self.held.session self.held.q self.body) result out.old out.new }
+        ensures { GivesOutcome (back self.held.session self.held.q self.body) result out.old out.new }
     {
         let TagWithHandle {
             level: _,
@@ -107,17 +107,17 @@ impl TagWithHandle {
 
     /// Answers a handle or a cover.
     pub fn answer_number(self, rn: u16, out: &mut Bits) -> Heard
-        requires { 8240 ≤ out.old.capacity }
-        ensures { Gives (plain (held_state self.level self.held) self.body (Handle rn) 0) result out.old out.new }
+        requires { reply_room ≤ out.old.capacity }
+        ensures { GivesOutcome (plain (held_state self.level self.held) self.body (Handle rn) 0) result out.old out.new }
     {
         answer(self.into_tag(), &Reply::Handle(rn), 0, out)
     }
 
     /// Answers a reply that carries the handle.
     pub fn answer(self, reply: &Reply, out: &mut Bits) -> Heard
-        requires room { 8240 ≤ out.old.capacity }
+        requires room { reply_room ≤ out.old.capacity }
         requires sendable { CanBeSent reply.now }
-        ensures { Gives (plain (held_state self.level self.held) self.body reply.now self.held.handle) result out.old out.new }
+        ensures { GivesOutcome (plain (held_state self.level self.held) self.body reply.now self.held.handle) result out.old out.new }
     {
         let handle = self.held.handle;
         answer(self.into_tag(), reply, handle, out)
@@ -125,8 +125,8 @@ impl TagWithHandle {
 
     /// Answers the header, with the extended preamble: what was asked is done.
     pub fn answer_header(self, out: &mut Bits) -> Heard
-        requires { 8240 ≤ out.old.capacity }
-        ensures { Gives (extended (held_state self.level self.held) self.body Header self.held.handle) result out.old out.new }
+        requires { reply_room ≤ out.old.capacity }
+        ensures { GivesOutcome (extended (held_state self.level self.held) self.body Header self.held.handle) result out.old out.new }
     {
         let handle = self.held.handle;
         answer_extended(self.into_tag(), &Reply::Header, handle, out)
@@ -134,8 +134,8 @@ impl TagWithHandle {
 
     /// Answers an error in place of the header, with the extended preamble.
     pub fn refuse(self, code: ErrorCode, out: &mut Bits) -> Heard
-        requires { 8240 ≤ out.old.capacity }
-        ensures { Gives (refuse self.level self.held self.body code) result out.old out.new }
+        requires { reply_room ≤ out.old.capacity }
+        ensures { GivesOutcome (refuse self.level self.held self.body code) result out.old out.new }
     {
         let handle = self.held.handle;
         answer_extended(self.into_tag(), &Reply::Error(code.code()), handle, out)
@@ -143,9 +143,9 @@ impl TagWithHandle {
 
     /// Answers a command that changes the memory or the locks: the header, or the error where it was refused.
     pub fn answer_change(self, change: Result<(), ErrorCode>, out: &mut Bits) -> Heard
-        requires { 8240 ≤ out.old.capacity }
-        ensures ok { OnOk change (Gives (extended (held_state self.level self.held) self.body Header self.held.handle) result out.old out.new) }
-        ensures err { IfErr change (λ code. Gives (refuse self.level self.held self.body code) result out.old out.new) }
+        requires { reply_room ≤ out.old.capacity }
+        ensures ok { OnOk change (GivesOutcome (extended (held_state self.level self.held) self.body Header self.held.handle) result out.old out.new) }
+        ensures err { IfErr change (λ code. GivesOutcome (refuse self.level self.held self.body code) result out.old out.new) }
     {
         match change {
             Ok(()) => self.answer_header(out),

@@ -1,7 +1,8 @@
 //! Write, BlockWrite and BlockErase (6.3.2.11.3.3, 6.3.2.11.3.7 and 6.3.2.11.3.8).
 ghost use Rattle.std.specs.Prelude.{◌≡◌, ◌+◌, ◌≤◌};
 ghost use Rattle.tag_machine.specs.Access.{write_held, write, block_write_held, block_write, block_erase_held, block_erase};
-ghost use Rattle.tag_machine.specs.Hearing.{Gives};
+ghost use Rattle.tag_machine.specs.Hearing.{GivesOutcome};
+ghost use Rattle.reply_grammar.specs.Table.{reply_room};
 
 use super::tag_with_handle::TagWithHandle;
 use crate::any_tag::Heard;
@@ -16,8 +17,8 @@ impl TagWithHandle {
     /// Writes the word that is covered. Without a cover nothing changes; with one, it is used up, also where the Write is
     /// refused. After a first half the tag goes back.
     fn write(self, bank: Bank, pointer: Pointer, covered: u16, rn: u16, out: &mut Bits) -> Heard
-        requires { 8240 ≤ out.old.capacity }
-        ensures { Gives (write_held self.level bank pointer covered rn self.held self.body) result out.old out.new }
+        requires { reply_room ≤ out.old.capacity }
+        ensures { GivesOutcome (write_held self.level bank pointer covered rn self.held self.body) result out.old out.new }
     {
         if self.held.handle != rn {
             return self.stay(out);
@@ -43,8 +44,8 @@ impl TagWithHandle {
         rn: u16,
         out: &mut Bits,
     ) -> Heard
-        requires { 8240 ≤ out.old.capacity }
-        ensures { Gives (block_write_held self.level bank pointer words.now rn self.held self.body) result out.old out.new }
+        requires { reply_room ≤ out.old.capacity }
+        ensures { GivesOutcome (block_write_held self.level bank pointer words.now rn self.held self.body) result out.old out.new }
     {
         if self.held.handle != rn {
             return self.stay(out);
@@ -66,8 +67,8 @@ impl TagWithHandle {
         rn: u16,
         out: &mut Bits,
     ) -> Heard
-        requires { 8240 ≤ out.old.capacity }
-        ensures { Gives (block_erase_held self.level bank pointer count rn self.held self.body) result out.old out.new }
+        requires { reply_room ≤ out.old.capacity }
+        ensures { GivesOutcome (block_erase_held self.level bank pointer count rn self.held self.body) result out.old out.new }
     {
         if self.held.handle != rn {
             return self.stay(out);
@@ -94,8 +95,8 @@ impl Tag<Opened> {
         out: &mut Bits,
         steps: &mut Steps<L>,
     ) -> Heard
-        requires room { 8240 ≤ out.old.capacity }
-        ensures step { Gives (write bank pointer covered rn self.state self.body) result out.old out.new }
+        requires room { reply_room ≤ out.old.capacity }
+        ensures step { GivesOutcome (write bank pointer covered rn self.state self.body) result out.old out.new }
         ensures counted { steps.new ≡ steps.old + 1 }
     {
         steps.tick();
@@ -113,8 +114,8 @@ impl Tag<Opened> {
         out: &mut Bits,
         steps: &mut Steps<L>,
     ) -> Heard
-        requires room { 8240 ≤ out.old.capacity }
-        ensures step { Gives (block_write bank pointer words.now rn self.state self.body) result out.old out.new }
+        requires room { reply_room ≤ out.old.capacity }
+        ensures step { GivesOutcome (block_write bank pointer words.now rn self.state self.body) result out.old out.new }
         ensures counted { steps.new ≡ steps.old + 1 }
     {
         steps.tick();
@@ -132,8 +133,8 @@ impl Tag<Opened> {
         out: &mut Bits,
         steps: &mut Steps<L>,
     ) -> Heard
-        requires room { 8240 ≤ out.old.capacity }
-        ensures step { Gives (block_erase bank pointer count rn self.state self.body) result out.old out.new }
+        requires room { reply_room ≤ out.old.capacity }
+        ensures step { GivesOutcome (block_erase bank pointer count rn self.state self.body) result out.old out.new }
         ensures counted { steps.new ≡ steps.old + 1 }
     {
         steps.tick();
@@ -154,8 +155,8 @@ impl Tag<Secured> {
         out: &mut Bits,
         steps: &mut Steps<L>,
     ) -> Heard
-        requires room { 8240 ≤ out.old.capacity }
-        ensures step { Gives (write bank pointer covered rn self.state self.body) result out.old out.new }
+        requires room { reply_room ≤ out.old.capacity }
+        ensures step { GivesOutcome (write bank pointer covered rn self.state self.body) result out.old out.new }
         ensures counted { steps.new ≡ steps.old + 1 }
     {
         steps.tick();
@@ -173,8 +174,8 @@ impl Tag<Secured> {
         out: &mut Bits,
         steps: &mut Steps<L>,
     ) -> Heard
-        requires room { 8240 ≤ out.old.capacity }
-        ensures step { Gives (block_write bank pointer words.now rn self.state self.body) result out.old out.new }
+        requires room { reply_room ≤ out.old.capacity }
+        ensures step { GivesOutcome (block_write bank pointer words.now rn self.state self.body) result out.old out.new }
         ensures counted { steps.new ≡ steps.old + 1 }
     {
         steps.tick();
@@ -192,8 +193,8 @@ impl Tag<Secured> {
         out: &mut Bits,
         steps: &mut Steps<L>,
     ) -> Heard
-        requires room { 8240 ≤ out.old.capacity }
-        ensures step { Gives (block_erase bank pointer count rn self.state self.body) result out.old out.new }
+        requires room { reply_room ≤ out.old.capacity }
+        ensures step { GivesOutcome (block_erase bank pointer count rn self.state self.body) result out.old out.new }
         ensures counted { steps.new ≡ steps.old + 1 }
     {
         steps.tick();

@@ -1,9 +1,9 @@
 //! What the access commands do with a tag's memory and locks.
 ghost use Rattle.std.specs.Prelude.{◌≡◌, ◌==◌, Ok, Err, [], ◌∷◌, OnOk, IfErr};
 ghost use Rattle.reply_grammar.specs.Table.{CanBeSent};
-ghost use Rattle.lock_rules.specs.Lock.{locked};
+ghost use Rattle.lock_rules.specs.Lock.{locks_after};
 ghost use Rattle.tag_memory.specs.Memory.{kill_word_of, access_word_of};
-ghost use Rattle.tag_memory.specs.Access.{words_read, written, erased};
+ghost use Rattle.tag_memory.specs.Access.{words_read, banks_after_write, banks_after_erase};
 ghost use Rattle.tag_machine.specs.Access.{has_user, read_answer};
 
 use super::Body;
@@ -50,9 +50,9 @@ impl Body {
         pointer: Pointer,
         word: u16,
     ) -> Result<(), ErrorCode>
-        ensures ok { OnOk result (written self.old.memory self.old.locks level bank pointer (word ∷ []) ≡ Ok self.new.memory) }
+        ensures ok { OnOk result (banks_after_write self.old.memory self.old.locks level bank pointer (word ∷ []) ≡ Ok self.new.memory) }
         ensures rest { OnOk result (self.new ≡ record self.old { memory = self.new.memory }) }
-        ensures err { IfErr result (λ code. (written self.old.memory self.old.locks level bank pointer (word ∷ []) ≡ Err code) × (self.new ≡ self.old)) }
+        ensures err { IfErr result (λ code. (banks_after_write self.old.memory self.old.locks level bank pointer (word ∷ []) ≡ Err code) × (self.new ≡ self.old)) }
     {
         self.memory.write(bank, pointer, word, level, &self.locks)
     }
@@ -65,9 +65,9 @@ impl Body {
         pointer: Pointer,
         words: &BlockWords,
     ) -> Result<(), ErrorCode>
-        ensures ok { OnOk result (written self.old.memory self.old.locks level bank pointer words.now ≡ Ok self.new.memory) }
+        ensures ok { OnOk result (banks_after_write self.old.memory self.old.locks level bank pointer words.now ≡ Ok self.new.memory) }
         ensures rest { OnOk result (self.new ≡ record self.old { memory = self.new.memory }) }
-        ensures err { IfErr result (λ code. (written self.old.memory self.old.locks level bank pointer words.now ≡ Err code) × (self.new ≡ self.old)) }
+        ensures err { IfErr result (λ code. (banks_after_write self.old.memory self.old.locks level bank pointer words.now ≡ Err code) × (self.new ≡ self.old)) }
     {
         self.memory
             .block_write(bank, pointer, words, level, &self.locks)
@@ -81,9 +81,9 @@ impl Body {
         pointer: Pointer,
         count: Count1,
     ) -> Result<(), ErrorCode>
-        ensures ok { OnOk result (erased self.old.memory self.old.locks level bank pointer count ≡ Ok self.new.memory) }
+        ensures ok { OnOk result (banks_after_erase self.old.memory self.old.locks level bank pointer count ≡ Ok self.new.memory) }
         ensures rest { OnOk result (self.new ≡ record self.old { memory = self.new.memory }) }
-        ensures err { IfErr result (λ code. (erased self.old.memory self.old.locks level bank pointer count ≡ Err code) × (self.new ≡ self.old)) }
+        ensures err { IfErr result (λ code. (banks_after_erase self.old.memory self.old.locks level bank pointer count ≡ Err code) × (self.new ≡ self.old)) }
     {
         self.memory
             .block_erase(bank, pointer, count, level, &self.locks)
@@ -91,9 +91,9 @@ impl Body {
 
     /// Changes the pairs of lock bits by a Lock payload, or refuses and changes nothing.
     pub fn lock(&mut self, payload: Payload) -> Result<(), ErrorCode>
-        ensures ok { OnOk result (locked self.old.locks payload (has_user self.old) ≡ Ok self.new.locks) }
+        ensures ok { OnOk result (locks_after self.old.locks payload (has_user self.old) ≡ Ok self.new.locks) }
         ensures rest { OnOk result (self.new ≡ record self.old { locks = self.new.locks }) }
-        ensures err { IfErr result (λ code. (locked self.old.locks payload (has_user self.old) ≡ Err code) × (self.new ≡ self.old)) }
+        ensures err { IfErr result (λ code. (locks_after self.old.locks payload (has_user self.old) ≡ Err code) × (self.new ≡ self.old)) }
     {
         let has_user = self.memory.size(Bank::User) > 0;
         self.locks = self.locks.apply(payload, has_user)?;

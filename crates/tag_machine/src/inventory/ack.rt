@@ -3,7 +3,8 @@ ghost use Rattle.std.specs.Prelude.{◌≡◌, ◌+◌, ◌≤◌};
 ghost use Rattle.tag_machine.specs.Draws.{back};
 ghost use Rattle.tag_machine.specs.Inventory.{ack, epc_reply, unless_half};
 ghost use Rattle.tag_machine.specs.Answers.{plain};
-ghost use Rattle.tag_machine.specs.Hearing.{Gives};
+ghost use Rattle.tag_machine.specs.Hearing.{GivesOutcome};
+ghost use Rattle.reply_grammar.specs.Table.{reply_room};
 
 use crate::any_tag::{AnyTag, Heard};
 use crate::moves::answer;
@@ -17,8 +18,8 @@ impl Tag<InReply> {
     /// With the RN16 that was sent the tag answers PC and its EPC, and is acknowledged. With another number it
     /// goes back to arbitrate.
     pub fn ack<L: Ledger>(self, rn: u16, out: &mut Bits, steps: &mut Steps<L>) -> Heard
-        requires room { 8240 ≤ out.old.capacity }
-        ensures step { Gives (ack rn self.state self.body) result out.old out.new }
+        requires room { reply_room ≤ out.old.capacity }
+        ensures step { GivesOutcome (ack rn self.state self.body) result out.old out.new }
         ensures counted { steps.new ≡ steps.old + 1 }
     {
         steps.tick();
@@ -39,8 +40,8 @@ impl Tag<InReply> {
 impl Tag<Acknowledged> {
     /// With the same RN16 the tag answers PC and its EPC again. With another number it goes back to arbitrate.
     pub fn ack<L: Ledger>(self, rn: u16, out: &mut Bits, steps: &mut Steps<L>) -> Heard
-        requires room { 8240 ≤ out.old.capacity }
-        ensures step { Gives (ack rn self.state self.body) result out.old out.new }
+        requires room { reply_room ≤ out.old.capacity }
+        ensures step { GivesOutcome (ack rn self.state self.body) result out.old out.new }
         ensures counted { steps.new ≡ steps.old + 1 }
     {
         steps.tick();
@@ -63,8 +64,8 @@ impl Tag<Opened> {
     /// With the handle the tag answers PC and its EPC. With another number, or with an unfinished Kill or Access,
     /// it goes back to arbitrate.
     pub fn ack<L: Ledger>(self, rn: u16, out: &mut Bits, steps: &mut Steps<L>) -> Heard
-        requires room { 8240 ≤ out.old.capacity }
-        ensures step { Gives (ack rn self.state self.body) result out.old out.new }
+        requires room { reply_room ≤ out.old.capacity }
+        ensures step { GivesOutcome (ack rn self.state self.body) result out.old out.new }
         ensures counted { steps.new ≡ steps.old + 1 }
     {
         steps.tick();
@@ -82,8 +83,8 @@ impl Tag<Secured> {
     /// With the handle the tag answers PC and its EPC. With another number, or with an unfinished Kill or Access,
     /// it goes back to arbitrate.
     pub fn ack<L: Ledger>(self, rn: u16, out: &mut Bits, steps: &mut Steps<L>) -> Heard
-        requires room { 8240 ≤ out.old.capacity }
-        ensures step { Gives (ack rn self.state self.body) result out.old out.new }
+        requires room { reply_room ≤ out.old.capacity }
+        ensures step { GivesOutcome (ack rn self.state self.body) result out.old out.new }
         ensures counted { steps.new ≡ steps.old + 1 }
     {
         steps.tick();

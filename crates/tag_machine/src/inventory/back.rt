@@ -1,6 +1,6 @@
 //! BACK: a tag that answered waits again.
 ghost use Rattle.std.specs.Prelude.{◌≡◌, ◌+◌};
-ghost use Rattle.tag_machine.specs.Draws.{gone_back};
+ghost use Rattle.tag_machine.specs.Draws.{tag_gone_back};
 
 use crate::states::{Acknowledged, Arbitrate, InReply, Opened, Secured};
 use crate::steps::Steps;
@@ -10,7 +10,7 @@ use std::sync::ledger::Ledger;
 impl Tag<InReply> {
     /// The tag is in arbitrate with slot 0, in its session and with its Q.
     pub fn back<L: Ledger>(self, steps: &mut Steps<L>) -> Tag<Arbitrate>
-        ensures step { result ≡ gone_back self.state self.body }
+        ensures step { result ≡ tag_gone_back self.state self.body }
         ensures counted { steps.new ≡ steps.old + 1 }
     {
         steps.tick();
@@ -22,7 +22,7 @@ impl Tag<InReply> {
 impl Tag<Acknowledged> {
     /// The tag is in arbitrate with slot 0, in its session and with its Q.
     pub fn back<L: Ledger>(self, steps: &mut Steps<L>) -> Tag<Arbitrate>
-        ensures step { result ≡ gone_back self.state self.body }
+        ensures step { result ≡ tag_gone_back self.state self.body }
         ensures counted { steps.new ≡ steps.old + 1 }
     {
         steps.tick();
@@ -34,7 +34,7 @@ impl Tag<Acknowledged> {
 impl Tag<Opened> {
     /// The tag is in arbitrate with slot 0, in its session and with its Q.
     pub fn back<L: Ledger>(self, steps: &mut Steps<L>) -> Tag<Arbitrate>
-        ensures step { result ≡ gone_back self.state self.body }
+        ensures step { result ≡ tag_gone_back self.state self.body }
         ensures counted { steps.new ≡ steps.old + 1 }
     {
         steps.tick();
@@ -46,7 +46,7 @@ impl Tag<Opened> {
 impl Tag<Secured> {
     /// The tag is in arbitrate with slot 0, in its session and with its Q.
     pub fn back<L: Ledger>(self, steps: &mut Steps<L>) -> Tag<Arbitrate>
-        ensures step { result ≡ gone_back self.state self.body }
+        ensures step { result ≡ tag_gone_back self.state self.body }
         ensures counted { steps.new ≡ steps.old + 1 }
     {
         steps.tick();

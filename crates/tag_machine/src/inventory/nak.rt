@@ -1,7 +1,8 @@
 //! NAK (6.3.2.11.2.5).
 ghost use Rattle.std.specs.Prelude.{◌≡◌, ◌+◌, ◌≤◌};
 ghost use Rattle.tag_machine.specs.Inventory.{nak};
-ghost use Rattle.tag_machine.specs.Hearing.{Gives};
+ghost use Rattle.tag_machine.specs.Hearing.{GivesOutcome};
+ghost use Rattle.reply_grammar.specs.Table.{reply_room};
 
 use crate::any_tag::{AnyTag, Heard};
 use crate::moves::unanswered;
@@ -14,8 +15,8 @@ use std::sync::ledger::Ledger;
 impl Tag<Arbitrate> {
     /// Nothing changes.
     pub fn nak<L: Ledger>(self, out: &mut Bits, steps: &mut Steps<L>) -> Heard
-        requires room { 8240 ≤ out.old.capacity }
-        ensures step { Gives (nak self.state self.body) result out.old out.new }
+        requires room { reply_room ≤ out.old.capacity }
+        ensures step { GivesOutcome (nak self.state self.body) result out.old out.new }
         ensures counted { steps.new ≡ steps.old + 1 }
     {
         steps.tick();
@@ -27,8 +28,8 @@ impl Tag<Arbitrate> {
 impl Tag<InReply> {
     /// The tag goes back to arbitrate.
     pub fn nak<L: Ledger>(self, out: &mut Bits, steps: &mut Steps<L>) -> Heard
-        requires room { 8240 ≤ out.old.capacity }
-        ensures step { Gives (nak self.state self.body) result out.old out.new }
+        requires room { reply_room ≤ out.old.capacity }
+        ensures step { GivesOutcome (nak self.state self.body) result out.old out.new }
         ensures counted { steps.new ≡ steps.old + 1 }
     {
         steps.tick();
@@ -40,8 +41,8 @@ impl Tag<InReply> {
 impl Tag<Acknowledged> {
     /// The tag goes back to arbitrate.
     pub fn nak<L: Ledger>(self, out: &mut Bits, steps: &mut Steps<L>) -> Heard
-        requires room { 8240 ≤ out.old.capacity }
-        ensures step { Gives (nak self.state self.body) result out.old out.new }
+        requires room { reply_room ≤ out.old.capacity }
+        ensures step { GivesOutcome (nak self.state self.body) result out.old out.new }
         ensures counted { steps.new ≡ steps.old + 1 }
     {
         steps.tick();
@@ -53,8 +54,8 @@ impl Tag<Acknowledged> {
 impl Tag<Opened> {
     /// The tag goes back to arbitrate.
     pub fn nak<L: Ledger>(self, out: &mut Bits, steps: &mut Steps<L>) -> Heard
-        requires room { 8240 ≤ out.old.capacity }
-        ensures step { Gives (nak self.state self.body) result out.old out.new }
+        requires room { reply_room ≤ out.old.capacity }
+        ensures step { GivesOutcome (nak self.state self.body) result out.old out.new }
         ensures counted { steps.new ≡ steps.old + 1 }
     {
         steps.tick();
@@ -66,8 +67,8 @@ impl Tag<Opened> {
 impl Tag<Secured> {
     /// The tag goes back to arbitrate.
     pub fn nak<L: Ledger>(self, out: &mut Bits, steps: &mut Steps<L>) -> Heard
-        requires room { 8240 ≤ out.old.capacity }
-        ensures step { Gives (nak self.state self.body) result out.old out.new }
+        requires room { reply_room ≤ out.old.capacity }
+        ensures step { GivesOutcome (nak self.state self.body) result out.old out.new }
         ensures counted { steps.new ≡ steps.old + 1 }
     {
         steps.tick();

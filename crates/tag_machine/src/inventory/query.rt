@@ -1,7 +1,8 @@
 //! Query (6.3.2.11.2.1).
 ghost use Rattle.std.specs.Prelude.{◌≡◌, ◌+◌, ◌≤◌};
-ghost use Rattle.tag_machine.specs.Inventory.{query, take_part, closed_before};
-ghost use Rattle.tag_machine.specs.Hearing.{Gives};
+ghost use Rattle.tag_machine.specs.Inventory.{query, take_part, body_after_close};
+ghost use Rattle.tag_machine.specs.Hearing.{GivesOutcome};
+ghost use Rattle.reply_grammar.specs.Table.{reply_room};
 
 use crate::any_tag::{AnyTag, Heard};
 use crate::body::Body;
@@ -17,8 +18,8 @@ impl Body {
     /// What a Query does once the tag's flag was inverted where it had to be: a tag that matches takes the
     /// session and Q and draws its slot, another is ready.
     fn take_part(self, sel: Sel, session: Session, target: Side, q: QValue, out: &mut Bits) -> Heard
-        requires room { 8240 ≤ out.old.capacity }
-        ensures { Gives (take_part sel session target q self) result out.old out.new }
+        requires room { reply_room ≤ out.old.capacity }
+        ensures { GivesOutcome (take_part sel session target q self) result out.old out.new }
     {
         if !self.matches(sel, session, target) {
             let tag = Tag {
@@ -33,7 +34,7 @@ impl Body {
     /// The body of a tag that was inventoried in its own session, and hears a Query of a session: where the
     /// two are one, its flag is inverted.
     fn closed_before(self, own: Session, session: Session) -> Body
-        ensures { result ≡ closed_before own session self }
+        ensures { result ≡ body_after_close own session self }
     {
         if own != session {
             return self;
@@ -59,8 +60,8 @@ impl Tag<Ready> {
         out: &mut Bits,
         steps: &mut Steps<L>,
     ) -> Heard
-        requires room { 8240 ≤ out.old.capacity }
-        ensures step { Gives (query sel session target q self.state self.body) result out.old out.new }
+        requires room { reply_room ≤ out.old.capacity }
+        ensures step { GivesOutcome (query sel session target q self.state self.body) result out.old out.new }
         ensures counted { steps.new ≡ steps.old + 1 }
     {
         steps.tick();
@@ -83,8 +84,8 @@ impl Tag<Arbitrate> {
         out: &mut Bits,
         steps: &mut Steps<L>,
     ) -> Heard
-        requires room { 8240 ≤ out.old.capacity }
-        ensures step { Gives (query sel session target q self.state self.body) result out.old out.new }
+        requires room { reply_room ≤ out.old.capacity }
+        ensures step { GivesOutcome (query sel session target q self.state self.body) result out.old out.new }
         ensures counted { steps.new ≡ steps.old + 1 }
     {
         steps.tick();
@@ -107,8 +108,8 @@ impl Tag<InReply> {
         out: &mut Bits,
         steps: &mut Steps<L>,
     ) -> Heard
-        requires room { 8240 ≤ out.old.capacity }
-        ensures step { Gives (query sel session target q self.state self.body) result out.old out.new }
+        requires room { reply_room ≤ out.old.capacity }
+        ensures step { GivesOutcome (query sel session target q self.state self.body) result out.old out.new }
         ensures counted { steps.new ≡ steps.old + 1 }
     {
         steps.tick();
@@ -132,8 +133,8 @@ impl Tag<Acknowledged> {
         out: &mut Bits,
         steps: &mut Steps<L>,
     ) -> Heard
-        requires room { 8240 ≤ out.old.capacity }
-        ensures step { Gives (query sel session target q self.state self.body) result out.old out.new }
+        requires room { reply_room ≤ out.old.capacity }
+        ensures step { GivesOutcome (query sel session target q self.state self.body) result out.old out.new }
         ensures counted { steps.new ≡ steps.old + 1 }
     {
         steps.tick();
@@ -158,8 +159,8 @@ impl Tag<Opened> {
         out: &mut Bits,
         steps: &mut Steps<L>,
     ) -> Heard
-        requires room { 8240 ≤ out.old.capacity }
-        ensures step { Gives (query sel session target q self.state self.body) result out.old out.new }
+        requires room { reply_room ≤ out.old.capacity }
+        ensures step { GivesOutcome (query sel session target q self.state self.body) result out.old out.new }
         ensures counted { steps.new ≡ steps.old + 1 }
     {
         steps.tick();
@@ -184,8 +185,8 @@ impl Tag<Secured> {
         out: &mut Bits,
         steps: &mut Steps<L>,
     ) -> Heard
-        requires room { 8240 ≤ out.old.capacity }
-        ensures step { Gives (query sel session target q self.state self.body) result out.old out.new }
+        requires room { reply_room ≤ out.old.capacity }
+        ensures step { GivesOutcome (query sel session target q self.state self.body) result out.old out.new }
         ensures counted { steps.new ≡ steps.old + 1 }
     {
         steps.tick();

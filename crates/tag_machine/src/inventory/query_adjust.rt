@@ -1,7 +1,8 @@
 //! QueryAdjust (6.3.2.11.2.2).
 ghost use Rattle.std.specs.Prelude.{◌≡◌, ◌+◌, ◌≤◌};
-ghost use Rattle.tag_machine.specs.Inventory.{query_adjust, adjusted};
-ghost use Rattle.tag_machine.specs.Hearing.{Gives};
+ghost use Rattle.tag_machine.specs.Inventory.{query_adjust, q_after_adjust};
+ghost use Rattle.tag_machine.specs.Hearing.{GivesOutcome};
+ghost use Rattle.reply_grammar.specs.Table.{reply_room};
 
 use crate::any_tag::{AnyTag, Heard};
 use crate::moves::unanswered;
@@ -14,7 +15,7 @@ use std::sync::ledger::Ledger;
 
 /// Q after a QueryAdjust: it stays at 15 on up and at 0 on down.
 fn adjusted(updn: UpDn, q: QValue) -> QValue
-    ensures { result ≡ adjusted updn q }
+    ensures { result ≡ q_after_adjust updn q }
 {
     let number = q.get();
     let number = match updn {
@@ -35,8 +36,8 @@ impl Tag<Arbitrate> {
         out: &mut Bits,
         steps: &mut Steps<L>,
     ) -> Heard
-        requires room { 8240 ≤ out.old.capacity }
-        ensures step { Gives (query_adjust session updn self.state self.body) result out.old out.new }
+        requires room { reply_room ≤ out.old.capacity }
+        ensures step { GivesOutcome (query_adjust session updn self.state self.body) result out.old out.new }
         ensures counted { steps.new ≡ steps.old + 1 }
     {
         steps.tick();
@@ -58,8 +59,8 @@ impl Tag<InReply> {
         out: &mut Bits,
         steps: &mut Steps<L>,
     ) -> Heard
-        requires room { 8240 ≤ out.old.capacity }
-        ensures step { Gives (query_adjust session updn self.state self.body) result out.old out.new }
+        requires room { reply_room ≤ out.old.capacity }
+        ensures step { GivesOutcome (query_adjust session updn self.state self.body) result out.old out.new }
         ensures counted { steps.new ≡ steps.old + 1 }
     {
         steps.tick();
@@ -81,8 +82,8 @@ impl Tag<Acknowledged> {
         out: &mut Bits,
         steps: &mut Steps<L>,
     ) -> Heard
-        requires room { 8240 ≤ out.old.capacity }
-        ensures step { Gives (query_adjust session _updn self.state self.body) result out.old out.new }
+        requires room { reply_room ≤ out.old.capacity }
+        ensures step { GivesOutcome (query_adjust session _updn self.state self.body) result out.old out.new }
         ensures counted { steps.new ≡ steps.old + 1 }
     {
         steps.tick();
@@ -104,8 +105,8 @@ impl Tag<Opened> {
         out: &mut Bits,
         steps: &mut Steps<L>,
     ) -> Heard
-        requires room { 8240 ≤ out.old.capacity }
-        ensures step { Gives (query_adjust session _updn self.state self.body) result out.old out.new }
+        requires room { reply_room ≤ out.old.capacity }
+        ensures step { GivesOutcome (query_adjust session _updn self.state self.body) result out.old out.new }
         ensures counted { steps.new ≡ steps.old + 1 }
     {
         steps.tick();
@@ -127,8 +128,8 @@ impl Tag<Secured> {
         out: &mut Bits,
         steps: &mut Steps<L>,
     ) -> Heard
-        requires room { 8240 ≤ out.old.capacity }
-        ensures step { Gives (query_adjust session _updn self.state self.body) result out.old out.new }
+        requires room { reply_room ≤ out.old.capacity }
+        ensures step { GivesOutcome (query_adjust session _updn self.state self.body) result out.old out.new }
         ensures counted { steps.new ≡ steps.old + 1 }
     {
         steps.tick();

@@ -1,7 +1,8 @@
 //! QueryRep (6.3.2.11.2.3).
 ghost use Rattle.std.specs.Prelude.{◌≡◌, ◌+◌, ◌≤◌};
 ghost use Rattle.tag_machine.specs.Inventory.{query_rep, slot_below, count_down, end_turn};
-ghost use Rattle.tag_machine.specs.Hearing.{Gives};
+ghost use Rattle.tag_machine.specs.Hearing.{GivesOutcome};
+ghost use Rattle.reply_grammar.specs.Table.{reply_room};
 
 use crate::any_tag::{AnyTag, Heard};
 use crate::body::Body;
@@ -29,8 +30,8 @@ impl Body {
     /// What a QueryRep of the tag's session does in arbitrate: the counter falls by one, and where it becomes 0
     /// the tag draws an RN16 and answers it.
     fn count_down(self, session: Session, q: QValue, slot: Slot, out: &mut Bits) -> Heard
-        requires room { 8240 ≤ out.old.capacity }
-        ensures { Gives (count_down session q slot self) result out.old out.new }
+        requires room { reply_room ≤ out.old.capacity }
+        ensures { GivesOutcome (count_down session q slot self) result out.old out.new }
     {
         let slot = slot.below();
         if slot.get() == 0 {
@@ -45,7 +46,7 @@ impl Body {
 
     /// The end of the turn of a tag that has a handle: CLOSE, or BACK where a Kill or Access is not finished.
     pub fn end_turn(self, session: Session, held: Held, out: &mut Bits) -> Heard
-        ensures { Gives (end_turn session held self) result out.old out.new }
+        ensures { GivesOutcome (end_turn session held self) result out.old out.new }
     {
         match held.half {
             Some(_) => self.go_back(session, held.q, out),
@@ -63,8 +64,8 @@ impl Tag<Arbitrate> {
         out: &mut Bits,
         steps: &mut Steps<L>,
     ) -> Heard
-        requires room { 8240 ≤ out.old.capacity }
-        ensures step { Gives (query_rep session self.state self.body) result out.old out.new }
+        requires room { reply_room ≤ out.old.capacity }
+        ensures step { GivesOutcome (query_rep session self.state self.body) result out.old out.new }
         ensures counted { steps.new ≡ steps.old + 1 }
     {
         steps.tick();
@@ -85,8 +86,8 @@ impl Tag<InReply> {
         out: &mut Bits,
         steps: &mut Steps<L>,
     ) -> Heard
-        requires room { 8240 ≤ out.old.capacity }
-        ensures step { Gives (query_rep session self.state self.body) result out.old out.new }
+        requires room { reply_room ≤ out.old.capacity }
+        ensures step { GivesOutcome (query_rep session self.state self.body) result out.old out.new }
         ensures counted { steps.new ≡ steps.old + 1 }
     {
         steps.tick();
@@ -112,8 +113,8 @@ impl Tag<Acknowledged> {
         out: &mut Bits,
         steps: &mut Steps<L>,
     ) -> Heard
-        requires room { 8240 ≤ out.old.capacity }
-        ensures step { Gives (query_rep session self.state self.body) result out.old out.new }
+        requires room { reply_room ≤ out.old.capacity }
+        ensures step { GivesOutcome (query_rep session self.state self.body) result out.old out.new }
         ensures counted { steps.new ≡ steps.old + 1 }
     {
         steps.tick();
@@ -134,8 +135,8 @@ impl Tag<Opened> {
         out: &mut Bits,
         steps: &mut Steps<L>,
     ) -> Heard
-        requires room { 8240 ≤ out.old.capacity }
-        ensures step { Gives (query_rep session self.state self.body) result out.old out.new }
+        requires room { reply_room ≤ out.old.capacity }
+        ensures step { GivesOutcome (query_rep session self.state self.body) result out.old out.new }
         ensures counted { steps.new ≡ steps.old + 1 }
     {
         steps.tick();
@@ -156,8 +157,8 @@ impl Tag<Secured> {
         out: &mut Bits,
         steps: &mut Steps<L>,
     ) -> Heard
-        requires room { 8240 ≤ out.old.capacity }
-        ensures step { Gives (query_rep session self.state self.body) result out.old out.new }
+        requires room { reply_room ≤ out.old.capacity }
+        ensures step { GivesOutcome (query_rep session self.state self.body) result out.old out.new }
         ensures counted { steps.new ≡ steps.old + 1 }
     {
         steps.tick();

@@ -2,7 +2,8 @@
 ghost use Rattle.std.specs.Prelude.{◌≡◌, ◌+◌, ◌≤◌};
 ghost use Rattle.tag_machine.specs.Draws.{back};
 ghost use Rattle.tag_machine.specs.Inventory.{select, selected_ready, unless_half};
-ghost use Rattle.tag_machine.specs.Hearing.{Gives};
+ghost use Rattle.tag_machine.specs.Hearing.{GivesOutcome};
+ghost use Rattle.reply_grammar.specs.Table.{reply_room};
 
 use crate::any_tag::{AnyTag, Heard};
 use crate::body::Body;
@@ -25,7 +26,7 @@ impl Body {
         mask: &Mask,
         out: &mut Bits,
     ) -> Heard
-        ensures { Gives (selected_ready target action bank pointer mask.now self) result out.old out.new }
+        ensures { GivesOutcome (selected_ready target action bank pointer mask.now self) result out.old out.new }
     {
         let mut body = self;
         body.select(target, action, bank, pointer, mask);
@@ -43,7 +44,7 @@ impl Body {
         mask: &Mask,
         out: &mut Bits,
     ) -> Heard
-        ensures { Gives (unless_half held.half (back held.session held.q self) (selected_ready target action bank pointer mask.now self)) result out.old out.new }
+        ensures { GivesOutcome (unless_half held.half (back held.session held.q self) (selected_ready target action bank pointer mask.now self)) result out.old out.new }
     {
         match held.half {
             Some(_) => self.go_back(held.session, held.q, out),
@@ -64,8 +65,8 @@ impl Tag<Ready> {
         out: &mut Bits,
         steps: &mut Steps<L>,
     ) -> Heard
-        requires room { 8240 ≤ out.old.capacity }
-        ensures step { Gives (select target action bank pointer mask.now self.state self.body) result out.old out.new }
+        requires room { reply_room ≤ out.old.capacity }
+        ensures step { GivesOutcome (select target action bank pointer mask.now self.state self.body) result out.old out.new }
         ensures counted { steps.new ≡ steps.old + 1 }
     {
         steps.tick();
@@ -86,8 +87,8 @@ impl Tag<Arbitrate> {
         out: &mut Bits,
         steps: &mut Steps<L>,
     ) -> Heard
-        requires room { 8240 ≤ out.old.capacity }
-        ensures step { Gives (select target action bank pointer mask.now self.state self.body) result out.old out.new }
+        requires room { reply_room ≤ out.old.capacity }
+        ensures step { GivesOutcome (select target action bank pointer mask.now self.state self.body) result out.old out.new }
         ensures counted { steps.new ≡ steps.old + 1 }
     {
         steps.tick();
@@ -108,8 +109,8 @@ impl Tag<InReply> {
         out: &mut Bits,
         steps: &mut Steps<L>,
     ) -> Heard
-        requires room { 8240 ≤ out.old.capacity }
-        ensures step { Gives (select target action bank pointer mask.now self.state self.body) result out.old out.new }
+        requires room { reply_room ≤ out.old.capacity }
+        ensures step { GivesOutcome (select target action bank pointer mask.now self.state self.body) result out.old out.new }
         ensures counted { steps.new ≡ steps.old + 1 }
     {
         steps.tick();
@@ -130,8 +131,8 @@ impl Tag<Acknowledged> {
         out: &mut Bits,
         steps: &mut Steps<L>,
     ) -> Heard
-        requires room { 8240 ≤ out.old.capacity }
-        ensures step { Gives (select target action bank pointer mask.now self.state self.body) result out.old out.new }
+        requires room { reply_room ≤ out.old.capacity }
+        ensures step { GivesOutcome (select target action bank pointer mask.now self.state self.body) result out.old out.new }
         ensures counted { steps.new ≡ steps.old + 1 }
     {
         steps.tick();
@@ -153,8 +154,8 @@ impl Tag<Opened> {
         out: &mut Bits,
         steps: &mut Steps<L>,
     ) -> Heard
-        requires room { 8240 ≤ out.old.capacity }
-        ensures step { Gives (select target action bank pointer mask.now self.state self.body) result out.old out.new }
+        requires room { reply_room ≤ out.old.capacity }
+        ensures step { GivesOutcome (select target action bank pointer mask.now self.state self.body) result out.old out.new }
         ensures counted { steps.new ≡ steps.old + 1 }
     {
         steps.tick();
@@ -176,8 +177,8 @@ impl Tag<Secured> {
         out: &mut Bits,
         steps: &mut Steps<L>,
     ) -> Heard
-        requires room { 8240 ≤ out.old.capacity }
-        ensures step { Gives (select target action bank pointer mask.now self.state self.body) result out.old out.new }
+        requires room { reply_room ≤ out.old.capacity }
+        ensures step { GivesOutcome (select target action bank pointer mask.now self.state self.body) result out.old out.new }
         ensures counted { steps.new ≡ steps.old + 1 }
     {
         steps.tick();

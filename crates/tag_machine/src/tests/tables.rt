@@ -7,8 +7,8 @@ use crate::StateName;
 use crate::StateName::{
     Acknowledged, Arbitrate, InReply, Killed, Opened, Ready, Secured, Unpowered,
 };
-use crate::states::Kind;
-use crate::states::Kind::{Access, Kill};
+use crate::states::Password;
+use crate::states::Password::{Access, Kill};
 use air_events::Event::{Expire, Off, On, Timeout};
 use command_grammar::FlagName::{S0, S1, S2, S3, Sl};
 use command_grammar::Sel::{All01, NotSl, Sl as OnlySl};
@@ -96,7 +96,7 @@ pub const SELECTED: [Row; 8] = [
 
 /// Each command at a tag that stands in a state, with the first half of a password or none, session 1 and the flags
 /// BBBB1. It draws 0000 and 1111.
-pub const HEARD: [(StateName, Option<Kind>, Row); 52] = [
+pub const HEARD: [(StateName, Option<Password>, Row); 52] = [
     (Ready, None, Row(Select(S2, 0), Ready, 0, "BBAB1", Nothing)),
     (
         Arbitrate,
@@ -304,7 +304,7 @@ pub const HEARD: [(StateName, Option<Kind>, Row); 52] = [
 ];
 
 /// The end of T2, and power that goes and comes, in every state, at a tag with the flags BBBB1, and slot 5 in arbitrate.
-pub const POWER: [(StateName, Option<Kind>, Row); 24] = [
+pub const POWER: [(StateName, Option<Password>, Row); 24] = [
     (
         Ready,
         None,
@@ -412,7 +412,7 @@ pub const POWER: [(StateName, Option<Kind>, Row); 24] = [
 ];
 
 /// The end of each flag's persistence in every state, at the same tags.
-pub const EXPIRIES: [(StateName, Option<Kind>, Row); 40] = [
+pub const EXPIRIES: [(StateName, Option<Password>, Row); 40] = [
     (
         Ready,
         None,

@@ -1,7 +1,7 @@
 //! What Read, Write, BlockWrite and BlockErase do with the banks (6.3.2.11.3).
 ghost use Rattle.std.specs.Prelude.{◌≡◌, ◌+◌, ◌-◌, ◌<◌, ◌≤◌, ◌↔◌, IsTrue, Ok, Err, IfOk, IfErr, OnOk, OnErr, true, [], ◌∷◌, length, replicate, slice_index};
-ghost use Rattle.tag_memory.specs.Memory.{IsLegal, bank_of};
-ghost use Rattle.tag_memory.specs.Access.{field_at, may_read_word, may_write_word, all_words, open_end, words_read, replaced, replaced_in, length_fits, written, erased};
+ghost use Rattle.tag_memory.specs.Memory.{IsLegalMemory, bank_of};
+ghost use Rattle.tag_memory.specs.Access.{field_at, may_read_word, may_write_word, all_words, open_end, words_read, with_words_at, banks_with_words_at, length_fits, banks_after_write, banks_after_erase};
 
 use super::{Memory, length_in_pc};
 use bit_strings::{Count1, Pointer};
@@ -69,7 +69,7 @@ fn may_write_all(bank: Bank, from: usize, end: usize, level: Level, locks: &Lock
 fn word_after(old: &[u16], from: usize, words: &[u16], place: usize) -> u16
     requires inside { from + length words.now ≤ length old.now }
     requires there { place < length old.now }
-    ensures { result ≡ slice_index (replaced old.now from words.now) place }
+    ensures { result ≡ slice_index (with_words_at old.now from words.now) place }
 {
     if place < from || from + words.len() <= place {
         old[place]
@@ -81,7 +81,7 @@ fn word_after(old: &[u16], from: usize, words: &[u16], place: usize) -> u16
 /// Writes words over those of a bank from a place on.
 fn replace(old: &mut [u16], from: usize, words: &[u16])
     requires { from + length words.now ≤ length old.old }
-    ensures { old.new ≡ replaced old.old from words.now }
+    ensures { old.new ≡ with_words_at old.old from words.now }
 {
     let end = from + words.len();
     old[from..end].copy_from_slice(words);
@@ -158,7 +158,7 @@ impl Memory {
     /// Whether the EPC that PC announces after a write lies inside its bank.
     fn keeps_length_inside(&self, bank: Bank, from: usize, words: &[u16]) -> bool
         requires { from + length words.now ≤ length (bank_of self.now bank) }
-        ensures { result ≡ length_fits (replaced_in self.now bank from words.now) }
+        ensures { result ≡ length_fits (banks_with_words_at self.now bank from words.now) }
     {
         match bank {
             Bank::Epc => 2 + length_in_pc(word_after(&self.epc, from, words, 1)) <= self.epc.len(),
@@ -169,8 +169,8 @@ impl Memory {
     /// Writes words over those of a bank from a place on.
     fn put(&mut self, bank: Bank, from: usize, words: &[u16])
         requires inside { from + length words.now ≤ length (bank_of self.old bank) }
-        requires length { length_fits (replaced_in self.old bank from words.now) ≡ true }
-        ensures { self.new ≡ replaced_in self.old bank from words.now }
+        requires length { length_fits (banks_with_words_at self.old bank from words.now) ≡ true }
+        ensures { self.new ≡ banks_with_words_at self.old bank from words.now }
     {
         match bank {
             Bank::Reserved => replace(&mut self.reserved, from, words),
@@ -190,8 +190,8 @@ impl Memory {
         locks: &Locks,
     ) -> Result<(), ErrorCode>
         requires { length words.now ≤ 255 }
-        ensures ok { OnOk result (written self.old locks.now level bank pointer words.now ≡ Ok self.new) }
-        ensures err { IfErr result (λ code. (written self.old locks.now level bank pointer words.now ≡ Err code) × (self.new ≡ self.old)) }
+        ensures ok { OnOk result (banks_after_write self.old locks.now level bank pointer words.now ≡ Ok self.new) }
+        ensures err { IfErr result (λ code. (banks_after_write self.old locks.now level bank pointer words.now ≡ Err code) × (self.new ≡ self.old)) }
     {
         let from = pointer.get() as usize;
         let end = from + words.len();
@@ -217,8 +217,8 @@ impl Memory {
         level: Level,
         locks: &Locks,
     ) -> Result<(), ErrorCode>
-        ensures ok { OnOk result (written self.old locks.now level bank pointer (word ∷ []) ≡ Ok self.new) }
-        ensures err { IfErr result (λ code. (written self.old locks.now level bank pointer (word ∷ []) ≡ Err code) × (self.new ≡ self.old)) }
+        ensures ok { OnOk result (banks_after_write self.old locks.now level bank pointer (word ∷ []) ≡ Ok self.new) }
+        ensures err { IfErr result (λ code. (banks_after_write self.old locks.now level bank pointer (word ∷ []) ≡ Err code) × (self.new ≡ self.old)) }
     {
         self.change(bank, pointer, &[word], level, locks)
     }
@@ -233,8 +233,8 @@ impl Memory {
         level: Level,
         locks: &Locks,
     ) -> Result<(), ErrorCode>
-        ensures ok { OnOk result (written self.old locks.now level bank pointer words.now ≡ Ok self.new) }
-        ensures err { IfErr result (λ code. (written self.old locks.now level bank pointer words.now ≡ Err code) × (self.new ≡ self.old)) }
+        ensures ok { OnOk result (banks_after_write self.old locks.now level bank pointer words.now ≡ Ok self.new) }
+        ensures err { IfErr result (λ code. (banks_after_write self.old locks.now level bank pointer words.now ≡ Err code) × (self.new ≡ self.old)) }
     {
         self.change(bank, pointer, words.as_slice(), level, locks)
     }
@@ -249,8 +249,8 @@ impl Memory {
         level: Level,
         locks: &Locks,
     ) -> Result<(), ErrorCode>
-        ensures ok { OnOk result (erased self.old locks.now level bank pointer count ≡ Ok self.new) }
-        ensures err { IfErr result (λ code. (erased self.old locks.now level bank pointer count ≡ Err code) × (self.new ≡ self.old)) }
+        ensures ok { OnOk result (banks_after_erase self.old locks.now level bank pointer count ≡ Ok self.new) }
+        ensures err { IfErr result (λ code. (banks_after_erase self.old locks.now level bank pointer count ≡ Err code) × (self.new ≡ self.old)) }
     {
         self.change(bank, pointer, erased_words(count), level, locks)
     }

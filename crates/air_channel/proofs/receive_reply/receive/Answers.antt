@@ -1,6 +1,6 @@
 use Rattle.std.proofs.Common.{inl, inr, refl, sym, subst, true≢false}
 use Rattle.line_code.specs.Stream.{Streams}
-use Rattle.line_code.specs.Refusal.{Refuses}
+use Rattle.line_code.specs.Refusal.{RefusesStream}
 use Rattle.line_code.specs.declared.refusal.LineRefusal.{LineRefusal}
 use Rattle.line_codes.specs.Codes.{table_of}
 use Rattle.reply_grammar.specs.declared.expected.Received.TheVariants.{Whole, Refused}
@@ -22,12 +22,12 @@ returns-in-Err-clause-only c = λ answer is.
 
 pub returns-in-Err-Invalid-clause-only : goal.returns-in-Err-Invalid-clause-only
 returns-in-Err-Invalid-clause-only c = λ answer is.
-    let bad = subst (λ (r : LineRefusal). Refuses (Streams (table_of c.args.code) c.args.trext) c.args.stream.now.items r) c.in-Err-Invalid.field-0-is c.in-Err-Invalid.ensures.refused in
+    let bad = subst (λ (r : LineRefusal). RefusesStream (Streams (table_of c.args.code) c.args.trext) c.args.stream.now.items r) c.in-Err-Invalid.field-0-is c.in-Err-Invalid.ensures.refused in
     same_received c.args.code c.args.trext c.args.expect.now c.args.stream.now.items (Refused c.in-Err-Invalid.place) answer (inl bad) is
 
 pub returns-in-Err-Unfinished-clause-only : goal.returns-in-Err-Unfinished-clause-only
 returns-in-Err-Unfinished-clause-only c = λ answer is.
-    let short = subst (λ (r : LineRefusal). Refuses (Streams (table_of c.args.code) c.args.trext) c.args.stream.now.items r) c.in-Err-Unfinished.field-0-is c.in-Err-Unfinished.ensures.refused in
+    let short = subst (λ (r : LineRefusal). RefusesStream (Streams (table_of c.args.code) c.args.trext) c.args.stream.now.items r) c.in-Err-Unfinished.field-0-is c.in-Err-Unfinished.ensures.refused in
     same_received c.args.code c.args.trext c.args.expect.now c.args.stream.now.items (Refused c.in-Err-Unfinished.count) answer (inr (inl short)) is
 
 pub returns-in-Ok-decode_reply-clause-flip : goal.returns-in-Ok-decode_reply-clause-flip

@@ -1,5 +1,5 @@
 use Rattle.std.proofs.Common.{false, length, ap, arith, ◌∙◌, length-append}
-use Rattle.line_code.specs.Miller.{carrier, miller_preamble}
+use Rattle.miller_line.specs.Miller.{carrier, miller_preamble}
 use Rattle.miller_line.specs.MillerLaws.{length-carrier, length-preamble}
 use Rattle.miller_line.proofs.subcarrier.lead_len.Goals as goal
 

@@ -5,7 +5,7 @@ use Rattle.text_fields.specs.Lines.{fields_of}
 use Rattle.scenario.specs.declared.draft.Taken.TheVariants.{More, End, Faulty}
 use Rattle.scenario.specs.declared.fault.ScenarioFault.TheVariants as faults
 use Rattle.scenario.specs.Standing.{after, scenario_of, within}
-use Rattle.scenario.specs.Rest.{Finishes, IsExtra, IsRefusedBehind}
+use Rattle.scenario.specs.Rest.{FinishesScenario, IsExtra, IsRefusedBehind}
 use Rattle.scenario.proofs.Reader.{end_finishes, end_said, extra_behind, fault_here, fault_last, leads_as, no_extra, not_faulty, read_end, read_more, says_more, takes_as}
 use Rattle.scenario.proofs.reading.read_behind_link.Goals as goal
 
@@ -30,7 +30,7 @@ returns-in-End-clause-ok c =
     let by = takes_as (fields_of c.in-Some.line.now) c.loop-line.draft c.take.new.self c.in_ok-take.field-0 End c.in-End.is c.in_ok-take.ensures.taken in
     let read = read_end c.args.link c.args.text.now c.loop-line.rest.now c.in-Some.line.now c.in-Some.behind.now c.loop-line.draft c.take.new.self
     c.loop-line.invariant.so_far c.in-Some.ensures.lines by in
-    IfOk-weaker c.finish.result (λ scenario. (scenario ≡ scenario_of c.take.new.self) × (c.in-Some.behind.now ≡ [])) (Finishes c.args.link c.args.text.now)
+    IfOk-weaker c.finish.result (λ scenario. (scenario ≡ scenario_of c.take.new.self) × (c.in-Some.behind.now ≡ [])) (FinishesScenario c.args.link c.args.text.now)
     (λ scenario both. end_finishes c.args.link c.args.text.now c.in-Some.behind.now c.take.new.self scenario read both.0 both.1) c.finish.ensures.ok
 
 pub returns-in-End-clause-refused : goal.returns-in-End-clause-refused

@@ -10,7 +10,7 @@ use Rattle.scenario.specs.Standing.{new_draft, within}
 use Rattle.scenario.specs.ScenarioText.{scenario_text}
 use Rattle.scenario.specs.Limits.{IsScenario}
 use Rattle.scenario.specs.Faults.{IsRefused}
-use Rattle.scenario.specs.Rest.{AreLeft, Finishes, IsRefusedBehind}
+use Rattle.scenario.specs.Rest.{AreLeft, FinishesScenario, IsRefusedBehind}
 use Rattle.scenario.proofs.OneFault.{none_is_read, told_exactly}
 use Rattle.scenario.proofs.Whole.{Heads, first_is_other, first_unended, is_the_one, link_follows, opens, read_is_spelled, same_link, second_is_faulty, second_is_link, second_is_there, second_unended, whole_refused}
 use Rattle.scenario.proofs.reading.read_scenario.Goals as goal
@@ -67,7 +67,7 @@ returns-in-Ok-clause-ok c =
     let same : c.in-Some.version.now ≡ line_text lines.Version = search rules in
     let heads : Heads c.args.text.now c.in-Some.version.now c.in-Some.behind.now c.in-Some-split_line.line.now c.in-Some-split_line.rest.now c.in-Ok.link =
     record { cut = c.in-Some.ensures.lines; same = same; cut_behind = c.in-Some-split_line.ensures.lines; spells = c.in-Ok.ensures.ok } in
-    IfOk-weaker c.read_behind_link.result (Finishes c.in-Ok.link c.in-Some-split_line.rest.now)
+    IfOk-weaker c.read_behind_link.result (FinishesScenario c.in-Ok.link c.in-Some-split_line.rest.now)
     (λ scenario. IsScenario scenario × (c.args.text.now ≡ scenario_text scenario))
     (λ scenario finishes. read_is_spelled c.args.text.now c.in-Some.version.now c.in-Some.behind.now c.in-Some-split_line.line.now
     c.in-Some-split_line.rest.now c.in-Ok.link scenario heads finishes) c.read_behind_link.ensures.ok

@@ -1,6 +1,6 @@
 use Rattle.std.proofs.Common.{inl, inr, rules}
 use Rattle.std.specs.String.{string_bytes}
-use Rattle.gen2run.specs.declared.words.Form.TheVariants.{Decode}
+use Rattle.gen2run.specs.declared.forms.Form.TheVariants.{Decode}
 use Rattle.gen2run.proofs.Ends.{write_failed}
 use Rattle.gen2run.proofs.decode.lines.decode_input.Goals as goal
 

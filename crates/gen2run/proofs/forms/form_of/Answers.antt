@@ -1,5 +1,5 @@
 use Rattle.std.proofs.Common.{◌≡◌, map, string_bytes, String, Global, List, ℕ, [], ◌∷◌, ◌<◌, ◌≤◌, length, get_or, ap, sym, ◌∙◌, arith}
-use Rattle.gen2run.proofs.words.form_of.Goals as goal
+use Rattle.gen2run.proofs.forms.form_of.Goals as goal
 
 one_word : (words : List (String Global)) (word : String Global) (text : List ℕ) → 1 ≤ length words → length words < 2 → word ≡ get_or words 0 word → string_bytes word ≡ text → map string_bytes words ≡ text ∷ []
 one_word [] word text a b e f = absurd (omega arith)

@@ -3,8 +3,8 @@ use Rattle.std.specs.Prelude.{◌≡◌, ℕ, ◌*◌, ◌≤◌, ◌<◌, Bool,
 use Rattle.std.specs.Option.{option_to_list}
 use Rattle.pie_line.specs.declared.frame.FrameKind.{FrameKind}
 use Rattle.pie_line.specs.declared.frame.FrameKind.TheVariants.{Preamble, FrameSync}
-use Rattle.pie_line.specs.declared.place.Place.{Place}
-use Rattle.pie_line.specs.declared.place.Place.TheVariants.{Delimiter, TariHigh, TariLow, RtCalHigh, RtCalLow, FirstHigh, FirstLow, High, Low}
+use Rattle.pie_line.specs.declared.frame_state.FrameState.{FrameState}
+use Rattle.pie_line.specs.declared.frame_state.FrameState.TheVariants.{Delimiter, TariHigh, TariLow, RtCalHigh, RtCalLow, FirstHigh, FirstLow, High, Low}
 use Rattle.pie_line.specs.Link.{IsTari, IsRtCal, IsTrCal}
 use Rattle.pie_line.specs.Pie.{ArePairs, pair_sums, AreSymbols, HasSums, IsFrame}
 
@@ -23,19 +23,19 @@ pub record IsHigh (high most : ℕ) : Type 0 where
   pub room : high < most
 
 -- what was read so far is in its ranges
-abbrev pub IsSound : Place → Type 0
-IsSound Delimiter = Unit {0}
-IsSound TariHigh = Unit {0}
-IsSound (TariLow high) = IsHigh high 25000
-IsSound (RtCalHigh tari) = IsTari tari
-IsSound (RtCalLow tari high) = IsTari tari × IsHigh high (3 * tari)
-IsSound (FirstHigh tari rtcal) = IsTari tari × IsRtCal tari rtcal
-IsSound (FirstLow tari rtcal high) = IsTari tari × IsRtCal tari rtcal × IsHigh high (3 * rtcal)
-IsSound (High kind) = IsHeader kind
-IsSound (Low kind high) = IsHeader kind × IsHigh high (4 * rtcal_of kind)
+abbrev pub IsSoundState : FrameState → Type 0
+IsSoundState Delimiter = Unit {0}
+IsSoundState TariHigh = Unit {0}
+IsSoundState (TariLow high) = IsHigh high 25000
+IsSoundState (RtCalHigh tari) = IsTari tari
+IsSoundState (RtCalLow tari high) = IsTari tari × IsHigh high (3 * tari)
+IsSoundState (FirstHigh tari rtcal) = IsTari tari × IsRtCal tari rtcal
+IsSoundState (FirstLow tari rtcal high) = IsTari tari × IsRtCal tari rtcal × IsHigh high (3 * rtcal)
+IsSoundState (High kind) = IsHeader kind
+IsSoundState (Low kind high) = IsHeader kind × IsHigh high (4 * rtcal_of kind)
 
 -- these intervals, read from the place on, complete a frame of this kind, and read from there are these bits
-abbrev pub Completes : Place → FrameKind → List Bool → List ℕ → Type 0
+abbrev pub Completes : FrameState → FrameKind → List Bool → List ℕ → Type 0
 Completes Delimiter kind bits rest = IsFrame kind bits rest
 Completes TariHigh kind bits rest = ArePairs rest × HasSums kind bits (pair_sums rest)
 Completes (TariLow high) kind bits rest = ArePairs (high ∷ rest) × HasSums kind bits (pair_sums (high ∷ rest))
@@ -48,13 +48,13 @@ Completes (Low header high) kind bits rest = (kind ≡ header) × ArePairs (high
 
 -- with one more interval, which may have ended the symbol of a bit, the decoder comes to the next place:
 -- what completes a frame from the one place on is the interval and what completes it from the other on
-pub record Moves (place : Place) (interval : ℕ) (next : Place) (bit : Option Bool) : Type 0 where
-  pub sound : IsSound next
+pub record Moves (place : FrameState) (interval : ℕ) (next : FrameState) (bit : Option Bool) : Type 0 where
+  pub sound : IsSoundState next
   pub only : (kind : FrameKind) (bits : List Bool) (rest : List ℕ) → Completes place kind bits (interval ∷ rest) →
       (more : List Bool) × (bits ≡ option_to_list bit ++ more) × Completes next kind more rest
   pub back : (kind : FrameKind) (more : List Bool) (rest : List ℕ) → Completes next kind more rest →
       Completes place kind (option_to_list bit ++ more) (interval ∷ rest)
 
 -- no frame goes on with this interval
-pub record Stops (place : Place) (interval : ℕ) : Type 0 where
+pub record Stops (place : FrameState) (interval : ℕ) : Type 0 where
   pub never : (kind : FrameKind) (bits : List Bool) (rest : List ℕ) → ¬ Completes place kind bits (interval ∷ rest)

@@ -1,6 +1,7 @@
 //! Where a decoder stands in a frame.
 ghost use Rattle.std.specs.Prelude.{◌≡◌, ◌+◌, ◌≤◌, ◌↔◌, IsTrue, IfSome, IfNone, Bool, List, []};
-ghost use Rattle.pie_line.specs.Place.{IsHigh, IsSound, Completes, Moves, Stops};
+ghost use Rattle.pie_line.specs.FrameState.{IsHigh, IsSoundState, Completes, Moves, Stops};
+ghost use Rattle.pie_line.specs.Pie.{longest_interval};
 
 use crate::FrameKind;
 use crate::ranges::{TARI_MOST, bit_of_sum, is_delimiter, is_rtcal, is_tari, is_trcal};
@@ -8,7 +9,7 @@ use crate::ranges::{TARI_MOST, bit_of_sum, is_delimiter, is_rtcal, is_tari, is_t
 /// What a decoder has read of a frame, as far as that decides what may follow. Durations are in
 /// nanoseconds; `high` is that of the high of a pair whose low is still to come.
 #[derive(Clone, Copy, Debug, PartialEq, Eq)]
-pub enum Place {
+pub enum FrameState {
     /// Before the delimiter.
     Delimiter,
     /// Before the first data-0, which sets Tari.
@@ -36,106 +37,106 @@ fn is_high(interval: u32, most: u32) -> bool
     0 < interval && interval < most
 }
 
-impl Place {
+impl FrameState {
     /// Where the decoder stands after one more interval, and the bit of the symbol that it ended;
     /// none where no frame goes on with this interval.
-    pub fn after(self, interval: u32) -> Option<(Place, Option<bool>)>
-        requires sound { IsSound self }
-        requires interval { interval ≤ 999999 }
+    pub fn after(self, interval: u32) -> Option<(FrameState, Option<bool>)>
+        requires sound { IsSoundState self }
+        requires interval { interval ≤ longest_interval }
         ensures moves { IfSome result (λ next. Moves self interval next.0 next.1) }
         ensures stops { IfNone result (Stops self interval) }
     {
         match self {
-            Place::Delimiter => {
+            FrameState::Delimiter => {
                 if !is_delimiter(interval) {
                     return None;
                 }
-                Some((Place::TariHigh, None))
+                Some((FrameState::TariHigh, None))
             }
-            Place::TariHigh => {
+            FrameState::TariHigh => {
                 if !is_high(interval, TARI_MOST) {
                     return None;
                 }
-                Some((Place::TariLow { high: interval }, None))
+                Some((FrameState::TariLow { high: interval }, None))
             }
-            Place::TariLow { high } => {
+            FrameState::TariLow { high } => {
                 let tari = high + interval;
                 if interval == 0 || !is_tari(tari) {
                     return None;
                 }
-                Some((Place::RtCalHigh { tari }, None))
+                Some((FrameState::RtCalHigh { tari }, None))
             }
-            Place::RtCalHigh { tari } => {
+            FrameState::RtCalHigh { tari } => {
                 if !is_high(interval, 3 * tari) {
                     return None;
                 }
                 let high = interval;
-                Some((Place::RtCalLow { tari, high }, None))
+                Some((FrameState::RtCalLow { tari, high }, None))
             }
-            Place::RtCalLow { tari, high } => {
+            FrameState::RtCalLow { tari, high } => {
                 let rtcal = high + interval;
                 if interval == 0 || !is_rtcal(tari, rtcal) {
                     return None;
                 }
-                Some((Place::FirstHigh { tari, rtcal }, None))
+                Some((FrameState::FirstHigh { tari, rtcal }, None))
             }
-            Place::FirstHigh { tari, rtcal } => {
+            FrameState::FirstHigh { tari, rtcal } => {
                 if !is_high(interval, 3 * rtcal) {
                     return None;
                 }
                 let high = interval;
-                Some((Place::FirstLow { tari, rtcal, high }, None))
+                Some((FrameState::FirstLow { tari, rtcal, high }, None))
             }
-            Place::FirstLow { tari, rtcal, high } => {
+            FrameState::FirstLow { tari, rtcal, high } => {
                 if interval == 0 {
                     return None;
                 }
                 let sum = high + interval;
                 if sum <= rtcal {
                     let kind = FrameKind::FrameSync { tari, rtcal };
-                    return Some((Place::High { kind }, Some(bit_of_sum(rtcal, sum))));
+                    return Some((FrameState::High { kind }, Some(bit_of_sum(rtcal, sum))));
                 }
                 let trcal = sum;
                 if !is_trcal(rtcal, trcal) {
                     return None;
                 }
                 let kind = FrameKind::Preamble { tari, rtcal, trcal };
-                Some((Place::High { kind }, None))
+                Some((FrameState::High { kind }, None))
             }
-            Place::High { kind } => {
+            FrameState::High { kind } => {
                 if !is_high(interval, 4 * kind.rtcal()) {
                     return None;
                 }
                 let high = interval;
-                Some((Place::Low { kind, high }, None))
+                Some((FrameState::Low { kind, high }, None))
             }
-            Place::Low { kind, high } => {
+            FrameState::Low { kind, high } => {
                 let rtcal = kind.rtcal();
                 let sum = high + interval;
                 if interval == 0 || 4 * rtcal < sum {
                     return None;
                 }
-                Some((Place::High { kind }, Some(bit_of_sum(rtcal, sum))))
+                Some((FrameState::High { kind }, Some(bit_of_sum(rtcal, sum))))
             }
         }
     }
 
     /// The kind of the frame that ends here; none where a frame that has come so far goes on.
     pub fn kind(self) -> Option<FrameKind>
-        requires { IsSound self }
+        requires { IsSoundState self }
         ensures ends { IfSome result (λ kind. Completes self kind [] []) }
         ensures goes_on { IfNone result ((kind : FrameKind) (bits : List Bool) → ¬ Completes self kind bits []) }
     {
         match self {
-            Place::Delimiter => None,
-            Place::TariHigh => None,
-            Place::TariLow { .. } => None,
-            Place::RtCalHigh { .. } => None,
-            Place::RtCalLow { .. } => None,
-            Place::FirstHigh { tari, rtcal } => Some(FrameKind::FrameSync { tari, rtcal }),
-            Place::FirstLow { .. } => None,
-            Place::High { kind } => Some(kind),
-            Place::Low { .. } => None,
+            FrameState::Delimiter => None,
+            FrameState::TariHigh => None,
+            FrameState::TariLow { .. } => None,
+            FrameState::RtCalHigh { .. } => None,
+            FrameState::RtCalLow { .. } => None,
+            FrameState::FirstHigh { tari, rtcal } => Some(FrameKind::FrameSync { tari, rtcal }),
+            FrameState::FirstLow { .. } => None,
+            FrameState::High { kind } => Some(kind),
+            FrameState::Low { .. } => None,
         }
     }
 }

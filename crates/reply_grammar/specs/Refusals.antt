@@ -70,8 +70,8 @@ pub record Passes (expect : Expect) (bits : List Bool) : Type 0 where
   pub number : PassesNumber expect bits
 
 -- the first that fails
-abbrev pub Faults : ReplyRefusal → Expect → List Bool → Type 0
-Faults Length expect bits = ¬ FitsLength expect bits
-Faults Crc expect bits = FitsLength expect bits × (¬ PassesCheck expect bits)
-Faults HeaderBit expect bits = FitsLength expect bits × PassesCheck expect bits × (¬ PassesHeader expect bits)
-Faults Number expect bits = FitsLength expect bits × PassesCheck expect bits × PassesHeader expect bits × (¬ PassesNumber expect bits)
+abbrev pub RefusesReply : ReplyRefusal → Expect → List Bool → Type 0
+RefusesReply Length expect bits = ¬ FitsLength expect bits
+RefusesReply Crc expect bits = FitsLength expect bits × (¬ PassesCheck expect bits)
+RefusesReply HeaderBit expect bits = FitsLength expect bits × PassesCheck expect bits × (¬ PassesHeader expect bits)
+RefusesReply Number expect bits = FitsLength expect bits × PassesCheck expect bits × PassesHeader expect bits × (¬ PassesNumber expect bits)

@@ -2,7 +2,7 @@ use Rattle.std.proofs.Common.{◌≡◌, ◌++◌, take}
 use Rattle.std.specs.List.{flat_map}
 use Rattle.std.specs.String.{string_bytes}
 use Rattle.text_fields.specs.Hexadecimal.{hex_word}
-use Rattle.text_fields.proofs.words.push_words.Given as goal
+use Rattle.text_fields.proofs.hex_words.push_words.Given as goal
 
 -- the text has gained the digits of the words so far
 abbrev pub invariant-loop-word : goal.invariant-loop-word
