@@ -144,7 +144,8 @@ impl Bits {
     /// Inverts the bit at the place `at`, counted from 0.
     pub fn flip(&mut self, at: u32)
         requires { at < length self.old.items }
-        ensures { (bit : Bool) → slice_get self.old.items at ≡ Some bit → self.new ≡ record self.old { items = slice_set self.old.items at (not bit) } }
+        ensures value { (bit : Bool) → slice_get self.old.items at ≡ Some bit → self.new ≡ record self.old { items = slice_set self.old.items at (not bit) } }
+        ensures capacity { self.new.capacity ≡ self.old.capacity }
     {
         self.bits[at as usize] = !self.bits[at as usize];
     }

@@ -1,7 +1,7 @@
 //! The commands.
 
-use crate::field_values::{Bank, FlagName, MaskBank, Sel, Side, UpDn};
 use crate::command_lists::{BlockWords, Mask};
+use crate::field_values::{Bank, FlagName, MaskBank, Sel, Side, UpDn};
 use bit_strings::{Action, Code, Count1, Payload, Pointer, QValue, Session};
 
 /// A command of an interrogator to the tags in its field (6.3.2.11 Interrogator commands and tag

@@ -4,23 +4,23 @@
 
 mod bodies;
 mod choices;
-mod field_values;
+mod command_lists;
 mod commands;
+mod field_values;
 mod framer;
 mod laws;
 mod reader;
 mod refusal;
 mod spelling;
-mod command_lists;
 
 pub use bit_strings::{Action, Code, Count1, Payload, Pointer, QValue, Session};
-pub use field_values::{Bank, FlagName, MaskBank, Sel, Side, UpDn};
+pub use command_lists::{BlockWords, Mask};
 pub use commands::Command;
+pub use field_values::{Bank, FlagName, MaskBank, Sel, Side, UpDn};
 pub use framer::Framer;
 pub use laws::{one_outcome, one_refusal, spelling_laws};
 pub use refusal::{CommandRefusal, Pushed, Reason};
 pub use spelling::encode_command;
-pub use command_lists::{BlockWords, Mask};
 
 #[cfg(test)]
 mod tests;

@@ -5,8 +5,8 @@ ghost use Rattle.gen2_crc.specs.Crc.{crc5_of, crc16_of};
 ghost use Rattle.command_grammar.specs.Reading.{Gives, bit_at, bits_at, field_at, choice_at, exactly_at, count_at, words_at, block_at, first_block_at, last_block_at, ebv_at, crc5_at, crc16_at, one_zero};
 ghost use Rattle.command_grammar.specs.declared.reader.Stop.TheVariants.{Bad};
 
-use crate::refusal::Reason;
 use crate::command_lists::{BlockWords, Mask};
+use crate::refusal::Reason;
 use bit_strings::{Count1, value_of_bits};
 use gen2_crc::{crc5_of_bits, crc16_of_bits};
 

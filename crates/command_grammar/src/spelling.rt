@@ -8,9 +8,9 @@ ghost use Rattle.gen2_crc.specs.Crc.{crc5_of, crc16_of};
 ghost use Rattle.command_grammar.specs.Commands.{IsLegalCommand, IsWord, spelling_of, bits_of_code, bits_of_sel, bits_of_side, bits_of_updn, bits_of_target, bits_of_mask_bank, bits_of_bank, command_room};
 ghost use Rattle.command_grammar.specs.declared.commands.Command.TheVariants.{QueryRep, Ack, Query, QueryAdjust, Select, Nak, ReqRn, Read, Write, Kill, Lock, Access, BlockWrite, BlockErase};
 
-use crate::field_values::{Bank, FlagName, MaskBank, Sel, Side, UpDn};
-use crate::commands::Command;
 use crate::command_lists::{BlockWords, Mask};
+use crate::commands::Command;
+use crate::field_values::{Bank, FlagName, MaskBank, Sel, Side, UpDn};
 use bit_strings::{Action, Bits, Code, Count1, Payload, Pointer, QValue, Session};
 use gen2_crc::{crc5_of_bits, crc16_of_bits};
 

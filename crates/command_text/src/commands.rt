@@ -14,8 +14,8 @@ use crate::names::{
 use bit_strings::{Action, Code, OutOfMemory, Payload, Pointer, QValue, Session};
 use command_grammar::{Bank, BlockWords, Command, FlagName, Mask, MaskBank, Sel, Side, UpDn};
 use text_fields::{
-    name_of, push_next_bits, push_next_name, push_next_number, push_next_word, push_next_words, push_hex_digit,
-    push_named_number, push_named_word, push_word,
+    name_of, push_hex_digit, push_named_number, push_named_word, push_next_bits, push_next_name,
+    push_next_number, push_next_word, push_next_words, push_word,
 };
 
 /// Writes a command at the end of the text, without a line feed. After an error the text may hold a part

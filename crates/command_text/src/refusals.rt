@@ -6,7 +6,7 @@ ghost use Rattle.command_text.specs.CommandText.{command_refusal_line};
 use crate::names::reason_name;
 use bit_strings::OutOfMemory;
 use command_grammar::CommandRefusal;
-use text_fields::{push_next_name, push_named_number};
+use text_fields::{push_named_number, push_next_name};
 
 /// Writes why bits are no command at the end of the text, without a line feed. After an error the text
 /// may hold a part of it.

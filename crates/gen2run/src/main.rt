@@ -3,12 +3,12 @@
 
 mod decode;
 mod ending;
+mod forms;
 mod laws;
 mod program;
 mod status;
 #[cfg(test)]
 mod tests;
-mod forms;
 
 use air_io::{StdSink, StdSource};
 pub use program::gen2run;

@@ -8,8 +8,8 @@ ghost use Rattle.gen2run.specs.Outcome.{input_limit, WritesWhole, WritesFront, R
 
 use crate::decode::lines::decode_input;
 use crate::ending::{WriteEnd, Wrote};
-use crate::status::Status;
 use crate::forms::{Form, form_of};
+use crate::status::Status;
 use air_io::{ReadEnd, Sink, Source, read_to_end};
 use std::alloc::Global;
 

@@ -6,10 +6,10 @@ mod decoder;
 mod edges;
 mod encoder;
 mod frame;
+mod frame_state;
 mod intervals;
 mod laws;
 mod link;
-mod frame_state;
 mod ranges;
 #[cfg(test)]
 mod tests;

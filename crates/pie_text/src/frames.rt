@@ -5,7 +5,7 @@ ghost use Rattle.pie_text.specs.PieText.{frame_line, pie_refusal_line};
 
 use bit_strings::{Bits, OutOfMemory};
 use pie_line::{FrameKind, PieRefusal};
-use text_fields::{push_next_bits, push_next_number, push_named_number};
+use text_fields::{push_named_number, push_next_bits, push_next_number};
 
 /// Writes a frame at the end of the text: `sync TARI RTCAL BITS` or `preamble TARI RTCAL TRCAL BITS`,
 /// the durations in nanoseconds. After an error the text may hold a part of it.

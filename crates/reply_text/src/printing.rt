@@ -5,7 +5,7 @@ ghost use Rattle.reply_text.specs.ReplyText.{refusal_line, reply_line};
 
 use bit_strings::OutOfMemory;
 use reply_grammar::{Reply, ReplyRefusal};
-use text_fields::{push_next_words, push_byte_hex, push_named_word};
+use text_fields::{push_byte_hex, push_named_word, push_next_words};
 
 /// Writes a reply at the end of the text, without a line feed. After an error the text may hold a part
 /// of it.

@@ -3,17 +3,19 @@
 #![tactic(auto)]
 
 mod fault;
+mod first_fields;
 mod laws;
 mod line;
 mod printing;
 mod reading;
 mod tag;
-mod first_fields;
 
 pub use fault::LineFault;
+pub use first_fields::{AirKind, EventKind, Word};
 pub use laws::{
     lines_are_field_texts, lines_are_told_apart, lines_begin_with_one_word,
-    lines_begin_with_their_word, lines_have_one_fault, spelled_lines_are_not_faulty, tag_lines_fit_memories,
+    lines_begin_with_their_word, lines_have_one_fault, spelled_lines_are_not_faulty,
+    tag_lines_fit_memories,
 };
 pub use line::{Happening, Line, Selection};
 pub use printing::{
@@ -21,4 +23,3 @@ pub use printing::{
 };
 pub use reading::{read_line, word_of};
 pub use tag::{TagSpec, TagText};
-pub use first_fields::{AirKind, EventKind, Word};

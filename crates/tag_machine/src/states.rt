@@ -110,18 +110,18 @@ pub struct Held {
 /// The first half of a password, which came with a Kill or an Access.
 #[derive(Clone, Copy, Debug, PartialEq, Eq)]
 pub struct Half {
-    /// The command that it came with.
+    /// The password that it is a half of.
     pub password: Password,
     /// The half, without its cover.
     pub value: u16,
 }
 
-/// The command that a half came with.
+/// The password that a half belongs to.
 #[derive(Clone, Copy, Debug, PartialEq, Eq)]
 pub enum Password {
-    /// Half of the kill password (6.3.2.11.3.4 Kill).
+    /// The kill password (6.3.2.11.3.4 Kill).
     Kill,
-    /// Half of the access password (6.3.2.11.3.6 Access).
+    /// The access password (6.3.2.11.3.6 Access).
     Access,
 }
 

@@ -7,7 +7,7 @@ mod tables;
 
 use crate::body::Body;
 use crate::states::{
-    Acknowledged, Arbitrate, Half, Held, InReply, Killed, Password, Opened, Ready, Secured, Slot,
+    Acknowledged, Arbitrate, Half, Held, InReply, Killed, Opened, Password, Ready, Secured, Slot,
     Unpowered,
 };
 use crate::tag::Tag;

@@ -9,24 +9,24 @@ mod code_names;
 mod digits;
 mod exact;
 mod fields;
-mod single_bits;
 mod hex_bytes;
+mod hex_words;
 mod laws;
 mod lines;
 mod more_fields;
 mod next_fields;
 mod numbers;
+mod single_bits;
 #[cfg(test)]
 mod tests;
 mod word_lists;
-mod hex_words;
 
 pub use code_names::{code_named, name_of};
 pub use digits::{Digits, list_digits, push_bits};
 pub use exact::{four_fields, is_at_end, one_field, three_fields, two_fields};
 pub use fields::Fields;
-pub use single_bits::one_bit;
 pub use hex_bytes::HexBytes;
+pub use hex_words::{push_byte_hex, push_hex_digit, push_word, push_words, word};
 pub use laws::{
     bits_are_told_apart, fields_come_back, lines_come_back, numbers_are_told_apart,
     spellings_are_field_texts, word_lists_are_told_apart, words_are_told_apart,
@@ -34,9 +34,9 @@ pub use laws::{
 pub use lines::split_line;
 pub use more_fields::{five_fields, seven_fields, six_fields};
 pub use next_fields::{
-    push_next_bits, next_long_number, push_next_name, push_next_number, next_numbers, push_next_word, push_next_words,
-    push_named_number, push_named_word,
+    push_named_number, push_named_word, push_next_bits, push_next_long_number, push_next_name,
+    push_next_number, push_next_numbers, push_next_word, push_next_words,
 };
 pub use numbers::{number, push_long_number, push_number};
+pub use single_bits::one_bit;
 pub use word_lists::Words;
-pub use hex_words::{push_byte_hex, push_hex_digit, push_word, push_words, word};

@@ -1,7 +1,7 @@
 //! Lines with more fields, none of them empty.
 ghost use Rattle.std.specs.Prelude.{◌≡◌, ◌≢◌, ℕ, List, [], ◌∷◌, IfSome, IsSomeAnd};
 
-use crate::exact::{four_fields, filled_field};
+use crate::exact::{filled_field, four_fields};
 use crate::fields::Fields;
 
 /// The five fields that are left; none exactly where not five are left, or one of them is empty.

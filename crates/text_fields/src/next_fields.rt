@@ -7,8 +7,8 @@ ghost use Rattle.text_fields.specs.Hexadecimal.{hex_word, hex_words};
 ghost use Rattle.text_fields.specs.Lines.{fields_behind, line_with, space};
 
 use crate::digits::push_bits;
-use crate::numbers::{push_long_number, push_number};
 use crate::hex_words::{push_word, push_words};
+use crate::numbers::{push_long_number, push_number};
 use bit_strings::OutOfMemory;
 
 /// Writes a name as the next field. After an error the text may hold a part of it.
@@ -29,7 +29,7 @@ pub fn push_next_number(text: &mut String, number: u32) -> Result<(), OutOfMemor
 
 /// Writes a number of 64 bits as the next field, in decimal digits. After an error the text may hold a
 /// part of it.
-pub fn next_long_number(text: &mut String, number: u64) -> Result<(), OutOfMemory>
+pub fn push_next_long_number(text: &mut String, number: u64) -> Result<(), OutOfMemory>
     ensures { OnOk result (string_bytes text.new ≡ string_bytes text.old ++ space ∷ decimal number) }
 {
     text.push(' ')?;
@@ -37,7 +37,7 @@ pub fn next_long_number(text: &mut String, number: u64) -> Result<(), OutOfMemor
 }
 
 /// Writes numbers as the next fields, in decimal digits. After an error the text may hold a part of them.
-pub fn next_numbers(text: &mut String, numbers: &[u32]) -> Result<(), OutOfMemory>
+pub fn push_next_numbers(text: &mut String, numbers: &[u32]) -> Result<(), OutOfMemory>
     ensures { OnOk result (string_bytes text.new ≡ string_bytes text.old ++ fields_behind (map decimal numbers.now)) }
 {
     for number in numbers {

@@ -1,4 +1,4 @@
-//! Flags as fields.
+//! Single bits as fields.
 ghost use Rattle.std.specs.Prelude.{◌≡◌, Bool, [], ◌∷◌, IfSome};
 ghost use Rattle.text_fields.specs.Binary.{binary_digit};
 

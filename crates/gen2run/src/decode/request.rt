@@ -8,7 +8,7 @@ use pie_text::{NotNumbers, Numbers};
 use reply_grammar::Expect;
 use reply_text::expect_of;
 use text_fields::{
-    Digits, Fields, HexBytes, code_named, one_bit, four_fields, number, one_field, three_fields,
+    Digits, Fields, HexBytes, code_named, four_fields, number, one_bit, one_field, three_fields,
     two_fields,
 };
 

@@ -9,7 +9,7 @@ ghost use Rattle.scenario_lines.specs.Reading.{Misreads, MisreadsLink, link_faul
 use crate::LineFault;
 use bit_strings::Code;
 use pie_line::{Link, LinkRefusal};
-use text_fields::{Fields, code_named, one_bit, number, seven_fields};
+use text_fields::{Fields, code_named, number, one_bit, seven_fields};
 
 /// The greatest length of time in a line, in nanoseconds.
 const MOST_NANOSECONDS: u32 = 999_999;

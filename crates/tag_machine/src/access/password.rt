@@ -9,7 +9,7 @@ ghost use Rattle.reply_grammar.specs.Table.{reply_room};
 use super::tag_with_handle::TagWithHandle;
 use crate::any_tag::{AnyTag, Heard};
 use crate::moves::answer_extended;
-use crate::states::{Half, Held, Killed, Password, Opened, Secured};
+use crate::states::{Half, Held, Killed, Opened, Password, Secured};
 use crate::steps::Steps;
 use crate::tag::Tag;
 use bit_strings::{Bits, xor16};
@@ -25,7 +25,7 @@ fn whole(upper: u16, lower: u16) -> u32
 }
 
 impl TagWithHandle {
-    /// Whether there is a first half of the other kind.
+    /// Whether there is a first half of the other password.
     fn has_half_but(&self, password: Password) -> bool
         ensures { (instead outcome : Outcome) → unless_other_half password self.now.held.half instead outcome ≡ (if result then instead else outcome) }
     {
