@@ -204,7 +204,7 @@ lock_is payload rn UnpoweredState body = silent_is true body UnpoweredState body
 
 -- Kill: the answer to a first half is plain, and that to a second is delayed
 kill_half_is : (level : Level) (half : Option Half) (value : ℕ) (held : Held) (body : BodyValue) → AnswersAs (is_some half) body (kill_half level half value held body)
-kill_half_is level None value held body = number_is body (held_state level (record held { half = Some (record { password = passwords.Kill; value = value }) })) body held.handle 0
+kill_half_is level None value held body = number_is body (held_state level (record held { half = Some (record { password = passwords.Kill; value = value }) })) body held.handle held.handle
 kill_half_is level (Some half) value held body =
     either true body (kill_word_of body.memory == 0) (refuse level (record held { half = None }) body errors.Other) _
     (delayed_same_is (held_state level (record held { half = None })) body (Error (code_of errors.Other)) held.handle)
@@ -231,10 +231,10 @@ kill_is covered rn UnpoweredState body = silent_is false body UnpoweredState bod
 
 -- Access
 access_half_is : (level : Level) (half : Option Half) (value : ℕ) (held : Held) (body : BodyValue) → AnswersAs false body (access_half level half value held body)
-access_half_is level None value held body = number_is body (held_state level (record held { half = Some (record { password = passwords.Access; value = value }) })) body held.handle 0
+access_half_is level None value held body = number_is body (held_state level (record held { half = Some (record { password = passwords.Access; value = value }) })) body held.handle held.handle
 access_half_is level (Some half) value held body =
-    either false body (access_word_of body.memory == whole_of half.value value) (plain (SecuredState (record held { half = None })) body (Handle held.handle) 0) (back held.session held.q body)
-    (number_is body (SecuredState (record held { half = None })) body held.handle 0)
+    either false body (access_word_of body.memory == whole_of half.value value) (plain (SecuredState (record held { half = None })) body (Handle held.handle) held.handle) (back held.session held.q body)
+    (number_is body (SecuredState (record held { half = None })) body held.handle held.handle)
     (silent_is false body (ArbitrateState held.session held.q 0) body)
 
 access_held_is : (level : Level) (covered rn : ℕ) (held : Held) (body : BodyValue) → AnswersAs false body (access_held level covered rn held body)

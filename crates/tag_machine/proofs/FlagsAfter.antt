@@ -264,7 +264,7 @@ after_lock P payload rn UnpoweredState body p = p
 
 whole_accessed : (P : Flags → Type 0) (value : ℕ) (held : Held) (body : BodyValue) → P body.flags → Holds P (access_whole value held body)
 whole_accessed P value held body p =
-    either P (access_word_of body.memory == value) (plain (SecuredState (record held { half = None })) body (Handle held.handle) 0) (back held.session held.q body) p p
+    either P (access_word_of body.memory == value) (plain (SecuredState (record held { half = None })) body (Handle held.handle) held.handle) (back held.session held.q body) p p
 
 half_accessed : (P : Flags → Type 0) (level : Level) (half : Option Half) (value : ℕ) (held : Held) (body : BodyValue) → P body.flags → Holds P (access_half level half value held body)
 half_accessed P level None value held body p = p

@@ -75,7 +75,7 @@ place_inside count place inside =
       | inr w ↦ rw w.0 (omega (arith, w.1))
     ]
 
-behind_draw : (body : BodyValue) → IsLegalBody body → IsLegalBody (body_after_draw body)
+pub behind_draw : (body : BodyValue) → IsLegalBody body → IsLegalBody (body_after_draw body)
 behind_draw body legal = record {
   memory = legal.memory;
   memory_words = legal.memory_words;
@@ -83,7 +83,7 @@ behind_draw body legal = record {
   place = place_inside (length body.words) body.place legal.place;
 }
 
-word_drawn : (body : BodyValue) → IsLegalBody body → draw_of body < 2 ^ 16
+pub word_drawn : (body : BodyValue) → IsLegalBody body → draw_of body < 2 ^ 16
 word_drawn body legal = All-get_or (λ (word : ℕ). word < 2 ^ 16) body.words body.place 0 legal.place legal.words.small
 
 -- moves
@@ -415,7 +415,7 @@ half_accessed : (level : Level) (half : Option Half) (value : ℕ) (held : Held)
 half_accessed level None value held body small of_held of_body = half_kept level passwords.Access value held body small of_held of_body
 half_accessed level (Some half) value held body small of_held of_body =
     let bare = record held { half = None } in
-    either (access_word_of body.memory == whole_of half.value value) (plain (SecuredState bare) body (Handle held.handle) 0) (back held.session held.q body)
+    either (access_word_of body.memory == whole_of half.value value) (plain (SecuredState bare) body (Handle held.handle) held.handle) (back held.session held.q body)
     (tag_is (SecuredState bare) body (with_half held None of_held tt) of_body) (held_back held body of_held of_body)
 
 access_at : (level : Level) (covered rn : ℕ) (held : Held) (body : BodyValue) → covered < 2 ^ 16 → IsLegalHeld held → IsLegalBody body → Leaves (access_held level covered rn held body)

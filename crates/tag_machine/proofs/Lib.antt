@@ -7,3 +7,7 @@ pub mod Isolated
 pub mod KeepsLegal
 pub mod LegalMemory
 pub mod Places
+pub mod Replies
+pub mod Expected
+pub mod StepDraws
+pub mod Waiting

@@ -1,9 +1,10 @@
--- The draw with the number n is the word n modulo the number of words.
-use Rattle.std.proofs.Common.{◌≡◌, ℕ, zero, suc, ◌+◌, ◌*◌, ◌/◌, ◌%◌, ◌<◌, sym, ◌∙◌, ap, arith, add-one, inl, inr}
-use Rattle.std.proofs.Math.Nat.{mod_self, zero-mod, mod-eq_of_lt, add-mul-mod_self_right}
+-- The draw with the number n is the word n places behind the tag's place, modulo the number of words.
+use Rattle.std.proofs.Common.{◌≡◌, ℕ, zero, suc, ◌+◌, ◌*◌, ◌/◌, ◌%◌, ◌<◌, length, slice_index, sym, ◌∙◌, ap, arith, inl, inr}
+use Rattle.std.proofs.Math.Nat.{mod_self, mod-eq_of_lt, add-mul-mod_self_right}
 use Rattle.std.proofs.lemmas.Nat.{mod_below}
 use Rattle.std.proofs.lemmas.Bool.Decides.{eqb_tells}
-use Rattle.tag_machine.specs.Draws.{place_behind, place_of_draw}
+use Rattle.tag_machine.specs.TagValue.{BodyValue}
+use Rattle.tag_machine.specs.Draws.{draw_of, place_behind, body_after_draw, body_after_draws}
 
 next_mod : (count number : ℕ) → 0 < count → (number + 1) % count ≡ (number % count + 1) % count
 next_mod count number some =
@@ -17,9 +18,25 @@ at_end count place inside =
       | inr w ↦ rw w.0 (sym (mod-eq_of_lt {n = place + 1} {m = count} (omega (arith, w.1))))
     ]
 
-pub place_is : (count number : ℕ) → 0 < count → place_of_draw count number ≡ number % count
-unfolding place_of_draw
-place_is count zero some = sym (zero-mod count)
-place_is count (suc number) some =
-    ap (λ p. place_behind count p) (place_is count number some) ∙ at_end count (number % count) (mod_below number count some)
-    ∙ sym (next_mod count number some) ∙ ap (λ n. n % count) (add-one number)
+place_moves : (body : BodyValue) (place : ℕ) → place < length body.words → body_after_draw (record body { place = place }) ≡ record body { place = (place + 1) % length body.words }
+place_moves body place inside = ap (λ (p : ℕ). let moved : BodyValue = record body { place = p } in moved) (at_end (length body.words) place inside)
+
+one_further : (count place draws : ℕ) → 0 < count → ((place + draws) % count + 1) % count ≡ (place + suc draws) % count
+one_further count place draws some =
+    let behind : place + draws + 1 ≡ place + suc draws = omega arith in
+    sym (next_mod count (place + draws) some) ∙ ap (λ n. n % count) behind
+
+pub after_is : (draws : ℕ) (body : BodyValue) → body.place < length body.words → body_after_draws draws body ≡ record body { place = (body.place + draws) % length body.words }
+after_is zero body inside =
+    let whole : body.place + 0 ≡ body.place = omega arith in
+    let same : (body.place + 0) % length body.words ≡ body.place = ap (λ n. n % length body.words) whole ∙ mod-eq_of_lt {n = body.place} {m = length body.words} inside in
+    sym (ap (λ (p : ℕ). let moved : BodyValue = record body { place = p } in moved) same)
+after_is (suc draws) body inside =
+    let count = length body.words in
+    let some : 0 < count = omega arith in
+    ap body_after_draw (after_is draws body inside)
+    ∙ place_moves body ((body.place + draws) % count) (mod_below (body.place + draws) count some)
+    ∙ ap (λ (p : ℕ). let moved : BodyValue = record body { place = p } in moved) (one_further count body.place draws some)
+
+pub word_is : (draws : ℕ) (body : BodyValue) → body.place < length body.words → draw_of (body_after_draws draws body) ≡ slice_index body.words ((body.place + draws) % length body.words)
+word_is draws body inside = ap draw_of (after_is draws body inside)

@@ -136,7 +136,7 @@ whole_of upper lower = upper * 2 ^ 16 + lower
 -- the first half is kept, and the handle answered
 abbrev pub keep_half : Level → Password → ℕ → Held → BodyValue → Outcome
 keep_half level password value held body =
-    plain (held_state level (record held { half = Some (record { password = password; value = value }) })) body (Handle held.handle) 0
+    plain (held_state level (record held { half = Some (record { password = password; value = value }) })) body (Handle held.handle) held.handle
 
 -- 6.3.2.11.3.4 Kill: what both halves give. With the kill password 0 the answer is an error (its code is profile), the
 -- first half is forgotten, and the state stays. With the kill password the tag is killed. With another value it goes
@@ -192,7 +192,7 @@ lock payload rn UnpoweredState body = silent UnpoweredState body
 abbrev pub access_whole : ℕ → Held → BodyValue → Outcome
 access_whole value held body =
     (if access_word_of body.memory == value
-    then plain (SecuredState (record held { half = None })) body (Handle held.handle) 0
+    then plain (SecuredState (record held { half = None })) body (Handle held.handle) held.handle
     else back held.session held.q body)
 
 abbrev pub access_half : Level → Option Half → ℕ → Held → BodyValue → Outcome

@@ -17,13 +17,13 @@ place_behind count place = (if place + 1 == count then 0 else place + 1)
 abbrev pub place_after : BodyValue → ℕ
 place_after body = place_behind (length body.words) body.place
 
--- the place of the draw with a number, counted from 0, that a tag makes: it begins at place 0
-unfoldable pub place_of_draw : ℕ → ℕ → ℕ
-place_of_draw count zero = 0
-place_of_draw count (suc number) = place_behind count (place_of_draw count number)
-
 abbrev pub body_after_draw : BodyValue → BodyValue
 body_after_draw body = record body { place = place_after body }
+
+-- the body after so many draws
+abbrev pub body_after_draws : ℕ → BodyValue → BodyValue
+body_after_draws zero body = body
+body_after_draws (suc draws) body = body_after_draw (body_after_draws draws body)
 
 -- an RN16 is drawn and answered, and the tag is in reply
 abbrev pub begin_reply : ℕ → ℕ → BodyValue → Outcome

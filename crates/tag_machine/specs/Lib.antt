@@ -10,3 +10,6 @@ pub mod States
 pub mod Names
 pub mod Hearing
 pub mod Extended
+pub mod Replies
+pub mod DrawCounts
+pub mod Slots

@@ -17,7 +17,10 @@ mod tag;
 
 pub use air_events::{Choice, Entry, Event};
 pub use any_tag::{Answered, AnyTag, Heard};
-pub use laws::{answers_are_expected, draw_laws, steps_keep_tags_legal};
+pub use laws::{
+    absent_tags_stay, answers_are_expected, answers_are_replies, draw_laws, query_rep_laws,
+    steps_keep_tags_legal,
+};
 pub use session_flags::DrawWords;
 pub use states::{
     Acknowledged, Arbitrate, InReply, Killed, Opened, Ready, Secured, State, StateName, Unpowered,

@@ -45,7 +45,7 @@ impl TagWithHandle {
             half: Some(Half { password, value }),
             ..self.held
         };
-        TagWithHandle { held, ..self }.answer_number(handle, out)
+        TagWithHandle { held, ..self }.answer(&Reply::Handle(handle), out)
     }
 
     /// Forgets the first half.
@@ -96,7 +96,7 @@ impl TagWithHandle {
             level: Level::Secured,
             ..self.without_half()
         };
-        tag.answer_number(handle, out)
+        tag.answer(&Reply::Handle(handle), out)
     }
 
     /// A Kill: the first half is kept, and the second acts. Without a cover nothing changes; with one, it is used up. After a

@@ -1,5 +1,15 @@
-use Rattle.tag_machine.proofs.Places.{place_is}
+use Rattle.tag_machine.proofs.Places.{word_is, after_is}
+use Rattle.tag_machine.proofs.StepDraws.{step_draws}
 use Rattle.tag_machine.proofs.laws.draw_laws.Goals as goal
 
-pub returns : goal.returns
-returns c = λ count number some. place_is count number some
+pub returns-clause-word : goal.returns-clause-word
+returns-clause-word c = λ draws body inside. word_is draws body inside
+
+pub returns-clause-after : goal.returns-clause-after
+returns-clause-after c = λ draws body inside. after_is draws body inside
+
+pub returns-clause-place : goal.returns-clause-place
+returns-clause-place c = λ command state body. (step_draws command state body).place
+
+pub returns-clause-words : goal.returns-clause-words
+returns-clause-words c = λ command state body. (step_draws command state body).words
