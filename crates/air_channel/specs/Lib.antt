@@ -4,4 +4,5 @@ pub mod Exchange
 pub mod Channel
 pub mod Air
 pub mod Reception
+pub mod ReceptionLaws
 pub mod Past

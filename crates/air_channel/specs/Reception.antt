@@ -1,12 +1,13 @@
 -- What the interrogator makes of what the channel gives, as a function of the reply that was sent. That it is what the levels
 -- say by the line code and the table of replies (Received.antt) is a law.
-use Rattle.std.specs.Prelude.{ℕ, ◌==◌, ◌&&◌, Bool, true, if◌then◌else◌}
+use Rattle.std.specs.Prelude.{◌≡◌, ℕ, ◌==◌, ◌&&◌, Bool, true, false, Some, if◌then◌else◌}
 use Rattle.reply_grammar.specs.Table.{handle_of, suits}
 use Rattle.reply_grammar.specs.declared.expected.Expect.{Expect}
 use Rattle.reply_grammar.specs.declared.expected.Reply.{Reply}
 use Rattle.reply_grammar.specs.declared.expected.Reply.TheVariants.{Rn16, Epc, Handle, Words, Header, Error}
-use Rattle.tag_machine.specs.Answers.{Sent}
-use Rattle.air_channel.specs.Exchange.{Replied}
+use Rattle.reply_grammar.specs.declared.expected.Received.{Received}
+use Rattle.reply_grammar.specs.declared.expected.Received.TheVariants.{Whole, Refused}
+use Rattle.tag_machine.specs.Answers.{Sent, IsSent}
 use Rattle.air_channel.specs.Channel.{Given, silence, whole, broken}
 
 -- no stream came, a stream that is a whole reply of the kind that is expected, or a stream that is none
@@ -33,3 +34,28 @@ abbrev pub reception_of : Expect → Given → Reception
 reception_of expect silence = no_stream
 reception_of expect (whole replied) = if is_expected expect replied.sent then whole_reply replied.sent.reply else no_such_reply
 reception_of expect (broken replied place) = no_such_reply
+
+-- what is received of a stream, as a reception
+abbrev pub reception_from : Received → Reception
+reception_from (Whole reply) = whole_reply reply
+reception_from (Refused place) = no_such_reply
+
+-- this holds of what was sent, where the channel gives a reply, whole or broken
+abbrev pub HoldsOfSent : (Sent → Type 0) → Given → Type 0
+HoldsOfSent P silence = Unit {0}
+HoldsOfSent P (whole replied) = P replied.sent
+HoldsOfSent P (broken replied place) = P replied.sent
+
+-- the numbers of what the channel gives are in their ranges
+abbrev pub IsGiven : Given → Type 0
+IsGiven given = HoldsOfSent (λ sent. IsSent (Some sent)) given
+
+-- what was sent is in its ranges, has the preamble of the link's TRext, and is a reply that is expected
+pub record IsReplyFor (expect : Expect) (sent : Sent) : Type 0 where
+  pub in_range : IsSent (Some sent)
+  pub by_link : sent.extended ≡ false
+  pub expected : is_expected expect sent ≡ true
+
+-- what the channel gives is such a reply, whole or broken, or silence
+abbrev pub IsGivenFor : Expect → Given → Type 0
+IsGivenFor expect given = HoldsOfSent (IsReplyFor expect) given

@@ -1,8 +1,9 @@
 //! What holds of everything that is received.
-ghost use Rattle.std.specs.Prelude.{◌≡◌, ◌^◌, ◌<◌, ℕ, List, Bool, length};
+ghost use Rattle.std.specs.Prelude.{◌≡◌, ◌≢◌, ◌↔◌, ◌^◌, ◌<◌, ◌≤◌, ℕ, List, Bool, false, [], length};
 ghost use Rattle.bit_strings.specs.declared.code.Code.{Code};
 ghost use Rattle.line_code.specs.Stream.{IsStream};
 ghost use Rattle.line_codes.specs.Codes.{table_of};
+ghost use Rattle.pie_line.specs.Link.{LinkValue};
 ghost use Rattle.reply_grammar.specs.Table.{AnswersExpected, Carries, IsReply, Suits, spelling};
 ghost use Rattle.reply_grammar.specs.declared.expected.Expect.{Expect};
 ghost use Rattle.reply_grammar.specs.declared.expected.Expect.TheVariants.{Rn16 as OneRn16, Epc as OneEpc, Handle as OneHandle, Same};
@@ -10,7 +11,11 @@ ghost use Rattle.reply_grammar.specs.declared.expected.Reply.{Reply};
 ghost use Rattle.reply_grammar.specs.declared.expected.Reply.TheVariants.{Rn16, Epc, Handle};
 ghost use Rattle.reply_grammar.specs.declared.expected.Received.{Received};
 ghost use Rattle.reply_grammar.specs.declared.expected.Received.TheVariants.{Whole, Refused};
+ghost use Rattle.air_channel.specs.Channel.{Given, silence, whole, broken, heard_levels, got_of};
+ghost use Rattle.air_channel.specs.Exchange.{Replied};
 ghost use Rattle.air_channel.specs.Received.{IsReceived};
+ghost use Rattle.air_channel.specs.Reception.{IsGiven, IsGivenFor, IsReplyFor, no_stream, reception_from, reception_of};
+ghost use Rattle.air_channel.specs.declared.air.Got.TheVariants.{Silence, Stream};
 
 use line_code::one_answer;
 use reply_grammar::reply_laws;
@@ -54,4 +59,21 @@ pub fn kinds_received()
     ensures same_handle { (code : Code) (trext : Bool) (handle : ℕ) (levels : List Bool)
         → IsStream (table_of code) trext (spelling (Handle handle) handle) levels → handle < 2 ^ 16
         → IsReceived (table_of code) trext (Same handle) levels (Whole (Handle handle)) }
+{}
+
+/// What the interrogator makes of the levels that the channel gives it, where it expects what the tags
+/// send in answer to its command: a reply that is given whole is received whole, and a broken one is
+/// refused. So what is received is a function of the reply that was sent. Levels are heard unless the
+/// channel is silent, and no more than the 131,968 of the longest stream.
+pub fn reception_law()
+    ensures whole { (link : LinkValue) (expect : Expect) (replied : Replied) → IsReplyFor expect replied.sent
+        → IsReceived (table_of link.code) link.trext expect (heard_levels link (whole replied)) (Whole replied.sent.reply) }
+    ensures broken { (link : LinkValue) (expect : Expect) (replied : Replied) (place : ℕ) (received : Received) → replied.sent.extended ≡ false
+        → IsReceived (table_of link.code) link.trext expect (heard_levels link (broken replied place)) received → (stop : ℕ) × (received ≡ Refused stop) }
+    ensures stream { (link : LinkValue) (expect : Expect) (given : Given) (received : Received) → IsGivenFor expect given → got_of given ≡ Stream
+        → IsReceived (table_of link.code) link.trext expect (heard_levels link given) received → reception_of expect given ≡ reception_from received }
+    ensures silent { (expect : Expect) (given : Given) → got_of given ≡ Silence → reception_of expect given ≡ no_stream }
+    ensures nothing { (link : LinkValue) (given : Given) → (heard_levels link given ≡ []) ↔ (given ≡ silence) }
+    ensures least { (link : LinkValue) (given : Given) → given ≢ silence → 1 ≤ length (heard_levels link given) }
+    ensures most { (link : LinkValue) (given : Given) → IsGiven given → length (heard_levels link given) ≤ 131968 }
 {}

@@ -1,0 +1,13 @@
+use Rattle.air_channel.specs.ReceptionLaws.{whole_heard, broken_heard, stream_reception, silent_reception, heard_nothing, heard_least, heard_most}
+use Rattle.air_channel.proofs.laws.reception_law.Goals as goal
+
+pub returns : goal.returns
+returns c = record {
+  whole = whole_heard;
+  broken = broken_heard;
+  stream = stream_reception;
+  silent = silent_reception;
+  nothing = heard_nothing;
+  least = heard_least;
+  most = heard_most;
+}
