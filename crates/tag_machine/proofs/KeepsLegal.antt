@@ -296,9 +296,9 @@ memory_after : (level : Level) (held : Held) (body : BodyValue) (change : Result
 memory_after level held body (Ok memory) of_held of_body sound = held_tag level held (record body { memory = memory }) of_held (with_memory body memory of_body sound)
 memory_after level held body (Err code) of_held of_body sound = held_tag level held body of_held of_body
 
-locks_after : (held : Held) (body : BodyValue) (change : Result Locks ErrorCode) → IsLegalHeld held → IsLegalBody body → Leaves (locks_outcome held body change)
-locks_after held body (Ok locks) of_held of_body = tag_is (SecuredState held) (record body { locks = locks }) of_held (with_locks body locks of_body)
-locks_after held body (Err code) of_held of_body = tag_is (SecuredState held) body of_held of_body
+locks_keep : (held : Held) (body : BodyValue) (change : Result Locks ErrorCode) → IsLegalHeld held → IsLegalBody body → Leaves (locks_outcome held body change)
+locks_keep held body (Ok locks) of_held of_body = tag_is (SecuredState held) (record body { locks = locks }) of_held (with_locks body locks of_body)
+locks_keep held body (Err code) of_held of_body = tag_is (SecuredState held) body of_held of_body
 
 -- Req_RN
 handle_given : (session q : ℕ) (body : BodyValue) → session ≤ 3 → q ≤ 15 → IsLegalBody body → Leaves (give_handle session q body)
@@ -406,7 +406,7 @@ after_lock payload rn (AcknowledgedState session q own) body before = gone_back 
 after_lock payload rn (OpenState held) body before = heard levels.Opened rn held body (silent (OpenState held) body) before.state before.body before
 after_lock payload rn (SecuredState held) body before =
     let change = locks_after body.locks payload (has_user body) in
-    heard levels.Secured rn held body (locks_outcome held body change) before.state before.body (locks_after held body change before.state before.body)
+    heard levels.Secured rn held body (locks_outcome held body change) before.state before.body (locks_keep held body change before.state before.body)
 after_lock payload rn KilledState body before = before
 after_lock payload rn UnpoweredState body before = before
 
