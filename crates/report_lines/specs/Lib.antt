@@ -1,2 +1,4 @@
 pub mod ReportLine
 pub mod SeenCounts
+pub mod Entries
+pub mod SeenLaws

@@ -1,5 +1,7 @@
 -- Profile: how often each pair of PC and EPC was listed, in the order in which they came first.
-use Rattle.std.specs.Prelude.{ℕ, ◌+◌, ◌==◌, ◌&&◌, Bool, true, false, List, [], ◌∷◌, if◌then◌else◌}
+use Rattle.std.specs.Prelude.{ℕ, ◌+◌, ◌==◌, ◌&&◌, nat_eq, Bool, not, List, [], ◌∷◌, map, filter, count_by, if◌then◌else◌}
+use Rattle.std.specs.Cmp.Lexicographic.{pointwise}
+use Rattle.report_lines.specs.ReportLine.{ReportLine, SeenLine}
 
 -- a PC with an EPC, and how often they were listed
 pub record Seen : Type 0 where
@@ -7,25 +9,37 @@ pub record Seen : Type 0 where
   pub epc : List ℕ
   pub count : ℕ
 
--- two lists of words are one
-abbrev pub same_words : List ℕ → List ℕ → Bool
-same_words [] [] = true
-same_words [] (word ∷ words) = false
-same_words (word ∷ words) [] = false
-same_words (word ∷ words) (other ∷ others) = word == other && same_words words others
+-- two pairs are one
+abbrev pub same_pair : ℕ × List ℕ → ℕ × List ℕ → Bool
+same_pair one other = one.0 == other.0 && pointwise nat_eq one.1 other.1
 
+-- the pairs without repetition, in the order in which they came first
+abbrev pub distinct : List (ℕ × List ℕ) → List (ℕ × List ℕ)
+distinct [] = []
+distinct (pair ∷ pairs) = pair ∷ filter (λ other. not (same_pair pair other)) (distinct pairs)
+
+-- a pair, and how often it stands among these
+abbrev pub seen_among : List (ℕ × List ℕ) → ℕ × List ℕ → Seen
+seen_among pairs pair = record { pc = pair.0; epc = pair.1; count = count_by (same_pair pair) pairs }
+
+-- the counts of pairs that were listed in this order
+abbrev pub seen_in : List (ℕ × List ℕ) → List Seen
+seen_in pairs = map (seen_among pairs) (distinct pairs)
+
+-- the count is that of the pair
 abbrev pub is_of : ℕ × List ℕ → Seen → Bool
-is_of pair seen = pair.0 == seen.pc && same_words pair.1 seen.epc
+is_of pair seen = same_pair pair (seen.pc, seen.epc)
+
+-- how often a pair was listed, by the counts
+abbrev pub count_of : List Seen → ℕ × List ℕ → ℕ
+count_of [] pair = 0
+count_of (seen ∷ others) pair = if is_of pair seen then seen.count else count_of others pair
 
 -- one more of a pair: its count rises where it has one, else it stands last, with the count 1
 abbrev pub seen_more : List Seen → ℕ × List ℕ → List Seen
 seen_more [] pair = record { pc = pair.0; epc = pair.1; count = 1 } ∷ []
 seen_more (seen ∷ others) pair = if is_of pair seen then record seen { count = seen.count + 1 } ∷ others else seen ∷ seen_more others pair
 
-abbrev pub seen_behind : List Seen → List (ℕ × List ℕ) → List Seen
-seen_behind seen [] = seen
-seen_behind seen (pair ∷ pairs) = seen_behind (seen_more seen pair) pairs
-
--- the counts of pairs that were listed in this order
-abbrev pub seen_in : List (ℕ × List ℕ) → List Seen
-seen_in pairs = seen_behind [] pairs
+-- the line of a count
+abbrev pub seen_line : Seen → ReportLine
+seen_line seen = SeenLine seen.count seen.pc seen.epc

@@ -150,7 +150,7 @@ impl Memory {
     }
 
     /// The whole of a bank.
-    fn bank(&self, bank: Bank) -> &[u16]
+    pub fn bank(&self, bank: Bank) -> &[u16]
         ensures value { result.now ≡ bank_of self.now bank }
         ensures legal { IsLegalMemory self.now }
     {

@@ -30,8 +30,8 @@ fn push_pair(text: &mut String, pair: Pair) -> Result<(), OutOfMemory>
     text.push_str(bit_name(pair.permalock))
 }
 
-/// Writes the ten lock bits.
-fn push_locks(text: &mut String, locks: &Locks) -> Result<(), OutOfMemory>
+/// Writes the ten lock bits at the end of the text. After an error the text may hold a part of them.
+pub fn push_locks(text: &mut String, locks: &Locks) -> Result<(), OutOfMemory>
     ensures { OnOk result (string_bytes text.new ≡ string_bytes text.old ++ locks_text locks.now) }
 {
     push_pair(text, locks.kill_word)?;

@@ -1,0 +1,42 @@
+-- What a map gives and keeps, as counts.
+use Rattle.std.proofs.Common.{◌≡◌, ℕ, ◌+◌, Bool, true, false, List, [], ◌∷◌, ◌++◌, refl, sym, ap, unwrap_or, Option, Some, cond}
+use Rattle.std.specs.Map.{lookup}
+use Rattle.indexmap.specs.IndexMap.{insert_entry}
+use Rattle.report_lines.specs.declared.seen.Listed.{Listed}
+use Rattle.report_lines.specs.Entries.{seen_of, seen_of_entry}
+use Rattle.report_lines.specs.SeenCounts.{Seen, same_pair, count_of, seen_in, seen_more}
+use Rattle.report_lines.specs.SeenLaws.{seen_in-more}
+
+-- the derived test of keys is that of pairs
+abbrev pub same_listed : Listed → Listed → Bool
+same_listed one other = same_pair (one.pc, one.epc) (other.pc, other.epc)
+
+looked_up_here : (same : Bool) (n : ℕ) (found : Option ℕ) (count : ℕ) → unwrap_or found 0 ≡ count → unwrap_or (cond same (Some n) found) 0 ≡ cond same n count
+looked_up_here true n found count rest = refl
+looked_up_here false n found count rest = rest
+
+-- what the map gives is the count
+pub looked_up : (entries : List (Listed × ℕ)) (listed : Listed) → unwrap_or (lookup (same_listed listed) entries) 0 ≡ count_of (seen_of entries) (listed.pc, listed.epc)
+looked_up [] listed = refl
+looked_up (entry ∷ entries) listed =
+    looked_up_here (same_listed listed entry.0) entry.1 (lookup (same_listed listed) entries) (count_of (seen_of entries) (listed.pc, listed.epc)) (looked_up entries listed)
+
+inserted_here : (same : Bool) (entry : Listed × ℕ) (entries : List (Listed × ℕ)) (count : ℕ) (insert : ℕ → List (Listed × ℕ)) (other : List Seen) →
+    seen_of (insert (count + 1)) ≡ other →
+    seen_of (cond same ((entry.0, cond same entry.1 count + 1) ∷ entries) (entry ∷ insert (cond same entry.1 count + 1)))
+    ≡ cond same (record { pc = entry.0.pc; epc = entry.0.epc; count = entry.1 + 1 } ∷ seen_of entries) (seen_of_entry entry ∷ other)
+inserted_here true entry entries count insert other rest = refl
+inserted_here false entry entries count insert other rest = ap (λ (l : List Seen). seen_of_entry entry ∷ l) rest
+
+-- what the map keeps, where the count goes in with one more
+pub inserted : (entries : List (Listed × ℕ)) (listed : Listed) →
+    seen_of (insert_entry same_listed entries listed (count_of (seen_of entries) (listed.pc, listed.epc) + 1)) ≡ seen_more (seen_of entries) (listed.pc, listed.epc)
+inserted [] listed = refl
+inserted (entry ∷ entries) listed =
+    inserted_here (same_listed listed entry.0) entry entries (count_of (seen_of entries) (listed.pc, listed.epc)) (λ n. insert_entry same_listed entries listed n)
+    (seen_more (seen_of entries) (listed.pc, listed.epc)) (inserted entries listed)
+
+-- the counts of the pairs that were listed, with one more
+pub listed_more : (seen : List Seen) (pairs : List (ℕ × List ℕ)) (pc : ℕ) (epc copy : List ℕ) → seen ≡ seen_in pairs → copy ≡ epc →
+    seen_more seen (pc, copy) ≡ seen_in (pairs ++ (pc, epc) ∷ [])
+listed_more seen pairs pc epc copy is same = rw (is, same) (sym (seen_in-more pairs (pc, epc)))

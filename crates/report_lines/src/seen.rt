@@ -1,0 +1,116 @@
+//! How often each tag was listed.
+ghost use Rattle.std.specs.Prelude.{◌≡◌, ◌<◌, ◌^◌, ◌+◌, ◌++◌, ℕ, List, [], ◌∷◌, length, map, ◌≤◌, ◌↔◌, OnErr, OnOk, IfOk, IfSome, IsNone, Some, slice_get};
+ghost use Rattle.std.specs.String.{string_bytes};
+ghost use Rattle.report_lines.specs.ReportLine.{report_text};
+ghost use Rattle.report_lines.specs.SeenCounts.{count_of, seen_in, seen_line, seen_more};
+
+use crate::lines::push_seen_line;
+use bit_strings::OutOfMemory;
+use indexmap::IndexMap;
+use reply_grammar::EpcWords;
+use std::alloc::Global;
+use std::marker::Model;
+
+#[cfg(test)]
+mod tests;
+
+/// What an EPC reply brings of a tag.
+#[derive(Drop, Debug, PartialEq, Eq, Hash)]
+pub(crate) struct Listed {
+    pc: u16,
+    epc: EpcWords,
+}
+
+/// How often each pair of PC and EPC was listed, in the order in which they came first. A contract sees it
+/// as the list of the pairs with their counts.
+#[derive(Drop)]
+pub struct SeenCounts {
+    counts: IndexMap<Listed, u64>,
+}
+
+impl Model for SeenCounts {
+    ghost use Rattle.std.specs.Prelude.{List};
+    ghost use Rattle.report_lines.specs.SeenCounts.{Seen};
+    ghost use Rattle.report_lines.specs.Entries.{seen_of};
+
+    ghost Value = { List Seen };
+
+    ghost view = { λ a. seen_of a.counts.entries };
+}
+
+/// A copy of the words of an EPC.
+fn copy_of(epc: &EpcWords) -> Result<EpcWords, OutOfMemory>
+    ensures { IfOk result (λ copy. copy ≡ epc.now) }
+{
+    epc.clone()
+}
+
+impl SeenCounts {
+    /// No pair was listed yet.
+    pub fn new(alloc: Global) -> SeenCounts
+        ensures { result ≡ [] }
+    {
+        SeenCounts {
+            counts: IndexMap::new(alloc),
+        }
+    }
+
+    /// Counts one more of this pair. After an error nothing is changed.
+    pub fn count(&mut self, pc: u16, epc: &EpcWords) -> Result<(), OutOfMemory>
+        requires { count_of self.old (pc, epc.now) < 2 ^ 63 }
+        ensures more { OnOk result (self.new ≡ seen_more self.old (pc, epc.now)) }
+        ensures listed { (pairs : List (ℕ × List ℕ)) → self.old ≡ seen_in pairs → OnOk result (self.new ≡ seen_in (pairs ++ (pc, epc.now) ∷ [])) }
+        ensures err { OnErr result (self.new ≡ self.old) }
+    {
+        let epc = copy_of(epc)?;
+        self.raise(Listed { pc, epc })
+    }
+
+    /// Counts one more of this pair.
+    fn raise(&mut self, listed: Listed) -> Result<(), OutOfMemory>
+        requires { count_of self.old (listed.pc, listed.epc) < 2 ^ 63 }
+        ensures more { OnOk result (self.new ≡ seen_more self.old (listed.pc, listed.epc)) }
+        ensures err { OnErr result (self.new ≡ self.old) }
+    {
+        let before = self.count_of(&listed);
+        self.counts.insert(listed, before + 1)?;
+        Ok(())
+    }
+
+    /// How often this pair was listed.
+    fn count_of(&self, listed: &Listed) -> u64
+        ensures { result ≡ count_of self.now (listed.now.pc, listed.now.epc) }
+    {
+        self.counts.get(listed).copied().unwrap_or(0)
+    }
+
+    /// How many pairs were listed.
+    pub fn len(&self) -> usize
+        ensures { result ≡ length self.now }
+    {
+        self.counts.len()
+    }
+
+    /// The pair with this number, counted from 0 in the order in which they came first: how often it was
+    /// listed, its PC and its EPC; none exactly past the end.
+    pub fn get(&self, at: usize) -> Option<(u64, u16, &EpcWords)>
+        ensures value { IfSome result (λ it. slice_get self.now at ≡ Some (record { pc = it.1; epc = it.2.now; count = it.0 })) }
+        ensures none { IsNone result ↔ (length self.now ≤ at) }
+    {
+        let (listed, count) = self.counts.get_index(at)?;
+        Some((*count, listed.pc, &listed.epc))
+    }
+
+    /// Writes the line of each pair, in order. After an error the text may hold a part of them.
+    pub fn push_lines(&self, text: &mut String) -> Result<(), OutOfMemory>
+        ensures { OnOk result (string_bytes text.new ≡ string_bytes text.old ++ report_text (map seen_line self.now)) }
+    {
+        for at in 0..self.len() {
+            let Some((count, pc, epc)) = self.get(at) else {
+                unreachable!();
+            };
+            push_seen_line(text, count, pc, epc)?;
+        }
+        Ok(())
+    }
+}

@@ -1,0 +1,106 @@
+//! Tag lines of a report, written.
+ghost use Rattle.std.specs.Prelude.{◌≡◌, ◌++◌, [], ◌∷◌, codes, OnOk};
+ghost use Rattle.std.specs.String.{string_bytes};
+ghost use Rattle.std.specs.Fmt.{decimal};
+ghost use Rattle.text_fields.specs.Hexadecimal.{hex_words};
+ghost use Rattle.text_fields.specs.Lines.{line_with, space};
+ghost use Rattle.scenario_lines.specs.Spelling.{locks_text};
+ghost use Rattle.tag_machine.specs.Hearing.{tag_value_of};
+ghost use Rattle.report_lines.specs.ReportLine.{TagLine, flags_word, report_line_text, side_letter, state_word};
+
+use crate::lines::end_line;
+use bit_strings::OutOfMemory;
+use command_grammar::{Bank, Side};
+use lock_rules::Locks;
+use scenario_lines::push_locks;
+use session_flags::Flags;
+use tag_machine::{AnyTag, StateName};
+use tag_memory::Memory;
+use text_fields::{push_next_name, push_next_number, push_next_words};
+
+#[cfg(test)]
+mod tests;
+
+/// The name of a state (6.3.2.4 Tag states and slot counter); that of a tag without power is profile.
+fn state_text(state: StateName) -> &'static str
+    ensures { result.now ≡ state_word state }
+{
+    match state {
+        StateName::Ready => "ready",
+        StateName::Arbitrate => "arbitrate",
+        StateName::InReply => "reply",
+        StateName::Acknowledged => "acknowledged",
+        StateName::Opened => "open",
+        StateName::Secured => "secured",
+        StateName::Killed => "killed",
+        StateName::Unpowered => "off",
+    }
+}
+
+/// The letter of a side of an inventoried flag.
+fn letter_of(side: Side) -> &'static str
+    ensures { result.now ≡ side_letter side }
+{
+    match side {
+        Side::A => "A",
+        Side::B => "B",
+    }
+}
+
+/// Writes the inventoried flags of S0 to S3 and the selected flag as the next field.
+fn next_flags(text: &mut String, flags: &Flags) -> Result<(), OutOfMemory>
+    ensures { OnOk result (string_bytes text.new ≡ string_bytes text.old ++ space ∷ flags_word flags.now) }
+{
+    text.push(' ')?;
+    text.push_str(letter_of(flags.s0))?;
+    text.push_str(letter_of(flags.s1))?;
+    text.push_str(letter_of(flags.s2))?;
+    text.push_str(letter_of(flags.s3))?;
+    text.push(if flags.sl { '1' } else { '0' })
+}
+
+/// Writes the ten lock bits as the next field.
+fn next_locks(text: &mut String, locks: &Locks) -> Result<(), OutOfMemory>
+    ensures { OnOk result (string_bytes text.new ≡ string_bytes text.old ++ space ∷ locks_text locks.now) }
+{
+    text.push_str(" ")?;
+    push_locks(text, locks)
+}
+
+/// Writes the four banks as the next fields.
+fn next_banks(text: &mut String, memory: &Memory) -> Result<(), OutOfMemory>
+    ensures { OnOk result (string_bytes text.new ≡ string_bytes text.old
+        ++ space ∷ line_with (hex_words memory.now.reserved ∷ hex_words memory.now.epc ∷ hex_words memory.now.tid ∷ hex_words memory.now.user ∷ [])) }
+{
+    push_next_words(text, memory.bank(Bank::Reserved))?;
+    push_next_words(text, memory.bank(Bank::Epc))?;
+    push_next_words(text, memory.bank(Bank::Tid))?;
+    push_next_words(text, memory.bank(Bank::User))
+}
+
+/// Writes `tag` with the number of a tag, its state, its flags and its locks.
+fn push_standing(
+    text: &mut String,
+    number: u32,
+    state: StateName,
+    flags: &Flags,
+    locks: &Locks,
+) -> Result<(), OutOfMemory>
+    ensures { OnOk result (string_bytes text.new ≡ string_bytes text.old
+        ++ line_with (codes "tag" ∷ decimal number ∷ state_word state ∷ flags_word flags.now ∷ locks_text locks.now ∷ [])) }
+{
+    text.push_str("tag")?;
+    push_next_number(text, number)?;
+    push_next_name(text, state_text(state))?;
+    next_flags(text, flags)?;
+    next_locks(text, locks)
+}
+
+/// Writes `tag K STATE FLAGS LOCKS RES EPC TID USER`: what the tag of this number is.
+pub fn push_tag_line(text: &mut String, number: u32, tag: &AnyTag) -> Result<(), OutOfMemory>
+    ensures { OnOk result (string_bytes text.new ≡ string_bytes text.old ++ report_line_text (TagLine number (tag_value_of tag.now))) }
+{
+    push_standing(text, number, tag.state(), tag.flags(), tag.locks())?;
+    next_banks(text, tag.memory())?;
+    end_line(text)
+}
