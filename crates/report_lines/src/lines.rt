@@ -10,7 +10,7 @@ use bit_strings::OutOfMemory;
 use q_round::RoundEnd;
 use reply_grammar::EpcWords;
 use text_fields::{
-    next_long_number, next_numbers, push_next_bits, push_next_name, push_next_number,
+    push_next_long_number, push_next_numbers, push_next_bits, push_next_name, push_next_number,
     push_next_word, push_next_words, push_number,
 };
 
@@ -42,8 +42,8 @@ pub fn push_tx_line(text: &mut String, exchange: u64, intervals: &[u32]) -> Resu
     ensures { OnOk result (string_bytes text.new ≡ string_bytes text.old ++ report_line_text (TxLine exchange intervals.now)) }
 {
     text.push_str("tx")?;
-    next_long_number(text, exchange)?;
-    next_numbers(text, intervals)?;
+    push_next_long_number(text, exchange)?;
+    push_next_numbers(text, intervals)?;
     end_line(text)
 }
 
@@ -58,7 +58,7 @@ pub fn push_rx_line(
     ensures { OnOk result (string_bytes text.new ≡ string_bytes text.old ++ report_line_text (RxLine exchange count levels.now)) }
 {
     text.push_str("rx")?;
-    next_long_number(text, exchange)?;
+    push_next_long_number(text, exchange)?;
     push_next_number(text, count)?;
     push_next_bits(text, levels)?;
     end_line(text)
@@ -126,7 +126,7 @@ pub fn push_seen_line(
     ensures { OnOk result (string_bytes text.new ≡ string_bytes text.old ++ report_line_text (SeenLine count pc epc.now)) }
 {
     text.push_str("seen")?;
-    next_long_number(text, count)?;
+    push_next_long_number(text, count)?;
     next_listed(text, pc, epc)?;
     end_line(text)
 }
