@@ -141,6 +141,14 @@ one_outcome bits (Err (refusals.Short count)) (Ok command) left right = absurd (
 one_outcome bits (Err (refusals.Short count)) (Err (refusals.At place reason)) left right = absurd (not_begun Spellings bits place left.begins right.bad)
 one_outcome bits (Err (refusals.Short count)) (Err (refusals.Short other)) left right = ap (λ n. Err (refusals.Short n)) (left.whole ∙ sym right.whole)
 
+pub some_outcome : (bits : List Bool) → (outcome : Result Command CommandRefusal) × IsFinishAnswer outcome bits
+some_outcome bits = outcome (all_of bits) refl
+  where
+    outcome : (read : Result Command Stop) → all_of bits ≡ read → (outcome : Result Command CommandRefusal) × IsFinishAnswer outcome bits
+    outcome (Ok command) e = (Ok command, all_whole command bits e)
+    outcome (Err Short) e = (Err (refusals.Short (length bits)), all_short bits e)
+    outcome (Err (Bad left reason)) e = (Err (refusals.At (length bits - left) reason), (all_bad bits left reason e).1)
+
 -- a NAK begins with no bits
 pub begins_nak : Begins Spellings []
 begins_nak = (spelling_of commands.Nak, (commands.Nak, record { legal = tt; spelled = refl }))

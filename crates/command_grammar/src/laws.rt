@@ -26,7 +26,8 @@ pub fn one_refusal()
     ensures { (bits : List Bool) (p q : ℕ) (one other : Reason) → IsCommandRefusedAt bits p one → IsCommandRefusedAt bits q other → (p ≡ q) × (one ≡ other) }
 {}
 
-/// Each list of bits has one outcome.
+/// Each list of bits has exactly one outcome.
 pub fn one_outcome()
-    ensures { (bits : List Bool) (one other : Result Command CommandRefusal) → IsFinishAnswer one bits → IsFinishAnswer other bits → one ≡ other }
+    ensures some { (bits : List Bool) → (outcome : Result Command CommandRefusal) × IsFinishAnswer outcome bits }
+    ensures one { (bits : List Bool) (one other : Result Command CommandRefusal) → IsFinishAnswer one bits → IsFinishAnswer other bits → one ≡ other }
 {}

@@ -11,7 +11,6 @@ use Rattle.gen2run.specs.declared.forms.Form.{Form}
 use Rattle.gen2run.specs.declared.forms.Form.TheVariants.{Decode}
 use Rattle.gen2run.specs.declared.status.Status.{Status}
 use Rattle.gen2run.specs.declared.status.Status.TheVariants.{Done, BadWords, BadInput, ReadFault, WriteFault, TooLong, OutOfMemory}
-use Rattle.gen2run.proofs.OneReading.{grammatical_not_faulty}
 
 -- so many bytes of a text were added
 abbrev pub AddsSome : Option (List ℕ) → Option (List ℕ) → List ℕ → Type 0
@@ -44,20 +43,20 @@ all_read told (Some rest) bytes reads end = let e : told ≡ bytes ++ rest = cc 
 all_taken : (form : Form) (told : List ℕ) (left' : Option (List ℕ)) (bytes : List ℕ) → TakesInput form (Some told) left' bytes → told ≡ bytes
 all_taken Decode told left' bytes input = all_read told left' bytes input.reads input.end
 
--- bytes that the grammar of a form allows have no fault line
-pub allowed_not_refused : (form : Form) (bytes text : List ℕ) → IsGrammaticalOf form bytes → RefusesOf form bytes text → ⊥
-allowed_not_refused Decode bytes text allowed refused = grammatical_not_faulty bytes refused.fault allowed refused.first
+-- what the law of grammatical inputs says: bytes that the grammar of a form allows have no fault line
+abbrev pub AllowedAreNotRefused : Type 0
+AllowedAreNotRefused = (form : Form) (bytes text : List ℕ) → IsGrammaticalOf form bytes → RefusesOf form bytes text → ⊥
 
 -- an input within the limit that the grammar allows ends so, or memory ran out
-pub completes : (form : Form) (told : List ℕ) (left' written written' : Option (List ℕ)) (reads reads' writes writes' : ℕ) (untouched : Type 0) (status : Status) → Tells form (Some told) left' written written' reads reads' writes writes' untouched status → length told ≤ input_limit → IsGrammaticalOf form told → ¬ FaultsRose reads reads' → ¬ FaultsRose writes writes' → (status ≡ Done) ⊎ (status ≡ OutOfMemory)
-completes form told left' written written' reads reads' writes writes' untouched Done tells few allowed no_read no_write = inl refl
-completes form told left' written written' reads reads' writes writes' untouched OutOfMemory tells few allowed no_read no_write = inr refl
-completes form told left' written written' reads reads' writes writes' untouched BadWords tells few allowed no_read no_write = absurd tells
-completes form told left' written written' reads reads' writes writes' untouched ReadFault tells few allowed no_read no_write = absurd (no_read tells.0)
-completes form told left' written written' reads reads' writes writes' untouched WriteFault tells few allowed no_read no_write = absurd (no_write tells.0)
-completes form told left' written written' reads reads' writes writes' untouched TooLong tells few allowed no_read no_write =
+pub completes : AllowedAreNotRefused → (form : Form) (told : List ℕ) (left' written written' : Option (List ℕ)) (reads reads' writes writes' : ℕ) (untouched : Type 0) (status : Status) → Tells form (Some told) left' written written' reads reads' writes writes' untouched status → length told ≤ input_limit → IsGrammaticalOf form told → ¬ FaultsRose reads reads' → ¬ FaultsRose writes writes' → (status ≡ Done) ⊎ (status ≡ OutOfMemory)
+completes not_refused form told left' written written' reads reads' writes writes' untouched Done tells few allowed no_read no_write = inl refl
+completes not_refused form told left' written written' reads reads' writes writes' untouched OutOfMemory tells few allowed no_read no_write = inr refl
+completes not_refused form told left' written written' reads reads' writes writes' untouched BadWords tells few allowed no_read no_write = absurd tells
+completes not_refused form told left' written written' reads reads' writes writes' untouched ReadFault tells few allowed no_read no_write = absurd (no_read tells.0)
+completes not_refused form told left' written written' reads reads' writes writes' untouched WriteFault tells few allowed no_read no_write = absurd (no_write tells.0)
+completes not_refused form told left' written written' reads reads' writes writes' untouched TooLong tells few allowed no_read no_write =
     let front = front_read told left' tells.0.bytes tells.0.reads in
     absurd (omega (arith, tells.0.over, ap length front.1, length-append tells.0.bytes front.0))
-completes form told left' written written' reads reads' writes writes' untouched BadInput tells few allowed no_read no_write =
+completes not_refused form told left' written written' reads reads' writes writes' untouched BadInput tells few allowed no_read no_write =
     let all : told ≡ tells.bytes = all_taken form told left' tells.bytes tells.input in
-    absurd (allowed_not_refused form tells.bytes tells.adds.text (subst (IsGrammaticalOf form) all allowed) tells.adds.named)
+    absurd (not_refused form tells.bytes tells.adds.text (subst (IsGrammaticalOf form) all allowed) tells.adds.named)

@@ -6,3 +6,4 @@ pub mod RightAnswers
 pub mod OneRequest
 pub mod OneAnswer
 pub mod OneText
+pub mod SomeAnswer

@@ -1,4 +1,4 @@
--- An input has one defined text at most, where each list of bits has one outcome as a command.
+-- An input has one text of answers and one fault line at most, where each list of bits has one outcome as a command.
 use Rattle.std.proofs.Common.{◌≡◌, ℕ, ◌+◌, List, [], ◌∷◌, ◌++◌, length, refl, sym, ◌∙◌, ap, subst, suc}
 use Rattle.std.specs.List.{AllZip, flat_map}
 use Rattle.std.proofs.lemmas.List.{append_cancel_right}
@@ -11,7 +11,7 @@ use Rattle.gen2run.specs.declared.decode.request.Request.{Request}
 use Rattle.gen2run.specs.declared.decode.request.FaultReason.{FaultReason}
 use Rattle.gen2run.specs.declared.decode.request.FaultReason.TheVariants.{End, Word, Shape, Number}
 use Rattle.gen2run.specs.declared.decode.request.DecodeFault.{DecodeFault}
-use Rattle.gen2run.proofs.OneReading.{kind_word-injective, same_fields, spelled_not_faulty, grammatical_not_faulty}
+use Rattle.gen2run.proofs.OneReading.{kind_word-injective, same_fields, spelled_not_faulty}
 use Rattle.gen2run.proofs.OneRequest.{same_request}
 use Rattle.gen2run.proofs.OneAnswer.{HasOneOutcome, same_answer}
 
@@ -131,7 +131,3 @@ same_refused bytes one other left right =
     let both = same_place mine.before yours.before mine.asked yours.asked mine.line yours.line mine.behind yours.behind left.fault.reason right.fault.reason
     mine.spelled yours.spelled (sym mine.cut ∙ yours.cut) mine.faulty yours.faulty in
     left.line ∙ same_fault_line left.fault right.fault (mine.number ∙ ap (λ n. n + 1) both.0 ∙ sym yours.number) both.1 ∙ sym right.line
-
--- no input has both answers and a fault line
-pub texts_apart : (bytes one other : List ℕ) → Decodes bytes one → IsFaultText bytes other → ⊥
-texts_apart bytes one other decodes refuses = grammatical_not_faulty bytes refuses.fault (decodes.requests, decodes.asks) refuses.first

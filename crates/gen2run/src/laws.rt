@@ -2,13 +2,18 @@
 ghost use Rattle.std.specs.Prelude.{◌≡◌, ℕ, List};
 ghost use Rattle.gen2run.specs.declared.forms.Form.{Form};
 ghost use Rattle.gen2run.specs.Form.{words_of};
-ghost use Rattle.gen2run.specs.Defined.{WritesOf, RefusesOf, DefinesOf};
+ghost use Rattle.gen2run.specs.Defined.{IsGrammaticalOf, WritesOf, RefusesOf, DefinesOf};
 
 use crate::decode::laws::decode_lines_have_one_text;
 
 /// A list of words is the spelling of one form at most.
 pub fn forms_are_told_apart()
     ensures { (one other : Form) → words_of one ≡ words_of other → one ≡ other }
+{}
+
+/// Under each form an input that the grammar allows has no fault line.
+pub fn grammatical_inputs_are_not_refused()
+    ensures { (form : Form) (bytes text : List ℕ) → IsGrammaticalOf form bytes → RefusesOf form bytes text → ⊥ }
 {}
 
 /// Under each form an input has one defined text at most: what the form has to write for it, or its fault
@@ -18,4 +23,5 @@ pub fn inputs_have_one_text()
     ensures apart { (form : Form) (bytes one other : List ℕ) → WritesOf form bytes one → RefusesOf form bytes other → ⊥ }
 {
     decode_lines_have_one_text();
+    grammatical_inputs_are_not_refused();
 }

@@ -9,6 +9,7 @@ ghost use Rattle.gen2run.specs.Outcome.{input_limit, WritesWhole, WritesFront, R
 use crate::decode::lines::decode_input;
 use crate::ending::{WriteEnd, Wrote};
 use crate::forms::{Form, form_of};
+use crate::laws::grammatical_inputs_are_not_refused;
 use crate::status::Status;
 use air_io::{ReadEnd, Sink, Source, read_to_end};
 use std::alloc::Global;
@@ -60,6 +61,8 @@ pub fn gen2run<I: Source, O: Sink>(
         → ¬ FaultsRose (I.faults input.old) (I.faults input.new) → ¬ FaultsRose (O.faults output.old) (O.faults output.new)
         → (result ≡ Status.Done) ⊎ (result ≡ Status.OutOfMemory) }
 {
+    // By this law an input that the grammar allows has no fault line.
+    grammatical_inputs_are_not_refused();
     match form_of(words) {
         Some(form) => answer_input(alloc, form, input, output),
         None => Status::BadWords,

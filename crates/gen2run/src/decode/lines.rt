@@ -38,7 +38,7 @@ pub fn decode_input<O: Sink>(alloc: Global, input: &[u8], output: &mut O) -> Res
 /// # Errors
 ///
 /// The first faulty line, with the first reason that applies to it.
-fn first_fault(input: &[u8]) -> Result<(), DecodeFault>
+pub fn first_fault(input: &[u8]) -> Result<(), DecodeFault>
     requires { length input.now ≤ input_limit }
     ensures ok { OnOk result (IsGrammatical input.now) }
     ensures fault { IfErr result (IsFirstFault input.now) }

@@ -5,4 +5,4 @@ use Rattle.gen2run.proofs.program.gen2run.Goals as goal
 pub returns-in-Some-clause-complete : goal.returns-in-Some-clause-complete
 returns-in-Some-clause-complete g c form spelled bytes told few allowed no_read no_write =
     let same : c.in-Some.form ≡ form = cc (c.in-Some.ensures.only form spelled) in
-    completes form bytes _ _ _ _ _ _ _ _ c.answer_input.result (rw (told, same) at c.answer_input.ensures) few allowed no_read no_write
+    completes c.grammatical_inputs_are_not_refused.ensures form bytes _ _ _ _ _ _ _ _ c.answer_input.result (rw (told, same) at c.answer_input.ensures) few allowed no_read no_write

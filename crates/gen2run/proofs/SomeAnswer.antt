@@ -1,0 +1,115 @@
+-- Each request within its limits has an answer, by the laws of what it asks for, and so has an input that asks for requests.
+use Rattle.std.proofs.Common.{◌≤◌, ◌⊎◌, ℕ, Bool, List, [], ◌∷◌, Result, Ok, Err, refl, inl, inr}
+use Rattle.std.specs.Prelude.{slice_index, OnOk, IfErr}
+use Rattle.std.specs.List.{AllZip, flat_map}
+use Rattle.bit_strings.specs.declared.code.Code.{Code}
+use Rattle.line_code.specs.Answer.{IsStreamAnswer}
+use Rattle.line_code.specs.declared.refusal.LineRefusal.{LineRefusal}
+use Rattle.line_codes.specs.Codes.{table_of}
+use Rattle.sample_slicer.specs.Samples.{IsSliceAnswer}
+use Rattle.sample_slicer.specs.declared.slicer.SliceRefusal.{SliceRefusal}
+use Rattle.reply_grammar.specs.Table.{AnswersExpected}
+use Rattle.reply_grammar.specs.Refusals.{RefusesReply}
+use Rattle.reply_grammar.specs.declared.expected.Expect.{Expect}
+use Rattle.reply_grammar.specs.declared.expected.Reply.{Reply}
+use Rattle.reply_grammar.specs.declared.expected.ReplyRefusal.{ReplyRefusal}
+use Rattle.reply_grammar.specs.declared.expected.Received.{Received}
+use Rattle.air_channel.specs.Received.{IsReceived}
+use Rattle.pie_line.specs.FrameAnswer.{HasOneAnswer}
+use Rattle.pie_line.specs.Refusal.{refusal_at}
+use Rattle.pie_line.specs.declared.frame.PieRefusal.TheVariants.{Unfinished}
+use Rattle.command_grammar.specs.Commands.{IsFinishAnswer}
+use Rattle.command_grammar.specs.declared.commands.Command.{Command}
+use Rattle.command_grammar.specs.declared.refusal.CommandRefusal.{CommandRefusal}
+use Rattle.gen2run.specs.Request.{IsWithinLimits, AsksForRequest}
+use Rattle.gen2run.specs.Answer.{Answer, IsLineAnswer, answer_line, streamed, sliced, replied, heard, framed, commanded}
+use Rattle.gen2run.specs.DecodeLines.{Decodes, IsGrammatical, IsFirstFault, fault_line}
+use Rattle.gen2run.specs.Defined.{DefinesOf}
+use Rattle.gen2run.specs.declared.forms.Form.TheVariants.{Decode}
+use Rattle.gen2run.specs.declared.decode.request.DecodeFault.{DecodeFault}
+use Rattle.gen2run.specs.declared.decode.request.Request.{Request}
+use Rattle.gen2run.specs.declared.decode.request.Request.TheVariants.{Stream, Samples, Reply as ReplyLine, Heard, Pie, Command as CommandLine}
+
+-- what the laws of lower crates say: levels have an answer in each code,
+abbrev pub StreamsHaveAnswers : Type 0
+StreamsHaveAnswers = (code : Code) (trext : Bool) (levels : List Bool) → (answer : Result (Unit {0}) LineRefusal) × IsStreamAnswer (table_of code) trext levels answer
+
+-- samples have one,
+abbrev pub SamplesHaveAnswers : Type 0
+SamplesHaveAnswers = (threshold per_level : ℕ) (samples : List ℕ) → 1 ≤ per_level → (answer : Result (List Bool) SliceRefusal) × IsSliceAnswer threshold per_level samples answer
+
+-- the bits of replies have one,
+abbrev pub RepliesHaveAnswers : Type 0
+RepliesHaveAnswers = (expect : Expect) (bits : List Bool) → ((reply : Reply) × AnswersExpected reply expect bits) ⊎ ((refusal : ReplyRefusal) × RefusesReply refusal expect bits)
+
+-- what is heard is received in some way,
+abbrev pub LevelsAreReceived : Type 0
+LevelsAreReceived = (code : Code) (trext : Bool) (expect : Expect) (levels : List Bool) → (received : Received) × IsReceived (table_of code) trext expect levels received
+
+-- intervals have an answer,
+abbrev pub FramesHaveAnswers : Type 0
+FramesHaveAnswers = (intervals : List ℕ) → HasOneAnswer intervals
+
+-- and the bits of commands have one
+abbrev pub CommandsHaveAnswers : Type 0
+CommandsHaveAnswers = (bits : List Bool) → (outcome : Result Command CommandRefusal) × IsFinishAnswer outcome bits
+
+-- the request has an answer
+abbrev HasAnswer : Request → Type 0
+HasAnswer request = (answer : Answer) × IsLineAnswer request answer
+
+streamed_as : (code : Code) (trext : Bool) (levels : List Bool) (answer : Result (Unit {0}) LineRefusal) → IsStreamAnswer (table_of code) trext levels answer → HasAnswer (Stream code trext levels)
+streamed_as code trext levels (Ok done) is = (streamed (Ok is.0), is.1)
+streamed_as code trext levels (Err refusal) is = (streamed (Err refusal), is)
+
+sliced_as : (threshold per_level : ℕ) (samples : List ℕ) (answer : Result (List Bool) SliceRefusal) → IsSliceAnswer threshold per_level samples answer → HasAnswer (Samples threshold per_level samples)
+sliced_as threshold per_level samples (Ok levels) is = (sliced (Ok levels), is)
+sliced_as threshold per_level samples (Err refusal) is = (sliced (Err refusal), is)
+
+replied_as : (expect : Expect) (bits : List Bool) → ((reply : Reply) × AnswersExpected reply expect bits) ⊎ ((refusal : ReplyRefusal) × RefusesReply refusal expect bits) → HasAnswer (ReplyLine expect bits)
+replied_as expect bits (inl is) = (replied (Ok is.0), is.1)
+replied_as expect bits (inr is) = (replied (Err is.0), is.1)
+
+framed_as : (intervals : List ℕ) → HasOneAnswer intervals → HasAnswer (Pie intervals)
+framed_as intervals answers = elim answers.some [
+  | inl frame ↦ (framed (Ok (frame.0, frame.1)), frame.2)
+  | inr refused ↦ elim refused [
+    | inl bad ↦ (framed (Err (refusal_at bad.0 (slice_index intervals bad.0))), inl (bad.0, record { bad = bad.1; named = refl }))
+    | inr short ↦ (framed (Err (Unfinished short.0)), inr (short.0, record { short = short.1; named = refl }))
+  ]
+]
+
+-- a request within its limits has an answer
+pub some_answer : StreamsHaveAnswers → SamplesHaveAnswers → RepliesHaveAnswers → LevelsAreReceived → FramesHaveAnswers → CommandsHaveAnswers
+    → (request : Request) → IsWithinLimits request → HasAnswer request
+some_answer streams slices replies received frames commands (Stream code trext levels) within = let is = streams code trext levels in streamed_as code trext levels is.0 is.1
+some_answer streams slices replies received frames commands (Samples threshold per_level samples) within = let is = slices threshold per_level samples within.1 in sliced_as threshold per_level samples is.0 is.1
+some_answer streams slices replies received frames commands (ReplyLine expect bits) within = replied_as expect bits (replies expect bits)
+some_answer streams slices replies received frames commands (Heard code trext expect levels) within = let is = received code trext expect levels in (heard is.0, is.1)
+some_answer streams slices replies received frames commands (Pie intervals) within = framed_as intervals (frames intervals)
+some_answer streams slices replies received frames commands (CommandLine bits) within = let is = commands bits in (commanded is.0, is.1)
+
+-- what the law of requests says
+abbrev pub RequestsHaveAnswers : Type 0
+RequestsHaveAnswers = (request : Request) → IsWithinLimits request → (answer : Answer) × IsLineAnswer request answer
+
+-- requests that lines ask for have answers
+some_answers : RequestsHaveAnswers → (lines : List (List ℕ)) (asked : List Request) → AllZip AsksForRequest lines asked → (answers : List Answer) × AllZip IsLineAnswer asked answers
+some_answers have [] [] asks = ([], tt)
+some_answers have [] (r ∷ asked) asks = absurd asks
+some_answers have (l ∷ lines) [] asks = absurd asks
+some_answers have (l ∷ lines) (r ∷ asked) asks =
+    let first = have r asks.0.asks.limits in
+    let others = some_answers have lines asked asks.1 in
+    (first.0 ∷ others.0, (first.1, others.1))
+
+-- a grammatical input has a text of answers
+some_decoded : RequestsHaveAnswers → (bytes : List ℕ) → IsGrammatical bytes → (text : List ℕ) × Decodes bytes text
+some_decoded have bytes asks =
+    let all = some_answers have asks.1.lines asks.0 asks.1.each in
+    (flat_map answer_line all.0, record { requests = asks.0; asks = asks.1; answers = record { answers = all.0; each = all.1; lines = refl } })
+
+-- an input that is grammatical or has a first faulty line has a defined text
+pub some_text : RequestsHaveAnswers → (bytes : List ℕ) (checked : Result (Unit {0}) DecodeFault) → OnOk checked (IsGrammatical bytes) → IfErr checked (IsFirstFault bytes) → (text : List ℕ) × DefinesOf Decode bytes text
+some_text have bytes (Ok done) asks faulty = let decoded = some_decoded have bytes asks in (decoded.0, inl decoded.1)
+some_text have bytes (Err fault) asks faulty = (fault_line fault, inr (record { fault = fault; first = faulty; line = refl }))
