@@ -1,1 +1,6 @@
 pub mod Receiving
+pub mod Keeping
+pub mod Givings
+pub mod Sending
+pub mod Populations
+pub mod Exchanging

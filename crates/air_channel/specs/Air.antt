@@ -1,12 +1,12 @@
 -- Profile: what a contract sees of the air between one interrogator and a population of tags, and what an exchange makes of it.
-use Rattle.std.specs.Prelude.{ℕ, ◌+◌, ◌<◌, ◌≤◌, ◌==◌, Bool, List, length, All, Option, Some, None, if◌then◌else◌}
+use Rattle.std.specs.Prelude.{ℕ, ◌+◌, ◌<◌, ◌==◌, Bool, List, length, All, if◌then◌else◌}
 use Rattle.std.specs.List.{AllByRecursion}
 use Rattle.air_events.specs.declared.Entry.{Entry}
 use Rattle.air_events.specs.declared.Event.{Event}
 use Rattle.command_grammar.specs.declared.commands.Command.{Command}
 use Rattle.pie_line.specs.Link.{LinkValue}
 use Rattle.tag_machine.specs.TagValue.{TagValue, IsLegalTag}
-use Rattle.tag_machine.specs.Answers.{Outcome, IsSent}
+use Rattle.tag_machine.specs.Answers.{Outcome}
 use Rattle.air_channel.specs.Exchange.{Replied, outcomes_from, replies_from, tags_after, tags_after_event}
 use Rattle.air_channel.specs.Channel.{Given, given_of, heard_levels, wave_for}
 

@@ -6,3 +6,9 @@ pub mod Air
 pub mod Reception
 pub mod ReceptionLaws
 pub mod Past
+pub mod Seats
+pub mod Kept
+pub mod Giving
+pub mod Hearing
+pub mod Rooms
+pub mod Lent

@@ -1,4 +1,31 @@
 //! The air between one interrogator and a population of tags.
+ghost use Rattle.std.specs.Prelude.{◌≡◌, ◌+◌, ◌<◌, ◌≤◌, [], All, Some, length, slice_get, IfOk};
+ghost use Rattle.std.specs.Borrow.{sem};
+ghost use Rattle.command_grammar.specs.Commands.{IsLegalCommand};
+ghost use Rattle.tag_machine.specs.Hearing.{tag_value_of};
+ghost use Rattle.tag_machine.specs.TagValue.{IsLegalTag};
+ghost use Rattle.air_channel.specs.Air.{AreLegalTags, NamesTags, air_after, air_after_event, given_in, next_exchange};
+ghost use Rattle.air_channel.specs.Channel.{got_of};
+ghost use Rattle.air_channel.specs.Exchange.{hearers_from};
+ghost use Rattle.air_channel.specs.Lent.{KeepsAir};
+
+use crate::population::Population;
+use crate::replies::Replies;
+use crate::transmit::transmit;
+use bit_strings::{Bits, Levels, OutOfMemory};
+use command_grammar::Command;
+use pie_line::{Intervals, Link};
+use std::alloc::Global;
+use std::marker::Model;
+use std::sync::ledger::Ledger;
+use tag_machine::{AnyTag, Entry, Event, Steps};
+
+/// How many bits of a command there is room for, and how many intervals of its frame: more than the 4,162 and
+/// the 8,331 of the longest command.
+const COMMAND_ROOM: u32 = 8400;
+
+/// How many levels there is room for: more than the 131,968 of the longest reply's stream.
+const STREAM_ROOM: u32 = 132_208;
 
 /// Whether an interrogator hears anything in reply to a command.
 #[derive(Clone, Copy, Debug, PartialEq, Eq)]
@@ -7,4 +34,154 @@ pub enum Got {
     Silence,
     /// A stream of levels.
     Stream,
+}
+
+/// The air between one interrogator and a population of tags, with the buffers for what goes through it.
+///
+/// A contract sees the link, the tags, the frame that was sent last, the stream that came back, the number of
+/// tags that replied, and the number of exchanges.
+#[derive(Drop)]
+pub struct Air {
+    link: Link,
+    population: Population,
+    bits: Bits,
+    frame: Intervals,
+    replies: Replies,
+    stream: Levels,
+    exchanges: u64,
+}
+
+impl Model for Air {
+    ghost use Rattle.air_channel.specs.Air.{AirValue};
+    ghost use Rattle.air_channel.specs.Rooms.{HasRoom};
+
+    ghost Value = { AirValue };
+
+    ghost view = { λ a. record { link = a.link; tags = a.population; frame = a.frame.items; stream = a.stream.items; replies = a.replies.count; exchanges = a.exchanges } };
+
+    ghost invariant = { λ a. HasRoom a.bits a.frame a.stream };
+}
+
+impl Air {
+    /// The air between this population and an interrogator with this link. It takes all memory that exchanges
+    /// want.
+    pub fn new(alloc: Global, population: Population, link: Link) -> Result<Air, OutOfMemory>
+        ensures { IfOk result (λ air. air ≡ record { link = link; tags = population; frame = []; stream = []; replies = 0; exchanges = 0 }) }
+    {
+        let bits = Bits::new(alloc, COMMAND_ROOM)?;
+        let frame = Intervals::new(alloc, COMMAND_ROOM)?;
+        let replies = Replies::new(alloc)?;
+        let stream = Levels::new(alloc, STREAM_ROOM)?;
+        Ok(Air {
+            link,
+            population,
+            bits,
+            frame,
+            replies,
+            stream,
+            exchanges: 0,
+        })
+    }
+
+    /// Sends a command, and says whether the channel gives anything in reply. The entry's events happen first.
+    /// Then each tag that doesn't miss the command hears what it reads from the frame, and takes one step.
+    pub fn exchange<L: Ledger>(
+        &mut self,
+        command: &Command,
+        entry: &Entry,
+        steps: &mut Steps<L>,
+    ) -> Got
+        requires named { NamesTags (length self.old.tags) entry.now }
+        ensures air { self.new ≡ air_after self.old command.now entry.now }
+        ensures got { result ≡ got_of (given_in command.now entry.now self.old.tags) }
+        ensures counted { steps.new ≡ steps.old + hearers_from 0 entry.now self.old.tags }
+        ensures legal { AreLegalTags self.new.tags }
+        ensures command { IsLegalCommand command.now }
+    {
+        self.population.befall_all(entry.events.as_slice());
+        let heard = transmit(&self.link, command, &mut self.bits, &mut self.frame);
+        self.replies.begin(&entry.choice);
+        self.population
+            .hear(&heard, entry, &mut self.replies, steps);
+        self.exchanges = next_exchange(self.exchanges);
+        self.replies
+            .give(&entry.choice, &self.link, &mut self.stream)
+    }
+
+    /// Lets an event befall the tag with this number.
+    pub fn event(&mut self, event: Event, tag: u32)
+        requires { tag < length self.old.tags }
+        ensures air { self.new ≡ air_after_event self.old event tag }
+        ensures legal { AreLegalTags self.new.tags }
+    {
+        self.population.befall(event, tag);
+    }
+
+    /// The link.
+    pub fn link(&self) -> &Link
+        ensures { result.now ≡ self.now.link }
+    {
+        &self.link
+    }
+
+    /// How many tags there are.
+    pub fn len(&self) -> u32
+        ensures count { result ≡ length self.now.tags }
+        ensures few { length self.now.tags ≤ 256 }
+    {
+        self.population.len()
+    }
+
+    /// The tag with this number. It takes at most one step.
+    pub fn tag<L: Ledger>(&mut self, number: u32, _steps: &mut Steps<L>) -> &AnyTag
+        requires { number < length self.old.tags }
+        ensures* same { sem 𝓛 (KeepsAir self.entry) }
+        ensures tag { slice_get self.old.tags number ≡ Some (tag_value_of result.now) }
+        ensures legal { IsLegalTag (tag_value_of result.now) }
+        ensures counted { _steps.new ≤ _steps.old + 1 }
+    {
+        self.population.tag(number)
+    }
+
+    /// The frame that was sent last, in nanoseconds; none before the first exchange.
+    pub fn intervals(&self) -> &Intervals
+        ensures value { result.now.items ≡ self.now.frame }
+        ensures count { length self.now.frame ≤ 8331 }
+        ensures each { All (λ interval. interval ≤ 999999) self.now.frame }
+    {
+        &self.frame
+    }
+
+    /// The stream of the last exchange; none after silence, and before the first exchange.
+    pub fn stream(&self) -> &Levels
+        ensures value { result.now.items ≡ self.now.stream }
+        ensures count { length self.now.stream ≤ 131968 }
+    {
+        &self.stream
+    }
+
+    /// How many tags replied in the last exchange.
+    pub fn replies(&self) -> u32
+        ensures { result ≡ self.now.replies }
+    {
+        self.replies.count()
+    }
+
+    /// How many exchanges there were. The number stays at its last value.
+    pub fn exchanges(&self) -> u64
+        ensures { result ≡ self.now.exchanges }
+    {
+        self.exchanges
+    }
+}
+
+/// The number of exchanges with one more.
+fn next_exchange(exchanges: u64) -> u64
+    ensures { result ≡ next_exchange exchanges }
+{
+    if exchanges == u64::MAX {
+        exchanges
+    } else {
+        exchanges + 1
+    }
 }

@@ -3,11 +3,16 @@
 
 mod air;
 mod laws;
+mod population;
 mod receive_reply;
+mod replies;
+mod seat;
+mod transmit;
 
-pub use air::Got;
+pub use air::{Air, Got};
 pub use laws::{kinds_received, one_received, reception_law, reply_received};
 pub use line_codes::Code;
+pub use population::Population;
 pub use receive_reply::receive;
 pub use reply_grammar::{Expect, Received, Reply};
 

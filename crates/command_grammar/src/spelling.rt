@@ -20,6 +20,16 @@ pub fn encode_command(command: &Command, out: &mut Bits)
     requires { command_room ≤ out.old.capacity }
     ensures spelled { out.new ≡ record out.old { items = spelling_of command.now } }
     ensures legal { IsLegalCommand command.now }
+    ensures count { length out.new.items ≤ 4162 }
+{
+    write_command(command, out);
+}
+
+/// Writes the one spelling of a command.
+fn write_command(command: &Command, out: &mut Bits)
+    requires { command_room ≤ out.old.capacity }
+    ensures spelled { out.new ≡ record out.old { items = spelling_of command.now } }
+    ensures legal { IsLegalCommand command.now }
 {
     out.clear();
     match command {
