@@ -2,3 +2,4 @@ pub mod History
 pub mod Listing
 pub mod ScenarioStart
 pub mod Report
+pub mod Headline
