@@ -107,7 +107,7 @@ begins_slot command = false
 
 -- the record is one of the round, and its command begins a slot
 abbrev pub begins_slot_of : ℕ → Record → Bool
-begins_slot_of round sent = sent.round == round && begins_slot sent.command
+begins_slot_of round sent = begins_slot sent.command && sent.round == round
 
 -- the records of a round whose commands begin slots, the latest first
 abbrev pub slots_of_round : ℕ → List Item → List Record
