@@ -28,7 +28,7 @@ pub slot-exchanges : (start : Start) (round slot : ℕ) (command : Command) (pas
     → exchanges_in (past_behind_slot start round slot command past) ≤ exchanges_in past + 2
 slot-exchanges start round slot command past =
     let answer : exchanges_in (past_behind_slot start round slot command past) ≤ exchanges_in past + 1 + 1 =
-        answer-exchanges start round slot (slot_reception start round slot command past) (past_behind_command start round slot command past) in
+    answer-exchanges start round slot (slot_reception start round slot command past) (past_behind_command start round slot command past) in
     omega arith
 
 pub round-exchanges : RoundsKeepLimit → (start : Start) (spec : SpecValue) (past : List Item) → IsLegalSpec spec
@@ -39,7 +39,7 @@ round-exchanges keeps start spec past legal =
     (record {
       slot = λ outcomes now command are is holds.
           let more : exchanges_in (past_behind_slot start (rounds_in past + 1) (length outcomes + 1) command now) ≤ exchanges_in now + 2 =
-              slot-exchanges start (rounds_in past + 1) (length outcomes + 1) command now in
+          slot-exchanges start (rounds_in past + 1) (length outcomes + 1) command now in
           omega arith;
       end = λ outcomes now end are is holds.
           let few : length outcomes ≤ spec.limit = few-outcomes keeps spec outcomes legal are in

@@ -46,9 +46,9 @@ sent-no-line mode link round sent past =
     let test = is_round_line round in
     filter-append test (past_lines mode link past) (item_lines mode link (exchanged sent))
     ∙ ap (λ (lines : List ReportLine). filter test (past_lines mode link past) ++ lines)
-      (filter-append test (trace_lines mode link sent) (map list_line (listed_by sent))
-       ∙ ap (λ (lines : List ReportLine). lines ++ filter test (map list_line (listed_by sent))) (no-trace round mode link sent)
-       ∙ no-listed round (listed_by sent))
+    (filter-append test (trace_lines mode link sent) (map list_line (listed_by sent))
+    ∙ ap (λ (lines : List ReportLine). lines ++ filter test (map list_line (listed_by sent))) (no-trace round mode link sent)
+    ∙ no-listed round (listed_by sent))
     ∙ append-nil (filter test (past_lines mode link past))
 
 befell-no-line : (mode : Mode) (link : LinkValue) (round : ℕ) (past : List Item)
@@ -400,10 +400,10 @@ round-keeps keeps mode start before after spec operations legal =
     let count : rounds_in past ≡ rounds_of before = numbered.count ∙ omega arith in
     let own : IsBehind mode start.link (rounds_in past + 1) spec.limit behind = round-settles keeps mode start spec past legal_after.0 (numbered.fresh (rounds_in past + 1) (omega arith)) in
     let same : SameOf mode start.link (rounds_in past + 1) behind (past_behind start after behind) =
-        steps-same keeps mode start after behind (rounds_in past + 1) legal_after.1 (omega arith) (omega (arith, own.rounds)) in
+    steps-same keeps mode start after behind (rounds_in past + 1) legal_after.1 (omega arith) (omega (arith, own.rounds)) in
     let settled : Settled mode start.link (rounds_in past + 1) spec.limit (past_behind start after behind) =
-        settled-on mode start.link (rounds_in past + 1) spec.limit behind (past_behind start after behind) same own.settled in
+    settled-on mode start.link (rounds_in past + 1) spec.limit behind (past_behind start after behind) same own.settled in
     let here : history_of start all ≡ past_behind start after behind = past_behind-append start before (steps.Round spec operations ∷ after) [] in
     settled-keeps mode start (history_of start all) (rounds_of before + 1) spec.limit
     (subst (λ (history : List Item). Settled mode start.link (rounds_of before + 1) spec.limit history) (sym here)
-     (subst (λ (round : ℕ). Settled mode start.link round spec.limit (past_behind start after behind)) (ap (λ n. n + 1) count) settled))
+    (subst (λ (round : ℕ). Settled mode start.link round spec.limit (past_behind start after behind)) (ap (λ n. n + 1) count) settled))

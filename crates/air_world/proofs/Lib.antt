@@ -1,3 +1,4 @@
 pub mod Growth
 pub mod HeadlineCounts
 pub mod HeadlineSlots
+pub mod HeadlineTags
