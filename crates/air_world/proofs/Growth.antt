@@ -165,6 +165,17 @@ turns-hold During After start round spec keeps legal each (suc left) outcomes pa
     (λ outcome behind more during. turns-hold During After start round spec keeps legal each left (outcome ∷ outcomes) behind (omega arith) more during)
     (next_command spec start.link outcomes) refl
 
+-- ... also where the limit is none, of what holds at each moment
+pub always-holds : (Holds : List Item → Type 0) (start : Start) (round : ℕ) (spec : SpecValue)
+    → RoundSteps (λ outcomes past. Holds past) Holds start round spec
+    → (left : ℕ) (outcomes : List Outcome) (past : List Item) → AreOutcomes spec outcomes → Holds past
+    → Holds (past_behind_turns left start round spec outcomes past)
+always-holds Holds start round spec each zero outcomes past are holds = holds
+always-holds Holds start round spec each (suc left) outcomes past are holds =
+    turn-holds (λ outcomes past. Holds past) Holds start round spec each (past_behind_turns left start round spec) outcomes past are holds
+    (λ outcome behind more during. always-holds Holds start round spec each left (outcome ∷ outcomes) behind more during)
+    (next_command spec start.link outcomes) refl
+
 -- ... and behind a whole round
 pub round-holds : (During : List Outcome → List Item → Type 0) (After : List Item → Type 0) (start : Start) (spec : SpecValue) (past : List Item)
     → RoundsKeepLimit → IsLegalSpec spec → RoundSteps During After start (rounds_in past + 1) spec → During [] past

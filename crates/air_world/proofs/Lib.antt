@@ -2,3 +2,4 @@ pub mod Growth
 pub mod HeadlineCounts
 pub mod HeadlineSlots
 pub mod HeadlineTags
+pub mod HeadlineSent
