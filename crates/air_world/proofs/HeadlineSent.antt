@@ -113,7 +113,6 @@ record IsLineOf (sent : Record) (reply : Reply) (round slot pc : ℕ) (epc : Lis
   pub slot_is : sent.slot ≡ slot
   pub reply_is : reply ≡ replies.Epc pc epc
 
-
 line-of : (sent : Record) (reply : Reply) (expected : Bool) (round slot pc : ℕ) (epc : List ℕ)
     → Among (ListLine round slot pc epc) (map list_line (listed_from sent (if expected then whole_reply reply else no_such_reply)))
     → IsLineOf sent reply round slot pc epc
@@ -181,8 +180,8 @@ told-item mode link (ended number end slots) past round slot pc epc (inl is) = a
 told-item mode link (ended number end slots) past round slot pc epc (inr none) = absurd none
 told-item mode link (exchanged sent) past round slot pc epc among =
     elim (among-split (ListLine round slot pc epc) (trace_lines mode link sent) (map list_line (listed_by sent)) among) [
-      inl found ↦ absurd (told-trace mode link sent round slot pc epc found)
-    | inr found ↦ record {
+      | inl found ↦ absurd (told-trace mode link sent round slot pc epc found)
+      | inr found ↦ record {
         sent = sent;
         earlier = past;
         recorded = record { later = []; is = refl };
@@ -195,8 +194,8 @@ pub told : (mode : Mode) (link : LinkValue) (past : List Item) (round slot pc : 
 told mode link [] round slot pc epc among = absurd (told-first mode link round slot pc epc among)
 told mode link (item ∷ past) round slot pc epc among =
     elim (among-split (ListLine round slot pc epc) (past_lines mode link past) (item_lines mode link item) among) [
-      inl found ↦ told-later item past round slot pc epc (told mode link past round slot pc epc found)
-    | inr found ↦ told-item mode link item past round slot pc epc found
+      | inl found ↦ told-later item past round slot pc epc (told mode link past round slot pc epc found)
+      | inr found ↦ told-item mode link item past round slot pc epc found
     ]
 
 -- behind the steps nothing is listed
@@ -213,8 +212,8 @@ pub told-report : (mode : Mode) (start : Start) (past : List Item) (round slot p
     → Among (ListLine round slot pc epc) (past_lines mode start.link past ++ last_lines start past) → IsTold past round slot pc epc
 told-report mode start past round slot pc epc among =
     elim (among-split (ListLine round slot pc epc) (past_lines mode start.link past) (last_lines start past) among) [
-      inl found ↦ told mode start.link past round slot pc epc found
-    | inr found ↦ absurd (none-last (seen_in (map (λ listed. (listed.pc, listed.epc)) (listing_of past))) 0 (tags_behind start past) round slot pc epc found)
+      | inl found ↦ told mode start.link past round slot pc epc found
+      | inr found ↦ absurd (none-last (seen_in (map (λ listed. (listed.pc, listed.epc)) (listing_of past))) 0 (tags_behind start past) round slot pc epc found)
     ]
 
 among-get : {A : Type 0} (list : List A) (place : ℕ) (item : A) → slice_get list place ≡ Some item → Among item list
@@ -280,7 +279,7 @@ answerer-here number command entry past start starts replied among =
       answered = subst (λ n. (outcome_in n command entry (tag_behind n start past)).answer ≡ Some replied.sent) (sym same) is;
       heard = λ hears. subst (λ n. Among n (hearers_of number entry (tags_behind_from number (start ∷ starts) past))) (sym same)
           (hearer-here number (is_hearer number entry (tag_behind number start past)) (hearers_of (number + 1) entry (tags_behind_from (number + 1) starts past))
-           (subst (λ n. is_hearer n entry (tag_behind n start past) ≡ true) same hears));
+          (subst (λ n. is_hearer n entry (tag_behind n start past) ≡ true) same hears));
     }
 
 answerer : (number : ℕ) (command : Command) (entry : Entry) (past : List Item) (starts : List TagValue) (replied : Replied)
@@ -289,19 +288,19 @@ answerer : (number : ℕ) (command : Command) (entry : Entry) (past : List Item)
 answerer number command entry past [] replied among = absurd among
 answerer number command entry past (start ∷ starts) replied among =
     elim (among-split replied (reply_of number (outcome_in number command entry (tag_behind number start past)).answer)
-          (replies_from (number + 1) (outcomes_from (number + 1) command entry (tags_behind_from (number + 1) starts past))) among) [
-      inl found ↦ answerer-here number command entry past start starts replied found
-    | inr found ↦
-        let rest = answerer (number + 1) command entry past starts replied found in
-        record {
-          tag = rest.tag;
-          place = suc rest.place;
-          numbered = rest.numbered;
-          number_is = rest.number_is ∙ omega arith;
-          answered = rest.answered;
-          heard = λ hears. hearer-later replied.number number (is_hearer number entry (tag_behind number start past))
-              (hearers_of (number + 1) entry (tags_behind_from (number + 1) starts past)) (rest.heard hears);
-        }
+    (replies_from (number + 1) (outcomes_from (number + 1) command entry (tags_behind_from (number + 1) starts past))) among) [
+      | inl found ↦ answerer-here number command entry past start starts replied found
+      | inr found ↦
+          let rest = answerer (number + 1) command entry past starts replied found in
+          record {
+            tag = rest.tag;
+            place = suc rest.place;
+            numbered = rest.numbered;
+            number_is = rest.number_is ∙ omega arith;
+            answered = rest.answered;
+            heard = λ hears. hearer-later replied.number number (is_hearer number entry (tag_behind number start past))
+                (hearers_of (number + 1) entry (tags_behind_from (number + 1) starts past)) (rest.heard hears);
+          }
     ]
 
 -- what a tag becomes by a command that it didn't miss
@@ -334,14 +333,14 @@ from-tag start sent earlier rn replied made acknowledges given =
     let hearers_are : sent.hearers ≡ hearers_of 0 entry (tags_behind start earlier) = ap (λ (r : Record). r.hearers) made in
     let given_is : given_in sent.command entry (tags_behind start earlier) ≡ whole replied = sym (ap (λ (r : Record). r.given) made) ∙ given in
     let among : Among replied (replies_in sent.command entry (tags_behind start earlier)) =
-        given-among (replies_in sent.command entry (tags_behind start earlier)) entry.choice replied given_is in
+    given-among (replies_in sent.command entry (tags_behind start earlier)) entry.choice replied given_is in
     let by = answerer 0 sent.command entry earlier start.tags replied among in
     let tag = tag_after_events replied.number entry.events (tag_behind replied.number by.tag earlier) in
     let heard : Hears (is_missed replied.number entry) sent.command tag replied.sent = hears (is_missed replied.number entry) sent.command tag replied.sent by.answered in
     let present : is_present tag.state ≡ true =
-        answers-present rn tag.state tag.body replied.sent (subst (λ (c : Command). (step c tag.state tag.body).answer ≡ Some replied.sent) acknowledges heard.answered) in
+    answers-present rn tag.state tag.body replied.sent (subst (λ (c : Command). (step c tag.state tag.body).answer ≡ Some replied.sent) acknowledges heard.answered) in
     let tag_same : tag_in sent earlier replied.number by.tag ≡ tag =
-        ap (λ (e : Entry). tag_after_events replied.number e.events (tag_behind replied.number by.tag earlier)) entry_is in
+    ap (λ (e : Entry). tag_after_events replied.number e.events (tag_behind replied.number by.tag earlier)) entry_is in
     record {
       tag = by.tag;
       numbered = subst (λ place. slice_get start.tags place ≡ Some by.tag) (sym (by.number_is ∙ omega arith)) by.numbered;

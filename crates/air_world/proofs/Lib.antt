@@ -3,3 +3,5 @@ pub mod HeadlineCounts
 pub mod HeadlineSlots
 pub mod HeadlineTags
 pub mod HeadlineSent
+pub mod HeadlineListed
+pub mod HeadlineLegal

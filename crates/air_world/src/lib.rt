@@ -4,5 +4,8 @@
 mod laws;
 mod mode;
 
-pub use laws::{exchanges_are_few, rounds_keep_their_limits, tags_are_as_heard};
+pub use laws::{
+    exchanges_are_few, list_lines_are_sent_by_tags, replies_are_listed_once,
+    rounds_keep_their_limits, scenario_steps_are_legal, tags_are_as_heard,
+};
 pub use mode::{Mode, PlayFault};
