@@ -303,7 +303,7 @@ step-rounds keeps mode start step past legal =
     (step-passes keeps mode start step past (rounds_in past + rounds_of (step ∷ []) + 1) legal (omega arith) (inr (omega arith))).rounds
 
 -- a step leaves the rounds that are still to come untouched
-step-fresh : RoundsKeepLimit → (mode : Mode) (start : Start) (step : Step) (past : List Item) → IsLegalStep step
+pub step-fresh : RoundsKeepLimit → (mode : Mode) (start : Start) (step : Step) (past : List Item) → IsLegalStep step
     → Fresh mode start.link past → Fresh mode start.link (past_behind_step start step past)
 step-fresh keeps mode start step past legal fresh of above =
     let now = past_behind_step start step past in

@@ -5,3 +5,4 @@ pub mod HeadlineTags
 pub mod HeadlineSent
 pub mod HeadlineListed
 pub mod HeadlineLegal
+pub mod HistoryGrowth

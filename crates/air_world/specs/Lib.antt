@@ -3,3 +3,4 @@ pub mod Listing
 pub mod ScenarioStart
 pub mod Report
 pub mod Headline
+pub mod HistoryLaws

@@ -1,10 +1,11 @@
 //! What the history and the report of every run say.
-ghost use Rattle.std.specs.Prelude.{◌≡◌, ℕ, ◌+◌, ◌*◌, ◌≤◌, List, [], ◌∷◌, ◌++◌, length, filter, Contains};
+ghost use Rattle.std.specs.Prelude.{◌≡◌, ℕ, ◌+◌, ◌*◌, ◌≤◌, List, [], ◌∷◌, ◌++◌, length, filter, Contains, Some, None};
 ghost use Rattle.access_ops.specs.declared.OpList.{OpList};
 ghost use Rattle.air_channel.specs.Exchange.{Replied};
 ghost use Rattle.air_channel.specs.Past.{Start, Record, Item, exchanges_in};
 ghost use Rattle.air_world.specs.Headline.{AreLegalSteps, IsRecordOf, Acknowledges, IsGivenWhole, IsSentByATag, KeepsLimit, most_exchanges, rounds_of, is_list_line, is_tag_line, tag_lines_behind};
 ghost use Rattle.air_world.specs.History.{history_of};
+ghost use Rattle.air_world.specs.HistoryLaws.{GrowsByNext, next_item};
 ghost use Rattle.air_world.specs.Report.{report_of};
 ghost use Rattle.air_world.specs.declared.mode.Mode.{Mode};
 ghost use Rattle.q_round.specs.SpecValue.{SpecValue};
@@ -20,6 +21,20 @@ use q_round::round_laws;
 pub fn scenario_steps_are_legal()
     ensures { (scenario : Scenario) → IsScenario scenario → AreLegalSteps scenario.steps }
 {}
+
+/// The history of a run is the one list of items, the latest first, that starts empty, grows by the next
+/// item alone, and stops where there is none. What comes next goes by the start, the steps and what is
+/// past.
+pub fn histories_grow_by_the_next_item()
+    ensures grows { (start : Start) (steps : List Step) → AreLegalSteps steps → GrowsByNext start steps (history_of start steps) }
+    ensures item { (start : Start) (steps : List Step) (later : List Item) (item : Item) (earlier : List Item) → AreLegalSteps steps →
+        history_of start steps ≡ later ++ item ∷ earlier → next_item start steps earlier ≡ Some item }
+    ensures stops { (start : Start) (steps : List Step) → AreLegalSteps steps → next_item start steps (history_of start steps) ≡ None }
+    ensures one { (start : Start) (steps : List Step) (past : List Item) → AreLegalSteps steps →
+        GrowsByNext start steps past → next_item start steps past ≡ None → past ≡ history_of start steps }
+{
+    round_laws();
+}
 
 /// A run has at most one exchange for each Select or NAK and two for each slot that a round may have,
 /// and so at most 140,000 for each of its steps.
