@@ -79,3 +79,10 @@ few-exchanges (steps.Round spec operations ∷ later) legal =
     let most : spec.limit ≤ 70000 = legal.0.limit.1 in
     let few = few-exchanges later legal.1 in
     omega arith
+
+-- what is added to a past takes no exchange away
+pub exchanges-grow : (own past : List Item) → exchanges_in past ≤ exchanges_in (own ++ past)
+exchanges-grow [] past = omega arith
+exchanges-grow (befell event number ∷ own) past = exchanges-grow own past
+exchanges-grow (exchanged sent ∷ own) past = let more = exchanges-grow own past in omega arith
+exchanges-grow (ended round end slots ∷ own) past = exchanges-grow own past

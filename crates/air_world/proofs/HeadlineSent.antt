@@ -9,13 +9,14 @@ use Rattle.air_channel.specs.Reception.{Reception, no_stream, whole_reply, no_su
 use Rattle.air_events.specs.declared.Choice.{Choice}
 use Rattle.air_events.specs.declared.Choice.TheVariants as choices
 use Rattle.air_events.specs.declared.Entry.{Entry}
-use Rattle.air_world.specs.Headline.{IsRecordOf, Acknowledges, tag_in, IsFromTag, IsGivenWhole, IsSentByATag}
+use Rattle.air_world.specs.Headline.{AreLegalSteps, IsRecordOf, Acknowledges, tag_in, IsFromTag, IsGivenWhole, IsSentByATag}
 use Rattle.air_world.specs.History.{past_behind_answer, slot_reception, past_behind_slot, past_behind_round, past_behind_step, past_behind, history_of}
 use Rattle.air_world.specs.Listing.{Listed, reception_of_ack, listed_from, listed_by, listing_of}
-use Rattle.air_world.specs.Report.{first_lines, trace_lines, list_line, item_lines, past_lines, seen_lines, tag_lines, last_lines}
+use Rattle.air_world.specs.Report.{first_lines, trace_lines, list_line, item_lines, past_lines, seen_lines, tag_lines, last_lines, report_of}
 use Rattle.air_world.specs.declared.mode.Mode.{Mode}
 use Rattle.air_world.specs.declared.mode.Mode.TheVariants.{Plain, Trace}
-use Rattle.air_world.proofs.Growth.{RoundSteps, always-holds}
+use Rattle.air_world.proofs.Growth.{RoundsKeepLimit, RoundSteps, always-holds}
+use Rattle.air_world.proofs.HeadlineListed.{one-ack}
 use Rattle.command_grammar.specs.declared.commands.Command.{Command}
 use Rattle.command_grammar.specs.declared.commands.Command.TheVariants as commands
 use Rattle.pie_line.specs.Link.{LinkValue}
@@ -352,12 +353,12 @@ from-tag start sent earlier rn replied made acknowledges given =
           (contains-of replied (replies_in sent.command entry (tags_behind start earlier)) among);
     }
 
-pub sent-by-a-tag : (mode : Mode) (start : Start) (steps : List Step) (round slot pc : ℕ) (epc : List ℕ)
-    → Contains (past_lines mode start.link (history_of start steps) ++ last_lines start (history_of start steps)) (ListLine round slot pc epc)
-    → IsSentByATag start (history_of start steps) round slot pc epc
-sent-by-a-tag mode start steps round slot pc epc contains =
+-- a list line is that of one record, which has what a tag sent
+pub sent-by-a-tag : RoundsKeepLimit → (mode : Mode) (start : Start) (steps : List Step) (round slot pc : ℕ) (epc : List ℕ) → AreLegalSteps steps
+    → Contains (report_of mode start steps) (ListLine round slot pc epc) → IsSentByATag start (history_of start steps) round slot pc epc
+sent-by-a-tag keeps mode start steps round slot pc epc legal contains =
     let history = history_of start steps in
-    let found : IsTold history round slot pc epc = told-report mode start history round slot pc epc (among-of (ListLine round slot pc epc) _ contains) in
+    let found : IsTold history round slot pc epc = told-report mode start history round slot pc epc (among-of (ListLine round slot pc epc) (report_of mode start steps) contains) in
     let made : AreMade start (found.recorded.later ++ exchanged found.sent ∷ found.earlier) = subst (AreMade start) found.recorded.is (made-steps start steps [] tt) in
     record {
       sent = found.sent;
@@ -371,4 +372,7 @@ sent-by-a-tag mode start steps round slot pc epc contains =
       given = found.tells.given;
       from_tag = from-tag start found.sent found.earlier found.tells.rn found.tells.replied
           (made-at start found.recorded.later found.sent found.earlier made) found.tells.acknowledges found.tells.given.unbroken;
+      only = λ other other_earlier other_rn recorded acknowledges same_round same_slot.
+          one-ack keeps start steps other found.sent other_earlier found.earlier other_rn found.tells.rn legal recorded found.recorded
+          acknowledges found.tells.acknowledges (same_round ∙ sym found.tells.round_is) (same_slot ∙ sym found.tells.slot_is);
     }

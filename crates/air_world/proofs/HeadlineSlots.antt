@@ -4,7 +4,7 @@ use Rattle.std.proofs.lemmas.List.Elements.{filter-append}
 use Rattle.access_ops.specs.declared.OpList.{OpList}
 use Rattle.air_channel.specs.Past.{Start, Record, Item, befell, exchanged, ended, next_record, past_behind_command, rounds_in, tags_behind}
 use Rattle.air_channel.specs.Reception.{Reception, no_stream, whole_reply, no_such_reply}
-use Rattle.air_world.specs.Headline.{IsLegalStep, AreLegalSteps, is_round_line, begins_slot, begins_slot_of, slots_of_round, rounds_of, KeepsLimit}
+use Rattle.air_world.specs.Headline.{IsLegalStep, AreLegalSteps, is_round_line, begins_slot, begins_slot_of, slot_records, rounds_of, KeepsLimit}
 use Rattle.air_world.specs.History.{outcome_of, past_behind_answer, slot_reception, past_behind_slot, past_behind_round, past_behind_step, past_behind, history_of}
 use Rattle.air_world.specs.Listing.{Listed, listed_by, listing_of}
 use Rattle.air_world.specs.Report.{first_lines, trace_lines, list_line, item_lines, past_lines, seen_lines, tag_lines, last_lines, report_of}
@@ -57,7 +57,7 @@ befell-no-line mode link round past = ap (λ (lines : List ReportLine). filter (
 
 -- a past has the same slot commands and lines of a round as another
 pub record SameOf (mode : Mode) (link : LinkValue) (round : ℕ) (past now : List Item) : Type 0 where
-  pub slots : slots_of_round round now ≡ slots_of_round round past
+  pub slots : slot_records round now ≡ slot_records round past
   pub lines : round_lines mode link round now ≡ round_lines mode link round past
 
 pub same-of : (mode : Mode) (link : LinkValue) (round : ℕ) (past : List Item) → SameOf mode link round past past
@@ -178,11 +178,11 @@ and-true false b h k = absurd (cc)
 
 -- a slot of the round adds its record to the round's
 pub own-slot : (mode : Mode) (link : LinkValue) (start : Start) (round slot : ℕ) (command : Command) (past : List Item) → begins_slot command ≡ true
-    → slots_of_round round (past_behind_slot start round slot command past) ≡ next_record start round slot command past ∷ slots_of_round round past
+    → slot_records round (past_behind_slot start round slot command past) ≡ next_record start round slot command past ∷ slot_records round past
 own-slot mode link start round slot command past begins =
     let sent = next_record start round slot command past in
     let this : begins_slot_of round sent ≡ true = and-true (begins_slot command) (round == round) begins (eq-eqb round round refl) in
-    let first : slots_of_round round (exchanged sent ∷ past) ≡ sent ∷ slots_of_round round past = rw this refl in
+    let first : slot_records round (exchanged sent ∷ past) ≡ sent ∷ slot_records round past = rw this refl in
     (same-answer mode link round start round slot (slot_reception start round slot command past) (exchanged sent ∷ past)).slots ∙ first
 
 own-lines : (mode : Mode) (link : LinkValue) (start : Start) (round slot : ℕ) (command : Command) (past : List Item)
@@ -194,19 +194,19 @@ own-lines mode link start round slot command past =
 
 -- no slot command and no line of the round stands in a past
 pub record NothingOf (mode : Mode) (link : LinkValue) (round : ℕ) (past : List Item) : Type 0 where
-  pub slots : slots_of_round round past ≡ []
+  pub slots : slot_records round past ≡ []
   pub lines : round_lines mode link round past ≡ []
 
 -- the round has kept its limit, and the past has its one line
 pub record Settled (mode : Mode) (link : LinkValue) (round limit : ℕ) (past : List Item) : Type 0 where
   pub end : RoundEnd
-  pub within : length (slots_of_round round past) ≤ limit
-  pub line : round_lines mode link round past ≡ RoundLine round end (length (slots_of_round round past)) ∷ []
+  pub within : length (slot_records round past) ≤ limit
+  pub line : round_lines mode link round past ≡ RoundLine round end (length (slot_records round past)) ∷ []
 
 -- within a round: the outcomes are as many as its slot commands
 record Counts (mode : Mode) (link : LinkValue) (round : ℕ) (outcomes : List Outcome) (past : List Item) : Type 0 where
   pub rounds : rounds_in past + 1 ≡ round
-  pub slots : length (slots_of_round round past) ≡ length outcomes
+  pub slots : length (slot_records round past) ≡ length outcomes
   pub lines : round_lines mode link round past ≡ []
 
 -- behind it
@@ -233,7 +233,7 @@ round-settles keeps mode start spec past legal none =
           let behind = past_behind_slot start round slot command now in
           let begins : begins_slot command ≡ true = next-begins spec link outcomes command is in
           let count : rounds_in behind ≡ rounds_in now = slot-rounds start round slot command now in
-          let more : length (slots_of_round round behind) ≡ suc (length (slots_of_round round now)) = ap length (own-slot mode link start round slot command now begins) in
+          let more : length (slot_records round behind) ≡ suc (length (slot_records round now)) = ap length (own-slot mode link start round slot command now begins) in
           record {
             rounds = count-on count holds.rounds;
             slots = more ∙ ap suc holds.slots;

@@ -2,12 +2,13 @@
 -- what became of each tag.
 use Rattle.std.specs.Prelude.{◌≡◌, ℕ, ◌+◌, ◌*◌, ◌≤◌, ◌==◌, ◌&&◌, Bool, true, false, List, [], ◌∷◌, ◌++◌, length, filter, Contains, Option, Some, None, slice_get, if◌then◌else◌}
 use Rattle.std.specs.List.{AllByRecursion}
+use Rattle.access_ops.specs.declared.OpList.{OpList}
 use Rattle.air_channel.specs.Channel.{Given, whole}
 use Rattle.air_channel.specs.Exchange.{Replied, tag_after_events}
 use Rattle.air_channel.specs.Past.{Start, Record, Item, befell, exchanged, ended, tag_behind}
 use Rattle.command_grammar.specs.declared.commands.Command.{Command}
 use Rattle.command_grammar.specs.declared.commands.Command.TheVariants as commands
-use Rattle.q_round.specs.SpecValue.{IsLegalSpec}
+use Rattle.q_round.specs.SpecValue.{SpecValue, IsLegalSpec}
 use Rattle.q_round.specs.declared.round.RoundEnd.{RoundEnd}
 use Rattle.reply_grammar.specs.declared.expected.Reply.TheVariants.{Epc}
 use Rattle.report_lines.specs.ReportLine.{ReportLine, BlfLine, TxLine, RxLine, ListLine, RoundLine, SeenLine, TagLine, DoneLine}
@@ -65,8 +66,8 @@ pub record IsGivenWhole (given : Given) (pc : ℕ) (epc : List ℕ) (replied : R
   pub unbroken : given ≡ whole replied
   pub reply : replied.sent.reply ≡ Epc pc epc
 
--- An exchange of this round and slot sent an ACK, the channel gave a reply to it whole, and the reply is that of a tag that was
--- present, heard the ACK, and sent this PC and EPC.
+-- One exchange of this round and slot sent an ACK. The channel gave a reply to it whole, and the reply is that of a tag that
+-- was present, heard the ACK, and sent this PC and EPC.
 pub record IsSentByATag (start : Start) (history : List Item) (round slot pc : ℕ) (epc : List ℕ) : Type 0 where
   pub sent : Record
   pub earlier : List Item
@@ -78,6 +79,8 @@ pub record IsSentByATag (start : Start) (history : List Item) (round slot pc : �
   pub replied : Replied
   pub given : IsGivenWhole sent.given pc epc replied
   pub from_tag : IsFromTag start sent earlier replied
+  pub only : (other : Record) (other_earlier : List Item) (other_rn : ℕ) → IsRecordOf history other other_earlier
+      → Acknowledges other other_rn → other.round ≡ round → other.slot ≡ slot → other ≡ sent
 
 -- a line for what was listed in this round and slot
 abbrev pub is_list_line : ℕ → ℕ → ReportLine → Bool
@@ -110,12 +113,12 @@ abbrev pub begins_slot_of : ℕ → Record → Bool
 begins_slot_of round sent = begins_slot sent.command && sent.round == round
 
 -- the records of a round whose commands begin slots, the latest first
-abbrev pub slots_of_round : ℕ → List Item → List Record
-slots_of_round round [] = []
-slots_of_round round (befell event number ∷ past) = slots_of_round round past
-slots_of_round round (exchanged sent ∷ past) =
-    (if begins_slot_of round sent then sent ∷ slots_of_round round past else slots_of_round round past)
-slots_of_round round (ended number end slots ∷ past) = slots_of_round round past
+abbrev pub slot_records : ℕ → List Item → List Record
+slot_records round [] = []
+slot_records round (befell event number ∷ past) = slot_records round past
+slot_records round (exchanged sent ∷ past) =
+    (if begins_slot_of round sent then sent ∷ slot_records round past else slot_records round past)
+slot_records round (ended number end slots ∷ past) = slot_records round past
 
 -- how many of the steps are rounds
 abbrev pub rounds_of : List Step → ℕ
@@ -126,5 +129,20 @@ rounds_of (step ∷ steps) = rounds_of steps
 -- A round has at most so many slot commands, and the report has one line for it, which gives their number.
 pub record KeepsLimit (history : List Item) (lines : List ReportLine) (round limit : ℕ) : Type 0 where
   pub end : RoundEnd
-  pub within : length (slots_of_round round history) ≤ limit
-  pub line : filter (is_round_line round) lines ≡ RoundLine round end (length (slots_of_round round history)) ∷ []
+  pub within : length (slot_records round history) ≤ limit
+  pub line : filter (is_round_line round) lines ≡ RoundLine round end (length (slot_records round history)) ∷ []
+
+-- The headline: what the history and the lines of the report of every run say.
+pub record Headline (start : Start) (taken : List Step) (history : List Item) (lines : List ReportLine) : Type 0 where
+  -- each EPC listed is one that a present tag sent in that round and slot
+  pub sent_by_a_tag : (round slot pc : ℕ) (epc : List ℕ) → Contains lines (ListLine round slot pc epc)
+      → IsSentByATag start history round slot pc epc
+  -- each EPC that the channel gave whole in reply to an ACK is listed once: its round and slot have this one line
+  pub listed_once : (sent : Record) (earlier : List Item) (rn pc : ℕ) (epc : List ℕ) (replied : Replied) → IsRecordOf history sent earlier
+      → Acknowledges sent rn → IsGivenWhole sent.given pc epc replied
+      → filter (is_list_line sent.round sent.slot) lines ≡ ListLine sent.round sent.slot pc epc ∷ []
+  -- the tag lines are those of the tags of the start, each as the commands that it heard and the events that name it leave it
+  pub tags_as_heard : filter is_tag_line lines ≡ tag_lines_behind 0 start.tags history
+  -- no round, numbered from 1 over the steps, has more slot commands than its limit, and its line gives their number
+  pub slot_limit : (before after : List Step) (spec : SpecValue) (operations : OpList) → taken ≡ before ++ steps.Round spec operations ∷ after
+      → KeepsLimit history lines (rounds_of before + 1) spec.limit

@@ -2,7 +2,7 @@
 use Rattle.std.specs.Prelude.{◌≡◌, ℕ, ◌+◌, ◌==◌, List, [], ◌∷◌, length, map, Option, Some, None, slice_get, if◌then◌else◌}
 use Rattle.air_channel.specs.Past.{Start, Record, Item, befell, exchanged, ended, next_record, rounds_in}
 use Rattle.air_channel.specs.Reception.{Reception, no_stream, whole_reply, no_such_reply, reception_of}
-use Rattle.air_world.specs.Headline.{begins_slot, slots_of_round}
+use Rattle.air_world.specs.Headline.{begins_slot, slot_records}
 use Rattle.air_world.specs.History.{outcome_of}
 use Rattle.command_grammar.specs.declared.commands.Command.TheVariants as commands
 use Rattle.q_round.specs.SpecValue.{SpecValue}
@@ -24,12 +24,12 @@ finished_in (exchanged sent ∷ past) = if sent.round == 0 then finished_in past
 finished_in (ended round end slots ∷ past) = finished_in past + 1
 
 -- what an exchange brought where an RN16 is expected
-abbrev pub reception_in : Record → Reception
-reception_in sent = reception_of expects.Rn16 sent.given
+abbrev pub reception_of_slot : Record → Reception
+reception_of_slot sent = reception_of expects.Rn16 sent.given
 
 -- the outcomes of the slots of a round so far, the latest first
-abbrev pub outcomes_in : ℕ → List Item → List Outcome
-outcomes_in round past = map (λ sent. outcome_of (reception_in sent)) (slots_of_round round past)
+abbrev pub outcomes_of_round : ℕ → List Item → List Outcome
+outcomes_of_round round past = map (λ sent. outcome_of (reception_of_slot sent)) (slot_records round past)
 
 abbrev pub rn_of : Reception → Option ℕ
 rn_of (whole_reply (replies.Rn16 rn)) = Some rn
@@ -37,7 +37,7 @@ rn_of reception = None
 
 -- the RN16 that the interrogator has just received whole: the latest item is a slot command, which brought it
 abbrev pub rn_received : List Item → Option ℕ
-rn_received (exchanged sent ∷ past) = if begins_slot sent.command then rn_of (reception_in sent) else None
+rn_received (exchanged sent ∷ past) = if begins_slot sent.command then rn_of (reception_of_slot sent) else None
 rn_received past = None
 
 -- the slot command or the end that the rounds' rule gives after these outcomes
@@ -59,7 +59,7 @@ item_of_step start past (Some steps.Nak) = Some (exchanged (next_record start 0 
 item_of_step start past (Some (steps.Event event number)) = Some (befell event number)
 item_of_step start past (Some (steps.Round spec operations)) =
     let round = rounds_in past + 1 in
-    Some (item_in_round start spec round (outcomes_in round past) past (rn_received past))
+    Some (item_in_round start spec round (outcomes_of_round round past) past (rn_received past))
 
 -- what comes next behind a past, or nothing
 abbrev pub next_item : Start → List Step → List Item → Option Item

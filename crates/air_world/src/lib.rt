@@ -5,7 +5,7 @@ mod laws;
 mod mode;
 
 pub use laws::{
-    exchanges_are_few, histories_grow_by_the_next_item, list_lines_are_sent_by_tags,
-    replies_are_listed_once, rounds_keep_their_limits, scenario_steps_are_legal, tags_are_as_heard,
+    exchanges_are_few, headline, histories_grow_by_the_next_item, records_follow_from_the_past,
+    scenario_steps_are_legal,
 };
 pub use mode::{Mode, PlayFault};

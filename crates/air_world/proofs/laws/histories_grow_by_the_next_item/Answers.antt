@@ -2,7 +2,7 @@ use Rattle.std.proofs.Common.{subst, List}
 use Rattle.air_channel.specs.Past.{Item}
 use Rattle.air_world.specs.History.{history_of}
 use Rattle.air_world.specs.HistoryLaws.{GrowsByNext}
-use Rattle.air_world.proofs.HistoryGrowth.{history-grows, history-stops, one-growth, growth-at}
+use Rattle.air_world.proofs.HeadlineNext.{history-grows, history-stops, one-growth, growth-at}
 use Rattle.air_world.proofs.laws.histories_grow_by_the_next_item.Goals as goal
 
 pub returns-clause-grows : goal.returns-clause-grows

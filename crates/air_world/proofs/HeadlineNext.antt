@@ -3,9 +3,9 @@ use Rattle.std.proofs.Common.{◌≡◌, ℕ, zero, suc, ◌+◌, ◌<◌, ◌�
 use Rattle.access_ops.specs.declared.OpList.{OpList}
 use Rattle.air_channel.specs.Past.{Start, Record, Item, befell, exchanged, ended, next_record, past_behind_command, rounds_in}
 use Rattle.air_channel.specs.Reception.{Reception, no_stream, whole_reply, no_such_reply, reception_of}
-use Rattle.air_world.specs.Headline.{IsSelect, IsLegalStep, AreLegalSteps, begins_slot, begins_slot_of, slots_of_round}
+use Rattle.air_world.specs.Headline.{IsSelect, IsLegalStep, AreLegalSteps, begins_slot, begins_slot_of, slot_records}
 use Rattle.air_world.specs.History.{outcome_of, past_behind_answer, slot_reception, past_behind_slot, past_behind_round, past_behind_step, past_behind, history_of}
-use Rattle.air_world.specs.HistoryLaws.{finished_in, reception_in, outcomes_in, rn_of, rn_received, item_by_rule, item_in_round, item_of_step, next_item, GrowsByNext}
+use Rattle.air_world.specs.HistoryLaws.{finished_in, reception_of_slot, outcomes_of_round, rn_of, rn_received, item_by_rule, item_in_round, item_of_step, next_item, GrowsByNext}
 use Rattle.air_world.specs.declared.mode.Mode.{Mode}
 use Rattle.air_world.specs.declared.mode.Mode.TheVariants.{Plain, Trace}
 use Rattle.air_world.proofs.Growth.{RoundsKeepLimit, RoundSteps, next_at_end, round-holds}
@@ -30,7 +30,7 @@ record Inside (start : Start) (all : List Step) (finished rounds : ℕ) (outcome
   pub grows : GrowsByNext start all past
   pub finished_is : finished_in past ≡ finished
   pub rounds_are : rounds_in past ≡ rounds
-  pub outcomes_are : outcomes_in (rounds + 1) past ≡ outcomes
+  pub outcomes_are : outcomes_of_round (rounds + 1) past ≡ outcomes
   pub received_is : rn_received past ≡ received
 
 -- what comes next within a round
@@ -40,7 +40,7 @@ next-inside : (start : Start) (all : List Step) (finished rounds : ℕ) (outcome
 next-inside start all finished rounds outcomes received past spec operations at inside =
     ap (λ n. item_of_step start past (slice_get all n)) inside.finished_is
     ∙ ap (λ (step : Option Step). item_of_step start past step) at
-    ∙ ap (λ n. Some (item_in_round start spec (n + 1) (outcomes_in (n + 1) past) past (rn_received past))) inside.rounds_are
+    ∙ ap (λ n. Some (item_in_round start spec (n + 1) (outcomes_of_round (n + 1) past) past (rn_received past))) inside.rounds_are
     ∙ ap (λ (o : List Outcome). Some (item_in_round start spec (rounds + 1) o past (rn_received past))) inside.outcomes_are
     ∙ ap (λ (rn : Option ℕ). Some (item_in_round start spec (rounds + 1) outcomes past rn)) inside.received_is
 
@@ -64,13 +64,13 @@ inside-sent : (start : Start) (all : List Step) (finished rounds : ℕ) (outcome
 inside-sent start all finished rounds outcomes past command begins next inside =
     let sent = next_record start (rounds + 1) (length outcomes + 1) command past in
     let this : begins_slot_of (rounds + 1) sent ≡ true = and-true (begins_slot command) (rounds + 1 == rounds + 1) begins (eq-eqb (rounds + 1) (rounds + 1) refl) in
-    let slots : slots_of_round (rounds + 1) (exchanged sent ∷ past) ≡ sent ∷ slots_of_round (rounds + 1) past = rw this refl in
+    let slots : slot_records (rounds + 1) (exchanged sent ∷ past) ≡ sent ∷ slot_records (rounds + 1) past = rw this refl in
     record {
       grows = (next, inside.grows);
       finished_is = round-unfinished sent past rounds refl ∙ inside.finished_is;
       rounds_are = inside.rounds_are;
-      outcomes_are = ap (λ (sents : List Record). map (λ sent. outcome_of (reception_in sent)) sents) slots
-          ∙ ap (λ (o : List Outcome). outcome_of (reception_in sent) ∷ o) inside.outcomes_are;
+      outcomes_are = ap (λ (sents : List Record). map (λ sent. outcome_of (reception_of_slot sent)) sents) slots
+          ∙ ap (λ (o : List Outcome). outcome_of (reception_of_slot sent) ∷ o) inside.outcomes_are;
       received_is = rw begins refl;
     }
 
@@ -153,7 +153,7 @@ round-grows keeps start all finished past spec operations legal at between =
       grows = between.grows;
       finished_is = between.finished_is;
       rounds_are = refl;
-      outcomes_are = ap (λ (sents : List Record). map (λ sent. outcome_of (reception_in sent)) sents) (between.fresh (rounds + 1) (omega arith)).slots;
+      outcomes_are = ap (λ (sents : List Record). map (λ sent. outcome_of (reception_of_slot sent)) sents) (between.fresh (rounds + 1) (omega arith)).slots;
       received_is = between.received_is;
     })
 
