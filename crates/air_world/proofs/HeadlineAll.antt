@@ -1,5 +1,5 @@
 -- The headline, from what is proved of its parts.
-use Rattle.std.proofs.Common.{◌≡◌, ℕ, ◌+◌, List, ◌∷◌, ◌++◌, subst, sym}
+use Rattle.std.proofs.Common.{◌≡◌, ◌+◌, List, ◌∷◌, ◌++◌, subst, sym}
 use Rattle.access_ops.specs.declared.OpList.{OpList}
 use Rattle.air_channel.specs.Past.{Start}
 use Rattle.air_world.specs.Headline.{AreLegalSteps, rounds_of, KeepsLimit, Headline}

@@ -1,13 +1,12 @@
 -- How many exchanges a run has: one for a Select or NAK, and at most two for each slot of a round.
-use Rattle.std.proofs.Common.{◌≡◌, ℕ, zero, suc, ◌+◌, ◌*◌, ◌≤◌, List, [], ◌∷◌, ◌++◌, length, refl, ap, sym, ◌∙◌, arith}
-use Rattle.air_channel.specs.Past.{Start, Record, Item, befell, exchanged, ended, next_record, past_behind_command, exchanges_in, rounds_in}
+use Rattle.std.proofs.Common.{ℕ, ◌+◌, ◌*◌, ◌≤◌, List, [], ◌∷◌, ◌++◌, length, arith}
+use Rattle.air_channel.specs.Past.{Start, Item, befell, exchanged, ended, past_behind_command, exchanges_in, rounds_in}
 use Rattle.air_channel.specs.Reception.{Reception, no_stream, whole_reply, no_such_reply}
-use Rattle.air_world.specs.Headline.{IsLegalStep, AreLegalSteps, most_exchanges}
-use Rattle.air_world.specs.History.{outcome_of, past_behind_answer, slot_reception, past_behind_slot, past_behind_round, past_behind_step, past_behind, history_of}
-use Rattle.air_world.proofs.Growth.{RoundsKeepLimit, RoundSteps, round-holds, few-outcomes}
+use Rattle.air_world.specs.Headline.{AreLegalSteps, most_exchanges}
+use Rattle.air_world.specs.History.{past_behind_answer, slot_reception, past_behind_slot, past_behind_round, past_behind_step, past_behind}
+use Rattle.air_world.proofs.Growth.{RoundsKeepLimit, round-holds, few-outcomes}
 use Rattle.command_grammar.specs.declared.commands.Command.{Command}
 use Rattle.q_round.specs.SpecValue.{SpecValue, IsLegalSpec}
-use Rattle.q_round.specs.declared.frame.Outcome.{Outcome}
 use Rattle.reply_grammar.specs.declared.expected.Reply.TheVariants as replies
 use Rattle.scenario.specs.declared.values.Step.{Step}
 use Rattle.scenario.specs.declared.values.Step.TheVariants as steps

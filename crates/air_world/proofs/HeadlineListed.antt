@@ -1,29 +1,28 @@
 -- What came whole is listed once: the rounds and slots of ACKs rise along a history, so that each list line has its own.
-use Rattle.std.proofs.Common.{◌≡◌, ℕ, zero, suc, ◌+◌, ◌<◌, ◌≤◌, ◌==◌, ◌&&◌, Bool, true, false, ◌⊎◌, inl, inr, List, [], ◌∷◌, ◌++◌, length, map, filter, if◌then◌else◌, refl, ap, sym, ◌∙◌, subst, append-nil, arith, add-one, ne_eqb, eq-eqb}
+use Rattle.std.proofs.Common.{◌≡◌, ℕ, ◌+◌, ◌<◌, ◌==◌, ◌&&◌, Bool, true, false, ◌⊎◌, inl, inr, List, [], ◌∷◌, ◌++◌, length, map, filter, if◌then◌else◌, refl, ap, sym, ◌∙◌, subst, append-nil, arith, add-one, ne_eqb, eq-eqb}
 use Rattle.std.proofs.lemmas.List.Elements.{filter-append}
-use Rattle.air_channel.specs.Channel.{Given, silence, whole, broken}
+use Rattle.air_channel.specs.Channel.{Given, whole}
 use Rattle.air_channel.specs.Exchange.{Replied}
-use Rattle.air_channel.specs.Past.{Start, Record, Item, befell, exchanged, ended, next_record, past_behind_command, rounds_in, tags_behind}
+use Rattle.air_channel.specs.Past.{Start, Record, Item, befell, exchanged, ended, next_record, rounds_in, tags_behind}
 use Rattle.air_channel.specs.Reception.{Reception, no_stream, whole_reply, no_such_reply, has_handle, is_expected, reception_of}
 use Rattle.air_world.specs.Headline.{IsSelect, IsLegalStep, AreLegalSteps, IsRecordOf, Acknowledges, IsGivenWhole, is_list_line, begins_slot}
-use Rattle.air_world.specs.History.{outcome_of, past_behind_answer, slot_reception, past_behind_slot, past_behind_round, past_behind_step, past_behind, history_of}
+use Rattle.air_world.specs.History.{past_behind_answer, slot_reception, past_behind_slot, past_behind_round, past_behind_step, history_of}
 use Rattle.air_world.specs.Listing.{Listed, reception_of_ack, listed_from, listed_by, listing_of}
-use Rattle.air_world.specs.Report.{first_lines, trace_lines, list_line, item_lines, past_lines, seen_lines, tag_lines, last_lines}
+use Rattle.air_world.specs.Report.{trace_lines, list_line, item_lines, past_lines, tag_lines, last_lines}
 use Rattle.air_world.specs.declared.mode.Mode.{Mode}
 use Rattle.air_world.specs.declared.mode.Mode.TheVariants.{Plain, Trace}
-use Rattle.air_world.proofs.Growth.{RoundsKeepLimit, RoundSteps, next_at_end, round-holds, steps-hold}
+use Rattle.air_world.proofs.Growth.{RoundsKeepLimit, round-holds, steps-hold}
 use Rattle.air_world.proofs.HeadlineSlots.{next-begins, slot-rounds}
 use Rattle.command_grammar.specs.declared.commands.Command.{Command}
 use Rattle.command_grammar.specs.declared.commands.Command.TheVariants as commands
 use Rattle.pie_line.specs.Link.{LinkValue}
 use Rattle.q_round.specs.SpecValue.{SpecValue, IsLegalSpec}
-use Rattle.q_round.specs.declared.frame.Outcome.{Outcome}
 use Rattle.q_round.specs.declared.round.RoundEnd.{RoundEnd}
 use Rattle.reply_grammar.specs.Table.{handle_of, suits}
 use Rattle.reply_grammar.specs.declared.expected.Expect.TheVariants as expects
 use Rattle.reply_grammar.specs.declared.expected.Reply.{Reply}
 use Rattle.reply_grammar.specs.declared.expected.Reply.TheVariants as replies
-use Rattle.report_lines.specs.ReportLine.{ReportLine, ListLine, RoundLine, SeenLine, TagLine, DoneLine}
+use Rattle.report_lines.specs.ReportLine.{ReportLine, ListLine, RoundLine, SeenLine, DoneLine}
 use Rattle.report_lines.specs.SeenCounts.{Seen, seen_in}
 use Rattle.scenario.specs.declared.values.Step.{Step}
 use Rattle.scenario.specs.declared.values.Step.TheVariants as steps

@@ -1,25 +1,21 @@
 -- A history grows by what comes next alone, and stops where nothing does.
-use Rattle.std.proofs.Common.{◌≡◌, ℕ, zero, suc, ◌+◌, ◌<◌, ◌≤◌, ◌==◌, ◌&&◌, Bool, true, false, ◌⊎◌, inl, inr, List, [], ◌∷◌, ◌++◌, length, map, Option, Some, None, slice_get, if◌then◌else◌, refl, ap, sym, ◌∙◌, subst, append-nil, arith, add-one, ne_eqb, eq-eqb}
+use Rattle.std.proofs.Common.{◌≡◌, ℕ, zero, suc, ◌+◌, ◌<◌, ◌==◌, ◌&&◌, Bool, true, false, List, [], ◌∷◌, ◌++◌, length, map, Option, Some, None, slice_get, refl, ap, sym, ◌∙◌, arith, add-one, ne_eqb, eq-eqb}
 use Rattle.access_ops.specs.declared.OpList.{OpList}
-use Rattle.air_channel.specs.Past.{Start, Record, Item, befell, exchanged, ended, next_record, past_behind_command, rounds_in}
-use Rattle.air_channel.specs.Reception.{Reception, no_stream, whole_reply, no_such_reply, reception_of}
+use Rattle.air_channel.specs.Past.{Start, Record, Item, exchanged, ended, next_record, past_behind_command, rounds_in}
+use Rattle.air_channel.specs.Reception.{Reception, no_stream, whole_reply, no_such_reply}
 use Rattle.air_world.specs.Headline.{IsSelect, IsLegalStep, AreLegalSteps, begins_slot, begins_slot_of, slot_records}
-use Rattle.air_world.specs.History.{outcome_of, past_behind_answer, slot_reception, past_behind_slot, past_behind_round, past_behind_step, past_behind, history_of}
+use Rattle.air_world.specs.History.{outcome_of, past_behind_answer, slot_reception, past_behind_round, past_behind_step, past_behind, history_of}
 use Rattle.air_world.specs.HistoryLaws.{finished_in, reception_of_slot, outcomes_of_round, rn_of, rn_received, item_by_rule, item_in_round, item_of_step, next_item, GrowsByNext}
-use Rattle.air_world.specs.declared.mode.Mode.{Mode}
-use Rattle.air_world.specs.declared.mode.Mode.TheVariants.{Plain, Trace}
-use Rattle.air_world.proofs.Growth.{RoundsKeepLimit, RoundSteps, next_at_end, round-holds}
-use Rattle.air_world.proofs.HeadlineSlots.{Fresh, step-fresh, first-fresh, next-begins, slot-rounds}
+use Rattle.air_world.specs.declared.mode.Mode.TheVariants.{Plain}
+use Rattle.air_world.proofs.Growth.{RoundsKeepLimit, next_at_end, round-holds}
+use Rattle.air_world.proofs.HeadlineSlots.{Fresh, step-fresh, first-fresh, next-begins}
 use Rattle.command_grammar.specs.declared.commands.Command.{Command}
 use Rattle.command_grammar.specs.declared.commands.Command.TheVariants as commands
 use Rattle.q_round.specs.SpecValue.{SpecValue, IsLegalSpec}
-use Rattle.q_round.specs.Rounds.{next_command}
 use Rattle.q_round.specs.declared.frame.Outcome.{Outcome}
 use Rattle.q_round.specs.declared.round.Next.{Next}
-use Rattle.q_round.specs.declared.round.Next.TheVariants as nexts
 use Rattle.q_round.specs.declared.round.RoundEnd.{RoundEnd}
 use Rattle.q_round.specs.declared.round.RoundEnd.TheVariants as round_ends
-use Rattle.reply_grammar.specs.declared.expected.Expect.TheVariants as expects
 use Rattle.reply_grammar.specs.declared.expected.Reply.TheVariants as replies
 use Rattle.scenario.specs.declared.values.Step.{Step}
 use Rattle.scenario.specs.declared.values.Step.TheVariants as steps

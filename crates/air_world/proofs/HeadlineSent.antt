@@ -1,6 +1,6 @@
 -- Each list line is what a present tag sent: from the line to the record that lists it, from what the channel gave to a reply,
 -- and from the reply to the tag with its number.
-use Rattle.std.proofs.Common.{◌≡◌, ℕ, zero, suc, ◌+◌, ◌<◌, ◌==◌, Bool, true, false, ◌⊎◌, inl, inr, List, [], ◌∷◌, ◌++◌, length, map, get_or, Contains, Option, Some, None, slice_get, if◌then◌else◌, refl, ap, sym, ◌∙◌, subst, le_of_suc-le-suc, arith}
+use Rattle.std.proofs.Common.{◌≡◌, ℕ, zero, suc, ◌+◌, Bool, true, false, ◌⊎◌, inl, inr, List, [], ◌∷◌, ◌++◌, length, map, Contains, Option, Some, None, slice_get, if◌then◌else◌, refl, ap, sym, ◌∙◌, subst, le_of_suc-le-suc, arith}
 use Rattle.air_channel.specs.Air.{replies_in, given_in}
 use Rattle.air_channel.specs.Channel.{Given, silence, whole, broken, whole_or_silence, first_broken, default_given, given_of}
 use Rattle.air_channel.specs.Exchange.{Replied, reply_of, replies_from, is_missed, outcome_unless, outcome_in, outcomes_from, tag_after_events}
@@ -10,25 +10,24 @@ use Rattle.air_events.specs.declared.Choice.{Choice}
 use Rattle.air_events.specs.declared.Choice.TheVariants as choices
 use Rattle.air_events.specs.declared.Entry.{Entry}
 use Rattle.air_world.specs.Headline.{AreLegalSteps, IsRecordOf, Acknowledges, tag_in, IsFromTag, IsGivenWhole, IsSentByATag}
-use Rattle.air_world.specs.History.{past_behind_answer, slot_reception, past_behind_slot, past_behind_round, past_behind_step, past_behind, history_of}
-use Rattle.air_world.specs.Listing.{Listed, reception_of_ack, listed_from, listed_by, listing_of}
-use Rattle.air_world.specs.Report.{first_lines, trace_lines, list_line, item_lines, past_lines, seen_lines, tag_lines, last_lines, report_of}
+use Rattle.air_world.specs.History.{past_behind_answer, slot_reception, past_behind_slot, past_behind_step, past_behind, history_of}
+use Rattle.air_world.specs.Listing.{reception_of_ack, listed_from, listed_by, listing_of}
+use Rattle.air_world.specs.Report.{first_lines, trace_lines, list_line, item_lines, past_lines, tag_lines, last_lines, report_of}
 use Rattle.air_world.specs.declared.mode.Mode.{Mode}
 use Rattle.air_world.specs.declared.mode.Mode.TheVariants.{Plain, Trace}
-use Rattle.air_world.proofs.Growth.{RoundsKeepLimit, RoundSteps, always-holds}
+use Rattle.air_world.proofs.Growth.{RoundsKeepLimit, always-holds}
 use Rattle.air_world.proofs.HeadlineListed.{one-ack}
 use Rattle.command_grammar.specs.declared.commands.Command.{Command}
 use Rattle.command_grammar.specs.declared.commands.Command.TheVariants as commands
 use Rattle.pie_line.specs.Link.{LinkValue}
-use Rattle.q_round.specs.SpecValue.{SpecValue}
 use Rattle.reply_grammar.specs.declared.expected.Expect.TheVariants as expects
 use Rattle.reply_grammar.specs.declared.expected.Reply.{Reply}
 use Rattle.reply_grammar.specs.declared.expected.Reply.TheVariants as replies
-use Rattle.report_lines.specs.ReportLine.{ReportLine, BlfLine, TxLine, RxLine, ListLine, RoundLine, SeenLine, TagLine, DoneLine}
+use Rattle.report_lines.specs.ReportLine.{ListLine, SeenLine, DoneLine}
 use Rattle.report_lines.specs.SeenCounts.{Seen, seen_in}
 use Rattle.scenario.specs.declared.values.Step.{Step}
 use Rattle.scenario.specs.declared.values.Step.TheVariants as steps
-use Rattle.tag_machine.specs.Answers.{Sent, Outcome, silent}
+use Rattle.tag_machine.specs.Answers.{Sent}
 use Rattle.tag_machine.specs.Step.{step}
 use Rattle.tag_machine.specs.TagValue.{TagValue, StateValue, BodyValue, ReadyState, ArbitrateState, ReplyState, AcknowledgedState, OpenState, SecuredState, KilledState, UnpoweredState, is_present}
 

@@ -1,16 +1,16 @@
 -- How many slot commands a round has: at most its limit, as many as its line says, and no other round adds to them.
-use Rattle.std.proofs.Common.{◌≡◌, ◌≢◌, ℕ, zero, suc, ◌+◌, ◌<◌, ◌≤◌, ◌==◌, ◌&&◌, ◌⊎◌, inl, inr, Bool, true, false, List, [], ◌∷◌, ◌++◌, length, map, filter, refl, ap, sym, ◌∙◌, subst, append-nil, append_assoc, arith, ne_eqb, eq-eqb}
+use Rattle.std.proofs.Common.{◌≡◌, ◌≢◌, ℕ, suc, ◌+◌, ◌<◌, ◌≤◌, ◌==◌, ◌&&◌, ◌⊎◌, inl, inr, Bool, true, false, List, [], ◌∷◌, ◌++◌, length, map, filter, refl, ap, sym, ◌∙◌, subst, append-nil, arith, ne_eqb, eq-eqb}
 use Rattle.std.proofs.lemmas.List.Elements.{filter-append}
 use Rattle.access_ops.specs.declared.OpList.{OpList}
-use Rattle.air_channel.specs.Past.{Start, Record, Item, befell, exchanged, ended, next_record, past_behind_command, rounds_in, tags_behind}
+use Rattle.air_channel.specs.Past.{Start, Record, Item, exchanged, ended, next_record, past_behind_command, rounds_in, tags_behind}
 use Rattle.air_channel.specs.Reception.{Reception, no_stream, whole_reply, no_such_reply}
 use Rattle.air_world.specs.Headline.{IsLegalStep, AreLegalSteps, is_round_line, begins_slot, begins_slot_of, slot_records, rounds_of, KeepsLimit}
-use Rattle.air_world.specs.History.{outcome_of, past_behind_answer, slot_reception, past_behind_slot, past_behind_round, past_behind_step, past_behind, history_of}
+use Rattle.air_world.specs.History.{past_behind_answer, slot_reception, past_behind_slot, past_behind_round, past_behind_step, past_behind, history_of}
 use Rattle.air_world.specs.Listing.{Listed, listed_by, listing_of}
-use Rattle.air_world.specs.Report.{first_lines, trace_lines, list_line, item_lines, past_lines, seen_lines, tag_lines, last_lines, report_of}
+use Rattle.air_world.specs.Report.{trace_lines, list_line, item_lines, past_lines, tag_lines, last_lines, report_of}
 use Rattle.air_world.specs.declared.mode.Mode.{Mode}
 use Rattle.air_world.specs.declared.mode.Mode.TheVariants.{Plain, Trace}
-use Rattle.air_world.proofs.Growth.{RoundsKeepLimit, RoundSteps, next_at_end, round-holds, few-outcomes}
+use Rattle.air_world.proofs.Growth.{RoundsKeepLimit, round-holds, few-outcomes}
 use Rattle.command_grammar.specs.declared.commands.Command.{Command}
 use Rattle.command_grammar.specs.declared.commands.Command.TheVariants as commands
 use Rattle.pie_line.specs.Link.{LinkValue}
@@ -21,7 +21,7 @@ use Rattle.q_round.specs.declared.round.Next.{Next}
 use Rattle.q_round.specs.declared.round.Next.TheVariants as nexts
 use Rattle.q_round.specs.declared.round.RoundEnd.{RoundEnd}
 use Rattle.reply_grammar.specs.declared.expected.Reply.TheVariants as replies
-use Rattle.report_lines.specs.ReportLine.{ReportLine, BlfLine, TxLine, RxLine, ListLine, RoundLine, SeenLine, TagLine, DoneLine}
+use Rattle.report_lines.specs.ReportLine.{ReportLine, RoundLine, SeenLine, DoneLine}
 use Rattle.report_lines.specs.SeenCounts.{Seen, seen_in}
 use Rattle.scenario.specs.declared.values.Step.{Step}
 use Rattle.scenario.specs.declared.values.Step.TheVariants as steps

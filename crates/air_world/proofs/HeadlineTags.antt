@@ -1,10 +1,10 @@
 -- The tag lines of a report are those of each tag as it stands in the end.
-use Rattle.std.proofs.Common.{◌≡◌, ℕ, ◌+◌, Bool, true, false, List, [], ◌∷◌, ◌++◌, map, filter, refl, ap, sym, ◌∙◌, append-nil}
+use Rattle.std.proofs.Common.{◌≡◌, ℕ, ◌+◌, List, [], ◌∷◌, ◌++◌, map, filter, refl, ap, ◌∙◌}
 use Rattle.std.proofs.lemmas.List.Elements.{filter-append}
-use Rattle.air_channel.specs.Past.{Start, Record, Item, befell, exchanged, ended, tag_behind, tags_behind, tags_behind_from}
+use Rattle.air_channel.specs.Past.{Start, Item, befell, exchanged, ended, tag_behind, tags_behind_from}
 use Rattle.air_world.specs.Headline.{is_tag_line, tag_lines_behind}
 use Rattle.air_world.specs.Listing.{Listed, listed_by, listing_of}
-use Rattle.air_world.specs.Report.{first_lines, trace_lines, list_line, item_lines, past_lines, seen_lines, tag_lines, last_lines}
+use Rattle.air_world.specs.Report.{list_line, item_lines, past_lines, tag_lines, last_lines}
 use Rattle.air_world.specs.declared.mode.Mode.{Mode}
 use Rattle.air_world.specs.declared.mode.Mode.TheVariants.{Plain, Trace}
 use Rattle.pie_line.specs.Link.{LinkValue}

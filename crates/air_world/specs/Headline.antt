@@ -1,6 +1,6 @@
 -- Profile: what the history and the report of a run say, in terms of the records of the history, the lines of the report, and
 -- what became of each tag.
-use Rattle.std.specs.Prelude.{◌≡◌, ℕ, ◌+◌, ◌*◌, ◌≤◌, ◌==◌, ◌&&◌, Bool, true, false, List, [], ◌∷◌, ◌++◌, length, filter, Contains, Option, Some, None, slice_get, if◌then◌else◌}
+use Rattle.std.specs.Prelude.{◌≡◌, ℕ, ◌+◌, ◌*◌, ◌≤◌, ◌==◌, ◌&&◌, Bool, true, false, List, [], ◌∷◌, ◌++◌, length, filter, Contains, Option, Some, slice_get, if◌then◌else◌}
 use Rattle.std.specs.List.{AllByRecursion}
 use Rattle.access_ops.specs.declared.OpList.{OpList}
 use Rattle.air_channel.specs.Channel.{Given, whole}
@@ -11,12 +11,14 @@ use Rattle.command_grammar.specs.declared.commands.Command.TheVariants as comman
 use Rattle.q_round.specs.SpecValue.{SpecValue, IsLegalSpec}
 use Rattle.q_round.specs.declared.round.RoundEnd.{RoundEnd}
 use Rattle.reply_grammar.specs.declared.expected.Reply.TheVariants.{Epc}
-use Rattle.report_lines.specs.ReportLine.{ReportLine, BlfLine, TxLine, RxLine, ListLine, RoundLine, SeenLine, TagLine, DoneLine}
+use Rattle.report_lines.specs.ReportLine.{ReportLine, ListLine, RoundLine, TagLine}
 use Rattle.scenario.specs.declared.values.Step.{Step}
 use Rattle.scenario.specs.declared.values.Step.TheVariants as steps
+use Rattle.tag_machine.specs.Answers.{Sent}
 use Rattle.tag_machine.specs.Step.{step}
 use Rattle.tag_machine.specs.TagValue.{TagValue, is_present}
 
+-- 6.3.2.11.1.1 Select
 abbrev pub IsSelect : Command → Type 0
 IsSelect (commands.Select target action bank pointer mask) = Unit {0}
 IsSelect command = ⊥
@@ -28,6 +30,7 @@ IsLegalStep steps.Nak = Unit {0}
 IsLegalStep (steps.Event event number) = Unit {0}
 IsLegalStep (steps.Round spec operations) = IsLegalSpec spec
 
+-- ... of each step
 abbrev pub AreLegalSteps : List Step → Type 0
 AreLegalSteps steps = AllByRecursion IsLegalStep steps
 
@@ -35,14 +38,6 @@ AreLegalSteps steps = AllByRecursion IsLegalStep steps
 pub record IsRecordOf (history : List Item) (sent : Record) (earlier : List Item) : Type 0 where
   pub later : List Item
   pub is : history ≡ later ++ exchanged sent ∷ earlier
-
--- how many exchanges steps have at most: one for a Select or NAK, and two for each slot that a round may have
-abbrev pub most_exchanges : List Step → ℕ
-most_exchanges [] = 0
-most_exchanges (steps.Select command ∷ steps) = most_exchanges steps + 1
-most_exchanges (steps.Nak ∷ steps) = most_exchanges steps + 1
-most_exchanges (steps.Event event number ∷ steps) = most_exchanges steps
-most_exchanges (steps.Round spec operations ∷ steps) = most_exchanges steps + 2 * spec.limit
 
 -- the record's command is an ACK that carries this RN16
 abbrev pub Acknowledges : Record → ℕ → Type 0
@@ -52,13 +47,18 @@ Acknowledges sent rn = sent.command ≡ commands.Ack rn
 abbrev pub tag_in : Record → List Item → ℕ → TagValue → TagValue
 tag_in sent earlier number tag = tag_after_events number sent.entry.events (tag_behind number tag earlier)
 
--- The tag with the number in a reply was there, was present, heard the record's command, and answered it with this reply.
+-- what a tag answers a command with, or nothing
+abbrev pub answer_to : Command → TagValue → Option Sent
+answer_to command tag = (step command tag.state tag.body).answer
+
+-- The tag with the number in a reply is one of the start. In the exchange it was present, heard the command, and answered it with
+-- this reply, which is one of those of the record.
 pub record IsFromTag (start : Start) (sent : Record) (earlier : List Item) (replied : Replied) : Type 0 where
   pub tag : TagValue
   pub numbered : slice_get start.tags replied.number ≡ Some tag
   pub present : is_present (tag_in sent earlier replied.number tag).state ≡ true
   pub heard : Contains sent.hearers replied.number
-  pub answered : (step sent.command (tag_in sent earlier replied.number tag).state (tag_in sent earlier replied.number tag).body).answer ≡ Some replied.sent
+  pub answered : answer_to sent.command (tag_in sent earlier replied.number tag) ≡ Some replied.sent
   pub recorded : Contains sent.replies replied
 
 -- the channel gave a tag's PC and EPC whole
@@ -92,6 +92,7 @@ abbrev pub is_round_line : ℕ → ReportLine → Bool
 is_round_line round (RoundLine number end slots) = number == round
 is_round_line round line = false
 
+-- a line for a tag
 abbrev pub is_tag_line : ReportLine → Bool
 is_tag_line (TagLine number tag) = true
 is_tag_line line = false
@@ -146,3 +147,11 @@ pub record Headline (start : Start) (taken : List Step) (history : List Item) (l
   -- no round, numbered from 1 over the steps, has more slot commands than its limit, and its line gives their number
   pub slot_limit : (before after : List Step) (spec : SpecValue) (operations : OpList) → taken ≡ before ++ steps.Round spec operations ∷ after
       → KeepsLimit history lines (rounds_of before + 1) spec.limit
+
+-- how many exchanges steps have at most: one for a Select or NAK, and two for each slot that a round may have
+abbrev pub most_exchanges : List Step → ℕ
+most_exchanges [] = 0
+most_exchanges (steps.Select command ∷ steps) = most_exchanges steps + 1
+most_exchanges (steps.Nak ∷ steps) = most_exchanges steps + 1
+most_exchanges (steps.Event event number ∷ steps) = most_exchanges steps
+most_exchanges (steps.Round spec operations ∷ steps) = most_exchanges steps + 2 * spec.limit

@@ -1,7 +1,7 @@
 -- Profile: the history of a run, item by item. What comes next goes by the start, the steps and what is past alone.
 use Rattle.std.specs.Prelude.{◌≡◌, ℕ, ◌+◌, ◌==◌, List, [], ◌∷◌, length, map, Option, Some, None, slice_get, if◌then◌else◌}
 use Rattle.air_channel.specs.Past.{Start, Record, Item, befell, exchanged, ended, next_record, rounds_in}
-use Rattle.air_channel.specs.Reception.{Reception, no_stream, whole_reply, no_such_reply, reception_of}
+use Rattle.air_channel.specs.Reception.{Reception, whole_reply, reception_of}
 use Rattle.air_world.specs.Headline.{begins_slot, slot_records}
 use Rattle.air_world.specs.History.{outcome_of}
 use Rattle.command_grammar.specs.declared.commands.Command.TheVariants as commands
@@ -31,6 +31,7 @@ reception_of_slot sent = reception_of expects.Rn16 sent.given
 abbrev pub outcomes_of_round : ℕ → List Item → List Outcome
 outcomes_of_round round past = map (λ sent. outcome_of (reception_of_slot sent)) (slot_records round past)
 
+-- the RN16 of a whole reply
 abbrev pub rn_of : Reception → Option ℕ
 rn_of (whole_reply (replies.Rn16 rn)) = Some rn
 rn_of reception = None

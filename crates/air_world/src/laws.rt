@@ -1,6 +1,6 @@
 //! What the history and the report of every run say.
 ghost use Rattle.std.specs.Prelude.{◌≡◌, ℕ, ◌*◌, ◌≤◌, List, ◌∷◌, ◌++◌, length, Some, None};
-ghost use Rattle.air_channel.specs.Past.{Start, Record, Item, exchanged, exchanges_in, next_record};
+ghost use Rattle.air_channel.specs.Past.{Start, Record, Item, exchanges_in, next_record};
 ghost use Rattle.air_world.specs.Headline.{AreLegalSteps, Headline, IsRecordOf, most_exchanges};
 ghost use Rattle.air_world.specs.History.{history_of};
 ghost use Rattle.air_world.specs.HistoryLaws.{GrowsByNext, next_item};
