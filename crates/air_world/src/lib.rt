@@ -1,6 +1,11 @@
 //! A whole run: the history of a scenario on the air, and its report.
 #![tactic(auto)]
 
+mod laws;
 mod mode;
 
+pub use laws::{
+    exchanges_are_few, headline, histories_grow_by_the_next_item, records_follow_from_the_past,
+    scenario_steps_are_legal,
+};
 pub use mode::{Mode, PlayFault};

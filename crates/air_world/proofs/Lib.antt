@@ -1,0 +1,9 @@
+pub mod Growth
+pub mod HeadlineAll
+pub mod HeadlineCounts
+pub mod HeadlineLegal
+pub mod HeadlineListed
+pub mod HeadlineNext
+pub mod HeadlineSent
+pub mod HeadlineSlots
+pub mod HeadlineTags

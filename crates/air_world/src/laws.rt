@@ -1,0 +1,64 @@
+//! What the history and the report of every run say.
+ghost use Rattle.std.specs.Prelude.{◌≡◌, ℕ, ◌*◌, ◌≤◌, List, ◌∷◌, ◌++◌, length, Some, None};
+ghost use Rattle.air_channel.specs.Past.{Start, Record, Item, exchanges_in, next_record};
+ghost use Rattle.air_world.specs.Headline.{AreLegalSteps, Headline, IsRecordOf, most_exchanges};
+ghost use Rattle.air_world.specs.History.{history_of};
+ghost use Rattle.air_world.specs.HistoryLaws.{GrowsByNext, next_item};
+ghost use Rattle.air_world.specs.Report.{report_of};
+ghost use Rattle.air_world.specs.ScenarioStart.{history, start_of};
+ghost use Rattle.air_world.specs.declared.mode.Mode.{Mode};
+ghost use Rattle.scenario.specs.Limits.{IsScenario};
+ghost use Rattle.scenario.specs.declared.values.Scenario.{Scenario};
+ghost use Rattle.scenario.specs.declared.values.Step.{Step};
+
+use q_round::round_laws;
+
+/// The headline. Each EPC listed is one that a present tag sent in that round and slot; each EPC that
+/// the channel gave whole is listed once; each tag stands in the end as the commands that it heard and
+/// the events that name it leave it; and no round has more slot commands than its limit.
+pub fn headline()
+    ensures run { (mode : Mode) (start : Start) (steps : List Step) → AreLegalSteps steps →
+        Headline start steps (history_of start steps) (report_of mode start steps) }
+    ensures scenario { (mode : Mode) (scenario : Scenario) → IsScenario scenario →
+        Headline (start_of scenario) scenario.steps (history scenario) (report_of mode (start_of scenario) scenario.steps) }
+{
+    scenario_steps_are_legal();
+    round_laws();
+}
+
+/// The limits of a scenario give what the laws of a run want of its steps.
+pub fn scenario_steps_are_legal()
+    ensures { (scenario : Scenario) → IsScenario scenario → AreLegalSteps scenario.steps }
+{}
+
+/// The history of a run is the one list of items, the latest first, that starts empty, grows by the next
+/// item alone, and stops where there is none. What comes next goes by the start, the steps and what is
+/// past.
+pub fn histories_grow_by_the_next_item()
+    ensures grows { (start : Start) (steps : List Step) → AreLegalSteps steps → GrowsByNext start steps (history_of start steps) }
+    ensures item { (start : Start) (steps : List Step) (later : List Item) (item : Item) (earlier : List Item) → AreLegalSteps steps →
+        history_of start steps ≡ later ++ item ∷ earlier → next_item start steps earlier ≡ Some item }
+    ensures stops { (start : Start) (steps : List Step) → AreLegalSteps steps → next_item start steps (history_of start steps) ≡ None }
+    ensures one { (start : Start) (steps : List Step) (past : List Item) → AreLegalSteps steps →
+        GrowsByNext start steps past → next_item start steps past ≡ None → past ≡ history_of start steps }
+{
+    round_laws();
+}
+
+/// Each record of a history is what its command makes of the tags as they stood behind what was past:
+/// its number, what is said of it, who heard the command, what was replied and what the channel gave.
+pub fn records_follow_from_the_past()
+    ensures { (start : Start) (steps : List Step) (sent : Record) (earlier : List Item) → IsRecordOf (history_of start steps) sent earlier →
+        sent ≡ next_record start sent.round sent.slot sent.command earlier }
+{}
+
+/// A run has at most one exchange for each Select or NAK and two for each slot that a round may have,
+/// and so at most 140,000 for each of its steps.
+pub fn exchanges_are_few()
+    ensures most { (start : Start) (steps : List Step) → AreLegalSteps steps →
+        exchanges_in (history_of start steps) ≤ most_exchanges steps }
+    ensures few { (start : Start) (steps : List Step) → AreLegalSteps steps →
+        exchanges_in (history_of start steps) ≤ 140000 * length steps }
+{
+    round_laws();
+}
