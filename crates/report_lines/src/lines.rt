@@ -10,7 +10,7 @@ use bit_strings::OutOfMemory;
 use q_round::RoundEnd;
 use reply_grammar::EpcWords;
 use text_fields::{
-    push_next_long_number, push_next_numbers, push_next_bits, push_next_name, push_next_number,
+    push_next_bits, push_next_long_number, push_next_name, push_next_number, push_next_numbers,
     push_next_word, push_next_words, push_number,
 };
 
