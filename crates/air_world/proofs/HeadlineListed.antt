@@ -3,15 +3,16 @@ use Rattle.std.proofs.Common.{◌≡◌, ℕ, ◌+◌, ◌<◌, ◌==◌, ◌&&�
 use Rattle.std.proofs.lemmas.List.Elements.{filter-append}
 use Rattle.air_channel.specs.Channel.{Given, whole}
 use Rattle.air_channel.specs.Exchange.{Replied}
-use Rattle.air_channel.specs.Past.{Start, Record, Item, befell, exchanged, ended, next_record, rounds_in, tags_behind}
+use Rattle.air_channel.specs.Past.{Start, Record, Item, befell, exchanged, ended, next_record, rounds_in}
 use Rattle.air_channel.specs.Reception.{Reception, no_stream, whole_reply, no_such_reply, has_handle, is_expected, reception_of}
 use Rattle.air_world.specs.Headline.{IsSelect, IsLegalStep, AreLegalSteps, IsRecordOf, Acknowledges, IsGivenWhole, is_list_line, begins_slot}
 use Rattle.air_world.specs.History.{past_behind_answer, slot_reception, past_behind_slot, past_behind_round, past_behind_step, history_of}
-use Rattle.air_world.specs.Listing.{Listed, reception_of_ack, listed_from, listed_by, listing_of}
-use Rattle.air_world.specs.Report.{trace_lines, list_line, item_lines, past_lines, tag_lines, last_lines}
+use Rattle.air_world.specs.Listing.{Listed, reception_of_ack, listed_from, listed_by}
+use Rattle.air_world.specs.Report.{list_line, past_lines, last_lines}
 use Rattle.air_world.specs.declared.mode.Mode.{Mode}
 use Rattle.air_world.specs.declared.mode.Mode.TheVariants.{Plain, Trace}
 use Rattle.air_world.proofs.Growth.{RoundsKeepLimit, round-holds, steps-hold}
+use Rattle.air_world.proofs.HeadlineLines.{list-lines-pass, sent-passes, befell-passes, report-passes, and-false}
 use Rattle.air_world.proofs.HeadlineSlots.{next-begins, slot-rounds}
 use Rattle.command_grammar.specs.declared.commands.Command.{Command}
 use Rattle.command_grammar.specs.declared.commands.Command.TheVariants as commands
@@ -22,11 +23,9 @@ use Rattle.reply_grammar.specs.Table.{handle_of, suits}
 use Rattle.reply_grammar.specs.declared.expected.Expect.TheVariants as expects
 use Rattle.reply_grammar.specs.declared.expected.Reply.{Reply}
 use Rattle.reply_grammar.specs.declared.expected.Reply.TheVariants as replies
-use Rattle.report_lines.specs.ReportLine.{ReportLine, ListLine, RoundLine, SeenLine, DoneLine}
-use Rattle.report_lines.specs.SeenCounts.{Seen, seen_in}
+use Rattle.report_lines.specs.ReportLine.{ReportLine, ListLine, RoundLine}
 use Rattle.scenario.specs.declared.values.Step.{Step}
 use Rattle.scenario.specs.declared.values.Step.TheVariants as steps
-use Rattle.tag_machine.specs.TagValue.{TagValue}
 
 abbrev pub is_ack : Command → Bool
 is_ack (commands.Ack rn) = true
@@ -174,29 +173,11 @@ before-at round slot (ended number end slots ∷ later) sent earlier before ack 
 abbrev pub list_lines : Mode → LinkValue → ℕ → ℕ → List Item → List ReportLine
 list_lines mode link round slot past = filter (is_list_line round slot) (past_lines mode link past)
 
-no-trace : (round slot : ℕ) (mode : Mode) (link : LinkValue) (sent : Record) → filter (is_list_line round slot) (trace_lines mode link sent) ≡ []
-no-trace round slot Plain link sent = refl
-no-trace round slot Trace link sent = refl
-
--- an exchange adds the line of what it lists
-list-lines-more : (mode : Mode) (link : LinkValue) (round slot : ℕ) (sent : Record) (past : List Item)
-    → list_lines mode link round slot (exchanged sent ∷ past) ≡ list_lines mode link round slot past ++ filter (is_list_line round slot) (map list_line (listed_by sent))
-list-lines-more mode link round slot sent past =
-    let test = is_list_line round slot in
-    filter-append test (past_lines mode link past) (item_lines mode link (exchanged sent))
-    ∙ ap (λ (lines : List ReportLine). filter test (past_lines mode link past) ++ lines)
-    (filter-append test (trace_lines mode link sent) (map list_line (listed_by sent))
-    ∙ ap (λ (lines : List ReportLine). lines ++ filter test (map list_line (listed_by sent))) (no-trace round slot mode link sent))
-
 no-end-line : (mode : Mode) (link : LinkValue) (round slot number : ℕ) (end : RoundEnd) (slots : ℕ) (past : List Item)
     → list_lines mode link round slot (ended number end slots ∷ past) ≡ list_lines mode link round slot past
 no-end-line mode link round slot number end slots past =
     filter-append (is_list_line round slot) (past_lines mode link past) (RoundLine number end slots ∷ [])
     ∙ append-nil (list_lines mode link round slot past)
-
-no-event-line : (mode : Mode) (link : LinkValue) (round slot : ℕ) (past : List Item)
-    → filter (is_list_line round slot) (past_lines mode link past ++ []) ≡ list_lines mode link round slot past
-no-event-line mode link round slot past = ap (λ (lines : List ReportLine). filter (is_list_line round slot) lines) (append-nil (past_lines mode link past))
 
 -- no other command than an ACK lists anything
 lists-none : (sent : Record) (command : Command) → is_ack command ≡ false → listed_from sent (reception_of_ack sent command) ≡ []
@@ -215,10 +196,6 @@ lists-elsewhere round slot sent (whole_reply (replies.Words words)) other = refl
 lists-elsewhere round slot sent (whole_reply replies.Header) other = refl
 lists-elsewhere round slot sent (whole_reply (replies.Error code)) other = refl
 
-and-false : (a b : Bool) → b ≡ false → (a && b) ≡ false
-and-false true b is = is
-and-false false b is = refl
-
 other-place : (a b c d : ℕ) → IsEarlier a b c d → (a == c && b == d) ≡ false
 other-place a b c d (inl less) = let other : (a == c) ≡ false = ne_eqb a c (λ same. absurd (omega (arith, less, same))) in rw other refl
 other-place a b c d (inr less) = and-false (a == c) (b == d) (ne_eqb b d (λ same. absurd (omega (arith, less.1, same))))
@@ -236,7 +213,7 @@ no-line round slot sent true is other = lists-elsewhere round slot sent (recepti
 passes-record : (mode : Mode) (link : LinkValue) (round slot : ℕ) (sent : Record) (past : List Item) → (is_ack sent.command ≡ true → (sent.round == round && sent.slot == slot) ≡ false)
     → list_lines mode link round slot (exchanged sent ∷ past) ≡ list_lines mode link round slot past
 passes-record mode link round slot sent past other =
-    list-lines-more mode link round slot sent past
+    sent-passes (is_list_line round slot) (list-lines-pass round slot) mode link sent past
     ∙ ap (λ (lines : List ReportLine). list_lines mode link round slot past ++ lines) (no-line round slot sent (is_ack sent.command) refl other)
     ∙ append-nil (list_lines mode link round slot past)
 
@@ -244,7 +221,7 @@ passes-record mode link round slot sent past other =
 none-before : (mode : Mode) (link : LinkValue) (round slot : ℕ) (past : List Item) → AcksBefore round slot past → list_lines mode link round slot past ≡ []
 none-before Plain link round slot [] before = refl
 none-before Trace link round slot [] before = refl
-none-before mode link round slot (befell event number ∷ past) before = no-event-line mode link round slot past ∙ none-before mode link round slot past before
+none-before mode link round slot (befell event number ∷ past) before = befell-passes (is_list_line round slot) mode link past ∙ none-before mode link round slot past before
 none-before mode link round slot (exchanged sent ∷ past) before =
     passes-record mode link round slot sent past (λ ack. other-place sent.round sent.slot round slot (before.0 ack))
     ∙ none-before mode link round slot past before.1
@@ -255,7 +232,7 @@ none-after : (mode : Mode) (link : LinkValue) (later : List Item) (sent : Record
     → list_lines mode link sent.round sent.slot (later ++ exchanged sent ∷ earlier) ≡ list_lines mode link sent.round sent.slot (exchanged sent ∷ earlier)
 none-after mode link [] sent earlier rise ack = refl
 none-after mode link (befell event number ∷ later) sent earlier rise ack =
-    no-event-line mode link sent.round sent.slot (later ++ exchanged sent ∷ earlier) ∙ none-after mode link later sent earlier rise ack
+    befell-passes (is_list_line sent.round sent.slot) mode link (later ++ exchanged sent ∷ earlier) ∙ none-after mode link later sent earlier rise ack
 none-after mode link (exchanged other ∷ later) sent earlier rise ack =
     passes-record mode link sent.round sent.slot other (later ++ exchanged sent ∷ earlier)
     (λ its. later-place other.round other.slot sent.round sent.slot (before-at other.round other.slot later sent earlier (rise.0 its) ack))
@@ -299,7 +276,7 @@ listed-at : (mode : Mode) (link : LinkValue) (later : List Item) (sent : Record)
     → list_lines mode link sent.round sent.slot (later ++ exchanged sent ∷ earlier) ≡ ListLine sent.round sent.slot pc epc ∷ []
 listed-at mode link later sent earlier rn pc epc replied rise before acknowledges given =
     none-after mode link later sent earlier rise (ack-of sent rn acknowledges)
-    ∙ list-lines-more mode link sent.round sent.slot sent earlier
+    ∙ sent-passes (is_list_line sent.round sent.slot) (list-lines-pass sent.round sent.slot) mode link sent earlier
     ∙ ap (λ (lines : List ReportLine). lines ++ filter (is_list_line sent.round sent.slot) (map list_line (listed_by sent)))
     (none-before mode link sent.round sent.slot earlier before)
     ∙ ap (λ (lines : List ReportLine). filter (is_list_line sent.round sent.slot) lines) (own-listed sent rn pc epc replied acknowledges given)
@@ -309,20 +286,6 @@ rise-tail : (later past : List Item) → AcksRise (later ++ past) → AcksRise p
 rise-tail [] past rise = rise
 rise-tail (item ∷ later) past rise = rise-tail later past (rise-split item (later ++ past) rise)
 
-no-last : (round slot : ℕ) (seen : List Seen) (number : ℕ) (tags : List TagValue)
-    → filter (is_list_line round slot) (map (λ seen. SeenLine seen.count seen.pc seen.epc) seen ++ tag_lines number tags ++ DoneLine ∷ []) ≡ []
-no-last round slot [] number [] = refl
-no-last round slot [] number (tag ∷ tags) = no-last round slot [] (number + 1) tags
-no-last round slot (one ∷ more) number tags = no-last round slot more number tags
-
-report-list-lines : (mode : Mode) (start : Start) (past : List Item) (round slot : ℕ)
-    → filter (is_list_line round slot) (past_lines mode start.link past ++ last_lines start past) ≡ list_lines mode start.link round slot past
-report-list-lines mode start past round slot =
-    filter-append (is_list_line round slot) (past_lines mode start.link past) (last_lines start past)
-    ∙ ap (λ (lines : List ReportLine). list_lines mode start.link round slot past ++ lines)
-    (no-last round slot (seen_in (map (λ listed. (listed.pc, listed.epc)) (listing_of past))) 0 (tags_behind start past))
-    ∙ append-nil (list_lines mode start.link round slot past)
-
 pub listed-once : RoundsKeepLimit → (mode : Mode) (start : Start) (steps : List Step) (sent : Record) (earlier : List Item) (rn pc : ℕ) (epc : List ℕ) (replied : Replied)
     → AreLegalSteps steps → IsRecordOf (history_of start steps) sent earlier → Acknowledges sent rn → IsGivenWhole sent.given pc epc replied
     → filter (is_list_line sent.round sent.slot) (past_lines mode start.link (history_of start steps) ++ last_lines start (history_of start steps)) ≡ ListLine sent.round sent.slot pc epc ∷ []
@@ -330,7 +293,7 @@ listed-once keeps mode start steps sent earlier rn pc epc replied legal recorded
     let history = history_of start steps in
     let rise : AcksRise (recorded.later ++ exchanged sent ∷ earlier) = subst AcksRise recorded.is (history-rises keeps start steps legal) in
     let own : AcksRise (exchanged sent ∷ earlier) = rise-tail recorded.later (exchanged sent ∷ earlier) rise in
-    report-list-lines mode start history sent.round sent.slot
+    report-passes (is_list_line sent.round sent.slot) (list-lines-pass sent.round sent.slot) mode start history
     ∙ ap (λ (past : List Item). list_lines mode start.link sent.round sent.slot past) recorded.is
     ∙ listed-at mode start.link recorded.later sent earlier rn pc epc replied rise (own.0 (ack-of sent rn acknowledges)) acknowledges given
 

@@ -1,5 +1,5 @@
 -- A history grows by what comes next alone, and stops where nothing does.
-use Rattle.std.proofs.Common.{◌≡◌, ℕ, zero, suc, ◌+◌, ◌<◌, ◌==◌, ◌&&◌, Bool, true, false, List, [], ◌∷◌, ◌++◌, length, map, Option, Some, None, slice_get, refl, ap, sym, ◌∙◌, arith, add-one, ne_eqb, eq-eqb}
+use Rattle.std.proofs.Common.{◌≡◌, ℕ, zero, suc, ◌+◌, ◌<◌, ◌==◌, true, false, List, [], ◌∷◌, ◌++◌, length, map, Option, Some, None, slice_get, refl, ap, sym, ◌∙◌, arith, add-one, ne_eqb, eq-eqb}
 use Rattle.access_ops.specs.declared.OpList.{OpList}
 use Rattle.air_channel.specs.Past.{Start, Record, Item, exchanged, ended, next_record, past_behind_command, rounds_in}
 use Rattle.air_channel.specs.Reception.{Reception, no_stream, whole_reply, no_such_reply}
@@ -8,6 +8,7 @@ use Rattle.air_world.specs.History.{outcome_of, past_behind_answer, slot_recepti
 use Rattle.air_world.specs.HistoryLaws.{finished_in, reception_of_slot, outcomes_of_round, rn_of, rn_received, item_by_rule, item_in_round, item_of_step, next_item, GrowsByNext}
 use Rattle.air_world.specs.declared.mode.Mode.TheVariants.{Plain}
 use Rattle.air_world.proofs.Growth.{RoundsKeepLimit, next_at_end, round-holds}
+use Rattle.air_world.proofs.HeadlineLines.{and-true}
 use Rattle.air_world.proofs.HeadlineSlots.{Fresh, step-fresh, first-fresh, next-begins}
 use Rattle.command_grammar.specs.declared.commands.Command.{Command}
 use Rattle.command_grammar.specs.declared.commands.Command.TheVariants as commands
@@ -45,10 +46,6 @@ round-unfinished : (sent : Record) (past : List Item) (rounds : ℕ) → sent.ro
 round-unfinished sent past rounds is =
     let other : (sent.round == 0) ≡ false = ne_eqb sent.round 0 (λ none. absurd (omega (arith, is, none))) in
     rw other refl
-
-and-true : (a b : Bool) → a ≡ true → b ≡ true → (a && b) ≡ true
-and-true true b is this = this
-and-true false b is this = absurd (cc)
 
 -- a slot command of the round: it brings one outcome more, and an RN16 or none
 inside-sent : (start : Start) (all : List Step) (finished rounds : ℕ) (outcomes : List Outcome) (past : List Item) (command : Command)

@@ -1,15 +1,16 @@
 -- How many slot commands a round has: at most its limit, as many as its line says, and no other round adds to them.
-use Rattle.std.proofs.Common.{◌≡◌, ◌≢◌, ℕ, suc, ◌+◌, ◌<◌, ◌≤◌, ◌==◌, ◌&&◌, ◌⊎◌, inl, inr, Bool, true, false, List, [], ◌∷◌, ◌++◌, length, map, filter, refl, ap, sym, ◌∙◌, subst, append-nil, arith, ne_eqb, eq-eqb}
+use Rattle.std.proofs.Common.{◌≡◌, ◌≢◌, ℕ, suc, ◌+◌, ◌<◌, ◌≤◌, ◌==◌, ◌⊎◌, inl, inr, Bool, true, false, List, [], ◌∷◌, ◌++◌, length, map, filter, refl, ap, sym, ◌∙◌, subst, append-nil, arith, ne_eqb, eq-eqb}
 use Rattle.std.proofs.lemmas.List.Elements.{filter-append}
 use Rattle.access_ops.specs.declared.OpList.{OpList}
-use Rattle.air_channel.specs.Past.{Start, Record, Item, exchanged, ended, next_record, past_behind_command, rounds_in, tags_behind}
+use Rattle.air_channel.specs.Past.{Start, Record, Item, exchanged, ended, next_record, past_behind_command, rounds_in}
 use Rattle.air_channel.specs.Reception.{Reception, no_stream, whole_reply, no_such_reply}
 use Rattle.air_world.specs.Headline.{IsLegalStep, AreLegalSteps, is_round_line, begins_slot, begins_slot_of, slot_records, rounds_of, KeepsLimit}
 use Rattle.air_world.specs.History.{past_behind_answer, slot_reception, past_behind_slot, past_behind_round, past_behind_step, past_behind, history_of}
-use Rattle.air_world.specs.Listing.{Listed, listed_by, listing_of}
-use Rattle.air_world.specs.Report.{trace_lines, list_line, item_lines, past_lines, tag_lines, last_lines, report_of}
+use Rattle.air_world.specs.Listing.{Listed, listed_by}
+use Rattle.air_world.specs.Report.{list_line, past_lines, last_lines, report_of}
 use Rattle.air_world.specs.declared.mode.Mode.{Mode}
 use Rattle.air_world.specs.declared.mode.Mode.TheVariants.{Plain, Trace}
+use Rattle.air_world.proofs.HeadlineLines.{round-lines-pass, sent-passes, befell-passes, report-passes, and-false, and-true}
 use Rattle.air_world.proofs.Growth.{RoundsKeepLimit, round-holds, few-outcomes}
 use Rattle.command_grammar.specs.declared.commands.Command.{Command}
 use Rattle.command_grammar.specs.declared.commands.Command.TheVariants as commands
@@ -21,19 +22,13 @@ use Rattle.q_round.specs.declared.round.Next.{Next}
 use Rattle.q_round.specs.declared.round.Next.TheVariants as nexts
 use Rattle.q_round.specs.declared.round.RoundEnd.{RoundEnd}
 use Rattle.reply_grammar.specs.declared.expected.Reply.TheVariants as replies
-use Rattle.report_lines.specs.ReportLine.{ReportLine, RoundLine, SeenLine, DoneLine}
-use Rattle.report_lines.specs.SeenCounts.{Seen, seen_in}
+use Rattle.report_lines.specs.ReportLine.{ReportLine, RoundLine}
 use Rattle.scenario.specs.declared.values.Step.{Step}
 use Rattle.scenario.specs.declared.values.Step.TheVariants as steps
-use Rattle.tag_machine.specs.TagValue.{TagValue}
 
 -- the lines for the end of a round among the lines of a past
 abbrev pub round_lines : Mode → LinkValue → ℕ → List Item → List ReportLine
 round_lines mode link round past = filter (is_round_line round) (past_lines mode link past)
-
-no-trace : (round : ℕ) (mode : Mode) (link : LinkValue) (sent : Record) → filter (is_round_line round) (trace_lines mode link sent) ≡ []
-no-trace round Plain link sent = refl
-no-trace round Trace link sent = refl
 
 no-listed : (round : ℕ) (listing : List Listed) → filter (is_round_line round) (map list_line listing) ≡ []
 no-listed round [] = refl
@@ -43,17 +38,9 @@ no-listed round (listed ∷ listing) = no-listed round listing
 sent-no-line : (mode : Mode) (link : LinkValue) (round : ℕ) (sent : Record) (past : List Item)
     → round_lines mode link round (exchanged sent ∷ past) ≡ round_lines mode link round past
 sent-no-line mode link round sent past =
-    let test = is_round_line round in
-    filter-append test (past_lines mode link past) (item_lines mode link (exchanged sent))
-    ∙ ap (λ (lines : List ReportLine). filter test (past_lines mode link past) ++ lines)
-    (filter-append test (trace_lines mode link sent) (map list_line (listed_by sent))
-    ∙ ap (λ (lines : List ReportLine). lines ++ filter test (map list_line (listed_by sent))) (no-trace round mode link sent)
-    ∙ no-listed round (listed_by sent))
-    ∙ append-nil (filter test (past_lines mode link past))
-
-befell-no-line : (mode : Mode) (link : LinkValue) (round : ℕ) (past : List Item)
-    → filter (is_round_line round) (past_lines mode link past ++ []) ≡ round_lines mode link round past
-befell-no-line mode link round past = ap (λ (lines : List ReportLine). filter (is_round_line round) lines) (append-nil (past_lines mode link past))
+    sent-passes (is_round_line round) (round-lines-pass round) mode link sent past
+    ∙ ap (λ (lines : List ReportLine). round_lines mode link round past ++ lines) (no-listed round (listed_by sent))
+    ∙ append-nil (round_lines mode link round past)
 
 -- a past has the same slot commands and lines of a round as another
 pub record SameOf (mode : Mode) (link : LinkValue) (round : ℕ) (past now : List Item) : Type 0 where
@@ -82,10 +69,6 @@ same-answer mode link of start round slot (whole_reply (replies.Handle rn)) past
 same-answer mode link of start round slot (whole_reply (replies.Words words)) past = same-of mode link of past
 same-answer mode link of start round slot (whole_reply replies.Header) past = same-of mode link of past
 same-answer mode link of start round slot (whole_reply (replies.Error code)) past = same-of mode link of past
-
-and-false : (a b : Bool) → b ≡ false → (a && b) ≡ false
-and-false true b h = h
-and-false false b h = refl
 
 -- a record of another round begins no slot of this one
 other-round : (round : ℕ) (sent : Record) → sent.round ≢ round → begins_slot_of round sent ≡ false
@@ -171,10 +154,6 @@ answer-begins spec link limit command sends = absurd (cc)
 pub next-begins : (spec : SpecValue) (link : LinkValue) (outcomes : List Outcome) (command : Command)
     → next_command spec link outcomes ≡ nexts.Send command → begins_slot command ≡ true
 next-begins spec link outcomes command sends = answer-begins spec link (turn_of spec outcomes) command sends
-
-and-true : (a b : Bool) → a ≡ true → b ≡ true → (a && b) ≡ true
-and-true true b h k = k
-and-true false b h k = absurd (cc)
 
 -- a slot of the round adds its record to the round's
 pub own-slot : (mode : Mode) (link : LinkValue) (start : Start) (round slot : ℕ) (command : Command) (past : List Item) → begins_slot command ≡ true
@@ -290,7 +269,7 @@ step-passes keeps mode start steps.Nak past of legal some other = record {
   rounds = omega arith;
 }
 step-passes keeps mode start (steps.Event event number) past of legal some other = record {
-  same = record { slots = refl; lines = befell-no-line mode start.link of past };
+  same = record { slots = refl; lines = befell-passes (is_round_line of) mode start.link past };
   rounds = omega arith;
 }
 step-passes keeps mode start (steps.Round spec operations) past of legal some other =
@@ -357,35 +336,13 @@ pub legal-split : (before after : List Step) → AreLegalSteps (before ++ after)
 legal-split [] after legal = (tt, legal)
 legal-split (step ∷ before) after legal = let rest = legal-split before after legal.1 in ((legal.0, rest.0), rest.1)
 
-no-seen : (round : ℕ) (seen : List Seen) → filter (is_round_line round) (map (λ seen. SeenLine seen.count seen.pc seen.epc) seen) ≡ []
-no-seen round [] = refl
-no-seen round (one ∷ more) = no-seen round more
-
-no-tags : (round number : ℕ) (tags : List TagValue) → filter (is_round_line round) (tag_lines number tags) ≡ []
-no-tags round number [] = refl
-no-tags round number (tag ∷ tags) = no-tags round (number + 1) tags
-
--- behind the steps there is no line for the end of a round
-no-last : (round : ℕ) (seen : List Seen) (number : ℕ) (tags : List TagValue)
-    → filter (is_round_line round) (map (λ seen. SeenLine seen.count seen.pc seen.epc) seen ++ tag_lines number tags ++ DoneLine ∷ []) ≡ []
-no-last round [] number [] = refl
-no-last round [] number (tag ∷ tags) = no-last round [] (number + 1) tags
-no-last round (one ∷ more) number tags = no-last round more number tags
-
-report-round-lines : (mode : Mode) (start : Start) (past : List Item) (round : ℕ)
-    → filter (is_round_line round) (past_lines mode start.link past ++ last_lines start past) ≡ round_lines mode start.link round past
-report-round-lines mode start past round =
-    filter-append (is_round_line round) (past_lines mode start.link past) (last_lines start past)
-    ∙ ap (λ (lines : List ReportLine). round_lines mode start.link round past ++ lines) (no-last round (seen_in (map (λ listed. (listed.pc, listed.epc)) (listing_of past))) 0 (tags_behind start past))
-    ∙ append-nil (round_lines mode start.link round past)
-
 -- the round that a step runs keeps its limit in the run
 settled-keeps : (mode : Mode) (start : Start) (history : List Item) (round most : ℕ) → Settled mode start.link round most history
     → KeepsLimit history (past_lines mode start.link history ++ last_lines start history) round most
 settled-keeps mode start history round most settled = record {
   end = settled.end;
   within = settled.within;
-  line = report-round-lines mode start history round ∙ settled.line;
+  line = report-passes (is_round_line round) (round-lines-pass round) mode start history ∙ settled.line;
 }
 
 pub round-keeps : RoundsKeepLimit → (mode : Mode) (start : Start) (before after : List Step) (spec : SpecValue) (operations : OpList)

@@ -2,6 +2,7 @@ pub mod Growth
 pub mod HeadlineAll
 pub mod HeadlineCounts
 pub mod HeadlineLegal
+pub mod HeadlineLines
 pub mod HeadlineListed
 pub mod HeadlineNext
 pub mod HeadlineSent
