@@ -21,6 +21,3 @@ pub use transfer::{Bytes, ReadEnd, WriteFailed, read_to_end, write_all};
 
 /// There is no memory for what was asked.
 pub type OutOfMemory = std::alloc::AllocError;
-
-#[cfg(test)]
-mod tests;

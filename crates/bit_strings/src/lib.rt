@@ -18,6 +18,3 @@ pub use ebv::Ebv;
 pub use fields::{value_of_bits, xor16};
 pub use laws::{ebv_laws, field_laws};
 pub use list::List;
-
-#[cfg(test)]
-mod tests;

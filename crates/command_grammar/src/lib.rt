@@ -21,6 +21,3 @@ pub use framer::Framer;
 pub use laws::{one_outcome, one_refusal, spelling_laws};
 pub use refusal::{CommandRefusal, Pushed, Reason};
 pub use spelling::encode_command;
-
-#[cfg(test)]
-mod tests;

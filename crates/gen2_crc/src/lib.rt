@@ -84,6 +84,3 @@ pub fn residue_ok(bits: &Bits) -> bool
     }
     crc.is_residue()
 }
-
-#[cfg(test)]
-mod tests;

@@ -3,8 +3,6 @@
 
 mod by_name;
 mod laws;
-#[cfg(test)]
-mod tests;
 
 pub use bit_strings::Code;
 pub use by_name::{decode_levels, encode_bits};

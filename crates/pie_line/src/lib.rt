@@ -11,8 +11,6 @@ mod intervals;
 mod laws;
 mod link;
 mod ranges;
-#[cfg(test)]
-mod tests;
 
 pub use bit_strings::Code;
 pub use decoder::decode_frame;

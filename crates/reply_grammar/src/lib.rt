@@ -12,6 +12,3 @@ pub use encode::encode_reply;
 pub use expected::{Expect, Received, Reply, ReplyRefusal};
 pub use laws::{reply_laws, reply_length, suiting_law};
 pub use reply_words::{EpcWords, ReadWords};
-
-#[cfg(test)]
-mod tests;

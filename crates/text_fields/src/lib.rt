@@ -17,8 +17,6 @@ mod more_fields;
 mod next_fields;
 mod numbers;
 mod single_bits;
-#[cfg(test)]
-mod tests;
 mod word_lists;
 
 pub use code_names::{code_named, name_of};

@@ -1,6 +1,7 @@
-use crate::*;
+//! Fields and lines of texts, read and written, against texts written out by hand.
 use bit_strings::{Bits, Code};
 use std::test::Fail;
+use text_fields::*;
 
 #[test]
 fn numbers_have_one_spelling(rt: HostRuntime) {

@@ -1,6 +1,6 @@
 //! Check numbers from outside: the catalogue's check of each, and an EPC reply.
-use crate::{Crc16, crc5, crc16, residue_ok};
 use bit_strings::Bits;
+use gen2_crc::{Crc16, crc5, crc16, residue_ok};
 use std::test::Fail;
 
 /// The bits of these bytes, each most significant bit first.

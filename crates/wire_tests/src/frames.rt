@@ -1,7 +1,8 @@
-use crate::{
+//! Frames in pulse-interval encoding, and links, against lists of intervals written out by hand.
+use bit_strings::{Bits, Full, OutOfMemory};
+use pie_line::{
     Code, FrameKind, Intervals, Lead, Link, LinkRefusal, PieRefusal, decode_frame, encode_frame,
 };
-use bit_strings::{Bits, Full, OutOfMemory};
 use std::alloc::Global;
 use std::process::Abort;
 use std::test::Fail;

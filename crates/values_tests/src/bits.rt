@@ -1,5 +1,5 @@
 //! Vectors from outside, and each call once.
-use crate::{Bits, Count1, Ebv, Full, List, Session, xor16};
+use bit_strings::{Bits, Count1, Ebv, Full, List, Session, xor16};
 use std::test::Fail;
 
 /// The list of bits that a text of the digits 0 and 1 shows, with some room to spare.

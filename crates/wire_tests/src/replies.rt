@@ -1,7 +1,7 @@
 //! Replies from outside, and each refusal.
-use crate::{EpcWords, Expect, ReadWords, Reply, ReplyRefusal, decode_reply, encode_reply};
 use bit_strings::{Bits, Count1};
 use gen2_crc::crc16;
+use reply_grammar::{EpcWords, Expect, ReadWords, Reply, ReplyRefusal, decode_reply, encode_reply};
 use std::test::Fail;
 
 /// The bits that a text of the digits 0 and 1 shows.

@@ -1,5 +1,8 @@
-// Whole reads and writes over memory.
-use super::*;
+//! Whole reads and writes over memory.
+use air_io::{
+    MemSink, MemSource, ReadEnd, Sink, Source, SureSink, SureSource, Take, WriteFailed,
+    read_to_end, write_all,
+};
 use std::alloc::{AllocError, Global};
 use std::test::Fail;
 

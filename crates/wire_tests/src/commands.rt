@@ -1,5 +1,6 @@
-use super::*;
+//! Commands, read and written, and each refusal.
 use bit_strings::Bits;
+use command_grammar::*;
 use std::process::Abort;
 use std::test::Fail;
 
@@ -272,9 +273,4 @@ fn longest(rt: HostRuntime) -> Result<(), Fail> {
     assert_eq!(rt; framer.push(false), Pushed::Whole);
     assert_eq!(rt; framer.push(false), Pushed::Bad(4162, Reason::Extra));
     Ok(())
-}
-
-#[test]
-fn laws_hold() {
-    spelling_laws();
 }

@@ -1,8 +1,8 @@
 //! Streams of the four codes, with both pilots, written and read.
 ghost use Rattle.std.specs.Prelude.{◌≡◌, ◌≤◌, length};
 
-use crate::{Code, LineRefusal, decode_levels, encode_bits};
 use bit_strings::{Bits, Levels};
+use line_codes::{Code, LineRefusal, decode_levels, encode_bits};
 use std::alloc::Global;
 use std::test::Fail;
 
