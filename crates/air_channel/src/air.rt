@@ -128,6 +128,7 @@ impl Air {
     pub fn len(&self) -> u32
         ensures count { result ≡ length self.now.tags }
         ensures few { length self.now.tags ≤ 256 }
+        ensures legal { AreLegalTags self.now.tags }
     {
         self.population.len()
     }

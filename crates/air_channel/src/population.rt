@@ -53,6 +53,7 @@ impl Population {
     pub(crate) fn len(&self) -> u32
         ensures count { result ≡ length self.now }
         ensures few { length self.now ≤ 256 }
+        ensures legal { AreLegalTags self.now }
     {
         self.seats.len() as u32
     }
