@@ -1,3 +1,5 @@
+pub mod Answering
+pub mod Beginning
 pub mod Growth
 pub mod HeadlineAll
 pub mod HeadlineCounts
@@ -8,3 +10,13 @@ pub mod HeadlineNext
 pub mod HeadlineSent
 pub mod HeadlineSlots
 pub mod HeadlineTags
+pub mod LastLines
+pub mod Lines
+pub mod Moments
+pub mod Reception
+pub mod Rounds
+pub mod Sending
+pub mod Slots
+pub mod Steps
+pub mod Tags
+pub mod Writing

@@ -1,6 +1,8 @@
+pub mod Heard
 pub mod History
 pub mod Listing
-pub mod ScenarioStart
+pub mod Playing
 pub mod Report
 pub mod Headline
 pub mod HistoryLaws
+pub mod ScenarioStart

@@ -1,4 +1,9 @@
 //! What a report tells, and why a run was cut off.
+ghost use Rattle.std.specs.Prelude.{◌≡◌};
+ghost use Rattle.air_world.specs.declared.mode.PlayFault.TheVariants.{Write, OutOfMemory as NoMemory};
+
+use air_io::WriteFailed;
+use bit_strings::OutOfMemory;
 
 /// How much a report tells.
 #[derive(Clone, Copy, Debug, PartialEq, Eq)]
@@ -16,4 +21,20 @@ pub enum PlayFault {
     Write,
     /// There was no memory.
     OutOfMemory,
+}
+
+impl From<WriteFailed> for PlayFault {
+    ghost from_gives = { λ _ fault. fault ≡ Write };
+
+    fn from(_: WriteFailed) -> PlayFault {
+        PlayFault::Write
+    }
+}
+
+impl From<OutOfMemory> for PlayFault {
+    ghost from_gives = { λ _ fault. fault ≡ NoMemory };
+
+    fn from(_: OutOfMemory) -> PlayFault {
+        PlayFault::OutOfMemory
+    }
 }

@@ -1,0 +1,244 @@
+-- What the exchanges of a slot make of a run.
+use Rattle.std.proofs.Common.{◌≡◌, ℕ, suc, ◌+◌, ◌≤◌, ◌<◌, ◌^◌, List, [], ◌∷◌, ◌++◌, length, map, Option, Some, None, Result, Ok, Err, refl, sym, ◌∙◌, ap, subst, arith, append_assoc, length-append}
+use Rattle.std.proofs.lemmas.List.{append-nil, map-append}
+use Rattle.std.specs.Result.{IfErr, OnOk}
+use Rattle.air_channel.specs.Air.{AirValue}
+use Rattle.air_channel.specs.Channel.{Given, got_of, heard_levels}
+use Rattle.air_channel.specs.Past.{Start, Record, Item, befell, exchanged, ended, next_record, past_behind_command, exchanges_in}
+use Rattle.air_channel.specs.Received.{IsReceived}
+use Rattle.air_channel.specs.Reception.{Reception, no_stream, whole_reply, no_such_reply, reception_of}
+use Rattle.air_channel.specs.declared.air.Got.TheVariants as gots
+use Rattle.air_world.proofs.Moments.{grows-answer}
+use Rattle.air_world.proofs.Lines.{report_text-append}
+use Rattle.air_world.proofs.Reception.{IsExpectedGiven, received-reception}
+use Rattle.air_world.proofs.Writing.{cut-longer, cut-past}
+use Rattle.air_world.specs.Heard.{reception_from, rn16_in, pair_in}
+use Rattle.air_world.specs.History.{past_behind_answer, slot_reception, past_behind_slot}
+use Rattle.air_world.specs.Listing.{Listed, reception_of_ack, listed_from, listed_by, listing_of}
+use Rattle.air_world.specs.Playing.{Origin, RunValue, PlaysAt, StandsAt, IsWritten, IsCutOff, HasRoom, pair_of, past_text, expectation_of}
+use Rattle.air_world.specs.Report.{past_lines, trace_lines, list_line}
+use Rattle.air_world.specs.declared.mode.PlayFault.{PlayFault}
+use Rattle.command_grammar.specs.declared.commands.Command.{Command}
+use Rattle.command_grammar.specs.declared.commands.Command.TheVariants as commands
+use Rattle.line_codes.specs.Codes.{table_of}
+use Rattle.pie_line.specs.Link.{LinkValue}
+use Rattle.reply_grammar.specs.declared.expected.Expect.{Expect}
+use Rattle.reply_grammar.specs.declared.expected.Expect.TheVariants as expects
+use Rattle.reply_grammar.specs.declared.expected.Received.{Received}
+use Rattle.reply_grammar.specs.declared.expected.Reply.{Reply}
+use Rattle.reply_grammar.specs.declared.expected.Reply.TheVariants as replies
+use Rattle.report_lines.specs.ReportLine.{ReportLine, report_line_text, report_text}
+use Rattle.report_lines.specs.SeenCounts.{Seen, seen_in, count_of}
+use Rattle.scenario.specs.Cursor.{IsLeft}
+use Rattle.report_lines.specs.SeenLaws.{count_of-few}
+
+-- what is received of the stream of the last exchange
+pub heard-reception : (link : LinkValue) (given : Given) (air : AirValue) (expect : Expect) (answer : Received) → air.link ≡ link → air.stream ≡ heard_levels link given → got_of given ≡ gots.Stream
+    → IsExpectedGiven expect given → IsReceived (table_of air.link.code) air.link.trext expect air.stream answer → reception_from (Some answer) ≡ reception_of expect given
+heard-reception link given air expect answer link_is stream came is received =
+    let at_link : IsReceived (table_of link.code) link.trext expect air.stream answer = subst (λ l. IsReceived (table_of l.code) l.trext expect air.stream answer) link_is received in
+    received-reception link expect given answer is came (subst (λ levels. IsReceived (table_of link.code) link.trext expect levels answer) stream at_link)
+
+-- the text behind an exchange: what a trace tells of it, then what it lists
+pub text-exchanged : (origin : Origin) (sent : Record) (past : List Item)
+    → past_text origin (exchanged sent ∷ past) ≡ (past_text origin past ++ report_text (trace_lines origin.mode origin.start.link sent)) ++ report_text (map list_line (listed_by sent))
+text-exchanged origin sent past =
+    let lines : List ReportLine = past_lines origin.mode origin.start.link past in
+    let trace : List ReportLine = trace_lines origin.mode origin.start.link sent in
+    let listed : List ReportLine = map list_line (listed_by sent) in
+    report_text-append lines (trace ++ listed) ∙ ap (λ (text : List ℕ). report_text lines ++ text) (report_text-append trace listed)
+    ∙ sym (append_assoc (report_text lines) (report_text trace) (report_text listed))
+
+-- where an exchange lists nothing
+pub stands-unlisted : (origin : Origin) (sent : Record) (past : List Item) (air : AirValue) (run : RunValue) (written : Option (List ℕ)) (faults : ℕ)
+    → PlaysAt origin (exchanged sent ∷ past) air run → run.seen ≡ seen_in (map pair_of (listing_of past))
+    → IsWritten origin (past_text origin past ++ report_text (trace_lines origin.mode origin.start.link sent)) written faults → listed_by sent ≡ []
+    → StandsAt origin (exchanged sent ∷ past) air run written faults
+stands-unlisted origin sent past air run written faults plays seen done none =
+    let before : List ℕ = past_text origin past ++ report_text (trace_lines origin.mode origin.start.link sent) in
+    let text : past_text origin (exchanged sent ∷ past) ≡ before =
+    text-exchanged origin sent past ∙ ap (λ (l : List Listed). before ++ report_text (map list_line l)) none ∙ append-nil before in
+    let same : listing_of past ++ listed_by sent ≡ listing_of past = ap (λ (l : List Listed). listing_of past ++ l) none ∙ append-nil (listing_of past) in
+    record {
+      plays = plays;
+      seen = seen ∙ ap (λ (l : List Listed). seen_in (map pair_of l)) (sym same);
+      text = subst (λ (t : List ℕ). IsWritten origin t written faults) (sym text) done;
+    }
+
+listed-text : (origin : Origin) (sent : Record) (past : List Item) (listed : Listed) → listed_by sent ≡ listed ∷ []
+    → past_text origin (exchanged sent ∷ past) ≡ (past_text origin past ++ report_text (trace_lines origin.mode origin.start.link sent)) ++ report_line_text (list_line listed)
+listed-text origin sent past listed one =
+    let before : List ℕ = past_text origin past ++ report_text (trace_lines origin.mode origin.start.link sent) in
+    text-exchanged origin sent past ∙ ap (λ (l : List Listed). before ++ report_text (map list_line l)) one
+    ∙ ap (λ (t : List ℕ). before ++ t) (append-nil (report_line_text (list_line listed)))
+
+-- where it lists one tag
+pub stands-listed : (origin : Origin) (sent : Record) (past : List Item) (listed : Listed) (air : AirValue) (run : RunValue) (written : Option (List ℕ)) (faults : ℕ)
+    → PlaysAt origin (exchanged sent ∷ past) air run → run.seen ≡ seen_in (map pair_of (listing_of past) ++ pair_of listed ∷ [])
+    → IsWritten origin ((past_text origin past ++ report_text (trace_lines origin.mode origin.start.link sent)) ++ report_line_text (list_line listed)) written faults → listed_by sent ≡ listed ∷ []
+    → StandsAt origin (exchanged sent ∷ past) air run written faults
+stands-listed origin sent past listed air run written faults plays seen done one =
+    let same : map pair_of (listing_of past ++ listed_by sent) ≡ map pair_of (listing_of past) ++ pair_of listed ∷ [] =
+    ap (λ (l : List Listed). map pair_of (listing_of past ++ l)) one ∙ map-append pair_of (listing_of past) (listed ∷ []) in
+    record {
+      plays = plays;
+      seen = seen ∙ ap seen_in (sym same);
+      text = subst (λ (t : List ℕ). IsWritten origin t written faults) (sym (listed-text origin sent past listed one)) done;
+    }
+
+-- an exchange whose lines were cut off
+pub cut-exchanged : (origin : Origin) (sent : Record) (past : List Item) (written : Option (List ℕ)) (faults : ℕ) (fault : PlayFault)
+    → IsCutOff origin (past_text origin past ++ report_text (trace_lines origin.mode origin.start.link sent)) written faults fault
+    → IsCutOff origin (past_text origin (exchanged sent ∷ past)) written faults fault
+cut-exchanged origin sent past written faults fault cut =
+    cut-longer origin (past_text origin past ++ report_text (trace_lines origin.mode origin.start.link sent)) (report_text (map list_line (listed_by sent))) (past_text origin (exchanged sent ∷ past)) written faults fault
+    (text-exchanged origin sent past) cut
+
+pub cut-listed : (origin : Origin) (sent : Record) (past : List Item) (listed : Listed) (written : Option (List ℕ)) (faults : ℕ) (fault : PlayFault) → listed_by sent ≡ listed ∷ []
+    → IsCutOff origin ((past_text origin past ++ report_text (trace_lines origin.mode origin.start.link sent)) ++ report_line_text (list_line listed)) written faults fault
+    → IsCutOff origin (past_text origin (exchanged sent ∷ past)) written faults fault
+cut-listed origin sent past listed written faults fault one cut = subst (λ (t : List ℕ). IsCutOff origin t written faults fault) (sym (listed-text origin sent past listed one)) cut
+
+command-unlisted : (sent : Record) (command : Command) → expectation_of command ≡ Some expects.Rn16 → reception_of_ack sent command ≡ no_stream
+command-unlisted sent (commands.Ack rn) asked = absurd (cc)
+command-unlisted sent command asked = refl
+
+-- no slot command lists
+pub slot-unlisted : (sent : Record) → expectation_of sent.command ≡ Some expects.Rn16 → listed_by sent ≡ []
+slot-unlisted sent asked = ap (λ (r : Reception). listed_from sent r) (command-unlisted sent sent.command asked)
+
+-- what a whole reply to an ACK lists
+pub whole-listed : (sent : Record) (reply : Reply) (pair : ℕ × List ℕ) → pair_in reply ≡ Some pair
+    → listed_from sent (whole_reply reply) ≡ record { round = sent.round; slot = sent.slot; pc = pair.0; epc = pair.1 } ∷ []
+whole-listed sent (replies.Epc pc epc) pair is = let same : (pc, epc) ≡ pair = cc in ap (λ (p : ℕ × List ℕ). record { round = sent.round; slot = sent.slot; pc = p.0; epc = p.1 } ∷ []) same
+whole-listed sent (replies.Rn16 rn) pair is = absurd (cc)
+whole-listed sent (replies.Handle rn) pair is = absurd (cc)
+whole-listed sent (replies.Words words) pair is = absurd (cc)
+whole-listed sent replies.Header pair is = absurd (cc)
+whole-listed sent (replies.Error code) pair is = absurd (cc)
+
+pub other-unlisted : (sent : Record) (reply : Reply) → pair_in reply ≡ None → listed_from sent (whole_reply reply) ≡ []
+other-unlisted sent (replies.Epc pc epc) is = absurd (cc)
+other-unlisted sent (replies.Rn16 rn) is = refl
+other-unlisted sent (replies.Handle rn) is = refl
+other-unlisted sent (replies.Words words) is = refl
+other-unlisted sent replies.Header is = refl
+other-unlisted sent (replies.Error code) is = refl
+
+length-map-pairs : (listed : List Listed) → length (map pair_of listed) ≡ length listed
+length-map-pairs [] = refl
+length-map-pairs (one ∷ others) = ap suc (length-map-pairs others)
+
+-- a past lists at most one tag in each exchange
+few-from : (sent : Record) (reception : Reception) → length (listed_from sent reception) ≤ 1
+few-from sent no_stream = omega arith
+few-from sent no_such_reply = omega arith
+few-from sent (whole_reply (replies.Epc pc epc)) = omega arith
+few-from sent (whole_reply (replies.Rn16 rn)) = omega arith
+few-from sent (whole_reply (replies.Handle rn)) = omega arith
+few-from sent (whole_reply (replies.Words words)) = omega arith
+few-from sent (whole_reply replies.Header) = omega arith
+few-from sent (whole_reply (replies.Error code)) = omega arith
+
+pub few-listed : (past : List Item) → length (map pair_of (listing_of past)) ≤ exchanges_in past
+few-listed [] = omega arith
+few-listed (befell event number ∷ past) = few-listed past
+few-listed (ended round end slots ∷ past) = few-listed past
+few-listed (exchanged sent ∷ past) =
+    let here = few-from sent (reception_of_ack sent sent.command) in
+    let there = few-listed past in
+    omega (arith, here, there, ap length (map-append pair_of (listing_of past) (listed_by sent)), length-append (map pair_of (listing_of past)) (map pair_of (listed_by sent)), length-map-pairs (listed_by sent))
+
+-- so the counts fit
+pub count-fits : (origin : Origin) (past : List Item) (air : AirValue) (run : RunValue) (pair : ℕ × List ℕ) → run.seen ≡ seen_in (map pair_of (listing_of past)) → HasRoom 1 past
+    → count_of run.seen pair < 2 ^ 63
+count-fits origin past air run pair seen room =
+    let few : count_of (seen_in (map pair_of (listing_of past))) pair ≤ length (map pair_of (listing_of past)) = count_of-few (map pair_of (listing_of past)) pair in
+    let same : count_of run.seen pair ≡ count_of (seen_in (map pair_of (listing_of past))) pair = ap (λ s. count_of s pair) seen in
+    omega (arith, few, same, few-listed past, room)
+
+-- what follows a whole reply to a slot command
+pub whole-answer : (start : Start) (round slot : ℕ) (reply : Reply) (rn : ℕ) (past : List Item) → rn16_in reply ≡ Some rn
+    → past_behind_answer start round slot (whole_reply reply) past ≡ past_behind_command start round slot (commands.Ack rn) past
+whole-answer start round slot (replies.Rn16 own) rn past is = let same : own ≡ rn = cc in ap (λ n. past_behind_command start round slot (commands.Ack n) past) same
+whole-answer start round slot (replies.Epc pc epc) rn past is = absurd (cc)
+whole-answer start round slot (replies.Handle own) rn past is = absurd (cc)
+whole-answer start round slot (replies.Words words) rn past is = absurd (cc)
+whole-answer start round slot replies.Header rn past is = absurd (cc)
+whole-answer start round slot (replies.Error code) rn past is = absurd (cc)
+
+pub other-answer : (start : Start) (round slot : ℕ) (reply : Reply) (past : List Item) → rn16_in reply ≡ None → past_behind_answer start round slot (whole_reply reply) past ≡ past
+other-answer start round slot (replies.Rn16 own) past is = absurd (cc)
+other-answer start round slot (replies.Epc pc epc) past is = refl
+other-answer start round slot (replies.Handle own) past is = refl
+other-answer start round slot (replies.Words words) past is = refl
+other-answer start round slot replies.Header past is = refl
+other-answer start round slot (replies.Error code) past is = refl
+
+-- the first exchange of a slot, cut off
+pub cut-slot : (origin : Origin) (round slot : ℕ) (command : Command) (past : List Item) (written : Option (List ℕ)) (faults : ℕ) (fault : PlayFault)
+    → IsCutOff origin (past_text origin past ++ report_text (trace_lines origin.mode origin.start.link (next_record origin.start round slot command past))) written faults fault
+    → IsCutOff origin (past_text origin (past_behind_slot origin.start round slot command past)) written faults fault
+cut-slot origin round slot command past written faults fault cut =
+    let between : List Item = past_behind_command origin.start round slot command past in
+    cut-past 1 origin between (past_behind_slot origin.start round slot command past) written faults fault
+    (grows-answer origin.start round slot (slot_reception origin.start round slot command past) between)
+    (cut-exchanged origin (next_record origin.start round slot command past) past written faults fault cut)
+
+-- listing changes nothing else
+pub plays-listed : (origin : Origin) (past : List Item) (air : AirValue) (run after : RunValue) (seen : List Seen) → after ≡ record run { seen = seen } → PlaysAt origin past air run → PlaysAt origin past air after
+plays-listed origin past air run after seen is plays = record {
+  names = plays.names;
+  mode = ap (λ (r : RunValue). r.mode) is ∙ plays.mode;
+  link = plays.link;
+  tags = plays.tags;
+  legal = plays.legal;
+  exchanges = plays.exchanges;
+  entries = subst (λ l. IsLeft l origin.start.entries (exchanges_in past)) (sym (ap (λ (r : RunValue). r.entries) is)) plays.entries;
+  rounds = ap (λ (r : RunValue). r.rounds) is ∙ plays.rounds;
+}
+
+-- two facts on success give a third
+pub ok-both : {E : Type 0} (r : Result (Unit {0}) E) (P Q R : Type 0) → (P → Q → R) → OnOk r P → OnOk r Q → OnOk r R
+ok-both (Ok done) P Q R joins p q = joins p q
+ok-both (Err e) P Q R joins p q = tt
+
+pub err-each : {T : Type 0} (r : Result T PlayFault) (P Q : PlayFault → Type 0) → ((fault : PlayFault) → P fault → Q fault) → IfErr r P → IfErr r Q
+err-each (Ok x) P Q turns p = tt
+err-each (Err fault) P Q turns p = turns fault p
+
+-- a slot command leaves the counts as they are
+pub seen-unlisted : (sent : Record) (past : List Item) → listed_by sent ≡ [] → seen_in (map pair_of (listing_of past)) ≡ seen_in (map pair_of (listing_of (exchanged sent ∷ past)))
+seen-unlisted sent past none = ap (λ (l : List Listed). seen_in (map pair_of l)) (sym (ap (λ (l : List Listed). listing_of past ++ l) none ∙ append-nil (listing_of past)))
+
+-- what stands behind the past of a slot
+pub slot-stands : (origin : Origin) (round slot : ℕ) (command : Command) (past longer : List Item) (air : AirValue) (run : RunValue) (written : Option (List ℕ)) (faults : ℕ)
+    → past_behind_slot origin.start round slot command past ≡ longer → StandsAt origin longer air run written faults
+    → StandsAt origin (past_behind_slot origin.start round slot command past) air run written faults
+slot-stands origin round slot command past longer air run written faults is stands = subst (λ (p : List Item). StandsAt origin p air run written faults) (sym is) stands
+
+-- ... and of a slot without an ACK
+pub slot-without : (start : Start) (round slot : ℕ) (command : Command) (past : List Item) (reception : Reception) → reception ≡ slot_reception start round slot command past
+    → past_behind_answer start round slot reception (past_behind_command start round slot command past) ≡ past_behind_command start round slot command past
+    → past_behind_slot start round slot command past ≡ past_behind_command start round slot command past
+slot-without start round slot command past reception is none =
+    ap (λ (r : Reception). past_behind_answer start round slot r (past_behind_command start round slot command past)) (sym is) ∙ none
+
+-- ... and of a slot with one
+pub slot-with : (start : Start) (round slot : ℕ) (command : Command) (past : List Item) (reply : Reply) (rn : ℕ) → whole_reply reply ≡ slot_reception start round slot command past → rn16_in reply ≡ Some rn
+    → past_behind_slot start round slot command past ≡ past_behind_command start round slot (commands.Ack rn) (past_behind_command start round slot command past)
+slot-with start round slot command past reply rn is found =
+    ap (λ (r : Reception). past_behind_answer start round slot r (past_behind_command start round slot command past)) (sym is)
+    ∙ whole-answer start round slot reply rn (past_behind_command start round slot command past) found
+
+-- room for one exchange more
+pub room-behind : (start : Start) (round slot : ℕ) (command : Command) (past : List Item) (more : ℕ) → HasRoom (1 + more) past → HasRoom more (past_behind_command start round slot command past)
+room-behind start round slot command past more room = omega arith
+
+pub cut-same : (origin : Origin) (past longer : List Item) (written : Option (List ℕ)) (faults : ℕ) (fault : PlayFault) → past ≡ longer
+    → IsCutOff origin (past_text origin longer) written faults fault → IsCutOff origin (past_text origin past) written faults fault
+cut-same origin past longer written faults fault is cut = subst (λ (p : List Item). IsCutOff origin (past_text origin p) written faults fault) (sym is) cut
+
+pub ok-each : {E : Type 0} (r : Result (Unit {0}) E) (P Q : Type 0) → (P → Q) → OnOk r P → OnOk r Q
+ok-each (Ok done) P Q turns p = turns p
+ok-each (Err e) P Q turns p = tt

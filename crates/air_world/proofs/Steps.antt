@@ -1,0 +1,135 @@
+-- What the steps of a run make of it.
+use Rattle.std.proofs.Common.{◌≡◌, ℕ, suc, ◌+◌, ◌*◌, ◌≤◌, ◌<◌, List, [], ◌∷◌, length, drop, get_or, Option, None, refl, sym, ◌∙◌, ap, subst, arith}
+use Rattle.std.proofs.Math.Seq.{drop-cons}
+use Rattle.std.proofs.lemmas.List.{append-nil}
+use Rattle.std.proofs.lemmas.List.Elements.{All-get_or}
+use Rattle.std.specs.Prelude.{All}
+use Rattle.air_channel.specs.Air.{AirValue, AreLegalTags, air_after_event}
+use Rattle.air_channel.specs.Past.{Start, Record, Item, befell, tags_behind}
+use Rattle.air_channel.specs.Reception.{Reception, no_stream}
+use Rattle.air_events.specs.declared.Event.{Event}
+use Rattle.air_world.proofs.Moments.{Grows, grows-command, grows-round, grows-more, grows-nothing, grows-at-most}
+use Rattle.air_world.proofs.Tags.{tags-befell, length-tags}
+use Rattle.air_world.proofs.Writing.{cut-past}
+use Rattle.air_world.specs.History.{past_behind, past_behind_step, past_behind_round}
+use Rattle.air_world.specs.Listing.{reception_of_ack, listed_from, listed_by}
+use Rattle.air_world.specs.Playing.{Origin, RunValue, PlaysAt, StandsAt, IsWritten, IsCutOff, moments_in, past_text, expectation_of}
+use Rattle.air_world.specs.Report.{past_lines}
+use Rattle.air_world.specs.declared.mode.PlayFault.{PlayFault}
+use Rattle.command_grammar.specs.declared.commands.Command.{Command}
+use Rattle.command_grammar.specs.declared.commands.Command.TheVariants as commands
+use Rattle.report_lines.specs.ReportLine.{report_text}
+use Rattle.scenario.specs.Limits.{IsStep}
+use Rattle.scenario.specs.declared.values.Step.{Step}
+use Rattle.scenario.specs.declared.values.Step.TheVariants as steps
+
+command-unlisted : (sent : Record) (command : Command) → expectation_of command ≡ None → reception_of_ack sent command ≡ no_stream
+command-unlisted sent (commands.Ack rn) asked = absurd (cc)
+command-unlisted sent command asked = refl
+
+-- a command to which no reply is expected lists nothing
+pub alone-unlisted : (sent : Record) → expectation_of sent.command ≡ None → listed_by sent ≡ []
+alone-unlisted sent asked = ap (λ (r : Reception). listed_from sent r) (command-unlisted sent sent.command asked)
+
+-- no reply is expected to the Select of a step
+pub select-alone : (tags : ℕ) (command : Command) → IsStep tags (steps.Select command) → expectation_of command ≡ None
+select-alone tags (commands.Select target action bank pointer mask) is = refl
+select-alone tags command is = absurd is
+
+-- behind an event
+pub stands-befell : (origin : Origin) (past : List Item) (event : Event) (number : ℕ) (air next : AirValue) (run : RunValue) (written : Option (List ℕ)) (faults : ℕ)
+    → StandsAt origin past air run written faults → next ≡ air_after_event air event number → AreLegalTags next.tags → StandsAt origin (befell event number ∷ past) next run written faults
+stands-befell origin past event number air next run written faults stands is legal =
+    let moved : next.tags ≡ tags_behind origin.start (befell event number ∷ past) =
+    ap (λ (a : AirValue). a.tags) is ∙ ap (λ t. (air_after_event (record air { tags = t }) event number).tags) stands.plays.tags ∙ sym (tags-befell origin.start event number past) in
+    let text : past_text origin (befell event number ∷ past) ≡ past_text origin past = ap report_text (append-nil (past_lines origin.mode origin.start.link past)) in
+    record {
+      plays = record {
+        names = stands.plays.names;
+        mode = stands.plays.mode;
+        link = ap (λ (a : AirValue). a.link) is ∙ stands.plays.link;
+        tags = moved;
+        legal = legal;
+        exchanges = ap (λ (a : AirValue). a.exchanges) is ∙ stands.plays.exchanges;
+        entries = stands.plays.entries;
+        rounds = stands.plays.rounds;
+      };
+      seen = stands.seen;
+      text = subst (λ (t : List ℕ). IsWritten origin t written faults) (sym text) stands.text;
+    }
+
+-- a step makes a past longer
+pub grows-step : (tags : ℕ) (start : Start) (step : Step) (past : List Item) → IsStep tags step → Grows 140002 past (past_behind_step start step past)
+grows-step tags start (steps.Select command) past is = grows-at-most 1 140002 past (past_behind_step start (steps.Select command) past) (omega arith) (grows-command start 0 0 command past)
+grows-step tags start steps.Nak past is = grows-at-most 1 140002 past (past_behind_step start steps.Nak past) (omega arith) (grows-command start 0 0 commands.Nak past)
+grows-step tags start (steps.Event event number) past is = record { own = befell event number ∷ []; joined = refl; few = omega arith }
+grows-step tags start (steps.Round spec operations) past is =
+    grows-at-most (2 * suc spec.limit) 140002 past (past_behind_round start spec past) (omega (arith, is.0.legal.limit.1)) (grows-round start spec past)
+
+-- before a step of those whose end leaves a known past
+pub record StepsUnderway (origin : Origin) (first whole : List Item) (steps : List Step) (index : ℕ) (air : AirValue) (run : RunValue) (written : Option (List ℕ)) (faults : ℕ) : Type 0 where
+  pub past : List Item
+  pub stands : StandsAt origin past air run written faults
+  pub rest : past_behind origin.start (drop index steps) past ≡ whole
+  pub few : moments_in past ≤ moments_in first + 140002 * index
+
+-- a step among others
+pub step-legal : (tags : ℕ) (list : List Step) (index : ℕ) (step : Step) → index < length list → step ≡ get_or list index step → All (IsStep tags) list → IsStep tags step
+step-legal tags list index step inside is all = subst (λ (s : Step). IsStep tags s) (sym is) (All-get_or (IsStep tags) list index step inside all)
+
+-- the number of tags stays
+pub same-count : (origin : Origin) (past later : List Item) (air next : AirValue) (run then_run : RunValue) → PlaysAt origin past air run → PlaysAt origin later next then_run → length next.tags ≡ length air.tags
+same-count origin past later air next run then_run plays goes = ap length goes.tags ∙ length-tags origin.start later ∙ sym (ap length plays.tags ∙ length-tags origin.start past)
+
+step-drop : (list : List Step) (index : ℕ) (step : Step) → index < length list → step ≡ get_or list index step → drop index list ≡ step ∷ drop (index + 1) list
+step-drop list index step inside is =
+    let next : suc index ≡ index + 1 = omega arith in
+    drop-cons list index step inside ∙ ap (λ (s : Step). s ∷ drop (suc index) list) (sym is) ∙ ap (λ n. step ∷ drop n list) next
+
+steps-rest : (start : Start) (list : List Step) (index : ℕ) (step : Step) (past whole : List Item) → index < length list → step ≡ get_or list index step → past_behind start (drop index list) past ≡ whole
+    → past_behind start (drop (index + 1) list) (past_behind_step start step past) ≡ whole
+steps-rest start list index step past whole inside is rest = ap (λ (l : List Step). past_behind start l past) (sym (step-drop list index step inside is)) ∙ rest
+
+pub steps-go-on : (origin : Origin) (first whole : List Item) (tags : ℕ) (list : List Step) (index : ℕ) (step : Step) (air next : AirValue) (run then_run : RunValue) (was_written written : Option (List ℕ)) (was_faults faults : ℕ)
+    → (u : StepsUnderway origin first whole list index air run was_written was_faults) → index < length list → step ≡ get_or list index step → IsStep tags step
+    → StandsAt origin (past_behind_step origin.start step u.past) next then_run written faults
+    → StepsUnderway origin first whole list (index + 1) next then_run written faults
+steps-go-on origin first whole tags list index step air next run then_run was_written written was_faults faults u inside is legal stands =
+    let grown : Grows 140002 u.past (past_behind_step origin.start step u.past) = grows-step tags origin.start step u.past legal in
+    record {
+      past = past_behind_step origin.start step u.past;
+      stands = stands;
+      rest = steps-rest origin.start list index step u.past whole inside is u.rest;
+      few = omega (arith, grown.few, u.few);
+    }
+
+-- how much a step and steps may add
+abbrev pub step_most : Step → ℕ
+step_most (steps.Select command) = 1
+step_most steps.Nak = 1
+step_most (steps.Event event number) = 0
+step_most (steps.Round spec operations) = 2 * suc spec.limit
+
+grows-any : (start : Start) (step : Step) (past : List Item) → Grows (step_most step) past (past_behind_step start step past)
+grows-any start (steps.Select command) past = grows-command start 0 0 command past
+grows-any start steps.Nak past = grows-command start 0 0 commands.Nak past
+grows-any start (steps.Event event number) past = record { own = befell event number ∷ []; joined = refl; few = omega arith }
+grows-any start (steps.Round spec operations) past = grows-round start spec past
+
+abbrev pub steps_most : List Step → ℕ
+steps_most [] = 0
+steps_most (step ∷ others) = step_most step + steps_most others
+
+pub grows-steps : (start : Start) (list : List Step) (past : List Item) → Grows (steps_most list) past (past_behind start list past)
+grows-steps start [] past = grows-nothing past
+grows-steps start (step ∷ others) past =
+    grows-more (step_most step) (steps_most others) past (past_behind_step start step past) (past_behind start others (past_behind_step start step past)) (grows-any start step past) (grows-steps start others (past_behind_step start step past))
+
+pub cut-steps : (origin : Origin) (first whole : List Item) (list : List Step) (index : ℕ) (step : Step) (air : AirValue) (run : RunValue) (was_written written : Option (List ℕ)) (was_faults faults : ℕ) (fault : PlayFault)
+    → (u : StepsUnderway origin first whole list index air run was_written was_faults) → index < length list → step ≡ get_or list index step
+    → IsCutOff origin (past_text origin (past_behind_step origin.start step u.past)) written faults fault → IsCutOff origin (past_text origin whole) written faults fault
+cut-steps origin first whole list index step air run was_written written was_faults faults fault u inside is cut =
+    let between : List Item = past_behind_step origin.start step u.past in
+    let others : List Step = drop (index + 1) list in
+    subst (λ (p : List Item). IsCutOff origin (past_text origin p) written faults fault) (steps-rest origin.start list index step u.past whole inside is u.rest)
+    (cut-past (steps_most others) origin between (past_behind origin.start others between) written faults fault (grows-steps origin.start others between) cut)
