@@ -2,6 +2,8 @@ pub mod CheckedLines
 pub mod AnsweredLines
 pub mod OneReading
 pub mod Ends
+pub mod Headlined
+pub mod RunEnds
 pub mod RightAnswers
 pub mod OneRequest
 pub mod OneAnswer

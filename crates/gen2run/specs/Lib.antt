@@ -2,6 +2,8 @@ pub mod Form
 pub mod Request
 pub mod Answer
 pub mod DecodeLines
+pub mod Reported
 pub mod Defined
 pub mod Outcome
+pub mod Ending
 pub mod StatusNumber

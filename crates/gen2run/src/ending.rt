@@ -1,6 +1,7 @@
 //! How the writing of a form's text ended.
 
 use air_io::WriteFailed;
+use air_world::PlayFault;
 use std::alloc::AllocError;
 
 /// What was written whole.
@@ -40,5 +41,19 @@ impl From<AllocError> for WriteEnd {
 
     fn from(_error: AllocError) -> WriteEnd {
         WriteEnd::OutOfMemory
+    }
+}
+
+impl From<PlayFault> for WriteEnd {
+    ghost use Rattle.std.specs.Prelude.{◌≡◌};
+    ghost use Rattle.gen2run.specs.Ending.{end_of_play};
+
+    ghost from_gives = { λ fault end. end ≡ end_of_play fault };
+
+    fn from(fault: PlayFault) -> WriteEnd {
+        match fault {
+            PlayFault::Write => WriteEnd::Fault,
+            PlayFault::OutOfMemory => WriteEnd::OutOfMemory,
+        }
     }
 }

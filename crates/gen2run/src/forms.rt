@@ -2,11 +2,15 @@
 ghost use Rattle.std.specs.Prelude.{◌≡◌, ◌↔◌, IsTrue, IfSome, Some};
 ghost use Rattle.gen2run.specs.Form.{texts, words_of};
 
+use air_world::Mode;
+
 /// What the program is asked to do, by its words.
 #[derive(Clone, Copy, Debug, PartialEq, Eq)]
 pub enum Form {
     /// The word `decode`: explain the captures of the input, line by line.
     Decode,
+    /// The word `run`, and `trace` behind it for a trace: run the scenario of the input, and report.
+    Run(Mode),
 }
 
 /// Whether a word is the name.
@@ -23,6 +27,10 @@ pub fn form_of(words: &[String]) -> Option<Form>
 {
     match words {
         [word] if is_word(word.as_str(), "decode") => Some(Form::Decode),
+        [word] if is_word(word.as_str(), "run") => Some(Form::Run(Mode::Plain)),
+        [word, mode] if is_word(word.as_str(), "run") && is_word(mode.as_str(), "trace") => {
+            Some(Form::Run(Mode::Trace))
+        }
         _ => None,
     }
 }

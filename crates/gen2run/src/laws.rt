@@ -5,6 +5,7 @@ ghost use Rattle.gen2run.specs.Form.{words_of};
 ghost use Rattle.gen2run.specs.Defined.{IsGrammaticalOf, WritesOf, RefusesOf, DefinesOf};
 
 use crate::decode::laws::decode_lines_have_one_text;
+use scenario::{scenario_texts_are_not_faulty, scenarios_are_told_apart, texts_have_one_fault};
 
 /// A list of words is the spelling of one form at most.
 pub fn forms_are_told_apart()
@@ -14,7 +15,9 @@ pub fn forms_are_told_apart()
 /// Under each form an input that the grammar allows has no fault line.
 pub fn grammatical_inputs_are_not_refused()
     ensures { (form : Form) (bytes text : List ℕ) → IsGrammaticalOf form bytes → RefusesOf form bytes text → ⊥ }
-{}
+{
+    scenario_texts_are_not_faulty();
+}
 
 /// Under each form an input has one defined text at most: what the form has to write for it, or its fault
 /// line, and never both.
@@ -23,5 +26,7 @@ pub fn inputs_have_one_text()
     ensures apart { (form : Form) (bytes one other : List ℕ) → WritesOf form bytes one → RefusesOf form bytes other → ⊥ }
 {
     decode_lines_have_one_text();
+    scenarios_are_told_apart();
+    texts_have_one_fault();
     grammatical_inputs_are_not_refused();
 }

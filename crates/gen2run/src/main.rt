@@ -6,6 +6,7 @@ mod ending;
 mod forms;
 mod laws;
 mod program;
+mod run;
 mod status;
 #[cfg(test)]
 mod tests;

@@ -3,15 +3,17 @@ ghost use Rattle.std.specs.Prelude.{◌≡◌, ◌≤◌, ◌↔◌, ◌⊎◌, 
 ghost use Rattle.air_io.specs.Flow.{FaultsRose};
 ghost use Rattle.gen2run.specs.declared.forms.Form.{Form};
 ghost use Rattle.gen2run.specs.Form.{texts, words_of, HasForm};
-ghost use Rattle.gen2run.specs.Defined.{IsGrammaticalOf, WritesOf, RefusesOf, DefinesOf};
+ghost use Rattle.gen2run.specs.Defined.{IsGrammaticalOf, WritesOf, RefusesOf, DefinesOf, HeadlineOf};
 ghost use Rattle.gen2run.specs.Outcome.{input_limit, WritesWhole, WritesFront, ReadsWithin, ReadsTooMuch, EndsSo, Tells};
 
 use crate::decode::lines::decode_input;
 use crate::ending::{WriteEnd, Wrote};
 use crate::forms::{Form, form_of};
 use crate::laws::grammatical_inputs_are_not_refused;
+use crate::run::run_input;
 use crate::status::Status;
 use air_io::{ReadEnd, Sink, Source, read_to_end};
+use air_world::headline;
 use std::alloc::Global;
 
 /// How many bytes of input are read at most.
@@ -34,6 +36,11 @@ pub fn gen2run<I: Source, O: Sink>(
     // Done: what was added is the text that the form of the words has to write for the bytes read.
     ensures done { (form : Form) → texts words.now ≡ words_of form → result ≡ Status.Done
         → WritesWhole WritesOf form (I.left input.old) (I.left input.new) (O.written output.old) (O.written output.new) }
+    // Done, of a run: each EPC in the report is one that a present tag sent in that round and slot; each that the channel
+    // gave whole is listed once; each tag stands as the commands that it heard and the events that name it leave it; and
+    // no round has more slot commands than its limit.
+    ensures headline { (form : Form) → texts words.now ≡ words_of form → result ≡ Status.Done
+        → WritesWhole HeadlineOf form (I.left input.old) (I.left input.new) (O.written output.old) (O.written output.new) }
     // BadInput: what was added is the one fault line of the bytes read.
     ensures bad_input { (form : Form) → texts words.now ≡ words_of form → result ≡ Status.BadInput
         → WritesWhole RefusesOf form (I.left input.old) (I.left input.new) (O.written output.old) (O.written output.new) }
@@ -61,7 +68,8 @@ pub fn gen2run<I: Source, O: Sink>(
         → ¬ FaultsRose (I.faults input.old) (I.faults input.new) → ¬ FaultsRose (O.faults output.old) (O.faults output.new)
         → (result ≡ Status.Done) ⊎ (result ≡ Status.OutOfMemory) }
 {
-    // By this law an input that the grammar allows has no fault line.
+    // By these laws a report says its headline, and an input that the grammar allows has no fault line.
+    headline();
     grammatical_inputs_are_not_refused();
     match form_of(words) {
         Some(form) => answer_input(alloc, form, input, output),
@@ -105,5 +113,6 @@ fn write_defined<O: Sink>(
 {
     match form {
         Form::Decode => decode_input(alloc, bytes, output),
+        Form::Run(mode) => run_input(alloc, mode, bytes, output),
     }
 }

@@ -6,6 +6,8 @@ use std::alloc::{AllocError, Global};
 use std::process::Abort;
 use std::test::Fail;
 
+mod runs;
+
 /// Room for the defined text of every test.
 const ROOM: u32 = 600_000;
 
@@ -248,7 +250,7 @@ fn other_words(rt: HostRuntime) -> Result<(), Fail> {
     let input = "fm0 0 1101001000110011\n";
     let nothing = (Status::BadWords, "");
     expect(&rt, &[], input, None, None, nothing)?;
-    for word in ["run", "Decode", "decode ", "", "--help", "-"] {
+    for word in ["Run", "Decode", "decode ", "", "--help", "-"] {
         expect(&rt, &[word], input, None, None, nothing)?;
     }
     expect(&rt, &["decode", "decode"], input, None, None, nothing)?;

@@ -1,13 +1,15 @@
 use Rattle.std.proofs.Common.{◌≡◌, ℕ, List, inl, inr}
 use Rattle.gen2run.specs.Defined.{IsGrammaticalOf, WritesOf, RefusesOf, DefinesOf}
 use Rattle.gen2run.specs.declared.forms.Form.{Form}
-use Rattle.gen2run.specs.declared.forms.Form.TheVariants.{Decode}
+use Rattle.gen2run.specs.declared.forms.Form.TheVariants.{Decode, Run}
 use Rattle.gen2run.proofs.Ends.{AllowedAreNotRefused}
+use Rattle.gen2run.proofs.RunEnds.{same_report, same_refusal}
 use Rattle.gen2run.proofs.laws.inputs_have_one_text.Goals as goal
 
 -- what a form has to write for an input says that its grammar allows it
 allowed_of : (form : Form) (bytes text : List ℕ) → WritesOf form bytes text → IsGrammaticalOf form bytes
 allowed_of Decode bytes text writes = (writes.requests, writes.asks)
+allowed_of (Run mode) bytes text writes = (writes.scenario, writes.legal, writes.spelled)
 
 -- what is defined is one text, where it is one in each of its two cases, and no input has both
 defined_once : AllowedAreNotRefused → (form : Form) → ((bytes one other : List ℕ) → WritesOf form bytes one → WritesOf form bytes other → one ≡ other)
@@ -21,6 +23,8 @@ defined_once not_refused form written refused bytes one other (inr left) (inr ri
 pub returns-clause-one : goal.returns-clause-one
 returns-clause-one c Decode =
     defined_once c.grammatical_inputs_are_not_refused.ensures Decode c.decode_lines_have_one_text.ensures.answers c.decode_lines_have_one_text.ensures.fault_line
+returns-clause-one c (Run mode) =
+    defined_once c.grammatical_inputs_are_not_refused.ensures (Run mode) (same_report c.scenarios_are_told_apart.ensures mode) (same_refusal c.texts_have_one_fault.ensures)
 
 pub returns-clause-apart : goal.returns-clause-apart
 returns-clause-apart c form bytes one other writes refused = c.grammatical_inputs_are_not_refused.ensures form bytes other (allowed_of form bytes one writes) refused

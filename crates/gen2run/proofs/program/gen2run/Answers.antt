@@ -1,8 +1,14 @@
 use Rattle.std.proofs.Common.{◌≡◌}
 use Rattle.gen2run.proofs.Ends.{completes}
+use Rattle.gen2run.proofs.Headlined.{says_headline}
 use Rattle.gen2run.proofs.program.gen2run.Goals as goal
 
 pub returns-in-Some-clause-complete : goal.returns-in-Some-clause-complete
 returns-in-Some-clause-complete g c form spelled bytes told few allowed no_read no_write =
     let same : c.in-Some.form ≡ form = cc (c.in-Some.ensures.only form spelled) in
     completes c.grammatical_inputs_are_not_refused.ensures form bytes _ _ _ _ _ _ _ _ c.answer_input.result (rw (told, same) at c.answer_input.ensures) few allowed no_read no_write
+
+pub returns-in-Some-clause-headline : goal.returns-in-Some-clause-headline
+returns-in-Some-clause-headline g c form spelled done =
+    let same : c.in-Some.form ≡ form = cc (c.in-Some.ensures.only form spelled) in
+    says_headline c.headline.ensures.scenario form _ _ _ _ (rw (done, same) at c.answer_input.ensures)

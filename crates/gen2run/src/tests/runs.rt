@@ -1,0 +1,259 @@
+//! Runs of scenarios, from the text to the report.
+
+use super::{ROOM, expect, words};
+use crate::{Status, gen2run};
+use air_io::{MemSink, SureSource};
+use std::alloc::{AllocError, Global};
+use std::process::Abort;
+use std::test::Fail;
+
+/// One tag.
+const ONE_TAG: &str = "tag 00000000 00000000 0000000000 08001234 E2000001 - A1B2\n";
+
+/// A step that lists that tag.
+const ONE_ROUND: &str = "round all 0 a 0 300 5\n";
+
+/// Two tags that draw the same slot, and then other ones.
+const TWO_TAGS: &str = "tag 00000000 00000000 0000000000 08001234 E2000001 - 0000111100022222\n\
+                        tag 00000000 00000000 0000000000 08005678 E2000002 - 0000333300014444\n";
+
+/// The scenario of these lines behind those of the version and the link.
+fn scenario_of(alloc: Global, lines: &[&str]) -> Result<String, AllocError> {
+    let mut scenario = String::from_str(alloc, "gen2 1\nlink 12500 31250 50000 6250 1 fm0 0\n")?;
+    for line in lines {
+        scenario.push_str(line)?;
+    }
+    scenario.push_str("end\n")?;
+    Ok(scenario)
+}
+
+/// Runs a scenario, and compares its report.
+fn expect_report(
+    rt: &(impl Abort + Alloc<A = Global>),
+    lines: &[&str],
+    report: &str,
+) -> Result<(), AllocError> {
+    let scenario = scenario_of(rt.alloc(), lines)?;
+    let wanted = (Status::Done, report);
+    expect(rt, &["run"], scenario.as_str(), None, None, wanted)
+}
+
+#[test]
+fn one_tag(rt: HostRuntime) -> Result<(), Fail> {
+    let report = "list 1 1 0800 1234\n\
+                  round 1 quiet 2\n\
+                  seen 1 0800 1234\n\
+                  tag 0 ready BAAA0 0000000000 0000000000000000 ED3A08001234 E2000001 -\n\
+                  done\n";
+    expect_report(&rt, &[ONE_TAG, ONE_ROUND], report)?;
+    Ok(())
+}
+
+#[test]
+fn broken_reply(rt: HostRuntime) -> Result<(), Fail> {
+    let report = "round 1 quiet 2\n\
+                  tag 0 ready BAAA0 0000000000 0000000000000000 ED3A08001234 E2000001 -\n\
+                  done\n";
+    expect_report(&rt, &[ONE_TAG, "air 2 break 40\n", ONE_ROUND], report)?;
+    Ok(())
+}
+
+#[test]
+fn second_round(rt: HostRuntime) -> Result<(), Fail> {
+    let report = "list 1 1 0800 1234\n\
+                  round 1 quiet 2\n\
+                  list 2 1 0800 1234\n\
+                  round 2 quiet 2\n\
+                  seen 2 0800 1234\n\
+                  tag 0 ready AAAA0 0000000000 0000000000000000 ED3A08001234 E2000001 -\n\
+                  done\n";
+    expect_report(
+        &rt,
+        &[ONE_TAG, ONE_ROUND, "round all 0 b 0 300 5\n"],
+        report,
+    )?;
+    Ok(())
+}
+
+#[test]
+fn collision(rt: HostRuntime) -> Result<(), Fail> {
+    let report = "list 1 3 0800 1234\n\
+                  list 1 4 0800 5678\n\
+                  round 1 quiet 6\n\
+                  seen 1 0800 1234\n\
+                  seen 1 0800 5678\n\
+                  tag 0 ready BAAA0 0000000000 0000000000000000 ED3A08001234 E2000001 -\n\
+                  tag 1 ready BAAA0 0000000000 0000000000000000 A57A08005678 E2000002 -\n\
+                  done\n";
+    expect_report(&rt, &[TWO_TAGS, "round all 0 a 1 300 20\n"], report)?;
+    Ok(())
+}
+
+/// A tag that missed a QueryRep answers the ACK of a later slot.
+#[test]
+fn missed_query_rep(rt: HostRuntime) -> Result<(), Fail> {
+    let tags = "tag 00000000 00000000 0000000000 08001234 E2000001 - 00005555\n\
+                tag 00000000 00000000 0000000000 08005678 E2000002 - 00015555\n";
+    let air = "air 1 silent\nair 2 miss 0\nair 3 pick 0\n";
+    let report = "list 1 2 0800 1234\n\
+                  round 1 limit 2\n\
+                  seen 1 0800 1234\n\
+                  tag 0 acknowledged AAAA0 0000000000 0000000000000000 ED3A08001234 E2000001 -\n\
+                  tag 1 acknowledged AAAA0 0000000000 0000000000000000 A57A08005678 E2000002 -\n\
+                  done\n";
+    expect_report(&rt, &[tags, air, "round all 0 a 1 300 2\n"], report)?;
+    Ok(())
+}
+
+/// Flags that a tag loses with its power, and flags that it keeps for a while.
+#[test]
+fn flag_events(rt: HostRuntime) -> Result<(), Fail> {
+    let tag = "tag 00000000 00000000 0000000000 08001234 E2000001 - 0001\n";
+    let steps = "select s0 4 epc 0 -\n\
+                 select s1 4 epc 0 -\n\
+                 select s2 4 epc 0 -\n\
+                 round all 2 b 1 300 1\n";
+    for (events, report) in [
+        (
+            "event expire s1 0\n",
+            "round 1 limit 1\n\
+             tag 0 arbitrate BBBA0 0000000000 0000000000000000 ED3A08001234 E2000001 -\n\
+             done\n",
+        ),
+        (
+            "event off 0\nevent on 0\n",
+            "round 1 limit 1\n\
+             tag 0 ready ABBA0 0000000000 0000000000000000 ED3A08001234 E2000001 -\n\
+             done\n",
+        ),
+        (
+            "event off 0\nevent on 0\nevent expire s1 0\n",
+            "round 1 limit 1\n\
+             tag 0 ready AABA0 0000000000 0000000000000000 ED3A08001234 E2000001 -\n\
+             done\n",
+        ),
+    ] {
+        expect_report(&rt, &[tag, steps, events], report)?;
+    }
+    Ok(())
+}
+
+/// The wave of a Query to which nothing replies.
+#[test]
+fn query_wave(rt: HostRuntime) -> Result<(), Fail> {
+    let alloc = rt.alloc();
+    let scenario = scenario_of(alloc, &["round all 0 a 1 300 1\n"])?;
+    let mut trace = String::from_str(
+        alloc,
+        "blf 64/150000\ntx 1 12500 6250 6250 25000 6250 43750 6250",
+    )?;
+    for bit in b"1000100000000000100001" {
+        trace.push_str(if *bit == b'1' {
+            " 12500 6250"
+        } else {
+            " 6250 6250"
+        })?;
+    }
+    trace.push_str("\nrx 1 0 -\nround 1 limit 1\ndone\n")?;
+    let wanted = (Status::Done, trace.as_str());
+    expect(
+        &rt,
+        &["run", "trace"],
+        scenario.as_str(),
+        None,
+        None,
+        wanted,
+    )?;
+    Ok(())
+}
+
+#[test]
+fn faulty_texts(rt: HostRuntime) -> Result<(), Fail> {
+    let cases = [
+        ("", "fault 1 end\n"),
+        (
+            "gen2 1\nlink 12500 31250 50000 6250 1 fm0 0\n\
+             tag 00000000 00000000 0000000000 08001234 E2000001 - A1B2\n\
+             round all 0 a 0 300 5\n",
+            "fault 5 end\n",
+        ),
+        (
+            "gen2 1\r\nlink 12500 31250 50000 6250 1 fm0 0\r\nend\r\n",
+            "fault 1 version\n",
+        ),
+        (
+            "gen2 1\nlink 12500 31250 30000 6250 1 fm0 0\nend\n",
+            "fault 2 trcal\n",
+        ),
+        (
+            "gen2 1\nlink 12500 31250 50000 6250 1 fm0 0\n\
+             tag 00000000 00000000 0000000000 08001234 E2000001 - A1B2\n\
+             round all 0 a 16 300 5\nend\n",
+            "fault 4 number\n",
+        ),
+    ];
+    for (input, output) in cases {
+        let wanted = (Status::BadInput, output);
+        expect(&rt, &["run"], input, None, None, wanted)?;
+        expect(&rt, &["run", "trace"], input, None, None, wanted)?;
+    }
+    Ok(())
+}
+
+/// Words that begin as those of a run and ask for nothing.
+#[test]
+fn other_words(rt: HostRuntime) -> Result<(), Fail> {
+    let scenario = scenario_of(rt.alloc(), &[ONE_TAG, ONE_ROUND])?;
+    let nothing = (Status::BadWords, "");
+    for words in [
+        ["run", "fast"],
+        ["run", ""],
+        ["run", "Trace"],
+        ["trace", "run"],
+        ["decode", "trace"],
+    ] {
+        expect(&rt, &words, scenario.as_str(), None, None, nothing)?;
+    }
+    expect(
+        &rt,
+        &["run", "trace", "trace"],
+        scenario.as_str(),
+        None,
+        None,
+        nothing,
+    )?;
+    Ok(())
+}
+
+#[test]
+fn failing_reads_and_first_writes(rt: HostRuntime) -> Result<(), Fail> {
+    let scenario = scenario_of(rt.alloc(), &[ONE_TAG, ONE_ROUND])?;
+    let text = scenario.as_str();
+    expect(&rt, &["run"], text, Some(1), None, (Status::ReadFault, ""))?;
+    expect(&rt, &["run"], text, None, Some(1), (Status::WriteFault, ""))?;
+    Ok(())
+}
+
+/// A report is written line by line: where the third write fails, two lines are there.
+#[test]
+fn failing_third_write(rt: HostRuntime) -> Result<(), Fail> {
+    let scenario = scenario_of(rt.alloc(), &[ONE_TAG, ONE_ROUND])?;
+    let two_lines = (Status::WriteFault, "list 1 1 0800 1234\nround 1 quiet 2\n");
+    expect(&rt, &["run"], scenario.as_str(), None, Some(3), two_lines)?;
+    Ok(())
+}
+
+/// A scenario is read to its end also from a source that never fails.
+#[test]
+fn sure_source(rt: HostRuntime) -> Result<(), Fail> {
+    let alloc = rt.alloc();
+    let scenario = scenario_of(alloc, &[ONE_TAG, ONE_ROUND])?;
+    let words = words(alloc, &["run"])?;
+    let mut source = SureSource::new(Vec::from_slice(alloc, scenario.as_bytes())?);
+    let mut sink = MemSink::new(alloc, ROOM, Vec::new(alloc))?;
+    assert_eq!(rt;
+        gen2run(alloc, &words, &mut source, &mut sink),
+        Status::Done
+    );
+    Ok(())
+}
