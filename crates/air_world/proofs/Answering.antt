@@ -1,17 +1,17 @@
 -- What tags answer to the commands of an inventory is what the interrogator expects.
-use Rattle.std.proofs.Common.{◌≡◌, ℕ, ◌+◌, ◌==◌, Bool, true, false, ◌&&◌, List, [], ◌∷◌, ◌++◌, Option, Some, None, refl, sym, ap, subst}
+use Rattle.std.proofs.Common.{◌≡◌, ℕ, ◌+◌, ◌==◌, Bool, true, false, ◌&&◌, List, [], ◌∷◌, ◌++◌, Option, Some, None, refl, ap, subst}
 use Rattle.std.specs.Prelude.{if◌then◌else◌}
 use Rattle.std.specs.List.{AllByRecursion}
 use Rattle.air_channel.specs.Air.{AreLegalTags, outcomes_in, replies_in, given_in}
 use Rattle.air_channel.specs.Exchange.{Replied, tag_after_own_event, tag_after_events, is_missed, outcome_unless, outcomes_from, reply_of, replies_from}
-use Rattle.air_channel.specs.Reception.{has_handle}
+use Rattle.air_channel.specs.Reception.{has_handle, IsReplyFor, IsGivenFor}
 use Rattle.air_events.specs.declared.Entry.{Entry}
 use Rattle.air_events.specs.declared.Event.{Event}
-use Rattle.air_world.proofs.Reception.{IsExpectedSent, IsExpectedGiven, AreExpected, given-expected}
+use Rattle.air_channel.specs.ReceptionLaws.{given_of_sent}
 use Rattle.air_world.specs.Playing.{expectation_of}
 use Rattle.command_grammar.specs.declared.commands.Command.{Command}
 use Rattle.command_grammar.specs.declared.commands.Command.TheVariants as commands
-use Rattle.reply_grammar.specs.Table.{Suits, suits}
+use Rattle.reply_grammar.specs.Table.{suits}
 use Rattle.reply_grammar.specs.declared.expected.Expect.{Expect}
 use Rattle.reply_grammar.specs.declared.expected.Expect.TheVariants as expects
 use Rattle.reply_grammar.specs.declared.expected.Reply.{Reply}
@@ -34,32 +34,32 @@ SendsInRange = (command : Command) (state : StateValue) (body : BodyValue) (sent
 abbrev pub StaysLegal : Type 0
 StaysLegal = (event : Event) (state : StateValue) (body : BodyValue) → IsLegalTag (record { state = state; body = body }) → IsLegalTag (tag_after_event event state body)
 
-rn16-expected : (sent : Sent) (rn : ℕ) → IsSent (Some sent) → sent.reply ≡ Rn16 rn → sent.extended ≡ false → IsExpectedSent expects.Rn16 sent
+-- each reply is one for the expectation
+abbrev pub AreRepliesFor : Expect → List Replied → Type 0
+AreRepliesFor expect replies = AllByRecursion (λ replied. IsReplyFor expect replied.sent) replies
+
+rn16-expected : (sent : Sent) (rn : ℕ) → IsSent (Some sent) → sent.reply ≡ Rn16 rn → sent.extended ≡ false → IsReplyFor expects.Rn16 sent
 rn16-expected sent rn legal reply plain = record {
-  legal = legal;
-  suits = subst (λ (r : Reply). Suits r expects.Rn16) (sym reply) tt;
-  carries = tt;
+  in_range = legal;
+  by_link = plain;
   expected = ap (λ (r : Reply). suits r expects.Rn16 && has_handle r sent.handle 0) reply;
-  plain = plain;
 }
 
-epc-expected : (sent : Sent) (pc : ℕ) (epc : List ℕ) → IsSent (Some sent) → sent.reply ≡ Epc pc epc → sent.extended ≡ false → IsExpectedSent expects.Epc sent
+epc-expected : (sent : Sent) (pc : ℕ) (epc : List ℕ) → IsSent (Some sent) → sent.reply ≡ Epc pc epc → sent.extended ≡ false → IsReplyFor expects.Epc sent
 epc-expected sent pc epc legal reply plain = record {
-  legal = legal;
-  suits = subst (λ (r : Reply). Suits r expects.Epc) (sym reply) tt;
-  carries = tt;
+  in_range = legal;
+  by_link = plain;
   expected = ap (λ (r : Reply). suits r expects.Epc && has_handle r sent.handle 0) reply;
-  plain = plain;
 }
 
-same-rn16 : (expect : Expect) (sent : Sent) → Some expects.Rn16 ≡ Some expect → IsExpectedSent expects.Rn16 sent → IsExpectedSent expect sent
-same-rn16 expect sent same is = let e : expects.Rn16 ≡ expect = cc in subst (λ (x : Expect). IsExpectedSent x sent) e is
+same-rn16 : (expect : Expect) (sent : Sent) → Some expects.Rn16 ≡ Some expect → IsReplyFor expects.Rn16 sent → IsReplyFor expect sent
+same-rn16 expect sent same is = let e : expects.Rn16 ≡ expect = cc in subst (λ (x : Expect). IsReplyFor x sent) e is
 
-same-epc : (expect : Expect) (sent : Sent) → Some expects.Epc ≡ Some expect → IsExpectedSent expects.Epc sent → IsExpectedSent expect sent
-same-epc expect sent same is = let e : expects.Epc ≡ expect = cc in subst (λ (x : Expect). IsExpectedSent x sent) e is
+same-epc : (expect : Expect) (sent : Sent) → Some expects.Epc ≡ Some expect → IsReplyFor expects.Epc sent → IsReplyFor expect sent
+same-epc expect sent same is = let e : expects.Epc ≡ expect = cc in subst (λ (x : Expect). IsReplyFor x sent) e is
 
 row-expected : (command : Command) (expect : Expect) (state : StateValue) (body : BodyValue) (sent : Sent) → expectation_of command ≡ Some expect
-    → IsSent (Some sent) → IsAnswerTo command state body sent → IsExpectedSent expect sent
+    → IsSent (Some sent) → IsAnswerTo command state body sent → IsReplyFor expect sent
 row-expected (commands.QueryRep session) expect state body sent asked legal is = same-rn16 expect sent asked (rn16-expected sent _ legal is.reply is.plain)
 row-expected (commands.Ack rn) expect state body sent asked legal is = same-epc expect sent asked (epc-expected sent _ _ legal is.reply is.plain)
 row-expected (commands.Query dr line_code trext sel session target q) expect state body sent asked legal is = same-rn16 expect sent asked (rn16-expected sent _ legal is.reply is.plain)
@@ -86,7 +86,7 @@ events-legal number (event ∷ events) tag stays legal =
 
 -- what one tag answers, that hears the command or misses it
 abbrev IsAnswered : Expect → Outcome → Type 0
-IsAnswered expect outcome = (sent : Sent) → outcome.answer ≡ Some sent → IsExpectedSent expect sent
+IsAnswered expect outcome = (sent : Sent) → outcome.answer ≡ Some sent → IsReplyFor expect sent
 
 unless-expected : (misses : Bool) (command : Command) (expect : Expect) (tag : TagValue) → expectation_of command ≡ Some expect → AnswersByRow → SendsInRange → IsLegalTag tag
     → IsAnswered expect (outcome_unless misses command tag)
@@ -102,22 +102,22 @@ outcomes-expected number command expect entry (tag ∷ tags) asked rows range st
   outcomes-expected (number + 1) command expect entry tags asked rows range stays legal.1,
 )
 
-both-parts : (expect : Expect) (replies more : List Replied) → AreExpected expect replies → AreExpected expect more → AreExpected expect (replies ++ more)
+both-parts : (expect : Expect) (replies more : List Replied) → AreRepliesFor expect replies → AreRepliesFor expect more → AreRepliesFor expect (replies ++ more)
 both-parts expect [] more are others = others
 both-parts expect (replied ∷ replies) more are others = (are.0, both-parts expect replies more are.1 others)
 
-reply-expected : (expect : Expect) (number : ℕ) (answer : Option Sent) → ((sent : Sent) → answer ≡ Some sent → IsExpectedSent expect sent) → AreExpected expect (reply_of number answer)
+reply-expected : (expect : Expect) (number : ℕ) (answer : Option Sent) → ((sent : Sent) → answer ≡ Some sent → IsReplyFor expect sent) → AreRepliesFor expect (reply_of number answer)
 reply-expected expect number None is = tt
 reply-expected expect number (Some sent) is = (is sent refl, tt)
 
-replies-expected : (expect : Expect) (number : ℕ) (outcomes : List Outcome) → AllByRecursion (IsAnswered expect) outcomes → AreExpected expect (replies_from number outcomes)
+replies-expected : (expect : Expect) (number : ℕ) (outcomes : List Outcome) → AllByRecursion (IsAnswered expect) outcomes → AreRepliesFor expect (replies_from number outcomes)
 replies-expected expect number [] are = tt
 replies-expected expect number (outcome ∷ outcomes) are =
     both-parts expect (reply_of number outcome.answer) (replies_from (number + 1) outcomes) (reply-expected expect number outcome.answer are.0) (replies-expected expect (number + 1) outcomes are.1)
 
 -- what the channel gives of the answers of legal tags is expected
 pub given-in-expected : (command : Command) (expect : Expect) (entry : Entry) (tags : List TagValue) → expectation_of command ≡ Some expect → AnswersByRow → SendsInRange → StaysLegal
-    → AreLegalTags tags → IsExpectedGiven expect (given_in command entry tags)
+    → AreLegalTags tags → IsGivenFor expect (given_in command entry tags)
 given-in-expected command expect entry tags asked rows range stays legal =
-    given-expected expect (replies_in command entry tags) entry.choice
+    given_of_sent (IsReplyFor expect) (replies_in command entry tags) entry.choice
     (replies-expected expect 0 (outcomes_in command entry tags) (outcomes-expected 0 command expect entry tags asked rows range stays legal))

@@ -13,7 +13,6 @@ pub mod HeadlineTags
 pub mod LastLines
 pub mod Lines
 pub mod Moments
-pub mod Reception
 pub mod Rounds
 pub mod Sending
 pub mod Slots

@@ -6,13 +6,13 @@ use Rattle.air_channel.specs.Air.{AirValue}
 use Rattle.air_channel.specs.Channel.{Given, got_of, heard_levels}
 use Rattle.air_channel.specs.Past.{Start, Record, Item, befell, exchanged, ended, next_record, past_behind_command, exchanges_in}
 use Rattle.air_channel.specs.Received.{IsReceived}
-use Rattle.air_channel.specs.Reception.{Reception, no_stream, whole_reply, no_such_reply, reception_of}
+use Rattle.air_channel.specs.Reception.{Reception, no_stream, whole_reply, no_such_reply, reception_of, IsGivenFor}
 use Rattle.air_channel.specs.declared.air.Got.TheVariants as gots
 use Rattle.air_world.proofs.Moments.{grows-answer}
 use Rattle.air_world.proofs.Lines.{report_text-append}
-use Rattle.air_world.proofs.Reception.{IsExpectedGiven, received-reception}
+use Rattle.air_channel.specs.ReceptionLaws.{stream_reception}
 use Rattle.air_world.proofs.Writing.{cut-longer, cut-past}
-use Rattle.air_world.specs.Heard.{reception_from, rn16_in, pair_in}
+use Rattle.air_world.specs.Heard.{heard_reception, rn16_in, pair_in}
 use Rattle.air_world.specs.History.{past_behind_answer, slot_reception, past_behind_slot}
 use Rattle.air_world.specs.Listing.{Listed, reception_of_ack, listed_from, listed_by, listing_of}
 use Rattle.air_world.specs.Playing.{Origin, RunValue, PlaysAt, StandsAt, IsWritten, IsCutOff, HasRoom, pair_of, past_text, expectation_of}
@@ -34,10 +34,10 @@ use Rattle.report_lines.specs.SeenLaws.{count_of-few}
 
 -- what is received of the stream of the last exchange
 pub heard-reception : (link : LinkValue) (given : Given) (air : AirValue) (expect : Expect) (answer : Received) → air.link ≡ link → air.stream ≡ heard_levels link given → got_of given ≡ gots.Stream
-    → IsExpectedGiven expect given → IsReceived (table_of air.link.code) air.link.trext expect air.stream answer → reception_from (Some answer) ≡ reception_of expect given
+    → IsGivenFor expect given → IsReceived (table_of air.link.code) air.link.trext expect air.stream answer → heard_reception (Some answer) ≡ reception_of expect given
 heard-reception link given air expect answer link_is stream came is received =
     let at_link : IsReceived (table_of link.code) link.trext expect air.stream answer = subst (λ l. IsReceived (table_of l.code) l.trext expect air.stream answer) link_is received in
-    received-reception link expect given answer is came (subst (λ levels. IsReceived (table_of link.code) link.trext expect levels answer) stream at_link)
+    sym (stream_reception link expect given answer is came (subst (λ levels. IsReceived (table_of link.code) link.trext expect levels answer) stream at_link))
 
 -- the text behind an exchange: what a trace tells of it, then what it lists
 pub text-exchanged : (origin : Origin) (sent : Record) (past : List Item)

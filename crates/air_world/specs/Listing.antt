@@ -1,11 +1,10 @@
 -- Profile: which tags a run lists.
 use Rattle.std.specs.Prelude.{ℕ, List, [], ◌∷◌, ◌++◌}
 use Rattle.air_channel.specs.Past.{Record, Item, befell, exchanged, ended}
-use Rattle.air_channel.specs.Reception.{Reception, no_stream, whole_reply, no_such_reply, reception_of}
+use Rattle.air_channel.specs.Reception.{Reception, no_stream, whole_reply, reception_of}
 use Rattle.command_grammar.specs.declared.commands.Command.{Command}
 use Rattle.command_grammar.specs.declared.commands.Command.TheVariants as commands
 use Rattle.reply_grammar.specs.declared.expected.Expect.TheVariants as expects
-use Rattle.reply_grammar.specs.declared.expected.Reply.{Reply}
 use Rattle.reply_grammar.specs.declared.expected.Reply.TheVariants as replies
 
 -- the PC and the EPC that a tag sent, with the round and the slot in which they came

@@ -1,5 +1,5 @@
 -- Profile: what the run of a scenario begins with.
-use Rattle.std.specs.Prelude.{ℕ, List, [], map}
+use Rattle.std.specs.Prelude.{List, [], map}
 use Rattle.air_channel.specs.Past.{Start, Item}
 use Rattle.scenario.specs.declared.values.Scenario.{Scenario}
 use Rattle.scenario_lines.specs.declared.tag.TagSpec.{TagSpec}

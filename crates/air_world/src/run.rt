@@ -8,7 +8,7 @@ ghost use Rattle.air_channel.specs.Received.{IsReceived};
 ghost use Rattle.air_world.specs.History.{outcome_of, past_behind_round, past_behind_slot, slot_reception};
 ghost use Rattle.line_codes.specs.Codes.{table_of};
 ghost use Rattle.report_lines.specs.SeenCounts.{count_of, seen_in};
-ghost use Rattle.air_world.specs.Heard.{reception_from, rn16_in, pair_in};
+ghost use Rattle.air_world.specs.Heard.{heard_reception, rn16_in, pair_in};
 ghost use Rattle.air_world.specs.Playing.{Origin, PlaysAt, StandsAt, IsTold, IsUnderway, IsWritten, IsCutOff, past_text, expectation_of, last_exchange_lines};
 ghost use Rattle.air_world.specs.Report.{trace_lines};
 ghost use Rattle.report_lines.specs.ReportLine.{ListLine, RoundLine, RxLine, TxLine, report_line_text, report_text};
@@ -130,7 +130,7 @@ impl<'a, L: Ledger> Run<'a, L> {
             → PlaysAt origin (past_behind_command origin.start round slot command.now past) air.new self.new }
         ensures seen { self.new.seen ≡ self.old.seen }
         ensures heard { (origin : Origin) (past : List Item) (round slot : ℕ) → PlaysAt origin past air.old self.old
-            → IfOk result (λ heard. reception_from heard ≡ reception_of expect.now (next_record origin.start round slot command.now past).given) }
+            → IfOk result (λ heard. heard_reception heard ≡ reception_of expect.now (next_record origin.start round slot command.now past).given) }
         ensures ok { (origin : Origin) (past : List Item) (round slot : ℕ) (before : List ℕ) → PlaysAt origin past air.old self.old
             → IsWritten origin before (O.written out.old) (O.faults out.old)
             → IfOk result (λ _. IsWritten origin (before ++ report_text (trace_lines origin.mode origin.start.link (next_record origin.start round slot command.now past))) (O.written out.new) (O.faults out.new)) }

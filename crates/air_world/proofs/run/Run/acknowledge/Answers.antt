@@ -3,7 +3,7 @@ use Rattle.air_channel.specs.Past.{Record, next_record}
 use Rattle.air_channel.specs.Reception.{Reception}
 use Rattle.air_world.proofs.Slots.{cut-exchanged, cut-listed, count-fits, stands-unlisted, stands-listed, whole-listed, other-unlisted, plays-listed, ok-both, err-each}
 use Rattle.air_world.proofs.Writing.{err-kept}
-use Rattle.air_world.specs.Heard.{reception_from, pair_in}
+use Rattle.air_world.specs.Heard.{heard_reception, pair_in}
 use Rattle.air_world.specs.Listing.{Listed, listed_from, listed_by, listing_of}
 use Rattle.air_world.specs.Playing.{pair_of, past_text}
 use Rattle.reply_grammar.specs.declared.expected.Received.TheVariants.{Whole}
@@ -25,7 +25,7 @@ pub returns-in-None-clause-ok : goal.returns-in-None-clause-ok
 returns-in-None-clause-ok g c = λ origin past stands.
     let sent : Record = next_record origin.start c.args.round c.args.slot (commands.Ack c.args.rn) past in
     let heard = c.in_ok-ask.ensures.heard origin past c.args.round c.args.slot stands.plays in
-    let none : listed_by sent ≡ [] = ap (λ (r : Reception). listed_from sent r) (sym (ap reception_from (sym c.in-None.is) ∙ heard)) in
+    let none : listed_by sent ≡ [] = ap (λ (r : Reception). listed_from sent r) (sym (ap heard_reception (sym c.in-None.is) ∙ heard)) in
     stands-unlisted origin sent past _ _ _ _ (c.ask.ensures.plays origin past c.args.round c.args.slot stands.plays) (c.ask.ensures.seen ∙ stands.seen)
     (c.in_ok-ask.ensures.ok origin past c.args.round c.args.slot (past_text origin past) stands.plays stands.text) none
 
@@ -33,7 +33,7 @@ pub returns-in-Some-Refused-clause-ok : goal.returns-in-Some-Refused-clause-ok
 returns-in-Some-Refused-clause-ok g c = λ origin past stands.
     let sent : Record = next_record origin.start c.args.round c.args.slot (commands.Ack c.args.rn) past in
     let heard = c.in_ok-ask.ensures.heard origin past c.args.round c.args.slot stands.plays in
-    let none : listed_by sent ≡ [] = ap (λ (r : Reception). listed_from sent r) (sym (ap reception_from (sym (c.in-Some-Refused.is ∙ ap Some c.in-Some-Refused.field-0-is)) ∙ heard)) in
+    let none : listed_by sent ≡ [] = ap (λ (r : Reception). listed_from sent r) (sym (ap heard_reception (sym (c.in-Some-Refused.is ∙ ap Some c.in-Some-Refused.field-0-is)) ∙ heard)) in
     stands-unlisted origin sent past _ _ _ _ (c.ask.ensures.plays origin past c.args.round c.args.slot stands.plays) (c.ask.ensures.seen ∙ stands.seen)
     (c.in_ok-ask.ensures.ok origin past c.args.round c.args.slot (past_text origin past) stands.plays stands.text) none
 
@@ -43,7 +43,7 @@ returns-in-None-listed_in-clause-ok g c = λ origin past stands.
     let heard = c.in_ok-ask.ensures.heard origin past c.args.round c.args.slot stands.plays in
     let whole : c.in_ok-ask.field-0 ≡ Some (Whole c.in-Some-Whole.reply) = cc (c.in-Some-Whole.is, c.in-Some-Whole.field-0-is) in
     let other : pair_in c.in-Some-Whole.reply ≡ None = cc (c.listed_in.ensures, c.in-None-listed_in.is) in
-    let none : listed_by sent ≡ [] = ap (λ (r : Reception). listed_from sent r) (sym (ap reception_from (sym whole) ∙ heard)) ∙ other-unlisted sent c.in-Some-Whole.reply other in
+    let none : listed_by sent ≡ [] = ap (λ (r : Reception). listed_from sent r) (sym (ap heard_reception (sym whole) ∙ heard)) ∙ other-unlisted sent c.in-Some-Whole.reply other in
     stands-unlisted origin sent past _ _ _ _ (c.ask.ensures.plays origin past c.args.round c.args.slot stands.plays) (c.ask.ensures.seen ∙ stands.seen)
     (c.in_ok-ask.ensures.ok origin past c.args.round c.args.slot (past_text origin past) stands.plays stands.text) none
 
@@ -54,7 +54,7 @@ returns-in-Some-clause-ok g c = λ origin past stands.
     let whole : c.in_ok-ask.field-0 ≡ Some (Whole c.in-Some-Whole.reply) = cc (c.in-Some-Whole.is, c.in-Some-Whole.field-0-is) in
     let pair : pair_in c.in-Some-Whole.reply ≡ Some (c.in-Some.pc, c.in-Some.epc) = cc (c.listed_in.ensures, c.in-Some.is) in
     let listed : Listed = record { round = c.args.round; slot = c.args.slot; pc = c.in-Some.pc; epc = c.in-Some.epc } in
-    let one : listed_by sent ≡ listed ∷ [] = ap (λ (r : Reception). listed_from sent r) (sym (ap reception_from (sym whole) ∙ heard)) ∙ whole-listed sent c.in-Some-Whole.reply (c.in-Some.pc, c.in-Some.epc) pair in
+    let one : listed_by sent ≡ listed ∷ [] = ap (λ (r : Reception). listed_from sent r) (sym (ap heard_reception (sym whole) ∙ heard)) ∙ whole-listed sent c.in-Some-Whole.reply (c.in-Some.pc, c.in-Some.epc) pair in
     let done = c.in_ok-ask.ensures.ok origin past c.args.round c.args.slot (past_text origin past) stands.plays stands.text in
     let plays = plays-listed origin _ _ _ c.list.new.self _ c.list.ensures.rest (c.ask.ensures.plays origin past c.args.round c.args.slot stands.plays) in
     ok-both c.list.result _ _ _ (λ seen text. stands-listed origin sent past listed _ _ _ _ plays seen text one)
@@ -67,6 +67,6 @@ returns-in-Some-clause-err g c = λ origin past stands.
     let whole : c.in_ok-ask.field-0 ≡ Some (Whole c.in-Some-Whole.reply) = cc (c.in-Some-Whole.is, c.in-Some-Whole.field-0-is) in
     let pair : pair_in c.in-Some-Whole.reply ≡ Some (c.in-Some.pc, c.in-Some.epc) = cc (c.listed_in.ensures, c.in-Some.is) in
     let listed : Listed = record { round = c.args.round; slot = c.args.slot; pc = c.in-Some.pc; epc = c.in-Some.epc } in
-    let one : listed_by sent ≡ listed ∷ [] = ap (λ (r : Reception). listed_from sent r) (sym (ap reception_from (sym whole) ∙ heard)) ∙ whole-listed sent c.in-Some-Whole.reply (c.in-Some.pc, c.in-Some.epc) pair in
+    let one : listed_by sent ≡ listed ∷ [] = ap (λ (r : Reception). listed_from sent r) (sym (ap heard_reception (sym whole) ∙ heard)) ∙ whole-listed sent c.in-Some-Whole.reply (c.in-Some.pc, c.in-Some.epc) pair in
     let done = c.in_ok-ask.ensures.ok origin past c.args.round c.args.slot (past_text origin past) stands.plays stands.text in
     err-each c.list.result _ _ (λ fault cut. cut-listed origin sent past listed _ _ fault one cut) (c.list.ensures.err origin _ done)

@@ -4,7 +4,8 @@ use Rattle.air_channel.specs.Channel.{Given, got_of}
 use Rattle.air_channel.specs.Past.{next_record, past_behind_command, next_entry, tags_behind}
 use Rattle.air_channel.specs.declared.air.Got.TheVariants.{Silence, Stream}
 use Rattle.air_world.proofs.Answering.{given-in-expected}
-use Rattle.air_world.proofs.Reception.{IsExpectedGiven, silent-reception}
+use Rattle.air_channel.specs.Reception.{IsGivenFor}
+use Rattle.air_channel.specs.ReceptionLaws.{silent_reception}
 use Rattle.air_world.proofs.Slots.{heard-reception}
 use Rattle.air_world.specs.Playing.{RunValue, PlaysAt}
 use Rattle.air_world.proofs.run.Run.ask.Goals as goal
@@ -14,7 +15,7 @@ returns-in-Silence-clause-heard g c = λ origin past round slot plays.
     let given : Given = (next_record origin.start round slot c.args.command.now past).given in
     let got = c.in_ok-send.ensures.got origin past round slot plays in
     let none : got_of given ≡ Silence = cc (got, c.in-Silence.is) in
-    silent-reception c.args.expect.now given none
+    sym (silent_reception c.args.expect.now given none)
 
 pub returns-in-Stream-clause-plays : goal.returns-in-Stream-clause-plays
 returns-in-Stream-clause-plays g c = λ origin past round slot plays.
@@ -27,7 +28,7 @@ returns-in-Stream-clause-heard g c = λ origin past round slot plays.
     let came : got_of given ≡ Stream = cc (got, c.in-Stream.is) in
     let link = (c.send.ensures.plays origin past round slot plays).link in
     let legal : AreLegalTags (tags_behind origin.start past) = subst AreLegalTags plays.tags plays.legal in
-    let expected : IsExpectedGiven c.args.expect.now given =
+    let expected : IsGivenFor c.args.expect.now given =
     given-in-expected c.args.command.now c.args.expect.now (next_entry origin.start past) (tags_behind origin.start past) c.requires.expects c.answers_are_replies.ensures.reply
     c.answers_are_replies.ensures.legal c.steps_keep_tags_legal.ensures.befallen legal in
     heard-reception origin.start.link given c.send.new.air c.args.expect.now c.hear.result link (c.send.ensures.stream origin past round slot plays) came expected c.hear.ensures.received

@@ -2,7 +2,7 @@ use Rattle.std.proofs.Common.{◌≡◌, Some, None, refl, sym, ◌∙◌, ap}
 use Rattle.air_channel.specs.Past.{Record, next_record, past_behind_command}
 use Rattle.air_world.proofs.Slots.{cut-slot, cut-same, slot-unlisted, seen-unlisted, slot-stands, slot-without, slot-with, other-answer, room-behind, stands-unlisted}
 use Rattle.air_world.proofs.Writing.{err-kept}
-use Rattle.air_world.specs.Heard.{reception_from, rn16_in}
+use Rattle.air_world.specs.Heard.{heard_reception, rn16_in}
 use Rattle.air_world.specs.History.{outcome_of}
 use Rattle.air_world.specs.Playing.{past_text}
 use Rattle.reply_grammar.specs.declared.expected.Received.TheVariants.{Whole}
@@ -16,32 +16,32 @@ returns-in_err-ask-clause-err g c = λ origin past stands.
 pub returns-in-None-clause-ok : goal.returns-in-None-clause-ok
 returns-in-None-clause-ok g c = λ origin past stands.
     let sent : Record = next_record origin.start c.args.round c.args.slot c.args.command.now past in
-    let heard = ap reception_from (sym c.in-None.is) ∙ c.in_ok-ask.ensures.heard origin past c.args.round c.args.slot stands.plays in
+    let heard = ap heard_reception (sym c.in-None.is) ∙ c.in_ok-ask.ensures.heard origin past c.args.round c.args.slot stands.plays in
     let behind = stands-unlisted origin sent past _ _ _ _ (c.ask.ensures.plays origin past c.args.round c.args.slot stands.plays) (c.ask.ensures.seen ∙ stands.seen)
     (c.in_ok-ask.ensures.ok origin past c.args.round c.args.slot (past_text origin past) stands.plays stands.text) (slot-unlisted sent c.requires.expects) in
     slot-stands origin c.args.round c.args.slot c.args.command.now past _ _ _ _ _ (slot-without origin.start c.args.round c.args.slot c.args.command.now past _ heard refl) behind
 
 pub returns-in-None-clause-outcome : goal.returns-in-None-clause-outcome
 returns-in-None-clause-outcome g c = λ origin past stands.
-    ap outcome_of (ap reception_from (sym c.in-None.is) ∙ c.in_ok-ask.ensures.heard origin past c.args.round c.args.slot stands.plays)
+    ap outcome_of (ap heard_reception (sym c.in-None.is) ∙ c.in_ok-ask.ensures.heard origin past c.args.round c.args.slot stands.plays)
 
 pub returns-in-Some-Refused-clause-ok : goal.returns-in-Some-Refused-clause-ok
 returns-in-Some-Refused-clause-ok g c = λ origin past stands.
     let sent : Record = next_record origin.start c.args.round c.args.slot c.args.command.now past in
-    let heard = ap reception_from (sym (c.in-Some-Refused.is ∙ ap Some c.in-Some-Refused.field-0-is)) ∙ c.in_ok-ask.ensures.heard origin past c.args.round c.args.slot stands.plays in
+    let heard = ap heard_reception (sym (c.in-Some-Refused.is ∙ ap Some c.in-Some-Refused.field-0-is)) ∙ c.in_ok-ask.ensures.heard origin past c.args.round c.args.slot stands.plays in
     let behind = stands-unlisted origin sent past _ _ _ _ (c.ask.ensures.plays origin past c.args.round c.args.slot stands.plays) (c.ask.ensures.seen ∙ stands.seen)
     (c.in_ok-ask.ensures.ok origin past c.args.round c.args.slot (past_text origin past) stands.plays stands.text) (slot-unlisted sent c.requires.expects) in
     slot-stands origin c.args.round c.args.slot c.args.command.now past _ _ _ _ _ (slot-without origin.start c.args.round c.args.slot c.args.command.now past _ heard refl) behind
 
 pub returns-in-Some-Refused-clause-outcome : goal.returns-in-Some-Refused-clause-outcome
 returns-in-Some-Refused-clause-outcome g c = λ origin past stands.
-    ap outcome_of (ap reception_from (sym (c.in-Some-Refused.is ∙ ap Some c.in-Some-Refused.field-0-is)) ∙ c.in_ok-ask.ensures.heard origin past c.args.round c.args.slot stands.plays)
+    ap outcome_of (ap heard_reception (sym (c.in-Some-Refused.is ∙ ap Some c.in-Some-Refused.field-0-is)) ∙ c.in_ok-ask.ensures.heard origin past c.args.round c.args.slot stands.plays)
 
 pub returns-in_default-clause-ok : goal.returns-in_default-clause-ok
 returns-in_default-clause-ok g c = λ origin past stands.
     let sent : Record = next_record origin.start c.args.round c.args.slot c.args.command.now past in
     let whole : c.in_ok-ask.field-0 ≡ Some (Whole c.in-Some-Whole.reply) = cc (c.in-Some-Whole.is, c.in-Some-Whole.field-0-is) in
-    let heard = ap reception_from (sym whole) ∙ c.in_ok-ask.ensures.heard origin past c.args.round c.args.slot stands.plays in
+    let heard = ap heard_reception (sym whole) ∙ c.in_ok-ask.ensures.heard origin past c.args.round c.args.slot stands.plays in
     let other : rn16_in c.in-Some-Whole.reply ≡ None = sym c.rn16_in.ensures ∙ c.in_default.is in
     let behind = stands-unlisted origin sent past _ _ _ _ (c.ask.ensures.plays origin past c.args.round c.args.slot stands.plays) (c.ask.ensures.seen ∙ stands.seen)
     (c.in_ok-ask.ensures.ok origin past c.args.round c.args.slot (past_text origin past) stands.plays stands.text) (slot-unlisted sent c.requires.expects) in
@@ -51,7 +51,7 @@ returns-in_default-clause-ok g c = λ origin past stands.
 pub returns-in_default-clause-outcome : goal.returns-in_default-clause-outcome
 returns-in_default-clause-outcome g c = λ origin past stands.
     let whole : c.in_ok-ask.field-0 ≡ Some (Whole c.in-Some-Whole.reply) = cc (c.in-Some-Whole.is, c.in-Some-Whole.field-0-is) in
-    ap outcome_of (ap reception_from (sym whole) ∙ c.in_ok-ask.ensures.heard origin past c.args.round c.args.slot stands.plays)
+    ap outcome_of (ap heard_reception (sym whole) ∙ c.in_ok-ask.ensures.heard origin past c.args.round c.args.slot stands.plays)
 
 pub acknowledge-requires : goal.acknowledge-requires
 acknowledge-requires g c =
@@ -69,7 +69,7 @@ pub returns-in_err-acknowledge-in-Some-Whole-clause-err : goal.returns-in_err-ac
 returns-in_err-acknowledge-in-Some-Whole-clause-err g c = λ origin past stands.
     let sent : Record = next_record origin.start c.args.round c.args.slot c.args.command.now past in
     let whole : c.in_ok-ask.field-0 ≡ Some (Whole c.in-Some-Whole.reply) = cc (c.in-Some-Whole.is, c.in-Some-Whole.field-0-is) in
-    let heard = ap reception_from (sym whole) ∙ c.in_ok-ask.ensures.heard origin past c.args.round c.args.slot stands.plays in
+    let heard = ap heard_reception (sym whole) ∙ c.in_ok-ask.ensures.heard origin past c.args.round c.args.slot stands.plays in
     let found : rn16_in c.in-Some-Whole.reply ≡ Some c.in-Some.rn = sym c.rn16_in.ensures ∙ c.in-Some.is in
     let behind = stands-unlisted origin sent past _ _ _ _ (c.ask.ensures.plays origin past c.args.round c.args.slot stands.plays) (c.ask.ensures.seen ∙ stands.seen)
     (c.in_ok-ask.ensures.ok origin past c.args.round c.args.slot (past_text origin past) stands.plays stands.text) (slot-unlisted sent c.requires.expects) in
@@ -82,7 +82,7 @@ pub returns-in_ok-acknowledge-in-Some-Whole-clause-ok : goal.returns-in_ok-ackno
 returns-in_ok-acknowledge-in-Some-Whole-clause-ok g c = λ origin past stands.
     let sent : Record = next_record origin.start c.args.round c.args.slot c.args.command.now past in
     let whole : c.in_ok-ask.field-0 ≡ Some (Whole c.in-Some-Whole.reply) = cc (c.in-Some-Whole.is, c.in-Some-Whole.field-0-is) in
-    let heard = ap reception_from (sym whole) ∙ c.in_ok-ask.ensures.heard origin past c.args.round c.args.slot stands.plays in
+    let heard = ap heard_reception (sym whole) ∙ c.in_ok-ask.ensures.heard origin past c.args.round c.args.slot stands.plays in
     let found : rn16_in c.in-Some-Whole.reply ≡ Some c.in-Some.rn = sym c.rn16_in.ensures ∙ c.in-Some.is in
     let behind = stands-unlisted origin sent past _ _ _ _ (c.ask.ensures.plays origin past c.args.round c.args.slot stands.plays) (c.ask.ensures.seen ∙ stands.seen)
     (c.in_ok-ask.ensures.ok origin past c.args.round c.args.slot (past_text origin past) stands.plays stands.text) (slot-unlisted sent c.requires.expects) in
@@ -92,4 +92,4 @@ returns-in_ok-acknowledge-in-Some-Whole-clause-ok g c = λ origin past stands.
 pub returns-in_ok-acknowledge-in-Some-Whole-clause-outcome : goal.returns-in_ok-acknowledge-in-Some-Whole-clause-outcome
 returns-in_ok-acknowledge-in-Some-Whole-clause-outcome g c = λ origin past stands.
     let whole : c.in_ok-ask.field-0 ≡ Some (Whole c.in-Some-Whole.reply) = cc (c.in-Some-Whole.is, c.in-Some-Whole.field-0-is) in
-    ap outcome_of (ap reception_from (sym whole) ∙ c.in_ok-ask.ensures.heard origin past c.args.round c.args.slot stands.plays)
+    ap outcome_of (ap heard_reception (sym whole) ∙ c.in_ok-ask.ensures.heard origin past c.args.round c.args.slot stands.plays)
