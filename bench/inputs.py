@@ -1,9 +1,10 @@
 #!/usr/bin/env python3
-"""Writes an input of one kind: inputs.py KIND BYTES > FILE. It has at most BYTES bytes.
+"""Writes an input of one kind: inputs.py KIND SIZE > FILE. It has at most SIZE bytes; of the kind `run`, SIZE rounds.
 
 Of decode lines each line is as long as a line may be (or a whole reply), and each stream, reply and sample group is a
-good one, so that the decoder goes over all of it. `scenario` is a scenario with as many tags of full banks as fit, and
-`long` one whose first tag line is as long as fits, so that its last field is refused.
+good one, so that the decoder goes over all of it. `scenario` is a scenario without steps, with as many tags of full banks as
+fit, and `long` one whose first tag line is as long as fits, so that its last field is refused. `run` is a scenario that is
+played: 256 tags, and rounds in each of which every tag is listed.
 """
 
 import random
@@ -89,7 +90,7 @@ def line(kind, rng):
 
 
 HEAD = "gen2 1\nlink 12500 31250 50000 6250 1 m4 0\n"
-ROUND = "round all 0 a 4 300 1000\nend\n"
+END = "end\n"
 
 
 def words(count, rng):
@@ -103,27 +104,37 @@ def tag(rng):
 
 def scenario(size, rng):
     text = [HEAD]
-    left = size - len(HEAD) - len(ROUND)
+    left = size - len(HEAD) - len(END)
     for _ in range(256):
         line = tag(rng)
         if len(line) > left:
             break
         text.append(line)
         left -= len(line)
-    return "".join(text) + ROUND
+    return "".join(text) + END
 
 
 def long(size, rng):
     front = "tag 00000000 00000000 0000000000 08001234 E2000001 - "
-    digits = (size - len(HEAD) - len(front) - len(ROUND) - 1) // 4 * 4
-    return HEAD + front + words(1024, rng) * (digits // 4096) + "\n" + ROUND
+    digits = (size - len(HEAD) - len(front) - len(END) - 1) // 4 * 4
+    return HEAD + front + words(1024, rng) * (digits // 4096) + "\n" + END
+
+
+def run(rounds, rng):
+    """256 tags with one User word and 64 draw words each. Rounds ask for A and B in turn, so that each tag takes part in each."""
+    text = [HEAD]
+    for number in range(256):
+        epc = f"30003074257BF7194E400000{number:04X}"
+        text.append(f"tag 00000000 00000000 0000000000 {epc} E200{number:04X} {words(1, rng)} {words(64, rng)}\n")
+    text += [f"round all 0 {'ab'[number % 2]} 8 300 1024\n" for number in range(rounds)]
+    return "".join(text) + END
 
 
 def main():
     kind, size = sys.argv[1], int(sys.argv[2])
     rng = random.Random(7)
-    if kind in ("scenario", "long"):
-        sys.stdout.write({"scenario": scenario, "long": long}[kind](size, rng))
+    if kind in ("scenario", "long", "run"):
+        sys.stdout.write({"scenario": scenario, "long": long, "run": run}[kind](size, rng))
         return
     lines = [line(kind, rng) + "\n" for _ in range(4)]
     written = 0

@@ -1,0 +1,242 @@
+//! Reads the text of a scenario without operations. Forms are read, and a faulty line is told by its number alone.
+
+use std::collections::BTreeMap;
+
+use crate::command::{Bank, Flag, Sel, Select, Target};
+use crate::line_code::{Code, LineCode};
+use crate::pie::Timing;
+use crate::tag::{Event, Expiry, Tag};
+
+pub struct Link {
+    pub timing: Timing,
+    pub divide_ratio: u32,
+    pub code: LineCode,
+    pub trext: bool,
+}
+
+/// What the channel does with the replies of an exchange.
+#[derive(Clone, Copy)]
+pub enum Choice {
+    Pick(usize),
+    Silent,
+    Break(usize),
+}
+
+/// What the scenario says of one exchange.
+#[derive(Default)]
+pub struct Entry {
+    pub events: Vec<(usize, Event)>,
+    pub missed: Vec<usize>,
+    pub choice: Option<Choice>,
+}
+
+#[derive(Clone, Copy)]
+pub struct Round {
+    pub sel: Sel,
+    pub session: u8,
+    pub target: Flag,
+    pub q: u8,
+    /// The step of Qfp, in thousandths.
+    pub step: u32,
+    /// The most slots.
+    pub limit: u32,
+}
+
+pub enum Step {
+    Select(Select),
+    Nak,
+    Event(usize, Event),
+    Round(Round),
+}
+
+pub struct Scenario {
+    pub link: Link,
+    pub tags: Vec<Tag>,
+    /// By the number of the exchange, from 1.
+    pub air: BTreeMap<u32, Entry>,
+    pub steps: Vec<Step>,
+}
+
+/// The scenario, or the number of the first line that can't be read.
+pub fn read(text: &str) -> Result<Scenario, usize> {
+    let mut lines = (1..).zip(text.split_terminator('\n'));
+    let (number, version) = lines.next().ok_or(1_usize)?;
+    if version != "gen2 1" {
+        return Err(number);
+    }
+    let (number, line) = lines.next().ok_or(2_usize)?;
+    let link = read_link(line).ok_or(number)?;
+    let mut scenario = Scenario {
+        link,
+        tags: Vec::new(),
+        air: BTreeMap::new(),
+        steps: Vec::new(),
+    };
+    let mut last = number;
+    for (number, line) in lines {
+        if line == "end" {
+            return Ok(scenario);
+        }
+        scenario.read_line(line).ok_or(number)?;
+        last = number;
+    }
+    Err(last + 1)
+}
+
+impl Scenario {
+    fn read_line(&mut self, line: &str) -> Option<()> {
+        let (word, rest) = line.split_once(' ').unwrap_or((line, ""));
+        let fields: Vec<&str> = rest.split(' ').collect();
+        match word {
+            "tag" => self.tags.push(read_tag(&fields)?),
+            "air" => self.read_air(&fields)?,
+            "select" => self.steps.push(Step::Select(read_select(&fields)?)),
+            "nak" if rest.is_empty() => self.steps.push(Step::Nak),
+            "event" => {
+                let (tag, event) = self.read_event(&fields)?;
+                self.steps.push(Step::Event(tag, event));
+            }
+            "round" => self.steps.push(Step::Round(read_round(&fields)?)),
+            _ => return None,
+        }
+        Some(())
+    }
+
+    fn read_tag_number(&self, field: &str) -> Option<usize> {
+        field.parse().ok().filter(|&tag| tag < self.tags.len())
+    }
+
+    fn read_event(&self, fields: &[&str]) -> Option<(usize, Event)> {
+        let (event, tag) = match fields {
+            ["timeout", tag] => (Event::Timeout, tag),
+            ["off", tag] => (Event::Off, tag),
+            ["on", tag] => (Event::On, tag),
+            ["expire", "s1", tag] => (Event::Expire(Expiry::S1), tag),
+            ["expire", "s2", tag] => (Event::Expire(Expiry::S2), tag),
+            ["expire", "s3", tag] => (Event::Expire(Expiry::S3), tag),
+            ["expire", "sl", tag] => (Event::Expire(Expiry::Sl), tag),
+            _ => return None,
+        };
+        Some((self.read_tag_number(tag)?, event))
+    }
+
+    fn read_air(&mut self, fields: &[&str]) -> Option<()> {
+        let (number, fields) = fields.split_first()?;
+        let mut entry = self.air.remove(&number.parse().ok()?).unwrap_or_default();
+        match fields {
+            ["miss", tag] => entry.missed.push(self.read_tag_number(tag)?),
+            ["pick", place] => entry.choice = Some(Choice::Pick(place.parse().ok()?)),
+            ["silent"] => entry.choice = Some(Choice::Silent),
+            ["break", place] => entry.choice = Some(Choice::Break(place.parse().ok()?)),
+            _ => entry.events.push(self.read_event(fields)?),
+        }
+        self.air.insert(number.parse().ok()?, entry);
+        Some(())
+    }
+}
+
+fn read_link(line: &str) -> Option<Link> {
+    let fields: Vec<&str> = line.split(' ').collect();
+    let ["link", tari, rtcal, trcal, pw, divide_ratio, code, trext] = fields[..] else {
+        return None;
+    };
+    let number = |field: &str| field.parse::<u32>().ok();
+    Some(Link {
+        timing: Timing {
+            tari: number(tari)?,
+            rtcal: number(rtcal)?,
+            trcal: number(trcal)?,
+            pw: number(pw)?,
+        },
+        divide_ratio: number(divide_ratio)?,
+        code: LineCode::new(match code {
+            "fm0" => Code::Fm0,
+            "m2" => Code::Miller(2),
+            "m4" => Code::Miller(4),
+            "m8" => Code::Miller(8),
+            _ => return None,
+        }),
+        trext: trext == "1",
+    })
+}
+
+/// Words of four hexadecimal digits each, or `-` for none.
+fn read_words(field: &str) -> Option<Vec<u16>> {
+    if field == "-" {
+        return Some(Vec::new());
+    }
+    field
+        .as_bytes()
+        .chunks(4)
+        .map(|digits| u16::from_str_radix(std::str::from_utf8(digits).ok()?, 16).ok())
+        .collect()
+}
+
+fn read_tag(fields: &[&str]) -> Option<Tag> {
+    let [kill, access, locks, epc, tid, user, draws] = fields else {
+        return None;
+    };
+    let reserved = [read_words(kill)?, read_words(access)?].concat();
+    let (epc, draws) = (read_words(epc)?, read_words(draws)?);
+    let fits = epc
+        .first()
+        .is_some_and(|&pc| usize::from(pc >> 11) < epc.len())
+        && !draws.is_empty();
+    fits.then_some(())?;
+    Some(Tag::new(
+        reserved,
+        locks,
+        &epc,
+        read_words(tid)?,
+        read_words(user)?,
+        draws,
+    ))
+}
+
+fn read_session(field: &str) -> Option<u8> {
+    field.parse().ok().filter(|&session| session < 4)
+}
+
+fn read_select(fields: &[&str]) -> Option<Select> {
+    let [target, action, bank, pointer, mask] = fields else {
+        return None;
+    };
+    Some(Select {
+        target: match target.strip_prefix('s')? {
+            "l" => Target::Sl,
+            session => Target::Session(read_session(session)?),
+        },
+        action: action.parse().ok()?,
+        bank: match *bank {
+            "epc" => Bank::Epc,
+            "tid" => Bank::Tid,
+            "user" => Bank::User,
+            _ => return None,
+        },
+        pointer: pointer.parse().ok()?,
+        mask: mask
+            .bytes()
+            .filter(|&digit| digit != b'-')
+            .map(|digit| digit == b'1')
+            .collect(),
+    })
+}
+
+fn read_round(fields: &[&str]) -> Option<Round> {
+    let [sel, session, target, q, step, limit] = fields else {
+        return None;
+    };
+    Some(Round {
+        sel: match *sel {
+            "all" => Sel::All,
+            "nsl" => Sel::NotSl,
+            "sl" => Sel::Sl,
+            _ => return None,
+        },
+        session: read_session(session)?,
+        target: if *target == "a" { Flag::A } else { Flag::B },
+        q: q.parse().ok()?,
+        step: step.parse().ok()?,
+        limit: limit.parse().ok()?,
+    })
+}

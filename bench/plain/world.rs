@@ -1,0 +1,330 @@
+//! Plays a scenario and writes its report.
+
+use std::collections::HashMap;
+use std::fmt::Write;
+
+use crate::bits::{value_of, without_crc16, words_of};
+use crate::command::{Change, Command, Flag, Query};
+use crate::pie;
+use crate::scenario::{Choice, Entry, Round, Scenario, Step};
+use crate::tag::{State, Tag};
+
+/// What the interrogator makes of an exchange. The bits of a whole reply stand in `World::received`.
+#[derive(Clone, Copy, PartialEq)]
+enum Heard {
+    Silence,
+    Refused,
+    Whole,
+}
+
+/// How often each pair of PC and EPC was listed, in the order in which they were first seen.
+#[derive(Default)]
+struct Seen {
+    counts: Vec<(Vec<u16>, u32)>,
+    places: HashMap<Vec<u16>, usize>,
+}
+
+impl Seen {
+    fn count(&mut self, pc_and_epc: Vec<u16>) {
+        let place = *self.places.entry(pc_and_epc).or_insert_with_key(|key| {
+            self.counts.push((key.clone(), 0));
+            self.counts.len() - 1
+        });
+        self.counts[place].1 += 1;
+    }
+}
+
+struct World {
+    scenario: Scenario,
+    trace: bool,
+    report: String,
+    exchanges: u32,
+    seen: Seen,
+    replies: Vec<Vec<bool>>,
+    bits: Vec<bool>,
+    intervals: Vec<u32>,
+    levels: Vec<bool>,
+    lead: Vec<bool>,
+    received: Vec<bool>,
+}
+
+/// The report of the scenario, with intervals and levels where a trace is wanted.
+pub fn play(mut scenario: Scenario, trace: bool) -> String {
+    let steps = std::mem::take(&mut scenario.steps);
+    let mut world = World {
+        scenario,
+        trace,
+        report: String::new(),
+        exchanges: 0,
+        seen: Seen::default(),
+        replies: Vec::new(),
+        bits: Vec::new(),
+        intervals: Vec::new(),
+        levels: Vec::new(),
+        lead: Vec::new(),
+        received: Vec::new(),
+    };
+    if trace {
+        world.write_frequency();
+    }
+    let mut rounds = 0;
+    for step in steps {
+        match step {
+            Step::Select(select) => {
+                world.exchange(&Command::Select(select));
+            }
+            Step::Nak => {
+                world.exchange(&Command::Nak);
+            }
+            Step::Event(tag, event) => world.scenario.tags[tag].befall(event),
+            Step::Round(round) => {
+                rounds += 1;
+                world.play_round(rounds, &round);
+            }
+        }
+    }
+    world.write_end();
+    world.report
+}
+
+impl World {
+    /// Sends a command over the link, lets each tag hear it that doesn't miss it, and receives what the channel gives.
+    fn exchange(&mut self, command: &Command) -> Heard {
+        self.exchanges += 1;
+        let entry = self
+            .scenario
+            .air
+            .remove(&self.exchanges)
+            .unwrap_or_default();
+        for &(tag, event) in &entry.events {
+            self.scenario.tags[tag].befall(event);
+        }
+        self.send(command, &entry.missed);
+        let gave = self.propagate(&entry);
+        if self.trace {
+            self.write_exchange(gave);
+        }
+        let link = &self.scenario.link;
+        if !gave {
+            Heard::Silence
+        } else if link
+            .code
+            .decode(link.trext, &self.levels, &mut self.lead, &mut self.received)
+        {
+            Heard::Whole
+        } else {
+            Heard::Refused
+        }
+    }
+
+    /// Encodes the command as a frame, and gives the tags what the frame decodes to.
+    fn send(&mut self, command: &Command, missed: &[usize]) {
+        command.encode(&mut self.bits);
+        let preamble = matches!(command, Command::Query(_));
+        pie::encode_frame(
+            &self.scenario.link.timing,
+            preamble,
+            &self.bits,
+            &mut self.intervals,
+        );
+        self.replies.clear();
+        if !pie::decode_frame(&self.intervals, &mut self.bits) {
+            return;
+        }
+        let Some(command) = Command::decode(&self.bits) else {
+            return;
+        };
+        for (number, tag) in self.scenario.tags.iter_mut().enumerate() {
+            if missed.contains(&number) {
+                continue;
+            }
+            if let Some(reply) = tag.hear(&command) {
+                self.replies.push(reply);
+            }
+        }
+    }
+
+    /// Writes the levels that the channel gives of the replies, and answers whether it gives any.
+    fn propagate(&mut self, entry: &Entry) -> bool {
+        let several = self.replies.len() > 1;
+        let (reply, broken) = match entry.choice {
+            None => (self.replies.first(), several.then_some(0)),
+            Some(Choice::Pick(place)) => (self.replies.get(place), None),
+            Some(Choice::Silent) => (None, None),
+            Some(Choice::Break(place)) => (self.replies.first(), Some(place)),
+        };
+        let Some(reply) = reply else { return false };
+        let link = &self.scenario.link;
+        link.code.encode(link.trext, reply, &mut self.levels);
+        if let Some(place) = broken {
+            let place = place % self.levels.len();
+            self.levels[place] = !self.levels[place];
+        }
+        true
+    }
+
+    /// Plays a round with the standard's rule for Q, in thousandths.
+    fn play_round(&mut self, number: u32, round: &Round) {
+        let (mut q, mut q_fp) = (round.q, 1000 * u32::from(round.q));
+        let (mut slots, mut frame, mut all_silent) = (0, 0_u32, true);
+        let mut command = self.query(round);
+        loop {
+            let heard = self.exchange(&command);
+            slots += 1;
+            frame += 1;
+            match heard {
+                Heard::Silence => q_fp = q_fp.saturating_sub(round.step),
+                Heard::Refused => q_fp = (q_fp + round.step).min(15_000),
+                Heard::Whole => self.acknowledge(number, slots),
+            }
+            all_silent &= heard == Heard::Silence;
+            let whole_frame = frame == 1 << q;
+            if whole_frame && all_silent {
+                return self.write_round(number, "quiet", slots);
+            }
+            if slots == round.limit {
+                return self.write_round(number, "limit", slots);
+            }
+            let rounded = ((q_fp + 500) / 1000) as u8;
+            let change = match rounded.cmp(&q) {
+                std::cmp::Ordering::Greater => Some(Change::Up),
+                std::cmp::Ordering::Less => Some(Change::Down),
+                std::cmp::Ordering::Equal => whole_frame.then_some(Change::Same),
+            };
+            command = match change {
+                Some(change) => {
+                    (q, frame, all_silent) = (rounded, 0, true);
+                    Command::QueryAdjust {
+                        session: round.session,
+                        change,
+                    }
+                }
+                None => Command::QueryRep {
+                    session: round.session,
+                },
+            };
+        }
+    }
+
+    fn query(&self, round: &Round) -> Command {
+        let link = &self.scenario.link;
+        Command::Query(Query {
+            divide_ratio: link.divide_ratio,
+            code: link.code.field(),
+            trext: link.trext,
+            sel: round.sel,
+            session: round.session,
+            target: round.target,
+            q: round.q,
+        })
+    }
+
+    /// Acknowledges the RN16 received, and lists the PC and EPC that come back whole.
+    fn acknowledge(&mut self, round: u32, slot: u32) {
+        let rn = value_of(&self.received) as u16;
+        if self.exchange(&Command::Ack { rn }) != Heard::Whole {
+            return;
+        }
+        let Some(body) = without_crc16(&self.received) else {
+            return;
+        };
+        let words = words_of(body);
+        if words
+            .first()
+            .is_some_and(|&pc| body.len() == 16 * (1 + usize::from(pc >> 11)))
+        {
+            write!(self.report, "list {round} {slot} ").unwrap();
+            push_pc_and_epc(&mut self.report, &words);
+            self.seen.count(words);
+        }
+    }
+
+    fn write_frequency(&mut self) {
+        let link = &self.scenario.link;
+        let trcal = link.timing.trcal;
+        let (above, below) = if link.divide_ratio == 1 {
+            (64, 3 * trcal)
+        } else {
+            (8, trcal)
+        };
+        writeln!(self.report, "blf {above}/{below}").unwrap();
+    }
+
+    fn write_exchange(&mut self, gave: bool) {
+        write!(self.report, "tx {}", self.exchanges).unwrap();
+        for interval in &self.intervals {
+            write!(self.report, " {interval}").unwrap();
+        }
+        write!(
+            self.report,
+            "\nrx {} {} ",
+            self.exchanges,
+            self.replies.len()
+        )
+        .unwrap();
+        if gave {
+            self.report.extend(
+                self.levels
+                    .iter()
+                    .map(|&level| if level { '1' } else { '0' }),
+            );
+        } else {
+            self.report.push('-');
+        }
+        self.report.push('\n');
+    }
+
+    fn write_round(&mut self, number: u32, end: &str, slots: u32) {
+        writeln!(self.report, "round {number} {end} {slots}").unwrap();
+    }
+
+    fn write_end(&mut self) {
+        for (pc_and_epc, count) in &self.seen.counts {
+            write!(self.report, "seen {count} ").unwrap();
+            push_pc_and_epc(&mut self.report, pc_and_epc);
+        }
+        for (number, tag) in self.scenario.tags.iter().enumerate() {
+            write_tag(&mut self.report, number, tag);
+        }
+        self.report.push_str("done\n");
+    }
+}
+
+fn write_tag(report: &mut String, number: usize, tag: &Tag) {
+    let state = match tag.state {
+        State::Off => "off",
+        State::Ready => "ready",
+        State::Arbitrate { .. } => "arbitrate",
+        State::Reply { .. } => "reply",
+        State::Acknowledged { .. } => "acknowledged",
+    };
+    write!(report, "tag {number} {state} ").unwrap();
+    report.extend(
+        tag.flags
+            .iter()
+            .map(|&flag| if flag == Flag::A { 'A' } else { 'B' }),
+    );
+    write!(report, "{} {}", u32::from(tag.sl), tag.locks).unwrap();
+    for bank in [&tag.reserved, &tag.epc, &tag.tid, &tag.user] {
+        report.push(' ');
+        push_words(report, bank);
+    }
+    report.push('\n');
+}
+
+fn push_words(report: &mut String, words: &[u16]) {
+    if words.is_empty() {
+        report.push('-');
+    }
+    for word in words {
+        write!(report, "{word:04X}").unwrap();
+    }
+}
+
+fn push_pc_and_epc(report: &mut String, words: &[u16]) {
+    let (pc, epc) = words.split_at(1);
+    push_words(report, pc);
+    report.push(' ');
+    push_words(report, epc);
+    report.push('\n');
+}
