@@ -3,14 +3,14 @@ ghost use Rattle.std.specs.Prelude.{◌≡◌, ◌<◌, ◌++◌, ℕ, List, [],
 ghost use Rattle.air_world.specs.Playing.{Origin, IsWritten, IsCutOff};
 ghost use Rattle.air_world.specs.Report.{first_lines, tag_lines};
 ghost use Rattle.report_lines.specs.ReportLine.{DoneLine, TagLine, report_line_text, report_text};
-ghost use Rattle.report_lines.specs.SeenCounts.{seen_line};
+ghost use Rattle.report_lines.specs.SeenCounts.{Seen, seen_line};
 ghost use Rattle.tag_machine.specs.TagValue.{TagValue};
 
 use crate::mode::{Mode, PlayFault};
 use crate::run::{Run, write_text};
 use air_channel::Air;
 use air_io::Sink;
-use report_lines::{push_blf_line, push_done_line, push_tag_line};
+use report_lines::{push_blf_line, push_done_line, push_seen_line, push_tag_line};
 use std::sync::ledger::Ledger;
 
 impl<'a, L: Ledger> Run<'a, L> {
@@ -54,8 +54,26 @@ impl<'a, L: Ledger> Run<'a, L> {
         ensures err { (origin : Origin) (before : List ℕ) → IsWritten origin before (O.written out.old) (O.faults out.old)
             → IfErr result (IsCutOff origin (before ++ report_text (map seen_line self.old.seen)) (O.written out.new) (O.faults out.new)) }
     {
+        for at in 0..self.seen.len() {
+            self.write_count(at, out)?;
+        }
+        Ok(())
+    }
+
+    /// Tells how often the pair with this number was listed.
+    fn write_count<O: Sink>(&mut self, at: usize, out: &mut O) -> Result<(), PlayFault>
+        requires { at < length self.old.seen }
+        ensures same { self.new ≡ self.old }
+        ensures ok { (origin : Origin) (before : List ℕ) (seen : Seen) → slice_get self.old.seen at ≡ Some seen → IsWritten origin before (O.written out.old) (O.faults out.old)
+            → OnOk result (IsWritten origin (before ++ report_line_text (seen_line seen)) (O.written out.new) (O.faults out.new)) }
+        ensures err { (origin : Origin) (before : List ℕ) (seen : Seen) → slice_get self.old.seen at ≡ Some seen → IsWritten origin before (O.written out.old) (O.faults out.old)
+            → IfErr result (IsCutOff origin (before ++ report_line_text (seen_line seen)) (O.written out.new) (O.faults out.new)) }
+    {
         self.line.clear();
-        self.seen.push_lines(&mut self.line)?;
+        let Some((count, pc, epc)) = self.seen.get(at) else {
+            unreachable!();
+        };
+        push_seen_line(&mut self.line, count, pc, epc)?;
         write_text(&self.line, out)
     }
 
