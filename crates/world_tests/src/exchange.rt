@@ -1,0 +1,202 @@
+//! Exchanges: which tags reply, and what the channel gives of it.
+ghost use Rattle.std.specs.Prelude.{◌≡◌, length, IsTrue};
+ghost use Rattle.air_channel.specs.Air.{NamesTags};
+
+use crate::worlds::{FIRST, SECOND, scenario_of};
+use air_channel::{Air, Code, Got};
+use air_world::set_up;
+use bit_strings::{Bits, QValue, Session};
+use command_grammar::{Command, Sel, Side};
+use scenario::{Entry, EntryCursor, Scenario, empty_entry};
+use std::alloc::Global;
+use std::marker::Brand;
+use std::process::Abort;
+use std::sync::ledger::{Blank, Ledger};
+use std::test::Fail;
+use tag_machine::Steps;
+
+/// What is said of the first exchange, how many tags reply, and the levels that the channel gives.
+type Row = (&'static str, u32, &'static [u8]);
+
+// The streams in FM0 of the RN16s A1B2 and 5678: 12 levels of the lead, 32 of the bits, and 2 of the dummy.
+const A1B2: &[u8] = b"1101001000110010110101010100110100110101001011";
+
+const W5678: &[u8] = b"1101001000110100101101001101010011001101010100";
+
+// The stream of A1B2 with its first, its fourth and its last level inverted.
+const FIRST_INVERTED: &[u8] = b"0101001000110010110101010100110100110101001011";
+
+const FOURTH_INVERTED: &[u8] = b"1100001000110010110101010100110100110101001011";
+
+const LAST_INVERTED: &[u8] = b"1101001000110010110101010100110100110101001010";
+
+const NO_TAG: [Row; 4] = [
+    ("", 0, b""),
+    ("air 1 pick 0\n", 0, b""),
+    ("air 1 silent\n", 0, b""),
+    ("air 1 break 0\n", 0, b""),
+];
+
+const ONE_TAG: [Row; 8] = [
+    ("", 1, A1B2),
+    ("air 1 pick 0\n", 1, A1B2),
+    ("air 1 pick 1\n", 1, b""),
+    ("air 1 silent\n", 1, b""),
+    ("air 1 break 0\n", 1, FIRST_INVERTED),
+    ("air 1 break 95\n", 1, FOURTH_INVERTED),
+    ("air 1 off 0\n", 0, b""),
+    ("air 1 miss 0\n", 0, b""),
+];
+
+const TWO_TAGS: [Row; 11] = [
+    ("", 2, FIRST_INVERTED),
+    ("air 1 pick 0\n", 2, A1B2),
+    ("air 1 pick 1\n", 2, W5678),
+    ("air 1 pick 2\n", 2, b""),
+    ("air 1 silent\n", 2, b""),
+    ("air 1 break 45\n", 2, LAST_INVERTED),
+    ("air 1 break 46\n", 2, FIRST_INVERTED),
+    ("air 1 off 0\n", 1, W5678),
+    ("air 1 miss 1\n", 1, A1B2),
+    ("air 1 miss 0\nair 1 pick 0\n", 1, W5678),
+    ("air 1 off 1\nair 1 miss 0\n", 0, b""),
+];
+
+/// The Query of session S0 with this Q.
+fn query(q: u8) -> Result<Command, Fail> {
+    Ok(Command::Query {
+        dr: true,
+        code: Code::Fm0,
+        trext: false,
+        sel: Sel::All00,
+        session: Session::new(0).ok_or("a session")?,
+        target: Side::A,
+        q: QValue::new(q).ok_or("a Q")?,
+    })
+}
+
+/// Whether each tag that the entry names is among so many.
+fn names_tags(entry: &Entry, tags: u32) -> bool
+    ensures { IsTrue result → NamesTags tags entry.now }
+{
+    entry.events.as_slice().iter().all(|event| event.1 < tags)
+        && entry.missed.as_slice().iter().all(|tag| *tag < tags)
+}
+
+/// One exchange, with the ledger of the blank for the counter of steps.
+fn exchange_counted<L: Ledger>(blank: Blank, air: &mut Air, command: &Command, entry: &Entry) -> Got
+    requires name { blank.name ≡ L.name }
+    requires parts { blank.parts ≡ L.parts }
+    requires one { blank.parts ≡ 1 }
+    requires named { NamesTags (length air.old.tags) entry.now }
+{
+    let mut steps = Steps::<L>::new(blank);
+    air.exchange(command, entry, &mut steps)
+}
+
+/// One exchange, with a counter of steps of its own.
+fn exchange(air: &mut Air, command: &Command, entry: &Entry) -> Got
+    requires { NamesTags (length air.old.tags) entry.now }
+{
+    exchange_counted::<Brand>(Blank::new(1), air, command, entry)
+}
+
+// The list of a text of the digits 1 and 0.
+fn list_of(alloc: Global, text: &[u8]) -> Result<Bits, Fail> {
+    let mut list = Bits::new(alloc, 100)?;
+    list.copy_bytes(text, b'1')?;
+    Ok(list)
+}
+
+/// Sends a Query with Q 0, with what the scenario says of the first exchange.
+fn send_query(
+    rt: &impl Abort,
+    alloc: Global,
+    scenario: &Scenario,
+    air: &mut Air,
+) -> Result<Got, Fail> {
+    let empty = empty_entry(alloc);
+    let mut entries = EntryCursor::new(scenario.entries.as_slice(), &empty);
+    let entry = entries.next_entry(1);
+    assert!(rt; names_tags(entry, air.len()));
+    Ok(exchange(air, &query(0)?, entry))
+}
+
+/// The exchange of a row, with tags that reply at once.
+fn assert_row(
+    rt: &impl Abort,
+    alloc: Global,
+    first: &'static str,
+    second: &'static str,
+    row: Row,
+) -> Result<(), Fail> {
+    let (said, replies, levels) = row;
+    let scenario = scenario_of(alloc, &[first, second, said])?;
+    let mut air = set_up(alloc, &scenario)?;
+    let got = send_query(rt, alloc, &scenario, &mut air)?;
+    assert_eq!(rt; got == Got::Silence, levels.is_empty(), "{said}");
+    assert_eq!(rt; air.replies(), replies, "{said}");
+    let stream = list_of(alloc, levels)?;
+    assert_eq!(rt; air.stream().as_slice(), stream.as_slice(), "{said}");
+    assert_eq!(rt; air.intervals().len(), 51);
+    assert_eq!(rt; air.exchanges(), 1);
+    Ok(())
+}
+
+#[test]
+fn no_tag_hears(rt: HostRuntime) -> Result<(), Fail> {
+    for row in NO_TAG {
+        assert_row(&rt, rt.alloc(), "", "", row)?;
+    }
+    Ok(())
+}
+
+#[test]
+fn one_tag_hears(rt: HostRuntime) -> Result<(), Fail> {
+    for row in ONE_TAG {
+        assert_row(&rt, rt.alloc(), FIRST, "", row)?;
+    }
+    Ok(())
+}
+
+#[test]
+fn two_tags_hear(rt: HostRuntime) -> Result<(), Fail> {
+    for row in TWO_TAGS {
+        assert_row(&rt, rt.alloc(), FIRST, SECOND, row)?;
+    }
+    Ok(())
+}
+
+/// The intervals of the frames of a Query with Q 1 and of a QueryRep: the delimiter, a Tari of 12,500 and an
+/// RTcal of 31,250, of the Query a TRcal of 50,000 too, and two for each bit.
+const FRAMES: [&[u32]; 2] = [
+    &[
+        12_500, 6_250, 6_250, 25_000, 6_250, 43_750, 6_250, // 1000
+        12_500, 6_250, 6_250, 6_250, 6_250, 6_250, 6_250, 6_250, // DR 1, FM0, no pilot
+        12_500, 6_250, 6_250, 6_250, 6_250, 6_250, 6_250, 6_250, // all, S0, A
+        6_250, 6_250, 6_250, 6_250, 6_250, 6_250, 6_250, 6_250, 6_250, 6_250, // Q
+        6_250, 6_250, 6_250, 6_250, 6_250, 6_250, 12_500, 6_250, // CRC-5
+        6_250, 6_250, 6_250, 6_250, 6_250, 6_250, 6_250, 6_250, 12_500, 6_250,
+    ],
+    &[
+        12_500, 6_250, 6_250, 25_000, 6_250, 6_250, 6_250, 6_250, 6_250, 6_250, 6_250, 6_250, 6_250,
+    ],
+];
+
+#[test]
+fn frames_are_sent(rt: HostRuntime) -> Result<(), Fail> {
+    let scenario = scenario_of(rt.alloc(), &[])?;
+    let mut air = set_up(rt.alloc(), &scenario)?;
+    let entry = empty_entry(rt.alloc());
+    assert!(rt; air.intervals().is_empty());
+    assert!(rt; names_tags(&entry, air.len()));
+    exchange(&mut air, &query(1)?, &entry);
+    assert_eq!(rt; air.intervals().as_slice(), FRAMES[0]);
+    assert_eq!(rt; air.exchanges(), 1);
+    assert!(rt; names_tags(&entry, air.len()));
+    let session = Session::new(0).ok_or("a session")?;
+    exchange(&mut air, &Command::QueryRep { session }, &entry);
+    assert_eq!(rt; air.intervals().as_slice(), FRAMES[1]);
+    assert_eq!(rt; air.exchanges(), 2);
+    Ok(())
+}
