@@ -14,9 +14,6 @@ use text_fields::{
     push_next_word, push_next_words, push_number,
 };
 
-#[cfg(test)]
-mod tests;
-
 /// Ends a line.
 pub(crate) fn end_line(text: &mut String) -> Result<(), OutOfMemory>
     ensures { OnOk result (string_bytes text.new ≡ string_bytes text.old ++ line_feed ∷ []) }

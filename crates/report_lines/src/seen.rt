@@ -11,9 +11,6 @@ use reply_grammar::EpcWords;
 use std::alloc::Global;
 use std::marker::Model;
 
-#[cfg(test)]
-mod tests;
-
 /// What an EPC reply brings of a tag.
 #[derive(Drop, Debug, PartialEq, Eq, Hash)]
 pub(crate) struct Listed {

@@ -18,9 +18,6 @@ use tag_machine::{AnyTag, StateName};
 use tag_memory::Memory;
 use text_fields::{push_next_name, push_next_number, push_next_words};
 
-#[cfg(test)]
-mod tests;
-
 /// The name of a state (6.3.2.4 Tag states and slot counter); that of a tag without power is profile.
 fn state_text(state: StateName) -> &'static str
     ensures { result.now ≡ state_word state }
