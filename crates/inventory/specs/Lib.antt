@@ -1,0 +1,2 @@
+pub mod TagInRound
+pub mod TagAtEnd
