@@ -1,0 +1,4 @@
+pub mod TagBetween
+pub mod TagEnds
+pub mod TagQuery
+pub mod TagSteps

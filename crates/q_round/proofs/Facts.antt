@@ -1,5 +1,5 @@
 -- The rule of Annex D has what an inventory goes by.
-use Rattle.std.proofs.Common.{◌≡◌, ℕ, ◌+◌, List, ◌∷◌, length, refl, ap, add-one, arith}
+use Rattle.std.proofs.Common.{◌≡◌, ◌+◌, List, ◌∷◌, length, refl, ap, add-one, arith}
 use Rattle.command_grammar.specs.declared.field_values.UpDn.TheVariants.{Up, Same, Down}
 use Rattle.pie_line.specs.Link.{LinkValue}
 use Rattle.q_round.specs.declared.frame.Outcome.{Outcome}
