@@ -6,7 +6,7 @@ use Rattle.q_round.specs.declared.frame.Outcome.TheVariants.{Silence}
 use Rattle.q_round.specs.RoundLaws.{IsSilentFrame}
 use Rattle.tag_machine.specs.TagValue.{StateValue, ReadyState, ArbitrateState, ReplyState, AcknowledgedState, OpenState, SecuredState, KilledState, UnpoweredState, TagValue, is_present}
 use Rattle.inventory.specs.TagInRound.{is_matched, IsCounterBefore, IsBeforeSlot, flags_in_round, StandsBeforeSlot}
-use Rattle.inventory.specs.TagAtEnd.{is_acknowledged, IsCounted, IsLeft, IsListedOnce}
+use Rattle.inventory.specs.TagAtEnd.{is_acknowledged, StandsAtQuiet, StandsAtEnd, IsListedOnce}
 
 -- a tag that is ready, or takes no part, isn't listed twice
 done-once : (first : TagValue) (listed listed_now : Bool) → listed ≡ is_matched first.state → listed_now ≡ false → IsListedOnce first listed listed_now
@@ -64,9 +64,9 @@ finished session q outcome frame matched listed listed_now UnpoweredState silent
     record { listed_is = is.0.not_listed ∙ sym is.0.no_part; not_now = is.1; ready = λ e. absurd (cc) }
 
 -- Behind a frame of silent slots each tag that matched was listed, and each tag that is present is ready.
-pub quiet-counted : (session q : ℕ) (outcome : SlotOutcome) (frame : List SlotOutcome) (first : TagValue) (listed listed_now : Bool) (tag : TagValue)
-    → IsSilentFrame q (outcome ∷ frame) → StandsBeforeSlot session q outcome frame first listed listed_now tag → IsCounted session first listed listed_now tag
-quiet-counted session q outcome frame first listed listed_now tag silent stands =
+pub quiet-stands : (session q : ℕ) (outcome : SlotOutcome) (frame : List SlotOutcome) (first : TagValue) (listed listed_now : Bool) (tag : TagValue)
+    → IsSilentFrame q (outcome ∷ frame) → StandsBeforeSlot session q outcome frame first listed listed_now tag → StandsAtQuiet session first listed listed_now tag
+quiet-stands session q outcome frame first listed listed_now tag silent stands =
     let known = finished session q outcome frame (is_matched first.state) listed listed_now tag.state silent stands.state in
     record {
       listed_is = known.listed_is;
@@ -103,18 +103,18 @@ not_both true never = absurd (never refl)
 not_both false never = refl
 
 -- Behind the last slot, whichever way the round ends, the state and the flags of a tag say how it was listed.
-pub limit-left : (session q : ℕ) (outcome : SlotOutcome) (frame : List SlotOutcome) (first : TagValue) (listed listed_now : Bool) (tag : TagValue)
-    → StandsBeforeSlot session q outcome frame first listed listed_now tag → IsLeft session first listed listed_now tag
-limit-left session q outcome frame first listed listed_now tag stands =
+pub end-stands : (session q : ℕ) (outcome : SlotOutcome) (frame : List SlotOutcome) (first : TagValue) (listed listed_now : Bool) (tag : TagValue)
+    → StandsBeforeSlot session q outcome frame first listed listed_now tag → StandsAtEnd session first listed listed_now tag
+end-stands session q outcome frame first listed listed_now tag stands =
     let known = is-where session q outcome frame (is_matched first.state) listed listed_now tag.state stands.state in
     let single = once session q outcome frame first listed listed_now tag.state stands.state in
     let flags : (b : Bool) → listed ≡ b → tag.body.flags ≡ flags_in_round session b first.body.flags =
     λ b e. stands.body.flags ∙ ap (λ (c : Bool). flags_in_round session c first.body.flags) e in
     let new_now : listed_now ≡ true → listed ≡ false = λ now. not_both listed (λ e. let none = single.once e in cc) in
-    let new_apart : is_matched first.state ≡ false → listed ≡ false = λ apart. not_both listed (λ e. let part = single.matched e in cc) in
+    let new_outside : is_matched first.state ≡ false → listed ≡ false = λ none. not_both listed (λ e. let part = single.matched e in cc) in
     record {
       unlisted = λ part new none. (known.unlisted part new none, flags false new);
       last = λ now. (known.last now, flags false (new_now now));
       earlier = λ before. (known.earlier before, flags true before);
-      apart = λ apart. flags false (new_apart apart);
+      outside = λ none. flags false (new_outside none);
     }

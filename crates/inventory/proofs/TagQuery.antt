@@ -14,12 +14,13 @@ use Rattle.tag_machine.specs.Step.{step}
 use Rattle.tag_machine.specs.TagValue.{StateValue, ReadyState, ArbitrateState, ReplyState, AcknowledgedState, OpenState, SecuredState, KilledState, UnpoweredState, BodyValue, TagValue, is_present}
 use Rattle.inventory.specs.TagInRound.{is_matched, IsToCome, IsAfterSlot, flags_closed, flags_behind_query, StandsAfterSlot, slot_answer_of}
 
--- What is known of what the Query makes of a tag that takes part or doesn't. The flags are those behind the Query, and the body is
--- that before it.
-record Begins (session q : ℕ) (takes_part : Bool) (flags : Flags) (before : BodyValue) (outcome : Outcome) : Type 0 where
+-- What is known of what the Query makes of a tag that is present or not, and takes part or doesn't. The flags are those behind the
+-- Query, and the body is that before it.
+record Begins (session q : ℕ) (there takes_part : Bool) (flags : Flags) (before : BodyValue) (outcome : Outcome) : Type 0 where
   state : IsAfterSlot session q [] (is_matched outcome.tag.state) false outcome.tag.state
   answer : outcome.answer ≡ slot_answer_of outcome.tag.state
   matched : is_matched outcome.tag.state ≡ takes_part
+  present : is_present outcome.tag.state ≡ there
   flags_are : outcome.tag.body.flags ≡ flags
   memory : outcome.tag.body.memory ≡ before.memory
   locks : outcome.tag.body.locks ≡ before.locks
@@ -29,11 +30,12 @@ drawn_slot : (q : ℕ) (body : BodyValue) → slot_of_draw q body ≢ 0 → IsTo
 drawn_slot q body some = let drawn = mod_below (draw_of body) (2 ^ q) (pow_pos q) in record { least = omega arith; most = omega arith }
 
 drawn : (session q : ℕ) (body after : BodyValue) (test : Bool) → (test ≡ false → slot_of_draw q body ≢ 0) → after.flags ≡ body.flags → after.memory ≡ body.memory → after.locks ≡ body.locks
-    → Begins session q true body.flags body (if test then begin_reply session q after else silent (ArbitrateState session q (slot_of_draw q body)) after)
+    → Begins session q true true body.flags body (if test then begin_reply session q after else silent (ArbitrateState session q (slot_of_draw q body)) after)
 drawn session q body after true some flags memory locks = record {
   state = record { session_is = refl; q_is = refl; takes_part = refl; not_listed = refl };
   answer = refl;
   matched = refl;
+  present = refl;
   flags_are = flags;
   memory = memory;
   locks = locks;
@@ -42,17 +44,18 @@ drawn session q body after false some flags memory locks = record {
   state = record { unlisted = record { session_is = refl; q_is = refl; takes_part = refl; not_listed = refl }; counter = inl (drawn_slot q body (some refl)) };
   answer = refl;
   matched = refl;
+  present = refl;
   flags_are = flags;
   memory = memory;
   locks = locks;
 }
 
-entered : (session q : ℕ) (body : BodyValue) → Begins session q true body.flags body (enter session q body)
+entered : (session q : ℕ) (body : BodyValue) → Begins session q true true body.flags body (enter session q body)
 entered session q body = drawn session q body (body_after_draw body) (slot_of_draw q body == 0) (λ is e. let is_zero = eq-eqb (slot_of_draw q body) 0 e in cc) refl refl refl
 
-took_part : (session q : ℕ) (body : BodyValue) (test : Bool) → Begins session q test body.flags body (if test then enter session q body else silent ReadyState body)
+took_part : (session q : ℕ) (body : BodyValue) (test : Bool) → Begins session q true test body.flags body (if test then enter session q body else silent ReadyState body)
 took_part session q body true = entered session q body
-took_part session q body false = record { state = refl; answer = refl; matched = refl; flags_are = refl; memory = refl; locks = refl }
+took_part session q body false = record { state = refl; answer = refl; matched = refl; present = refl; flags_are = refl; memory = refl; locks = refl }
 
 -- a tag that was inventoried in a session
 closed_flags : (session : ℕ) (body : BodyValue) (test : Bool)
@@ -69,7 +72,7 @@ closed_locks session body true = refl
 closed_locks session body false = refl
 
 closed-begins : (sel : Sel) (session : ℕ) (target : Side) (q own : ℕ) (body : BodyValue)
-    → Begins session q (matches sel session target (flags_closed own session body.flags)) (flags_closed own session body.flags) body (take_part sel session target q (body_after_close own session body))
+    → Begins session q true (matches sel session target (flags_closed own session body.flags)) (flags_closed own session body.flags) body (take_part sel session target q (body_after_close own session body))
 closed-begins sel session target q own body =
     let after = body_after_close own session body in
     let flags : after.flags ≡ flags_closed own session body.flags = closed_flags session body (own == session) in
@@ -78,13 +81,14 @@ closed-begins sel session target q own body =
       state = known.state;
       answer = known.answer;
       matched = known.matched ∙ ap (λ (f : Flags). matches sel session target f) flags;
+      present = known.present;
       flags_are = known.flags_are ∙ flags;
       memory = known.memory ∙ closed_memory session body (own == session);
       locks = known.locks ∙ closed_locks session body (own == session);
     }
 
 query-begins : (sel : Sel) (session : ℕ) (target : Side) (q : ℕ) (state : StateValue) (body : BodyValue)
-    → Begins session q (is_present state && matches sel session target (flags_behind_query session state body.flags)) (flags_behind_query session state body.flags) body (query sel session target q state body)
+    → Begins session q (is_present state) (is_present state && matches sel session target (flags_behind_query session state body.flags)) (flags_behind_query session state body.flags) body (query sel session target q state body)
 query-begins sel session target q ReadyState body = took_part session q body (matches sel session target body.flags)
 query-begins sel session target q (ArbitrateState own own_q slot) body = took_part session q body (matches sel session target body.flags)
 query-begins sel session target q (ReplyState own own_q rn) body = took_part session q body (matches sel session target body.flags)
@@ -95,6 +99,7 @@ query-begins sel session target q KilledState body = record {
   state = record { no_part = refl; not_listed = refl };
   answer = refl;
   matched = refl;
+  present = refl;
   flags_are = refl;
   memory = refl;
   locks = refl;
@@ -103,6 +108,7 @@ query-begins sel session target q UnpoweredState body = record {
   state = record { no_part = refl; not_listed = refl };
   answer = refl;
   matched = refl;
+  present = refl;
   flags_are = refl;
   memory = refl;
   locks = refl;
@@ -130,6 +136,18 @@ query-matched dr code trext sel session target q tag = (query-begins sel session
 pub query-flags : (dr : Bool) (code : Code) (trext : Bool) (sel : Sel) (session : ℕ) (target : Side) (q : ℕ) (tag : TagValue)
     → (step (commands.Query dr code trext sel session target q) tag.state tag.body).tag.body.flags ≡ flags_behind_query session tag.state tag.body.flags
 query-flags dr code trext sel session target q tag = (query-begins sel session target q tag.state tag.body).flags_are
+
+-- A Query makes no tag present or absent.
+pub query-present : (dr : Bool) (code : Code) (trext : Bool) (sel : Sel) (session : ℕ) (target : Side) (q : ℕ) (tag : TagValue)
+    → is_present (step (commands.Query dr code trext sel session target q) tag.state tag.body).tag.state ≡ is_present tag.state
+query-present dr code trext sel session target q tag = (query-begins sel session target q tag.state tag.body).present
+
+-- ... so that the tags that matched are, behind the Query, those that are present and whose flags the Query speaks to.
+pub query-spoken : (dr : Bool) (code : Code) (trext : Bool) (sel : Sel) (session : ℕ) (target : Side) (q : ℕ) (tag : TagValue)
+    → let after = (step (commands.Query dr code trext sel session target q) tag.state tag.body).tag in is_matched after.state ≡ (is_present after.state && matches sel session target after.body.flags)
+query-spoken dr code trext sel session target q tag =
+    let known = query-begins sel session target q tag.state tag.body in
+    rw (known.present, known.flags_are) known.matched
 
 -- It changes neither memory nor locks.
 pub query-memory : (dr : Bool) (code : Code) (trext : Bool) (sel : Sel) (session : ℕ) (target : Side) (q : ℕ) (tag : TagValue)

@@ -86,7 +86,7 @@ counter-next q outcome frame slot small room (inr back) later = inr (record {
 
 -- The parts of GoesOn, by what the tag does.
 
--- it waits, or stays apart, and is silent
+-- it waits, or takes no part, and is silent
 stays : (session q : ℕ) (frame : List SlotOutcome) (matched : Bool) (first : BodyValue) (listed : Bool) (state : StateValue) (body : BodyValue)
     → slot_answer_of state ≡ None → IsAfterSlot session q frame matched listed state → KeepsBody session listed first body
     → GoesOn session q frame matched first listed false body.flags (silent state body)

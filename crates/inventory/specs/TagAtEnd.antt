@@ -18,7 +18,7 @@ is_acknowledged UnpoweredState = false
 
 -- Behind a frame of silent slots: the tag was listed exactly where it matched, and not in the last slot. Where it is present, it
 -- is ready. Where it matched, its flag of the round's session is inverted; all its other flags are as they were.
-pub record IsCounted (session : ℕ) (first : TagValue) (listed listed_now : Bool) (tag : TagValue) : Type 0 where
+pub record StandsAtQuiet (session : ℕ) (first : TagValue) (listed listed_now : Bool) (tag : TagValue) : Type 0 where
   pub listed_is : listed ≡ is_matched first.state
   pub not_now : listed_now ≡ false
   pub ready : is_present tag.state ≡ true → tag.state ≡ ReadyState
@@ -28,11 +28,11 @@ pub record IsCounted (session : ℕ) (first : TagValue) (listed listed_now : Boo
 -- flags as they were; one that was listed in the last slot is in acknowledged, with its flags as they were; one that was listed
 -- in an earlier slot is ready, with its flag of the round's session inverted and its other flags as they were. A tag that didn't
 -- match has its flags as they were.
-pub record IsLeft (session : ℕ) (first : TagValue) (listed listed_now : Bool) (tag : TagValue) : Type 0 where
+pub record StandsAtEnd (session : ℕ) (first : TagValue) (listed listed_now : Bool) (tag : TagValue) : Type 0 where
   pub unlisted : is_matched first.state ≡ true → listed ≡ false → listed_now ≡ false → (is_matched tag.state ≡ true) × (tag.body.flags ≡ first.body.flags)
   pub last : listed_now ≡ true → (is_acknowledged tag.state ≡ true) × (tag.body.flags ≡ first.body.flags)
   pub earlier : listed ≡ true → (tag.state ≡ ReadyState) × (tag.body.flags ≡ flags_after_inversion first.body.flags session)
-  pub apart : is_matched first.state ≡ false → tag.body.flags ≡ first.body.flags
+  pub outside : is_matched first.state ≡ false → tag.body.flags ≡ first.body.flags
 
 -- A tag is listed in at most one slot of a round, and only where it matched.
 pub record IsListedOnce (first : TagValue) (listed listed_now : Bool) : Type 0 where

@@ -63,7 +63,7 @@ pub record IsUnlisted (session q : ℕ) (matched listed : Bool) (own own_q : ℕ
   pub not_listed : listed ≡ false
 
 -- the tag takes no part in the round
-pub record IsApart (matched listed : Bool) : Type 0 where
+pub record IsOutside (matched listed : Bool) : Type 0 where
   pub no_part : matched ≡ false
   pub not_listed : listed ≡ false
 
@@ -81,8 +81,8 @@ IsAfterSlot session q frame matched listed (ReplyState own own_q rn) = IsUnliste
 IsAfterSlot session q frame matched listed (AcknowledgedState own own_q rn) = ⊥
 IsAfterSlot session q frame matched listed (OpenState held) = ⊥
 IsAfterSlot session q frame matched listed (SecuredState held) = ⊥
-IsAfterSlot session q frame matched listed KilledState = IsApart matched listed
-IsAfterSlot session q frame matched listed UnpoweredState = IsApart matched listed
+IsAfterSlot session q frame matched listed KilledState = IsOutside matched listed
+IsAfterSlot session q frame matched listed UnpoweredState = IsOutside matched listed
 
 -- a tag that is ready, killed or without power, and so isn't listed in this slot
 pub record IsDone (matched listed listed_now : Bool) : Type 0 where
@@ -121,8 +121,8 @@ IsBeforeSlot session q outcome frame matched listed listed_now (ReplyState own o
 IsBeforeSlot session q outcome frame matched listed listed_now (AcknowledgedState own own_q rn) = IsListedNow session q outcome matched listed listed_now own own_q
 IsBeforeSlot session q outcome frame matched listed listed_now (OpenState held) = ⊥
 IsBeforeSlot session q outcome frame matched listed listed_now (SecuredState held) = ⊥
-IsBeforeSlot session q outcome frame matched listed listed_now KilledState = IsApart matched listed × (listed_now ≡ false)
-IsBeforeSlot session q outcome frame matched listed listed_now UnpoweredState = IsApart matched listed × (listed_now ≡ false)
+IsBeforeSlot session q outcome frame matched listed listed_now KilledState = IsOutside matched listed × (listed_now ≡ false)
+IsBeforeSlot session q outcome frame matched listed listed_now UnpoweredState = IsOutside matched listed × (listed_now ≡ false)
 
 -- 6.3.2.2 Sessions and inventoried flags: the flags of a tag that had these just after the Query. That of the round's session
 -- is inverted by the slot command behind the slot in which the tag was listed.
