@@ -1,6 +1,5 @@
 -- What the Query that begins a round makes of a tag, whatever the tag was before.
-use Rattle.std.proofs.Common.{◌≡◌, ◌≢◌, ℕ, ◌^◌, ◌==◌, ◌&&◌, Bool, true, false, [], if◌then◌else◌, refl, ap, ◌∙◌, inl, eq-eqb, arith}
-use Rattle.std.proofs.lemmas.Nat.{mod_below, pow_pos}
+use Rattle.std.proofs.Common.{◌≡◌, ◌≢◌, ℕ, ◌==◌, ◌&&◌, Bool, true, false, [], if◌then◌else◌, refl, ap, ◌∙◌, inl, eq-eqb}
 use Rattle.bit_strings.specs.declared.code.Code.{Code}
 use Rattle.command_grammar.specs.declared.field_values.Sel.{Sel}
 use Rattle.command_grammar.specs.declared.field_values.Side.{Side}
@@ -8,11 +7,12 @@ use Rattle.command_grammar.specs.declared.commands.Command.TheVariants as comman
 use Rattle.session_flags.specs.declared.flags.Flags.{Flags}
 use Rattle.session_flags.specs.Flags.{matches, flags_after_inversion}
 use Rattle.tag_machine.specs.Answers.{Outcome, silent}
-use Rattle.tag_machine.specs.Draws.{draw_of, body_after_draw, begin_reply, slot_of_draw, enter, body_after_inversion}
+use Rattle.tag_machine.specs.Draws.{body_after_draw, begin_reply, slot_of_draw, enter, body_after_inversion}
 use Rattle.tag_machine.specs.Inventory.{take_part, body_after_close, query}
 use Rattle.tag_machine.specs.Step.{step}
 use Rattle.tag_machine.specs.TagValue.{StateValue, ReadyState, ArbitrateState, ReplyState, AcknowledgedState, OpenState, SecuredState, KilledState, UnpoweredState, BodyValue, TagValue, is_present}
-use Rattle.inventory.specs.TagInRound.{is_matched, IsToCome, IsAfterSlot, flags_closed, flags_behind_query, StandsAfterSlot, slot_answer_of}
+use Rattle.inventory.proofs.TagSteps.{slot_drawn}
+use Rattle.inventory.specs.TagInRound.{is_matched, IsAfterSlot, flags_closed, flags_behind_query, StandsAfterSlot, slot_answer_of}
 
 -- What is known of what the Query makes of a tag that is present or not, and takes part or doesn't. The flags are those behind the
 -- Query, and the body is that before it.
@@ -25,10 +25,7 @@ record Begins (session q : ℕ) (there takes_part : Bool) (flags : Flags) (befor
   memory : outcome.tag.body.memory ≡ before.memory
   locks : outcome.tag.body.locks ≡ before.locks
 
--- the slot that is drawn
-drawn_slot : (q : ℕ) (body : BodyValue) → slot_of_draw q body ≢ 0 → IsToCome q [] (slot_of_draw q body)
-drawn_slot q body some = let drawn = mod_below (draw_of body) (2 ^ q) (pow_pos q) in record { least = omega arith; most = omega arith }
-
+-- a slot is drawn
 drawn : (session q : ℕ) (body after : BodyValue) (test : Bool) → (test ≡ false → slot_of_draw q body ≢ 0) → after.flags ≡ body.flags → after.memory ≡ body.memory → after.locks ≡ body.locks
     → Begins session q true true body.flags body (if test then begin_reply session q after else silent (ArbitrateState session q (slot_of_draw q body)) after)
 drawn session q body after true some flags memory locks = record {
@@ -41,7 +38,7 @@ drawn session q body after true some flags memory locks = record {
   locks = locks;
 }
 drawn session q body after false some flags memory locks = record {
-  state = record { unlisted = record { session_is = refl; q_is = refl; takes_part = refl; not_listed = refl }; counter = inl (drawn_slot q body (some refl)) };
+  state = record { unlisted = record { session_is = refl; q_is = refl; takes_part = refl; not_listed = refl }; counter = inl (slot_drawn q body (some refl)) };
   answer = refl;
   matched = refl;
   present = refl;

@@ -100,7 +100,7 @@ replies session q own_q frame matched first listed body is kept =
     record { state = is; body = record { flags = kept.flags; memory = kept.memory; locks = kept.locks }; answer = refl; flags = refl }
 
 -- it draws a slot of a frame that begins
-slot_drawn : (q : ℕ) (body : BodyValue) → slot_of_draw q body ≢ 0 → IsToCome q [] (slot_of_draw q body)
+pub slot_drawn : (q : ℕ) (body : BodyValue) → slot_of_draw q body ≢ 0 → IsToCome q [] (slot_of_draw q body)
 slot_drawn q body some = let drawn = mod_below (draw_of body) (2 ^ q) (pow_pos q) in record { least = omega arith; most = omega arith }
 
 enters : (session q : ℕ) (matched : Bool) (first : BodyValue) (listed : Bool) (body : BodyValue)
