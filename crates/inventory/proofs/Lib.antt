@@ -1,4 +1,9 @@
+pub mod Heard
+pub mod Others
+pub mod Population
 pub mod TagBetween
 pub mod TagEnds
 pub mod TagQuery
 pub mod TagSteps
+pub mod Times
+pub mod Turns

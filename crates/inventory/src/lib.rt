@@ -1,3 +1,5 @@
 //! Complete inventory: which tags a round counts, and what it leaves of them (6.3.2.8 Inventorying Tag
 //! populations of the EPCglobal Class-1 Generation-2 standard, version 1.2.0).
 #![tactic(auto)]
+
+mod laws;
