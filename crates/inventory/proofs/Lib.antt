@@ -1,9 +1,11 @@
 pub mod Heard
 pub mod Others
 pub mod Population
+pub mod Standing
 pub mod TagBetween
 pub mod TagEnds
 pub mod TagQuery
 pub mod TagSteps
 pub mod Times
 pub mod Turns
+pub mod WholeRound

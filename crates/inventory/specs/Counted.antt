@@ -34,6 +34,11 @@ pub record IsCountedRound (start : Start) (history : List Item) (round : ℕ) (s
   pub flags : (number : ℕ) (tag : TagValue) → HasNumber start number tag
       → flags_behind number tag ending.past
           ≡ flags_in_round spec.session (is_inverted round ending.slots history number) (flags_after_query round history number tag)
+  -- no memory and no lock of a tag has changed
+  pub memory : (number : ℕ) (tag : TagValue) → HasNumber start number tag
+      → (tag_behind number tag ending.past).body.memory ≡ (tag_after_query round history number tag).body.memory
+  pub locks : (number : ℕ) (tag : TagValue) → HasNumber start number tag
+      → (tag_behind number tag ending.past).body.locks ≡ (tag_after_query round history number tag).body.locks
 
 -- what holds of a round of these parameters that is honest
 abbrev pub CountedRound : Start → List Item → ℕ → SpecValue → Type 0
