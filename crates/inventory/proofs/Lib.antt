@@ -1,3 +1,4 @@
+pub mod CompleteRound
 pub mod Heard
 pub mod Others
 pub mod Population
