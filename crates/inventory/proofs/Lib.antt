@@ -1,5 +1,6 @@
 pub mod CompleteRound
 pub mod Heard
+pub mod Honesty
 pub mod Others
 pub mod Population
 pub mod Standing
