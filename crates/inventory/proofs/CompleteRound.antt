@@ -1,20 +1,20 @@
 -- What an honest round says of the tags that it lists, in the history of a run.
-use Rattle.std.proofs.Common.{◌≡◌, ℕ, ◌+◌, ◌-◌, ◌<◌, ◌≤◌, ◌==◌, ◌&&◌, not, Bool, true, false, ◌⊎◌, inl, inr, List, [], ◌∷◌, ◌++◌, length, Option, Some, None, slice_get, if◌then◌else◌, refl, ap, sym, ◌∙◌, subst, append-nil, arith, add-one, eq-eqb}
+use Rattle.std.proofs.Common.{◌≡◌, ℕ, ◌+◌, ◌≤◌, ◌==◌, ◌&&◌, not, Bool, true, false, ◌⊎◌, inl, inr, List, [], ◌∷◌, ◌++◌, length, Option, Some, None, slice_get, if◌then◌else◌, refl, ap, sym, ◌∙◌, subst, append-nil, arith, add-one, eq-eqb}
 use Rattle.access_ops.specs.declared.OpList.{OpList}
-use Rattle.air_channel.specs.Past.{Start, Record, Item, exchanged, ended, tag_behind, rounds_in}
-use Rattle.air_world.specs.Headline.{AreLegalSteps, IsRecordOf, rounds_of}
+use Rattle.air_channel.specs.Past.{Start, Item, ended, tag_behind, rounds_in}
+use Rattle.air_world.specs.Headline.{AreLegalSteps, rounds_of}
 use Rattle.air_world.specs.History.{past_behind_round, past_behind_step, past_behind, history_of}
-use Rattle.inventory.specs.Complete.{HasNumber, IsMatchedTag, ListsNoTagTwice, StepsFlags, IsQuietComplete, StandsWith, EndsByLimit, CompleteInventory}
-use Rattle.inventory.specs.Counted.{is_spoken_to, is_inverted, IsCountedRound, CountedRound}
+use Rattle.inventory.specs.Complete.{HasNumber, IsMatchedTag, ListsNoTagTwice, StepsFlags, IsQuietComplete, EndsByLimit, CompleteInventory}
+use Rattle.inventory.specs.Counted.{is_spoken_to, CountedRound}
 use Rattle.inventory.specs.Honest.{IsHonest}
 use Rattle.inventory.specs.Listed.{is_of_round, is_of_slot, tags_listed_in, tags_listed_in_slot, times}
-use Rattle.inventory.specs.Moments.{Ending, ending_of, past_after_query, tag_after_query, is_matched_in, flags_behind, flags_after_query}
-use Rattle.inventory.specs.TagAtEnd.{StandsAtQuiet, StandsAtEnd, IsListedOnce, is_acknowledged}
+use Rattle.inventory.specs.Moments.{Ending, ending_of, past_after_query, tag_after_query, is_matched_in, flags_after_query}
+use Rattle.inventory.specs.TagAtEnd.{StandsAtQuiet, StandsAtEnd, IsListedOnce}
 use Rattle.inventory.specs.TagInRound.{is_matched, flags_in_round, StandsBeforeSlot}
 use Rattle.inventory.proofs.Others.{AllRecords, records-at, records-behind, records-all, AreOfOthers, of-others, listed-others, query-others, ending-others, records-others, Adds, RoundsKeepLimit, step-adds, steps-add}
 use Rattle.inventory.proofs.Standing.{StepsFlagsOf, StandsNext, known-once}
 use Rattle.inventory.proofs.TagEnds.{listed-once, quiet-stands, end-stands}
-use Rattle.inventory.proofs.Times.{bit, bit-test}
+use Rattle.inventory.proofs.Times.{bit}
 use Rattle.inventory.proofs.WholeRound.{IsUnsaid, past_at_query, round-test, slot-test, IsOver, round-stands}
 use Rattle.pie_line.specs.Link.{LinkValue}
 use Rattle.q_round.specs.RoundFacts.{RoundFacts}
@@ -72,7 +72,7 @@ told start spec round before later end outcome earlier now others stands quiet =
       flags = records-others (StepsFlagsOf start round spec.session) round later behind (λ sent past differs same. absurd (differs same)) others stands.tells.flags;
       tags = λ number tag numbered.
           subst (λ (query : List Item). StandsBeforeSlot spec.session (q_of spec earlier) outcome (frame_of spec earlier) (tag_behind number tag query)
-              (stands.listed number) (stands.listed_now number) (tag_behind number tag now)) (sym query_is)
+          (stands.listed number) (stands.listed_now number) (tag_behind number tag now)) (sym query_is)
           (stands.tags number tag numbered);
       quiet = quiet;
     }
@@ -136,7 +136,6 @@ same-ending end slots past other other_slots other_past same =
 
 module _ (start : Start) (spec : SpecValue) (round : ℕ) (history : List Item) (end : RoundEnd) (outcome : Outcome) (earlier : List Outcome) (now : List Item)
     (by : IsToldBy start spec round history end outcome earlier now) where
-
   single : (number : ℕ) (tag : TagValue) → HasNumber start number tag → IsListedOnce (tag_after_query round history number tag) (by.listed number) (by.listed_now number)
   single number tag numbered =
       listed-once spec.session (q_of spec earlier) outcome (frame_of spec earlier) (tag_after_query round history number tag) (by.listed number) (by.listed_now number)

@@ -1,5 +1,5 @@
 -- What the interrogator hears of a slot command, of which nothing is said, tells who answered it; and whom an ACK lists.
-use Rattle.std.proofs.Common.{◌≡◌, ◌≢◌, ℕ, ◌+◌, ◌==◌, ◌⊎◌, inl, inr, Bool, true, false, List, [], ◌∷◌, Option, Some, None, slice_get, if◌then◌else◌, refl, ap, sym, ◌∙◌, subst, arith, eq-eqb}
+use Rattle.std.proofs.Common.{◌≡◌, ℕ, ◌+◌, ◌==◌, inl, inr, Bool, true, false, List, [], ◌∷◌, Option, Some, None, slice_get, if◌then◌else◌, refl, ap, sym, ◌∙◌, subst, arith, eq-eqb}
 use Rattle.std.proofs.lemmas.Bool.{eqb-true}
 use Rattle.air_channel.specs.Air.{given_in}
 use Rattle.air_channel.specs.Channel.{Given, whole, default_given}
@@ -15,8 +15,7 @@ use Rattle.command_grammar.specs.declared.commands.Command.TheVariants as comman
 use Rattle.inventory.specs.Complete.{HasNumber}
 use Rattle.inventory.specs.Listed.{sender_where, sender_listed_by}
 use Rattle.inventory.specs.TagInRound.{slot_answer_of, is_acknowledged_by}
-use Rattle.inventory.proofs.Population.{answer_behind, Among, reply_by, replies_behind, answer-replied, IsAnswerer, replied-answerer, one-replies}
-use Rattle.q_round.specs.declared.frame.Outcome.{Outcome}
+use Rattle.inventory.proofs.Population.{answer_behind, Among, reply_by, replies_behind, answer-replied, IsAnswerer, replied-answerer}
 use Rattle.q_round.specs.declared.frame.Outcome.TheVariants as outcomes
 use Rattle.reply_grammar.specs.declared.expected.Expect.TheVariants as expects
 use Rattle.reply_grammar.specs.declared.expected.Reply.{Reply}

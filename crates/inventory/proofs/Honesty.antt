@@ -1,7 +1,7 @@
 -- A round is honest where nothing is said of its exchanges.
-use Rattle.std.proofs.Common.{◌≡◌, ℕ, ◌+◌, List, [], ◌∷◌, refl, ap, sym, ◌∙◌}
+use Rattle.std.proofs.Common.{◌≡◌, ℕ, List, [], ap, sym, ◌∙◌}
 use Rattle.access_ops.specs.declared.OpList.{OpList}
-use Rattle.air_channel.specs.Past.{Start, Record, Item, exchanges_in, next_record}
+use Rattle.air_channel.specs.Past.{Start, Record, Item, next_record}
 use Rattle.air_events.specs.Entries.{no_entry, entry_at}
 use Rattle.air_events.specs.declared.Entry.{Entry}
 use Rattle.air_world.specs.Headline.{IsRecordOf}

@@ -1,16 +1,14 @@
 -- What steps add to a past: items of rounds that came before or come behind. Nothing of it is of the round between.
-use Rattle.std.proofs.Common.{◌≡◌, ◌≢◌, ℕ, zero, suc, ◌+◌, ◌<◌, ◌≤◌, ◌==◌, ◌&&◌, ◌⊎◌, inl, inr, Bool, true, false, List, [], ◌∷◌, ◌++◌, length, Option, Some, None, if◌then◌else◌, refl, ap, sym, ◌∙◌, subst, append_assoc, append-nil, arith, ne_eqb, eq-eqb}
-use Rattle.std.specs.List.{AllByRecursion}
+use Rattle.std.proofs.Common.{◌≡◌, ◌≢◌, ℕ, ◌+◌, ◌<◌, ◌≤◌, ◌==◌, ◌&&◌, ◌⊎◌, inl, inr, Bool, true, false, List, [], ◌∷◌, ◌++◌, length, Some, if◌then◌else◌, refl, ap, sym, ◌∙◌, subst, append_assoc, append-nil, arith, ne_eqb}
 use Rattle.air_channel.specs.Past.{Start, Record, Item, befell, exchanged, ended, next_record, past_behind_command, rounds_in}
 use Rattle.air_world.specs.Headline.{IsLegalStep, AreLegalSteps, IsRecordOf, rounds_of}
 use Rattle.air_world.specs.History.{past_behind_round, past_behind_step, past_behind}
 use Rattle.command_grammar.specs.declared.commands.Command.{Command}
 use Rattle.command_grammar.specs.declared.commands.Command.TheVariants as commands
 use Rattle.inventory.specs.Listed.{sender_listed_by, tags_listed_where}
-use Rattle.inventory.specs.Moments.{is_query, is_query_of, past_after_query, Ending, ending_of}
+use Rattle.inventory.specs.Moments.{is_query, is_query_of, past_after_query, ending_of}
 use Rattle.inventory.proofs.Turns.{HasFewOutcomes, round-holds}
 use Rattle.q_round.specs.SpecValue.{SpecValue, IsLegalSpec}
-use Rattle.q_round.specs.declared.frame.Outcome.{Outcome}
 use Rattle.scenario.specs.declared.values.Step.{Step}
 use Rattle.scenario.specs.declared.values.Step.TheVariants as steps
 

@@ -1,8 +1,8 @@
 -- Where the tags of a start stand in a round of which nothing is said: just after each slot command, and just before the next.
-use Rattle.std.proofs.Common.{◌≡◌, ◌≢◌, ℕ, zero, suc, ◌+◌, ◌-◌, ◌<◌, ◌≤◌, ◌==◌, ◌&&◌, ◌||◌, Bool, true, false, List, [], ◌∷◌, ◌++◌, length, Option, Some, None, slice_get, if◌then◌else◌, refl, ap, sym, ◌∙◌, subst, arith, add-one, eq-eqb, ne_eqb}
+use Rattle.std.proofs.Common.{◌≡◌, ◌≢◌, ℕ, ◌+◌, ◌-◌, ◌<◌, ◌≤◌, ◌==◌, ◌&&◌, ◌||◌, Bool, true, false, List, [], ◌∷◌, ◌++◌, length, Option, Some, None, slice_get, if◌then◌else◌, refl, ap, sym, ◌∙◌, subst, arith, add-one, eq-eqb, ne_eqb}
 use Rattle.std.proofs.lemmas.Bool.{eqb-true}
 use Rattle.air_channel.specs.Past.{Start, Record, Item, exchanged, tag_behind, next_entry, next_record, past_behind_command}
-use Rattle.air_channel.specs.Reception.{Reception, whole_reply}
+use Rattle.air_channel.specs.Reception.{Reception}
 use Rattle.air_events.specs.Entries.{no_entry}
 use Rattle.air_world.specs.Headline.{begins_slot}
 use Rattle.air_world.specs.History.{outcome_of, slot_reception}
@@ -13,9 +13,8 @@ use Rattle.inventory.specs.Complete.{HasNumber}
 use Rattle.inventory.specs.Counted.{is_spoken_to}
 use Rattle.inventory.specs.Listed.{sender_where, sender_listed_by, is_of_round, is_of_slot, tags_listed_in, tags_listed_in_slot, times}
 use Rattle.inventory.specs.Moments.{is_query, begins_later_slot, is_query_of, past_after_query, flags_behind}
-use Rattle.inventory.specs.TagAtEnd.{IsListedOnce}
 use Rattle.inventory.specs.TagInRound.{is_matched, flags_in_round, slot_answer_of, is_acknowledged_by, StandsAfterSlot, StandsBeforeSlot}
-use Rattle.inventory.proofs.Heard.{slot-heard, silent-none, heard-one, no-replies-none, IsOnlyAnswerer, one-answerer, acknowledges-one, epc_sent, ack-lists}
+use Rattle.inventory.proofs.Heard.{slot-heard, silent-none, no-replies-none, IsOnlyAnswerer, acknowledges-one, epc_sent, ack-lists}
 use Rattle.inventory.proofs.Others.{AllRecords}
 use Rattle.inventory.proofs.Population.{answer_behind, tag_stepped, tag-steps, reply_by, replies_behind, one-replies}
 use Rattle.inventory.proofs.TagBetween.{unacknowledged-stands, ack-stands, ack-answer, ack-body}
@@ -27,9 +26,6 @@ use Rattle.q_round.specs.Rounds.{q_of, frame_of}
 use Rattle.q_round.specs.SpecValue.{SpecValue}
 use Rattle.q_round.specs.declared.frame.Outcome.{Outcome}
 use Rattle.q_round.specs.declared.frame.Outcome.TheVariants.{Silence, Whole}
-use Rattle.reply_grammar.specs.declared.expected.Reply.TheVariants as replies
-use Rattle.tag_machine.specs.Answers.{Sent}
-use Rattle.tag_machine.specs.Step.{step}
 use Rattle.tag_machine.specs.TagValue.{TagValue, StateValue}
 
 -- what a record of the round does to the flags of a tag
@@ -175,10 +171,10 @@ stands-acknowledged start spec round query outcomes past command rn one unsaid s
     let acknowledged : (number : ℕ) (tag : TagValue) → HasNumber start number tag → is_acknowledged_by rn (tag_behind number tag now).state ≡ (one.number == number) =
     acknowledges-one start command past rn state_of one stands.answers in
     let answer : (number : ℕ) (tag : TagValue) → HasNumber start number tag
-        → answer_behind (commands.Ack rn) now number tag ≡ (if one.number == number then Some (epc_sent (tag_behind number tag now).body) else None) =
+    → answer_behind (commands.Ack rn) now number tag ≡ (if one.number == number then Some (epc_sent (tag_behind number tag now).body) else None) =
     λ number tag numbered.
-        ack-answer spec.session (q_of spec outcomes) (frame_of spec outcomes) (tag_behind number tag query) (stands.listed number) rn (tag_behind number tag now) (stands.tags number tag numbered)
-        ∙ ap (λ (test : Bool). if test then Some (epc_sent (tag_behind number tag now).body) else None) (acknowledged number tag numbered) in
+    ack-answer spec.session (q_of spec outcomes) (frame_of spec outcomes) (tag_behind number tag query) (stands.listed number) rn (tag_behind number tag now) (stands.tags number tag numbered)
+    ∙ ap (λ (test : Bool). if test then Some (epc_sent (tag_behind number tag now).body) else None) (acknowledged number tag numbered) in
     let body = (tag_behind one.number one.tag now).body in
     let here : 0 + one.number ≡ one.number = omega arith in
     let alone : replies_behind 0 (commands.Ack rn) start.tags now ≡ reply_by one.number (epc_sent body) ∷ [] =
@@ -186,8 +182,8 @@ stands-acknowledged start spec round query outcomes past command rn one unsaid s
     (subst (λ n. answer_behind (commands.Ack rn) now n one.tag ≡ Some (epc_sent body)) (sym here)
     (answer one.number one.tag one.numbered ∙ ap (λ (test : Bool). if test then Some (epc_sent body) else None) (eq-eqb one.number one.number refl)))
     (λ other tag numbered differs.
-        subst (λ n. answer_behind (commands.Ack rn) now n tag ≡ None) (omega arith)
-        (answer other tag numbered ∙ ap (λ (test : Bool). if test then Some (epc_sent (tag_behind other tag now).body) else None) (ne_eqb one.number other (λ same. differs (sym same)))))
+    subst (λ n. answer_behind (commands.Ack rn) now n tag ≡ None) (omega arith)
+    (answer other tag numbered ∙ ap (λ (test : Bool). if test then Some (epc_sent (tag_behind other tag now).body) else None) (ne_eqb one.number other (λ same. differs (sym same)))))
     ∙ ap (λ n. reply_by n (epc_sent body) ∷ []) here in
     let lists : sender_listed_by sent ≡ one.number ∷ [] = ack-lists start round slot rn now one.number body unsaid alone in
     record {

@@ -1,13 +1,13 @@
 -- What holds after each command that a round may send, and from there at both of its ends, holds of the round.
-use Rattle.std.proofs.Common.{◌≡◌, ℕ, zero, suc, ◌+◌, ◌≤◌, Bool, true, false, List, [], ◌∷◌, length, Option, Some, None, refl, subst, sym, arith}
-use Rattle.air_channel.specs.Past.{Start, Record, Item, exchanged, ended, next_record, past_behind_command, rounds_in}
+use Rattle.std.proofs.Common.{◌≡◌, ℕ, zero, suc, ◌+◌, ◌≤◌, Bool, true, false, List, [], ◌∷◌, length, None, refl, subst, arith}
+use Rattle.air_channel.specs.Past.{Start, Record, Item, ended, next_record, past_behind_command, rounds_in}
 use Rattle.air_channel.specs.Reception.{Reception, no_stream, whole_reply, no_such_reply}
 use Rattle.air_world.specs.History.{outcome_of, past_behind_answer, slot_reception, past_behind_slot, past_behind_turn, past_behind_turns, past_behind_round}
 use Rattle.air_world.specs.HistoryLaws.{rn_of}
 use Rattle.command_grammar.specs.declared.commands.Command.{Command}
 use Rattle.command_grammar.specs.declared.commands.Command.TheVariants as commands
 use Rattle.q_round.specs.SlotLaws.{slots-underway, slots-over, next-over}
-use Rattle.q_round.specs.SpecValue.{SpecValue, IsLegalSpec}
+use Rattle.q_round.specs.SpecValue.{SpecValue}
 use Rattle.q_round.specs.RoundLaws.{IsEnd}
 use Rattle.q_round.specs.Rounds.{is_over, AreOutcomes, slots_of, next_command}
 use Rattle.q_round.specs.declared.frame.Outcome.{Outcome}
@@ -39,7 +39,7 @@ pub record CommandSteps (Before : List Outcome → List Item → Type 0) (Sent :
       → slot_reception start round (length outcomes + 1) command past ≡ whole_reply (replies.Rn16 rn)
       → Sent outcomes (next_record start round (length outcomes + 1) command past) past
       → Before (Whole ∷ outcomes)
-        (past_behind_command start round (length outcomes + 1) (commands.Ack rn) (past_behind_command start round (length outcomes + 1) command past))
+      (past_behind_command start round (length outcomes + 1) (commands.Ack rn) (past_behind_command start round (length outcomes + 1) command past))
   pub end : (outcomes : List Outcome) (past : List Item) (end : RoundEnd) → AreOutcomes spec outcomes
       → IsEndOf end (next_command spec start.link outcomes) → Before outcomes past → After (ended round end (length outcomes) ∷ past)
 

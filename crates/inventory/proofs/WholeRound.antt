@@ -1,21 +1,19 @@
 -- A round of which nothing is said, from its Query to its end.
-use Rattle.std.proofs.Common.{◌≡◌, ◌≢◌, ℕ, ◌+◌, ◌<◌, ◌≤◌, ◌==◌, ◌&&◌, Bool, true, false, List, [], ◌∷◌, ◌++◌, length, Option, Some, None, if◌then◌else◌, refl, ap, sym, ◌∙◌, subst, append-nil, arith, eq-eqb}
+use Rattle.std.proofs.Common.{◌≡◌, ℕ, ◌+◌, ◌==◌, ◌&&◌, Bool, true, false, List, [], ◌∷◌, length, if◌then◌else◌, refl, ap, sym, ◌∙◌, subst, append-nil, eq-eqb}
 use Rattle.std.proofs.lemmas.Bool.{eqb-true}
 use Rattle.air_channel.specs.Past.{Start, Record, Item, exchanged, ended, tag_behind, next_entry, next_record, past_behind_command, rounds_in}
-use Rattle.air_channel.specs.Reception.{Reception, whole_reply}
+use Rattle.air_channel.specs.Reception.{whole_reply}
 use Rattle.air_events.specs.Entries.{no_entry}
-use Rattle.air_world.specs.History.{outcome_of, slot_reception, past_behind_round}
-use Rattle.air_world.specs.HistoryLaws.{rn_of}
+use Rattle.air_world.specs.History.{past_behind_round}
 use Rattle.command_grammar.specs.declared.commands.Command.{Command}
 use Rattle.command_grammar.specs.declared.commands.Command.TheVariants as commands
-use Rattle.inventory.specs.Complete.{HasNumber}
 use Rattle.inventory.specs.Counted.{is_spoken_to}
-use Rattle.inventory.specs.Listed.{sender_listed_by, is_of_round, is_of_slot, tags_listed_where, tags_listed_in, times}
+use Rattle.inventory.specs.Listed.{sender_listed_by, is_of_round, is_of_slot, tags_listed_where, times}
 use Rattle.inventory.specs.Moments.{past_after_query}
 use Rattle.inventory.specs.TagInRound.{is_matched, slot_answer_of, StandsAfterSlot}
 use Rattle.inventory.proofs.Heard.{slot-heard, heard-one, one-answerer}
 use Rattle.inventory.proofs.Others.{AllRecords, AreOfOthers, IsTestOf, listed-others, records-others}
-use Rattle.inventory.proofs.Population.{tag_stepped, tag-steps, replies_behind}
+use Rattle.inventory.proofs.Population.{tag-steps, replies_behind}
 use Rattle.inventory.proofs.Standing.{StepsFlagsOf, StandsSent, StandsNext, slot-no-sender, stands-unacknowledged, stands-acknowledged, stands-sent}
 use Rattle.inventory.proofs.TagQuery.{query-stands, query-answer, query-spoken}
 use Rattle.inventory.proofs.Times.{lists-none}
@@ -26,7 +24,6 @@ use Rattle.q_round.specs.RoundLaws.{IsSilentFrame}
 use Rattle.q_round.specs.Rounds.{AreOutcomes, next_command, q_of, frame_of}
 use Rattle.q_round.specs.SpecValue.{SpecValue}
 use Rattle.q_round.specs.declared.frame.Outcome.{Outcome}
-use Rattle.q_round.specs.declared.frame.Outcome.TheVariants.{Whole}
 use Rattle.q_round.specs.declared.round.Next.{Next}
 use Rattle.q_round.specs.declared.round.Next.TheVariants as nexts
 use Rattle.q_round.specs.declared.round.RoundEnd.{RoundEnd}

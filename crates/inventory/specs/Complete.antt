@@ -1,9 +1,9 @@
 -- Profile: what an honest round of a history says of the tags that it lists, by their numbers.
-use Rattle.std.specs.Prelude.{◌≡◌, ℕ, ◌-◌, ◌≤◌, ◌==◌, Bool, true, false, List, ◌∷◌, Option, Some, slice_get, if◌then◌else◌}
+use Rattle.std.specs.Prelude.{◌≡◌, ℕ, ◌-◌, ◌≤◌, ◌==◌, Bool, true, false, List, ◌∷◌, Some, slice_get, if◌then◌else◌}
 use Rattle.air_channel.specs.Past.{Start, Record, Item, exchanged, tag_behind}
 use Rattle.air_world.specs.Headline.{IsRecordOf}
 use Rattle.inventory.specs.Listed.{tags_listed_in, tags_listed_in_slot, times}
-use Rattle.inventory.specs.Moments.{begins_later_slot, is_query, Ending, ending_of, is_matched_in, flags_behind, flags_after_query}
+use Rattle.inventory.specs.Moments.{begins_later_slot, is_query, ending_of, is_matched_in, flags_behind, flags_after_query}
 use Rattle.inventory.specs.TagAtEnd.{is_acknowledged}
 use Rattle.inventory.specs.TagInRound.{is_matched, flags_in_round}
 use Rattle.q_round.specs.declared.round.RoundEnd.TheVariants as ends
@@ -30,7 +30,7 @@ pub record StepsFlags (start : Start) (history : List Item) (round session : ℕ
   pub slot : (sent : Record) (earlier : List Item) (number : ℕ) (tag : TagValue) → IsRecordOf history sent earlier → sent.round ≡ round
       → begins_later_slot sent.command ≡ true → HasNumber start number tag
       → flags_behind number tag (exchanged sent ∷ earlier)
-          ≡ flags_in_round session (times number (tags_listed_in_slot round (sent.slot - 1) earlier) == 1) (flags_behind number tag earlier)
+      ≡ flags_in_round session (times number (tags_listed_in_slot round (sent.slot - 1) earlier) == 1) (flags_behind number tag earlier)
   pub other : (sent : Record) (earlier : List Item) (number : ℕ) (tag : TagValue) → IsRecordOf history sent earlier → sent.round ≡ round
       → begins_later_slot sent.command ≡ false → is_query sent.command ≡ false → HasNumber start number tag
       → flags_behind number tag (exchanged sent ∷ earlier) ≡ flags_behind number tag earlier
@@ -42,7 +42,7 @@ pub record IsQuietComplete (start : Start) (history : List Item) (round session 
       → times number (tags_listed_in round history) ≡ (if is_matched_in round history number tag then 1 else 0)
   pub flags : (number : ℕ) (tag : TagValue) → HasNumber start number tag
       → flags_behind number tag past
-          ≡ flags_in_round session (is_matched_in round history number tag) (flags_after_query round history number tag)
+      ≡ flags_in_round session (is_matched_in round history number tag) (flags_after_query round history number tag)
   pub ready : (number : ℕ) (tag : TagValue) → HasNumber start number tag
       → is_present (tag_behind number tag past).state ≡ true → (tag_behind number tag past).state ≡ ReadyState
 

@@ -6,7 +6,6 @@ use Rattle.inventory.specs.Listed.{tags_listed_in, tags_listed_in_slot, times}
 use Rattle.inventory.specs.Moments.{Ending, ending_of, tag_after_query, flags_behind, flags_after_query}
 use Rattle.inventory.specs.TagInRound.{flags_in_round}
 use Rattle.q_round.specs.SpecValue.{SpecValue}
-use Rattle.q_round.specs.declared.round.RoundEnd.{RoundEnd}
 use Rattle.q_round.specs.declared.round.RoundEnd.TheVariants as ends
 use Rattle.session_flags.specs.Flags.{matches}
 use Rattle.tag_machine.specs.TagValue.{TagValue, is_present}
@@ -33,7 +32,7 @@ pub record IsCountedRound (start : Start) (history : List Item) (round : ℕ) (s
   -- at the end the flag of the session is inverted for the tags that were listed before the last slot, and no other flag of any tag
   pub flags : (number : ℕ) (tag : TagValue) → HasNumber start number tag
       → flags_behind number tag ending.past
-          ≡ flags_in_round spec.session (is_inverted round ending.slots history number) (flags_after_query round history number tag)
+      ≡ flags_in_round spec.session (is_inverted round ending.slots history number) (flags_after_query round history number tag)
   -- no memory and no lock of a tag has changed
   pub memory : (number : ℕ) (tag : TagValue) → HasNumber start number tag
       → (tag_behind number tag ending.past).body.memory ≡ (tag_after_query round history number tag).body.memory

@@ -59,7 +59,7 @@ pub fn honest_rounds_count_tags()
 pub fn rounds_are_honest_where_nothing_is_said()
     ensures exchanges { (start : Start) (taken : List Step) (round : ℕ) (operations : OpList) → operations.ops ≡ [] →
         ((sent : Record) (earlier : List Item) → IsRecordOf (history_of start taken) sent earlier → sent.round ≡ round →
-            entry_at start.entries sent.exchange ≡ no_entry) →
+        entry_at start.entries sent.exchange ≡ no_entry) →
         IsHonest (history_of start taken) round operations }
     ensures run { (start : Start) (taken : List Step) (round : ℕ) (operations : OpList) → operations.ops ≡ [] → start.entries ≡ [] →
         IsHonest (history_of start taken) round operations }

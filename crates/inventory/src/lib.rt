@@ -4,4 +4,6 @@
 
 mod laws;
 
-pub use laws::{complete_inventory, honest_rounds_count_tags, rounds_are_honest_where_nothing_is_said};
+pub use laws::{
+    complete_inventory, honest_rounds_count_tags, rounds_are_honest_where_nothing_is_said,
+};
