@@ -1,10 +1,10 @@
 -- Profile: what has happened so far in a run: events between exchanges, exchanges, and ends of rounds. A past is a list of
 -- these, the latest first. It begins with a start, and each record of an exchange is computed from the start and the past
 -- behind it alone.
-use Rattle.std.specs.Prelude.{ℕ, zero, suc, ◌+◌, ◌==◌, Bool, false, List, [], ◌∷◌, ◌++◌, length, Option, Some, None, if◌then◌else◌}
-use Rattle.air_events.specs.declared.Choice.{Choice}
+use Rattle.std.specs.Prelude.{ℕ, ◌+◌, Bool, false, List, [], ◌∷◌, if◌then◌else◌}
 use Rattle.air_events.specs.declared.Entry.{Entry}
 use Rattle.air_events.specs.declared.Event.{Event}
+use Rattle.air_events.specs.declared.Several.{Several}
 use Rattle.air_events.specs.Entries.{entry_at}
 use Rattle.command_grammar.specs.declared.commands.Command.{Command}
 use Rattle.pie_line.specs.Link.{LinkValue}
@@ -14,12 +14,13 @@ use Rattle.air_channel.specs.Exchange.{Replied, tag_after_own_event, tag_after_e
 use Rattle.air_channel.specs.Channel.{Given}
 use Rattle.air_channel.specs.Air.{replies_in, given_in}
 
--- what a run begins with: the link, the tags, numbered from 0, and what is said of exchanges, each with its number, counted
--- from 1 over the whole run
+-- what a run begins with: the link, the tags, numbered from 0, what is said of exchanges, each with its number, counted
+-- from 1 over the whole run, and what the channel gives of several replies
 pub record Start : Type 0 where
   pub link : LinkValue
   pub tags : List TagValue
   pub entries : List (ℕ × Entry)
+  pub several : Several
 
 -- One exchange: its number, the round and the slot that it belongs to (0 outside rounds), the command, what is said of it,
 -- the tags that heard the command, what tags replied, in the order of the tags, and what the channel gave.
@@ -97,7 +98,7 @@ next_record start round slot command past =
       entry = entry;
       hearers = hearers_of 0 entry tags;
       replies = replies_in command entry tags;
-      given = given_in command entry tags;
+      given = given_in start.several command entry tags;
     }
 
 -- the past behind a command

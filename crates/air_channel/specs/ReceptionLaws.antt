@@ -7,6 +7,8 @@ use Rattle.std.proofs.lemmas.List.{length-set}
 use Rattle.std.proofs.lemmas.Nat.{mod_below}
 use Rattle.air_events.specs.declared.Choice.{Choice}
 use Rattle.air_events.specs.declared.Choice.TheVariants as choices
+use Rattle.air_events.specs.declared.Several.{Several}
+use Rattle.air_events.specs.declared.Several.TheVariants as severals
 use Rattle.line_code.specs.Laws.{with_level_flipped, inverse_of}
 use Rattle.line_code.specs.Stream.{stream_of, Streams}
 use Rattle.line_codes.specs.CodeLaws.{code_refuses_flips, stream_least, stream_most}
@@ -166,11 +168,12 @@ picked P (replied ∷ others) zero all = all.0
 picked P (replied ∷ others) (suc number) all = picked P others number all.1
 
 -- what holds of each reply holds of the one that the channel gives
-pub given_of_sent : (P : Sent → Type 0) (replies : List Replied) (choice : Option Choice) → AllByRecursion (λ replied. P replied.sent) replies → HoldsOfSent P (given_of replies choice)
-given_of_sent P replies (Some (choices.Pick number)) all = picked P replies number all
-given_of_sent P replies (Some choices.Silent) all = tt
-given_of_sent P [] (Some (choices.Break place)) all = tt
-given_of_sent P (replied ∷ others) (Some (choices.Break place)) all = all.0
-given_of_sent P [] None all = tt
-given_of_sent P (replied ∷ []) None all = all.0
-given_of_sent P (replied ∷ other ∷ others) None all = all.0
+pub given_of_sent : (P : Sent → Type 0) (replies : List Replied) (choice : Option Choice) (several : Several) → AllByRecursion (λ replied. P replied.sent) replies → HoldsOfSent P (given_of replies choice several)
+given_of_sent P replies (Some (choices.Pick number)) several all = picked P replies number all
+given_of_sent P replies (Some choices.Silent) several all = tt
+given_of_sent P [] (Some (choices.Break place)) several all = tt
+given_of_sent P (replied ∷ others) (Some (choices.Break place)) several all = all.0
+given_of_sent P [] None several all = tt
+given_of_sent P (replied ∷ []) None several all = all.0
+given_of_sent P (replied ∷ other ∷ others) None severals.Break all = all.0
+given_of_sent P (replied ∷ other ∷ others) None severals.Capture all = all.0

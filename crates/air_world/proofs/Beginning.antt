@@ -69,6 +69,7 @@ stands-first mode scenario first written before faults air run is fresh legal le
     names = scenario-names scenario is;
     mode = ap (λ (r : RunValue). r.mode) run_is;
     link = ap (λ (a : AirValue). a.link) fresh;
+    several = ap (λ (a : AirValue). a.several) fresh;
     tags = ap (λ (a : AirValue). a.tags) fresh ∙ sym (tags-before 0 (start_of scenario).tags);
     legal = legal;
     exchanges = ap (λ (a : AirValue). a.exchanges) fresh;

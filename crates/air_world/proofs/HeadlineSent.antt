@@ -9,6 +9,8 @@ use Rattle.air_channel.specs.Reception.{Reception, no_stream, whole_reply, no_su
 use Rattle.air_events.specs.declared.Choice.{Choice}
 use Rattle.air_events.specs.declared.Choice.TheVariants as choices
 use Rattle.air_events.specs.declared.Entry.{Entry}
+use Rattle.air_events.specs.declared.Several.{Several}
+use Rattle.air_events.specs.declared.Several.TheVariants as severals
 use Rattle.air_world.specs.Headline.{AreLegalSteps, IsRecordOf, Acknowledges, tag_in, IsFromTag, IsGivenWhole, IsSentByATag}
 use Rattle.air_world.specs.History.{past_behind_answer, slot_reception, past_behind_slot, past_behind_step, past_behind, history_of}
 use Rattle.air_world.specs.Listing.{reception_of_ack, listed_from, listed_by, listing_of}
@@ -226,21 +228,22 @@ picked : (replies : List Replied) (found : Option Replied) (number : ℕ) (repli
 picked replies None number replied is given = absurd (cc)
 picked replies (Some other) number replied is given = among-get replies number replied (is ∙ ap (λ (r : Replied). Some r) (cc))
 
-by-default : (replies : List Replied) (replied : Replied) → default_given replies ≡ whole replied → Among replied replies
-by-default [] replied given = absurd (cc)
-by-default (one ∷ []) replied given = inl (cc)
-by-default (one ∷ other ∷ others) replied given = absurd (cc)
+by-default : (several : Several) (replies : List Replied) (replied : Replied) → default_given several replies ≡ whole replied → Among replied replies
+by-default several [] replied given = absurd (cc)
+by-default several (one ∷ []) replied given = inl (cc)
+by-default severals.Break (one ∷ other ∷ others) replied given = absurd (cc)
+by-default severals.Capture (one ∷ other ∷ others) replied given = inl (cc)
 
 first-broken : (replies : List Replied) (place : ℕ) (replied : Replied) → first_broken replies place ≡ whole replied → Among replied replies
 first-broken [] place replied given = absurd (cc)
 first-broken (one ∷ others) place replied given = absurd (cc)
 
 -- what the channel gives whole is one of the replies
-pub given-among : (replies : List Replied) (choice : Option Choice) (replied : Replied) → given_of replies choice ≡ whole replied → Among replied replies
-given-among replies (Some (choices.Pick number)) replied given = picked replies (slice_get replies number) number replied refl given
-given-among replies (Some choices.Silent) replied given = absurd (cc)
-given-among replies (Some (choices.Break place)) replied given = first-broken replies place replied given
-given-among replies None replied given = by-default replies replied given
+pub given-among : (replies : List Replied) (choice : Option Choice) (several : Several) (replied : Replied) → given_of replies choice several ≡ whole replied → Among replied replies
+given-among replies (Some (choices.Pick number)) several replied given = picked replies (slice_get replies number) number replied refl given
+given-among replies (Some choices.Silent) several replied given = absurd (cc)
+given-among replies (Some (choices.Break place)) several replied given = first-broken replies place replied given
+given-among replies None several replied given = by-default several replies replied given
 
 -- the tag with the number in a reply, among tags that are numbered from a number on
 record Answerer (number : ℕ) (command : Command) (entry : Entry) (past : List Item) (starts : List TagValue) (replied : Replied) : Type 0 where
@@ -331,9 +334,9 @@ from-tag start sent earlier rn replied made acknowledges given =
     let entry_is : sent.entry ≡ entry = ap (λ (r : Record). r.entry) made in
     let replies_are : sent.replies ≡ replies_in sent.command entry (tags_behind start earlier) = ap (λ (r : Record). r.replies) made in
     let hearers_are : sent.hearers ≡ hearers_of 0 entry (tags_behind start earlier) = ap (λ (r : Record). r.hearers) made in
-    let given_is : given_in sent.command entry (tags_behind start earlier) ≡ whole replied = sym (ap (λ (r : Record). r.given) made) ∙ given in
+    let given_is : given_in start.several sent.command entry (tags_behind start earlier) ≡ whole replied = sym (ap (λ (r : Record). r.given) made) ∙ given in
     let among : Among replied (replies_in sent.command entry (tags_behind start earlier)) =
-    given-among (replies_in sent.command entry (tags_behind start earlier)) entry.choice replied given_is in
+    given-among (replies_in sent.command entry (tags_behind start earlier)) entry.choice start.several replied given_is in
     let by = answerer 0 sent.command entry earlier start.tags replied among in
     let tag = tag_after_events replied.number entry.events (tag_behind replied.number by.tag earlier) in
     let heard : Hears (is_missed replied.number entry) sent.command tag replied.sent = hears (is_missed replied.number entry) sent.command tag replied.sent by.answered in

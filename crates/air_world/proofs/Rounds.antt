@@ -205,6 +205,7 @@ stands-ended origin past number end slots air run after before_written written b
     names = stands.plays.names;
     mode = ap (λ (r : RunValue). r.mode) is ∙ stands.plays.mode;
     link = stands.plays.link;
+    several = stands.plays.several;
     tags = stands.plays.tags ∙ sym (tags-ended origin.start number end slots past);
     legal = stands.plays.legal;
     exchanges = stands.plays.exchanges;

@@ -191,6 +191,7 @@ plays-listed origin past air run after seen is plays = record {
   names = plays.names;
   mode = ap (λ (r : RunValue). r.mode) is ∙ plays.mode;
   link = plays.link;
+  several = plays.several;
   tags = plays.tags;
   legal = plays.legal;
   exchanges = plays.exchanges;

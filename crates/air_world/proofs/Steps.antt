@@ -48,6 +48,7 @@ stands-befell origin past event number air next run written faults stands is leg
         names = stands.plays.names;
         mode = stands.plays.mode;
         link = ap (λ (a : AirValue). a.link) is ∙ stands.plays.link;
+        several = ap (λ (a : AirValue). a.several) is ∙ stands.plays.several;
         tags = moved;
         legal = legal;
         exchanges = ap (λ (a : AirValue). a.exchanges) is ∙ stands.plays.exchanges;

@@ -46,6 +46,7 @@ pub record PlaysAt (origin : Origin) (past : List Item) (air : AirValue) (run : 
   pub names : NamesItsTags origin.start
   pub mode : run.mode ≡ origin.mode
   pub link : air.link ≡ origin.start.link
+  pub several : air.several ≡ origin.start.several
   pub tags : air.tags ≡ tags_behind origin.start past
   pub legal : AreLegalTags air.tags
   pub exchanges : air.exchanges ≡ exchanges_in past
