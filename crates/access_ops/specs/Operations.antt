@@ -10,6 +10,7 @@ use Rattle.reply_grammar.specs.declared.expected.Expect.TheVariants as expects
 use Rattle.reply_grammar.specs.declared.expected.Received.TheVariants.{Whole, Refused}
 use Rattle.reply_grammar.specs.declared.expected.Reply.{Reply}
 use Rattle.reply_grammar.specs.declared.expected.Reply.TheVariants.{Rn16, Epc, Handle, Words, Header, Error}
+use Rattle.reply_grammar.specs.Reception.{Reception, no_stream, whole_reply, no_such_reply, reception_from}
 use Rattle.reply_grammar.specs.Table.{Suits, IsReply}
 use Rattle.access_ops.specs.declared.Op.{Op}
 use Rattle.access_ops.specs.declared.Op.TheVariants.{Read, Write, BlockWrite, BlockErase, Lock, Access, Kill}
@@ -24,15 +25,15 @@ use Rattle.access_ops.specs.declared.op_next.OpResult.TheVariants as results
 -- What an interrogator does, whatever it hears: it sends a command, with the reply that it expects and whether that comes
 -- with the extended preamble, and goes on by the answer; or it tells the result of an operation, and goes on; or it has done all.
 pub data Dialogue : Type 0 where
-  sends : Command → Expect → Bool → (Answer → Dialogue) → Dialogue
+  sends : Command → Expect → Bool → (Reception → Dialogue) → Dialogue
   tells : OpResult → Dialogue → Dialogue
   done : Dialogue
 
 -- Where no reply comes the operation ends with Silent, and where a stream is refused with Broken. Nothing follows either.
-abbrev pub behind_answer : (Reply → Dialogue) → Answer → Dialogue
-behind_answer go_on Silence = tells results.Silent done
-behind_answer go_on (Got (Refused place)) = tells results.Broken done
-behind_answer go_on (Got (Whole reply)) = go_on reply
+abbrev pub behind_reception : (Reply → Dialogue) → Reception → Dialogue
+behind_reception go_on no_stream = tells results.Silent done
+behind_reception go_on no_such_reply = tells results.Broken done
+behind_reception go_on (whole_reply reply) = go_on reply
 
 -- A reply that ends an operation: an error code, the words of a Read, or success alone. The later operations follow.
 abbrev pub behind_last : Dialogue → Reply → Dialogue
@@ -42,7 +43,7 @@ behind_last later reply = tells (results.Ok []) later
 
 -- the command that ends an operation
 abbrev pub last_command : Command → Expect → Bool → Dialogue → Dialogue
-last_command command expect extended later = sends command expect extended (behind_answer (behind_last later))
+last_command command expect extended later = sends command expect extended (behind_reception (behind_last later))
 
 -- 6.3.2.11.3.1 Req_RN: a number of the tag, with which the interrogator goes on
 abbrev pub behind_number : (ℕ → Dialogue) → Reply → Dialogue
@@ -50,7 +51,7 @@ behind_number go_on (Handle number) = go_on number
 behind_number go_on reply = tells results.Broken done
 
 abbrev pub with_number : ℕ → (ℕ → Dialogue) → Dialogue
-with_number rn go_on = sends (commands.ReqRn rn) expects.Handle false (behind_answer (behind_number go_on))
+with_number rn go_on = sends (commands.ReqRn rn) expects.Handle false (behind_reception (behind_number go_on))
 
 -- 6.3.2.11.3.2 Read: so many words, or with WordCount 0 as many as there are
 abbrev pub words_expected : ℕ → ℕ → Expect
@@ -72,7 +73,7 @@ send_lower half_command expect extended password handle later =
 abbrev pub send_halves : (ℕ → Command) → Expect → Bool → ℕ → ℕ → Dialogue → Dialogue
 send_halves half_command expect extended password handle later =
     with_number handle (λ cover. sends (half_command (bit_xor (upper_half password) cover)) (expects.Same handle) false
-    (behind_answer (behind_number (λ same. send_lower half_command expect extended password handle later))))
+    (behind_reception (behind_number (λ same. send_lower half_command expect extended password handle later))))
 
 -- 6.3.2.11.3 Access commands: each operation with the tag of this handle, and what follows it. What is written or shown under a
 -- cover is XORed with the number that the tag sent for it. The replies of a tag that wrote its memory have the extended preamble.
@@ -121,9 +122,14 @@ pub data Move : Type 0 where
   answered : Answer → Move
   told : Move
 
+-- an answer, as what is made of it
+abbrev pub reception_in : Answer → Reception
+reception_in Silence = no_stream
+reception_in (Got received) = reception_from received
+
 -- the rest of what is done
 abbrev pub dialogue_behind : Move → Dialogue → Dialogue
-dialogue_behind (answered answer) (sends command expect extended go_on) = go_on answer
+dialogue_behind (answered answer) (sends command expect extended go_on) = go_on (reception_in answer)
 dialogue_behind told (tells result later) = later
 dialogue_behind move dialogue = done
 

@@ -2,18 +2,13 @@
 //! EPCglobal Class-1 Generation-2 standard, version 1.2.0).
 #![tactic(auto)]
 
-mod answers;
-mod copies;
 mod op_next;
-mod op_run;
-mod step;
 
 use bit_strings::{Count1, List, Payload, Pointer};
 use command_grammar::{Bank, BlockWords};
 use reply_grammar::EpcWords;
 
 pub use op_next::{Answer, OpNext, OpResult};
-pub use op_run::OpRun;
 
 /// One operation on a singulated tag.
 #[derive(Drop)]

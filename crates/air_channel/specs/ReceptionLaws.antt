@@ -29,7 +29,8 @@ use Rattle.air_channel.specs.declared.air.Got.TheVariants as gots
 use Rattle.air_channel.specs.Exchange.{Replied}
 use Rattle.air_channel.specs.Received.{IsReceived}
 use Rattle.air_channel.specs.ReceivedLaws.{same_received}
-use Rattle.air_channel.specs.Reception.{no_stream, whole_reply, no_such_reply, has_handle, reception_of, reception_from, HoldsOfSent, IsGiven, IsReplyFor, IsGivenFor}
+use Rattle.air_channel.specs.Reception.{has_handle, reception_of, HoldsOfSent, IsGiven, IsReplyFor, IsGivenFor}
+use Rattle.reply_grammar.specs.Reception.{no_stream, whole_reply, no_such_reply, reception_from}
 
 both_true : (a b : Bool) → (a && b) ≡ true → (a ≡ true) × (b ≡ true)
 both_true true b e = (refl, e)

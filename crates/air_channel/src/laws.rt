@@ -14,7 +14,8 @@ ghost use Rattle.reply_grammar.specs.declared.expected.Received.TheVariants.{Who
 ghost use Rattle.air_channel.specs.Channel.{Given, silence, whole, broken, heard_levels, got_of};
 ghost use Rattle.air_channel.specs.Exchange.{Replied};
 ghost use Rattle.air_channel.specs.Received.{IsReceived};
-ghost use Rattle.air_channel.specs.Reception.{IsGiven, IsGivenFor, IsReplyFor, no_stream, reception_from, reception_of};
+ghost use Rattle.air_channel.specs.Reception.{IsGiven, IsGivenFor, IsReplyFor, reception_of};
+ghost use Rattle.reply_grammar.specs.Reception.{no_stream, reception_from};
 ghost use Rattle.air_channel.specs.declared.air.Got.TheVariants.{Silence, Stream};
 
 use line_code::one_answer;

@@ -3,7 +3,7 @@
 use Rattle.std.proofs.Common.{◌≡◌, ℕ, zero, suc, ◌+◌, ◌≤◌, Bool, true, false, List, [], ◌∷◌, ◌++◌, length, refl, ap, sym, ◌∙◌, append_assoc, append-nil, arith}
 use Rattle.std.specs.List.{AllByRecursion}
 use Rattle.air_channel.specs.Past.{Start, Item, exchanged, ended, next_record, past_behind_command, rounds_in}
-use Rattle.air_channel.specs.Reception.{Reception, no_stream, whole_reply, no_such_reply}
+use Rattle.reply_grammar.specs.Reception.{Reception, no_stream, whole_reply, no_such_reply}
 use Rattle.air_world.specs.History.{outcome_of, past_behind_answer, slot_reception, past_behind_slot, past_behind_turn, past_behind_turns, past_behind_round, past_behind_step, past_behind}
 use Rattle.air_world.specs.Report.{item_lines, past_lines}
 use Rattle.air_world.specs.declared.mode.Mode.{Mode}

@@ -1,7 +1,7 @@
 -- How many exchanges a run has: one for a Select or NAK, and at most two for each slot of a round.
 use Rattle.std.proofs.Common.{ℕ, ◌+◌, ◌*◌, ◌≤◌, List, [], ◌∷◌, ◌++◌, length, arith}
 use Rattle.air_channel.specs.Past.{Start, Item, befell, exchanged, ended, past_behind_command, exchanges_in, rounds_in}
-use Rattle.air_channel.specs.Reception.{Reception, no_stream, whole_reply, no_such_reply}
+use Rattle.reply_grammar.specs.Reception.{Reception, no_stream, whole_reply, no_such_reply}
 use Rattle.air_world.specs.Headline.{AreLegalSteps, most_exchanges}
 use Rattle.air_world.specs.History.{past_behind_answer, slot_reception, past_behind_slot, past_behind_round, past_behind_step, past_behind}
 use Rattle.air_world.proofs.Growth.{RoundsKeepLimit, round-holds, few-outcomes}

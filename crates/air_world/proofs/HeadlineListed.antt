@@ -4,7 +4,8 @@ use Rattle.std.proofs.lemmas.List.Elements.{filter-append}
 use Rattle.air_channel.specs.Channel.{Given, whole}
 use Rattle.air_channel.specs.Exchange.{Replied}
 use Rattle.air_channel.specs.Past.{Start, Record, Item, befell, exchanged, ended, next_record, rounds_in}
-use Rattle.air_channel.specs.Reception.{Reception, no_stream, whole_reply, no_such_reply, has_handle, is_expected, reception_of}
+use Rattle.air_channel.specs.Reception.{has_handle, is_expected, reception_of}
+use Rattle.reply_grammar.specs.Reception.{Reception, no_stream, whole_reply, no_such_reply}
 use Rattle.air_world.specs.Headline.{IsSelect, IsLegalStep, AreLegalSteps, IsRecordOf, Acknowledges, IsGivenWhole, is_list_line, begins_slot}
 use Rattle.air_world.specs.History.{past_behind_answer, slot_reception, past_behind_slot, past_behind_round, past_behind_step, history_of}
 use Rattle.air_world.specs.Listing.{Listed, reception_of_ack, listed_from, listed_by}

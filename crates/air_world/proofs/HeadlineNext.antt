@@ -2,7 +2,7 @@
 use Rattle.std.proofs.Common.{◌≡◌, ℕ, zero, suc, ◌+◌, ◌<◌, ◌==◌, true, false, List, [], ◌∷◌, ◌++◌, length, map, Option, Some, None, slice_get, refl, ap, sym, ◌∙◌, arith, add-one, ne_eqb, eq-eqb}
 use Rattle.access_ops.specs.declared.OpList.{OpList}
 use Rattle.air_channel.specs.Past.{Start, Record, Item, exchanged, ended, next_record, past_behind_command, rounds_in}
-use Rattle.air_channel.specs.Reception.{Reception, no_stream, whole_reply, no_such_reply}
+use Rattle.reply_grammar.specs.Reception.{Reception, no_stream, whole_reply, no_such_reply}
 use Rattle.air_world.specs.Headline.{IsSelect, IsLegalStep, AreLegalSteps, begins_slot, begins_slot_of, slot_records}
 use Rattle.air_world.specs.History.{outcome_of, past_behind_answer, slot_reception, past_behind_round, past_behind_step, past_behind, history_of}
 use Rattle.air_world.specs.HistoryLaws.{finished_in, reception_of_slot, outcomes_of_round, rn_of, rn_received, item_by_rule, item_in_round, item_of_step, next_item, GrowsByNext}

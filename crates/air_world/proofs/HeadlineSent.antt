@@ -5,7 +5,8 @@ use Rattle.air_channel.specs.Air.{replies_in, given_in}
 use Rattle.air_channel.specs.Channel.{Given, silence, whole, broken, whole_or_silence, first_broken, default_given, given_of}
 use Rattle.air_channel.specs.Exchange.{Replied, reply_of, replies_from, is_missed, outcome_unless, outcome_in, outcomes_from, tag_after_events}
 use Rattle.air_channel.specs.Past.{Start, Record, Item, befell, exchanged, ended, tag_behind, tags_behind, tags_behind_from, next_entry, next_record, past_behind_command, rounds_in, is_hearer, hearers_of}
-use Rattle.air_channel.specs.Reception.{Reception, no_stream, whole_reply, no_such_reply, is_expected, reception_of}
+use Rattle.air_channel.specs.Reception.{is_expected, reception_of}
+use Rattle.reply_grammar.specs.Reception.{Reception, no_stream, whole_reply, no_such_reply}
 use Rattle.air_events.specs.declared.Choice.{Choice}
 use Rattle.air_events.specs.declared.Choice.TheVariants as choices
 use Rattle.air_events.specs.declared.Entry.{Entry}

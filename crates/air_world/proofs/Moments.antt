@@ -1,7 +1,7 @@
 -- A past only grows, and its lines with it; how much a slot, a round and steps add.
 use Rattle.std.proofs.Common.{◌≡◌, ℕ, zero, suc, ◌+◌, ◌*◌, ◌≤◌, List, [], ◌∷◌, ◌++◌, length, refl, sym, ◌∙◌, ap, arith, append_assoc}
 use Rattle.air_channel.specs.Past.{Start, Item, exchanged, ended, next_record, past_behind_command, rounds_in}
-use Rattle.air_channel.specs.Reception.{Reception, whole_reply}
+use Rattle.reply_grammar.specs.Reception.{Reception, whole_reply}
 use Rattle.air_world.specs.Playing.{moments_in}
 use Rattle.air_world.specs.History.{outcome_of, past_behind_answer, slot_reception, past_behind_slot, past_behind_turn, past_behind_turns, past_behind_round}
 use Rattle.command_grammar.specs.declared.commands.Command.{Command}

@@ -2,7 +2,7 @@
 use Rattle.std.proofs.Common.{◌≡◌, ℕ, zero, suc, ◌+◌, ◌*◌, ◌≤◌, false, List, [], ◌∷◌, ◌++◌, length, Option, Some, refl, sym, ◌∙◌, ap, subst, arith}
 use Rattle.std.proofs.lemmas.List.{append-nil}
 use Rattle.air_channel.specs.Air.{AirValue}
-use Rattle.air_channel.specs.Reception.{Reception, no_stream, whole_reply, no_such_reply}
+use Rattle.reply_grammar.specs.Reception.{Reception, no_stream, whole_reply, no_such_reply}
 use Rattle.air_channel.specs.Past.{Start, Item, ended, past_behind_command, exchanges_in, rounds_in}
 use Rattle.air_world.proofs.Moments.{Grows, grows-slot, grows-turns}
 use Rattle.air_world.proofs.Lines.{report_text-append}

@@ -6,7 +6,8 @@ use Rattle.air_channel.specs.Air.{AirValue}
 use Rattle.air_channel.specs.Channel.{Given, got_of, heard_levels}
 use Rattle.air_channel.specs.Past.{Start, Record, Item, befell, exchanged, ended, next_record, past_behind_command, exchanges_in}
 use Rattle.air_channel.specs.Received.{IsReceived}
-use Rattle.air_channel.specs.Reception.{Reception, no_stream, whole_reply, no_such_reply, reception_of, IsGivenFor}
+use Rattle.air_channel.specs.Reception.{reception_of, IsGivenFor}
+use Rattle.reply_grammar.specs.Reception.{Reception, no_stream, whole_reply, no_such_reply}
 use Rattle.air_channel.specs.declared.air.Got.TheVariants as gots
 use Rattle.air_world.proofs.Moments.{grows-answer}
 use Rattle.air_world.proofs.Lines.{report_text-append}

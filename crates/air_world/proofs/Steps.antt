@@ -6,7 +6,7 @@ use Rattle.std.proofs.lemmas.List.Elements.{All-get_or}
 use Rattle.std.specs.Prelude.{All}
 use Rattle.air_channel.specs.Air.{AirValue, AreLegalTags, air_after_event}
 use Rattle.air_channel.specs.Past.{Start, Record, Item, befell, tags_behind}
-use Rattle.air_channel.specs.Reception.{Reception, no_stream}
+use Rattle.reply_grammar.specs.Reception.{Reception, no_stream}
 use Rattle.air_events.specs.declared.Event.{Event}
 use Rattle.air_world.proofs.Moments.{Grows, grows-command, grows-round, grows-more, grows-nothing, grows-at-most}
 use Rattle.air_world.proofs.Tags.{tags-befell, length-tags}

@@ -5,7 +5,7 @@ use Rattle.std.specs.List.{AllByRecursion}
 use Rattle.access_ops.specs.declared.OpList.{OpList}
 use Rattle.air_channel.specs.Channel.{Given, whole}
 use Rattle.air_channel.specs.Exchange.{Replied, tag_after_events}
-use Rattle.air_channel.specs.Past.{Start, Record, Item, befell, exchanged, ended, tag_behind}
+use Rattle.air_channel.specs.Past.{Start, Record, Item, befell, exchanged, operated, ended, tag_behind}
 use Rattle.command_grammar.specs.declared.commands.Command.{Command}
 use Rattle.command_grammar.specs.declared.commands.Command.TheVariants as commands
 use Rattle.q_round.specs.SpecValue.{SpecValue, IsLegalSpec}
@@ -119,6 +119,7 @@ slot_records round [] = []
 slot_records round (befell event number ∷ past) = slot_records round past
 slot_records round (exchanged sent ∷ past) =
     (if begins_slot_of round sent then sent ∷ slot_records round past else slot_records round past)
+slot_records round (operated number slot index result ∷ past) = slot_records round past
 slot_records round (ended number end slots ∷ past) = slot_records round past
 
 -- how many of the steps are rounds
@@ -148,10 +149,15 @@ pub record Headline (start : Start) (taken : List Step) (history : List Item) (l
   pub slot_limit : (before after : List Step) (spec : SpecValue) (operations : OpList) → taken ≡ before ++ steps.Round spec operations ∷ after
       → KeepsLimit history lines (rounds_of before + 1) spec.limit
 
--- how many exchanges steps have at most: one for a Select or NAK, and two for each slot that a round may have
+-- how many exchanges the operations of a round have at most with one tag: one for the handle and four for each
+abbrev pub most_operating : OpList → ℕ
+most_operating operations = 4 * length operations.ops + 1
+
+-- how many exchanges steps have at most: one for a Select or NAK, and for each slot that a round may have the slot command, the
+-- ACK and the operations
 abbrev pub most_exchanges : List Step → ℕ
 most_exchanges [] = 0
 most_exchanges (steps.Select command ∷ steps) = most_exchanges steps + 1
 most_exchanges (steps.Nak ∷ steps) = most_exchanges steps + 1
 most_exchanges (steps.Event event number ∷ steps) = most_exchanges steps
-most_exchanges (steps.Round spec operations ∷ steps) = most_exchanges steps + 2 * spec.limit
+most_exchanges (steps.Round spec operations ∷ steps) = most_exchanges steps + (2 + most_operating operations) * spec.limit

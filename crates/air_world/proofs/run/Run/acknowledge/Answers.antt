@@ -1,6 +1,6 @@
 use Rattle.std.proofs.Common.{◌≡◌, [], ◌∷◌, Some, None, sym, ◌∙◌, ap, map}
 use Rattle.air_channel.specs.Past.{Record, next_record}
-use Rattle.air_channel.specs.Reception.{Reception}
+use Rattle.reply_grammar.specs.Reception.{Reception}
 use Rattle.air_world.proofs.Slots.{cut-exchanged, cut-listed, count-fits, stands-unlisted, stands-listed, whole-listed, other-unlisted, plays-listed, ok-both, err-each}
 use Rattle.air_world.proofs.Writing.{err-kept}
 use Rattle.air_world.specs.Heard.{heard_reception, pair_in}
