@@ -52,13 +52,14 @@ pub fn records_follow_from_the_past()
         sent ≡ next_record start sent.round sent.slot sent.command earlier }
 {}
 
-/// A run has at most one exchange for each Select or NAK and two for each slot that a round may have,
-/// and so at most 140,000 for each of its steps.
+/// A run has at most one exchange for each Select or NAK, and for each slot that a round may have the
+/// slot command, the ACK, one for the handle and four for each operation of the round. So it has at most
+/// 9,170,000 for each of its steps.
 pub fn exchanges_are_few()
     ensures most { (start : Start) (steps : List Step) → AreLegalSteps steps →
         exchanges_in (history_of start steps) ≤ most_exchanges steps }
     ensures few { (start : Start) (steps : List Step) → AreLegalSteps steps →
-        exchanges_in (history_of start steps) ≤ 140000 * length steps }
+        exchanges_in (history_of start steps) ≤ 9170000 * length steps }
 {
     round_laws();
 }
