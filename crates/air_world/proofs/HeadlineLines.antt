@@ -1,4 +1,4 @@
--- Which lines of a report pass a test that only lines of listed EPCs and of ends of rounds may pass.
+-- Which lines of a report pass a test that only lines of listed EPCs, of results and of ends of rounds may pass.
 use Rattle.std.proofs.Common.{◌≡◌, ℕ, ◌+◌, Bool, true, false, ◌&&◌, List, [], ◌∷◌, ◌++◌, length, map, filter, refl, ap, ◌∙◌, append-nil}
 use Rattle.std.proofs.lemmas.List.Elements.{filter-append}
 use Rattle.access_ops.specs.declared.op_next.OpResult.{OpResult}
@@ -54,6 +54,20 @@ sent-passes test few mode link sent past =
     (filter-append test (trace_lines mode link sent) (map list_line (listed_by sent))
     ∙ ap (λ (lines : List ReportLine). lines ++ filter test (map list_line (listed_by sent))) (no-trace test few mode link sent))
 
+-- where no list line passes, what is listed adds nothing
+pub no-listed : (test : ReportLine → Bool) → ((listed : Listed) → test (list_line listed) ≡ false) → (listing : List Listed)
+    → filter test (map list_line listing) ≡ []
+no-listed test fails [] = refl
+no-listed test fails (listed ∷ listing) = rw (fails listed) (no-listed test fails listing)
+
+-- ... and no exchange
+pub sent-adds-none : (test : ReportLine → Bool) → PassesFew test → ((listed : Listed) → test (list_line listed) ≡ false) → (mode : Mode) (link : LinkValue) (sent : Record) (past : List Item)
+    → filter test (past_lines mode link (exchanged sent ∷ past)) ≡ filter test (past_lines mode link past)
+sent-adds-none test few fails mode link sent past =
+    sent-passes test few mode link sent past
+    ∙ ap (λ (lines : List ReportLine). filter test (past_lines mode link past) ++ lines) (no-listed test fails (listed_by sent))
+    ∙ append-nil (filter test (past_lines mode link past))
+
 -- an event has no line
 pub befell-passes : (test : ReportLine → Bool) (mode : Mode) (link : LinkValue) (past : List Item)
     → filter test (past_lines mode link past ++ []) ≡ filter test (past_lines mode link past)
@@ -66,12 +80,6 @@ pub operated-passes : (test : ReportLine → Bool) (mode : Mode) (link : LinkVal
 operated-passes test mode link round slot index result past fails =
     filter-append test (past_lines mode link past) (OpLine round slot index result ∷ [])
     ∙ rw fails (append-nil (filter test (past_lines mode link past)))
-
--- where no list line passes, what is listed adds nothing
-pub no-listed : (test : ReportLine → Bool) → ((listed : Listed) → test (list_line listed) ≡ false) → (listing : List Listed)
-    → filter test (map list_line listing) ≡ []
-no-listed test fails [] = refl
-no-listed test fails (listed ∷ listing) = rw (fails listed) (no-listed test fails listing)
 
 no-last : (test : ReportLine → Bool) → PassesFew test → (seen : List Seen) (number : ℕ) (tags : List TagValue)
     → filter test (map (λ seen. SeenLine seen.count seen.pc seen.epc) seen ++ tag_lines number tags ++ DoneLine ∷ []) ≡ []

@@ -116,15 +116,15 @@ rise-answer start operations round slot reception past holds =
     let more : Rise round (slot + 1) past = rise-more round slot past holds in
     answer-holds (Rise round (slot + 1)) start operations round slot reception past more
     (λ rn is. ack-keeps (Rise round (slot + 1)) start operations round slot rn past
-        (record {
-          command = λ command expect extended now awaits rises.
-              rise-other round (slot + 1) (next_record start round slot command now) now (awaits-no-ack command expect extended awaits) rises;
-          result = λ index result now rises. record { before = rises.before; rise = rises.rise };
-        })
-        (record {
-          before = (λ ack. inr (refl, omega arith), more.before);
-          rise = (λ ack. holds.before, holds.rise);
-        }))
+    (record {
+      command = λ command expect extended now awaits rises.
+          rise-other round (slot + 1) (next_record start round slot command now) now (awaits-no-ack command expect extended awaits) rises;
+      result = λ index result now rises. record { before = rises.before; rise = rises.rise };
+    })
+    (record {
+      before = (λ ack. inr (refl, omega arith), more.before);
+      rise = (λ ack. holds.before, holds.rise);
+    }))
 
 -- within a round: its ACKs come before its next slot
 record RiseIn (round slot : ℕ) (past : List Item) : Type 0 where

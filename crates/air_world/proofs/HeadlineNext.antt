@@ -185,7 +185,7 @@ inside-answer start all operations finished rounds outcomes slot reception past 
     answer-cases (Inside start all operations finished rounds outcomes None done) start operations (rounds + 1) slot reception past
     (λ none. subst (λ (received : Option ℕ). Inside start all operations finished rounds outcomes received done past) none inside)
     (λ rn is. inside-ack start all operations finished rounds outcomes slot rn past spec at count
-        (subst (λ (reception : Reception). Inside start all operations finished rounds outcomes (rn_of reception) done past) is inside))
+    (subst (λ (reception : Reception). Inside start all operations finished rounds outcomes (rn_of reception) done past) is inside))
 
 -- between steps, of which so many are finished
 record Between (start : Start) (all : List Step) (finished : ℕ) (past : List Item) : Type 0 where

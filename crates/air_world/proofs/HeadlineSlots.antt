@@ -8,11 +8,10 @@ use Rattle.air_channel.specs.Past.{Start, Record, Item, exchanged, operated, end
 use Rattle.reply_grammar.specs.Reception.{Reception}
 use Rattle.air_world.specs.Headline.{IsLegalStep, AreLegalSteps, is_round_line, begins_slot, begins_slot_of, slot_records, rounds_of, KeepsLimit}
 use Rattle.air_world.specs.History.{past_behind_answer, slot_reception, past_behind_slot, past_behind_round, past_behind_step, past_behind, history_of}
-use Rattle.air_world.specs.Listing.{listed_by}
 use Rattle.air_world.specs.Report.{past_lines, last_lines, report_of}
 use Rattle.air_world.specs.declared.mode.Mode.{Mode}
 use Rattle.air_world.specs.declared.mode.Mode.TheVariants.{Plain, Trace}
-use Rattle.air_world.proofs.HeadlineLines.{round-lines-pass, sent-passes, befell-passes, operated-passes, no-listed, report-passes, and-false, and-true}
+use Rattle.air_world.proofs.HeadlineLines.{round-lines-pass, sent-adds-none, befell-passes, operated-passes, report-passes, and-false, and-true}
 use Rattle.air_world.proofs.Growth.{RoundsKeepLimit, answer-keeps, round-holds, few-outcomes}
 use Rattle.command_grammar.specs.declared.commands.Command.{Command}
 use Rattle.command_grammar.specs.declared.commands.Command.TheVariants as commands
@@ -35,10 +34,7 @@ round_lines mode link round past = filter (is_round_line round) (past_lines mode
 -- an exchange has no such line
 sent-no-line : (mode : Mode) (link : LinkValue) (round : ℕ) (sent : Record) (past : List Item)
     → round_lines mode link round (exchanged sent ∷ past) ≡ round_lines mode link round past
-sent-no-line mode link round sent past =
-    sent-passes (is_round_line round) (round-lines-pass round) mode link sent past
-    ∙ ap (λ (lines : List ReportLine). round_lines mode link round past ++ lines) (no-listed (is_round_line round) (λ listed. refl) (listed_by sent))
-    ∙ append-nil (round_lines mode link round past)
+sent-no-line mode link round sent past = sent-adds-none (is_round_line round) (round-lines-pass round) (λ listed. refl) mode link sent past
 
 -- a past has the same slot commands and lines of a round as another
 pub record SameOf (mode : Mode) (link : LinkValue) (round : ℕ) (past now : List Item) : Type 0 where
