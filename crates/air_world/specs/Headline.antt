@@ -23,12 +23,21 @@ abbrev pub IsSelect : Command → Type 0
 IsSelect (commands.Select target action bank pointer mask) = Unit {0}
 IsSelect command = ⊥
 
--- what is used of the limits of a scenario: a Select step sends a Select, and the numbers of a round are in their ranges
+-- the most operations that a round may have
+abbrev pub most_operations : ℕ
+most_operations = 32
+
+-- the numbers of a round are in their ranges, and it has no more operations than that
+pub record IsLegalRound (spec : SpecValue) (operations : OpList) : Type 0 where
+  pub legal : IsLegalSpec spec
+  pub few : length operations.ops ≤ most_operations
+
+-- what is used of the limits of a scenario: a Select step sends a Select, and the rounds are legal
 abbrev pub IsLegalStep : Step → Type 0
 IsLegalStep (steps.Select command) = IsSelect command
 IsLegalStep steps.Nak = Unit {0}
 IsLegalStep (steps.Event event number) = Unit {0}
-IsLegalStep (steps.Round spec operations) = IsLegalSpec spec
+IsLegalStep (steps.Round spec operations) = IsLegalRound spec operations
 
 -- ... of each step
 abbrev pub AreLegalSteps : List Step → Type 0
