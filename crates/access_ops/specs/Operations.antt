@@ -9,7 +9,7 @@ use Rattle.reply_grammar.specs.declared.expected.Expect.{Expect}
 use Rattle.reply_grammar.specs.declared.expected.Expect.TheVariants as expects
 use Rattle.reply_grammar.specs.declared.expected.Received.TheVariants.{Whole, Refused}
 use Rattle.reply_grammar.specs.declared.expected.Reply.{Reply}
-use Rattle.reply_grammar.specs.declared.expected.Reply.TheVariants.{Rn16, Epc, Handle, Words, Header, Error}
+use Rattle.reply_grammar.specs.declared.expected.Reply.TheVariants.{Handle, Words, Error}
 use Rattle.reply_grammar.specs.Reception.{Reception, no_stream, whole_reply, no_such_reply, reception_from}
 use Rattle.reply_grammar.specs.Table.{Suits, IsReply}
 use Rattle.access_ops.specs.declared.Op.{Op}

@@ -1,7 +1,7 @@
 -- What the interrogator makes of what the channel gives, as a function of the reply that was sent. That it is what the levels
 -- say by the line code and the table of replies (Received.antt) is a law.
 use Rattle.std.specs.Prelude.{◌≡◌, ℕ, ◌==◌, ◌&&◌, ◌||◌, not, Bool, true, false, Some, if◌then◌else◌}
-use Rattle.reply_grammar.specs.Table.{handle_of, suits}
+use Rattle.reply_grammar.specs.Table.{AnswersExpected, handle_of, spelling, suits}
 use Rattle.reply_grammar.specs.declared.expected.Expect.{Expect}
 use Rattle.reply_grammar.specs.declared.expected.Reply.{Reply}
 use Rattle.reply_grammar.specs.declared.expected.Reply.TheVariants.{Rn16, Epc, Handle, Words, Header, Error}
@@ -49,6 +49,11 @@ HoldsOfSent P (broken replied place) = P replied.sent
 -- the numbers of what the channel gives are in their ranges
 abbrev pub IsGiven : Given → Type 0
 IsGiven given = HoldsOfSent (λ sent. IsSent (Some sent)) given
+
+-- what was sent is in its ranges, and where it is no reply that is expected, its bits are none: it is not taken for another
+pub record IsUnmistakable (expect : Expect) (sent : Sent) : Type 0 where
+  pub in_range : IsSent (Some sent)
+  pub unexpected : is_expected expect sent ≡ false → (reply : Reply) → ¬ AnswersExpected reply expect (spelling sent.reply sent.handle)
 
 -- what was sent is in its ranges, has the preamble of the link's TRext, and is a reply that is expected
 pub record IsReplyFor (expect : Expect) (sent : Sent) : Type 0 where

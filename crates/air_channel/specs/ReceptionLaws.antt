@@ -29,7 +29,7 @@ use Rattle.air_channel.specs.declared.air.Got.TheVariants as gots
 use Rattle.air_channel.specs.Exchange.{Replied}
 use Rattle.air_channel.specs.Received.{IsReceived}
 use Rattle.air_channel.specs.ReceivedLaws.{same_received}
-use Rattle.air_channel.specs.Reception.{has_handle, reception_of, HoldsOfSent, IsGiven, IsReplyFor, IsGivenFor}
+use Rattle.air_channel.specs.Reception.{has_handle, is_expected, reception_of, HoldsOfSent, IsGiven, IsReplyFor, IsGivenFor}
 use Rattle.reply_grammar.specs.Reception.{no_stream, whole_reply, no_such_reply, reception_from}
 
 both_true : (a b : Bool) → (a && b) ≡ true → (a ≡ true) × (b ≡ true)
@@ -55,10 +55,10 @@ suiting_answers (Error code) (OneHeader named) handle suit same range fits = ans
 suiting_answers reply expect handle suit same range fits = absurd suit
 
 -- what is sent and expected answers
-reply_answers : (expect : Expect) (sent : Sent) → IsReplyFor expect sent → AnswersExpected sent.reply expect (spelling sent.reply sent.handle)
-reply_answers expect sent meets =
-    let both = both_true (suits sent.reply expect) (has_handle sent.reply sent.handle (handle_of expect)) meets.expected in
-    suiting_answers sent.reply expect sent.handle (suits-true sent.reply expect both.0) both.1 meets.in_range.0 meets.in_range.1
+pub expected_answers : (expect : Expect) (sent : Sent) → IsSent (Some sent) → is_expected expect sent ≡ true → AnswersExpected sent.reply expect (spelling sent.reply sent.handle)
+expected_answers expect sent in_range expected =
+    let both = both_true (suits sent.reply expect) (has_handle sent.reply sent.handle (handle_of expect)) expected in
+    suiting_answers sent.reply expect sent.handle (suits-true sent.reply expect both.0) both.1 in_range.0 in_range.1
 
 -- a reply by the link's TRext is sent as the stream of its bits
 by_link_levels : (link : LinkValue) (sent : Sent) → sent.extended ≡ false → levels_of link sent ≡ stream_of (table_of link.code) link.trext (spelling sent.reply sent.handle)
@@ -70,10 +70,10 @@ pub whole_heard : (link : LinkValue) (expect : Expect) (replied : Replied) → I
 whole_heard link expect replied meets = record {
   bits = spelling replied.sent.reply replied.sent.handle;
   stream = by_link_levels link replied.sent meets.by_link;
-  answers = reply_answers expect replied.sent meets;
+  answers = expected_answers expect replied.sent meets.in_range meets.expected;
 }
 
-levels_least : (link : LinkValue) (sent : Sent) → 1 ≤ length (levels_of link sent)
+pub levels_least : (link : LinkValue) (sent : Sent) → 1 ≤ length (levels_of link sent)
 levels_least link sent = stream_least link.code (sent.extended || link.trext) (spelling sent.reply sent.handle)
 
 -- a reply that is given broken is no stream

@@ -2,7 +2,8 @@
 -- round and at both of its ends holds of the round; and what holds after each step holds of the run.
 use Rattle.std.proofs.Common.{◌≡◌, ℕ, zero, suc, ◌+◌, ◌≤◌, Bool, true, false, List, [], ◌∷◌, ◌++◌, length, None, refl, ap, sym, ◌∙◌, append_assoc, append-nil, arith}
 use Rattle.std.specs.List.{AllByRecursion}
-use Rattle.access_ops.specs.DialogueLaws.{Awaits, AwaitsReplies, dialogues-await}
+use Rattle.access_ops.specs.DialogueLaws.{AwaitsReplies, dialogues-await}
+use Rattle.access_ops.specs.OperationLaws.{Expects}
 use Rattle.access_ops.specs.Operations.{Dialogue, sends, tells, done, dialogue_of}
 use Rattle.access_ops.specs.declared.OpList.{OpList}
 use Rattle.access_ops.specs.declared.op_next.OpResult.{OpResult}
@@ -69,7 +70,7 @@ dialogue-holds During After start round slot each index done past holds = each.e
 
 -- what holds of a past, and each command of an operation and each result keeps
 pub record KeptByOperations (Holds : List Item → Type 0) (start : Start) (round slot : ℕ) : Type 0 where
-  pub command : (command : Command) (expect : Expect) (extended : Bool) (past : List Item) → Awaits command expect extended → Holds past
+  pub command : (command : Command) (expect : Expect) (extended : Bool) (past : List Item) → Expects command expect extended → Holds past
       → Holds (past_behind_command start round slot command past)
   pub result : (index : ℕ) (result : OpResult) (past : List Item) → Holds past → Holds (operated round slot index result ∷ past)
 

@@ -18,7 +18,7 @@ legal-select tags command is = absurd is
 few-operations : (operations : OpList) → operations ≡ no_operations → length operations.ops ≤ most_operations
 few-operations operations none = rw none (omega arith)
 
-legal-step : (tags : ℕ) (step : Step) → IsStep tags step → IsLegalStep step
+pub legal-step : (tags : ℕ) (step : Step) → IsStep tags step → IsLegalStep step
 legal-step tags (steps.Select command) is = legal-select tags command is
 legal-step tags steps.Nak is = tt
 legal-step tags (steps.Event event number) is = tt

@@ -1,7 +1,7 @@
 -- What came whole is listed once: the rounds and slots of ACKs rise along a history, so that each list line has its own.
 use Rattle.std.proofs.Common.{◌≡◌, ℕ, ◌+◌, ◌<◌, ◌==◌, ◌&&◌, Bool, true, false, ◌⊎◌, inl, inr, List, [], ◌∷◌, ◌++◌, length, map, filter, if◌then◌else◌, refl, ap, sym, ◌∙◌, subst, append-nil, arith, add-one, ne_eqb, eq-eqb}
 use Rattle.std.proofs.lemmas.List.Elements.{filter-append}
-use Rattle.access_ops.specs.DialogueLaws.{Awaits}
+use Rattle.access_ops.specs.OperationLaws.{Expects}
 use Rattle.access_ops.specs.declared.OpList.{OpList}
 use Rattle.air_channel.specs.Channel.{Given, whole}
 use Rattle.air_channel.specs.Exchange.{Replied}
@@ -47,9 +47,9 @@ select-no-ack (commands.Ack rn) is = absurd is
 select-no-ack command is = refl
 
 -- no command of an operation is an ACK
-pub awaits-no-ack : (command : Command) (expect : Expect) (extended : Bool) → Awaits command expect extended → is_ack command ≡ false
-awaits-no-ack (commands.Ack rn) expect extended awaits = absurd awaits
-awaits-no-ack command expect extended awaits = refl
+pub expects-no-ack : (command : Command) (expect : Expect) (extended : Bool) → Expects command expect extended → is_ack command ≡ false
+expects-no-ack (commands.Ack rn) expect extended suits = absurd suits
+expects-no-ack command expect extended suits = refl
 
 -- one round and slot come before another
 abbrev pub IsEarlier : (round slot later_round later_slot : ℕ) → Type 0
@@ -117,8 +117,8 @@ rise-answer start operations round slot reception past holds =
     answer-holds (Rise round (slot + 1)) start operations round slot reception past more
     (λ rn is. ack-keeps (Rise round (slot + 1)) start operations round slot rn past
     (record {
-      command = λ command expect extended now awaits rises.
-          rise-other round (slot + 1) (next_record start round slot command now) now (awaits-no-ack command expect extended awaits) rises;
+      command = λ command expect extended now suits rises.
+          rise-other round (slot + 1) (next_record start round slot command now) now (expects-no-ack command expect extended suits) rises;
       result = λ index result now rises. record { before = rises.before; rise = rises.rise };
     })
     (record {

@@ -1,6 +1,7 @@
 -- A history grows by what comes next alone, and stops where nothing does.
 use Rattle.std.proofs.Common.{◌≡◌, ℕ, zero, suc, ◌+◌, ◌<◌, ◌==◌, Bool, true, false, List, [], ◌∷◌, ◌++◌, length, map, Option, Some, None, slice_get, refl, ap, sym, ◌∙◌, subst, arith, add-one, ne_eqb, eq-eqb}
-use Rattle.access_ops.specs.DialogueLaws.{Awaits, AwaitsReplies}
+use Rattle.access_ops.specs.DialogueLaws.{AwaitsReplies}
+use Rattle.access_ops.specs.OperationLaws.{Expects}
 use Rattle.access_ops.specs.Operations.{Dialogue, sends, tells, done}
 use Rattle.access_ops.specs.declared.OpList.{OpList}
 use Rattle.air_channel.specs.Past.{Start, Record, Item, exchanged, operated, ended, next_record, past_behind_command, rounds_in}
@@ -11,7 +12,7 @@ use Rattle.air_world.specs.HistoryLaws.{finished_in, reception_of_slot, outcomes
 use Rattle.air_world.specs.declared.mode.Mode.TheVariants.{Plain}
 use Rattle.air_world.proofs.Growth.{RoundsKeepLimit, dialogue-holds, begun-awaits, answer-cases, next_at_end, round-holds}
 use Rattle.air_world.proofs.HeadlineLines.{and-true}
-use Rattle.air_world.proofs.HeadlineSlots.{Fresh, step-fresh, first-fresh, next-begins, awaits-begins-none}
+use Rattle.air_world.proofs.HeadlineSlots.{Fresh, step-fresh, first-fresh, next-begins, expects-begins-none}
 use Rattle.command_grammar.specs.declared.commands.Command.{Command}
 use Rattle.command_grammar.specs.declared.commands.Command.TheVariants as commands
 use Rattle.q_round.specs.SpecValue.{SpecValue, IsLegalSpec}
@@ -103,15 +104,15 @@ inside-exchange start all operations finished rounds outcomes received left now_
     }
 
 -- a command of an operation goes on with the dialogue
-goes-on : (start : Start) (operations : OpList) (sent : Record) (command : Command) (expect : Expect) (extended : Bool) (left : Dialogue) → Awaits command expect extended
+goes-on : (start : Start) (operations : OpList) (sent : Record) (command : Command) (expect : Expect) (extended : Bool) (left : Dialogue) → Expects command expect extended
     → dialogue_behind_exchange start operations sent command left ≡ dialogue_behind_record start sent left
-goes-on start operations sent (commands.Ack rn) expect extended left awaits = absurd awaits
-goes-on start operations sent command expect extended left awaits = refl
+goes-on start operations sent (commands.Ack rn) expect extended left suits = absurd suits
+goes-on start operations sent command expect extended left suits = refl
 
 -- ... and tells no result
-tells-none : (command : Command) (expect : Expect) (extended : Bool) (told : ℕ) → Awaits command expect extended → results_behind_exchange command told ≡ told
-tells-none (commands.Ack rn) expect extended told awaits = absurd awaits
-tells-none command expect extended told awaits = refl
+tells-none : (command : Command) (expect : Expect) (extended : Bool) (told : ℕ) → Expects command expect extended → results_behind_exchange command told ≡ told
+tells-none (commands.Ack rn) expect extended told suits = absurd suits
+tells-none command expect extended told suits = refl
 
 -- within a dialogue, whose next result has this number
 record InDialogue (start : Start) (all : List Step) (operations : OpList) (finished rounds : ℕ) (outcomes : List Outcome) (index : ℕ) (left : Dialogue) (past : List Item) : Type 0 where
@@ -128,16 +129,16 @@ inside-dialogue start all operations finished rounds outcomes slot index left pa
     (record {
       command = λ index command expect extended go_on now here.
           let sent = next_record start (rounds + 1) slot command now in
-          let awaits : Awaits command expect extended = here.awaits.0 in
+          let suits : Expects command expect extended = here.awaits.0 in
           record {
             inside = inside-exchange start all operations finished rounds outcomes None (sends command expect extended go_on)
-                (go_on (operation_reception start (rounds + 1) slot command expect extended now)) now sent refl (awaits-begins-none command expect extended awaits)
+                (go_on (operation_reception start (rounds + 1) slot command expect extended now)) now sent refl (expects-begins-none command expect extended suits)
                 (next-inside start all operations finished rounds outcomes None (sends command expect extended go_on) now spec at here.inside
                 ∙ ap (λ n. Some (exchanged (next_record start (rounds + 1) n command now))) count)
                 (ap (λ (dialogue : Dialogue). dialogue_behind_exchange start operations sent command dialogue) here.inside.left_is
-                ∙ goes-on start operations sent command expect extended (sends command expect extended go_on) awaits)
+                ∙ goes-on start operations sent command expect extended (sends command expect extended go_on) suits)
                 here.inside;
-            told_is = ap (λ n. n + 1) (tells-none command expect extended (results_told now) awaits) ∙ here.told_is;
+            told_is = ap (λ n. n + 1) (tells-none command expect extended (results_told now) suits) ∙ here.told_is;
             awaits = here.awaits.1 _;
           };
       result = λ index result later now here. record {

@@ -1,7 +1,7 @@
 -- How many slot commands a round has: at most its limit, as many as its line says, and no other round adds to them.
 use Rattle.std.proofs.Common.{◌≡◌, ◌≢◌, ℕ, suc, ◌+◌, ◌<◌, ◌≤◌, ◌==◌, ◌⊎◌, inl, inr, Bool, true, false, List, [], ◌∷◌, ◌++◌, length, filter, refl, ap, sym, ◌∙◌, subst, append-nil, arith, ne_eqb, eq-eqb}
 use Rattle.std.proofs.lemmas.List.Elements.{filter-append}
-use Rattle.access_ops.specs.DialogueLaws.{Awaits}
+use Rattle.access_ops.specs.OperationLaws.{Expects}
 use Rattle.access_ops.specs.declared.OpList.{OpList}
 use Rattle.access_ops.specs.declared.op_next.OpResult.{OpResult}
 use Rattle.air_channel.specs.Past.{Start, Record, Item, exchanged, operated, ended, next_record, past_behind_command, rounds_in}
@@ -62,14 +62,14 @@ same-result mode link of round slot index result past = record {
 }
 
 -- no command of an operation begins a slot
-pub awaits-begins-none : (command : Command) (expect : Expect) (extended : Bool) → Awaits command expect extended → begins_slot command ≡ false
-awaits-begins-none (commands.Query dr code trext sel session target q) expect extended awaits = absurd awaits
-awaits-begins-none (commands.QueryAdjust session updn) expect extended awaits = absurd awaits
-awaits-begins-none (commands.QueryRep session) expect extended awaits = absurd awaits
-awaits-begins-none command expect extended awaits = refl
+pub expects-begins-none : (command : Command) (expect : Expect) (extended : Bool) → Expects command expect extended → begins_slot command ≡ false
+expects-begins-none (commands.Query dr code trext sel session target q) expect extended suits = absurd suits
+expects-begins-none (commands.QueryAdjust session updn) expect extended suits = absurd suits
+expects-begins-none (commands.QueryRep session) expect extended suits = absurd suits
+expects-begins-none command expect extended suits = refl
 
-pub operation-begins-none : (of : ℕ) (sent : Record) (expect : Expect) (extended : Bool) → Awaits sent.command expect extended → begins_slot_of of sent ≡ false
-operation-begins-none of sent expect extended awaits = rw (awaits-begins-none sent.command expect extended awaits) refl
+pub operation-begins-none : (of : ℕ) (sent : Record) (expect : Expect) (extended : Bool) → Expects sent.command expect extended → begins_slot_of of sent ≡ false
+operation-begins-none of sent expect extended suits = rw (expects-begins-none sent.command expect extended suits) refl
 
 -- what follows a slot command in its slot adds nothing to any round
 pub same-answer : (mode : Mode) (link : LinkValue) (of : ℕ) (start : Start) (operations : OpList) (round slot : ℕ) (reception : Reception) (past : List Item)
@@ -77,9 +77,9 @@ pub same-answer : (mode : Mode) (link : LinkValue) (of : ℕ) (start : Start) (o
 same-answer mode link of start operations round slot reception past =
     answer-keeps (λ now. SameOf mode link of past now) start operations round slot reception past
     (record {
-      command = λ command expect extended now awaits same.
+      command = λ command expect extended now suits same.
           let sent = next_record start round slot command now in
-          same-on mode link of past now (exchanged sent ∷ now) same (same-sent mode link of sent now (operation-begins-none of sent expect extended awaits));
+          same-on mode link of past now (exchanged sent ∷ now) same (same-sent mode link of sent now (operation-begins-none of sent expect extended suits));
       result = λ index result now same.
           same-on mode link of past now (operated round slot index result ∷ now) same (same-result mode link of round slot index result now);
     })
@@ -104,7 +104,7 @@ pub slot-rounds : (start : Start) (operations : OpList) (round slot : ℕ) (comm
 slot-rounds start operations round slot command past =
     answer-keeps (λ now. rounds_in now ≡ rounds_in past) start operations round slot (slot_reception start round slot command past)
     (past_behind_command start round slot command past)
-    (record { command = λ command expect extended now awaits same. same; result = λ index result now same. same })
+    (record { command = λ command expect extended now suits same. same; result = λ index result now same. same })
     (λ rn same. same)
     refl
 

@@ -14,7 +14,7 @@ pub mod HeadlineSlots
 pub mod HeadlineTags
 pub mod LastLines
 pub mod Lines
-pub mod Moments
+pub mod Operating
 pub mod Rounds
 pub mod Sending
 pub mod Slots
