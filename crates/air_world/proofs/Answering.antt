@@ -7,6 +7,7 @@ use Rattle.air_channel.specs.Exchange.{Replied, tag_after_own_event, tag_after_e
 use Rattle.air_channel.specs.Reception.{has_handle, IsReplyFor, IsGivenFor}
 use Rattle.air_events.specs.declared.Entry.{Entry}
 use Rattle.air_events.specs.declared.Event.{Event}
+use Rattle.air_events.specs.declared.Several.{Several}
 use Rattle.air_channel.specs.ReceptionLaws.{given_of_sent}
 use Rattle.air_world.specs.Playing.{expectation_of}
 use Rattle.command_grammar.specs.declared.commands.Command.{Command}
@@ -116,8 +117,8 @@ replies-expected expect number (outcome ∷ outcomes) are =
     both-parts expect (reply_of number outcome.answer) (replies_from (number + 1) outcomes) (reply-expected expect number outcome.answer are.0) (replies-expected expect (number + 1) outcomes are.1)
 
 -- what the channel gives of the answers of legal tags is expected
-pub given-in-expected : (command : Command) (expect : Expect) (entry : Entry) (tags : List TagValue) → expectation_of command ≡ Some expect → AnswersByRow → SendsInRange → StaysLegal
-    → AreLegalTags tags → IsGivenFor expect (given_in command entry tags)
-given-in-expected command expect entry tags asked rows range stays legal =
-    given_of_sent (IsReplyFor expect) (replies_in command entry tags) entry.choice
+pub given-in-expected : (several : Several) (command : Command) (expect : Expect) (entry : Entry) (tags : List TagValue) → expectation_of command ≡ Some expect → AnswersByRow → SendsInRange → StaysLegal
+    → AreLegalTags tags → IsGivenFor expect (given_in several command entry tags)
+given-in-expected several command expect entry tags asked rows range stays legal =
+    given_of_sent (IsReplyFor expect) (replies_in command entry tags) entry.choice several
     (replies-expected expect 0 (outcomes_in command entry tags) (outcomes-expected 0 command expect entry tags asked rows range stays legal))

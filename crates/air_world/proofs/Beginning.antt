@@ -69,6 +69,7 @@ stands-first mode scenario first written before faults air run is fresh legal le
     names = scenario-names scenario is;
     mode = ap (λ (r : RunValue). r.mode) run_is;
     link = ap (λ (a : AirValue). a.link) fresh;
+    several = ap (λ (a : AirValue). a.several) fresh;
     tags = ap (λ (a : AirValue). a.tags) fresh ∙ sym (tags-before 0 (start_of scenario).tags);
     legal = legal;
     exchanges = ap (λ (a : AirValue). a.exchanges) fresh;
@@ -81,12 +82,13 @@ stands-first mode scenario first written before faults air run is fresh legal le
 
 -- there is room for all steps
 pub told-first : (mode : Mode) (scenario : Scenario) (first written : Option (List ℕ)) (before faults : ℕ) (air : AirValue) (run : RunValue) → IsScenario scenario
-    → StandsAt (origin_of mode scenario first before) [] air run written faults → IsTold (140002 * length scenario.steps) air run written faults
+    → StandsAt (origin_of mode scenario first before) [] air run written faults → IsTold (length scenario.steps) air run written faults
 told-first mode scenario first written before faults air run is stands = record {
   origin = origin_of mode scenario first before;
   past = [];
   stands = stands;
   room = omega (arith, is.few_steps);
+  rounds = omega (arith, is.few_steps);
 }
 
 pub steps-legal : (scenario : Scenario) (air : AirValue) → IsScenario scenario → air ≡ new_air (start_of scenario) → All (IsStep (length air.tags)) scenario.steps

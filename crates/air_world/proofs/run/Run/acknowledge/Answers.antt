@@ -1,6 +1,6 @@
 use Rattle.std.proofs.Common.{◌≡◌, [], ◌∷◌, Some, None, sym, ◌∙◌, ap, map}
 use Rattle.air_channel.specs.Past.{Record, next_record}
-use Rattle.air_channel.specs.Reception.{Reception}
+use Rattle.reply_grammar.specs.Reception.{Reception}
 use Rattle.air_world.proofs.Slots.{cut-exchanged, cut-listed, count-fits, stands-unlisted, stands-listed, whole-listed, other-unlisted, plays-listed, ok-both, err-each}
 use Rattle.air_world.proofs.Writing.{err-kept}
 use Rattle.air_world.specs.Heard.{heard_reception, pair_in}
@@ -14,12 +14,12 @@ pub returns-in_err-ask-clause-err : goal.returns-in_err-ask-clause-err
 returns-in_err-ask-clause-err g c = λ origin past stands.
     let sent : Record = next_record origin.start c.args.round c.args.slot (commands.Ack c.args.rn) past in
     err-kept c.from_residual.result _ origin _ _ _ c.from_residual.ensures.1
-    (cut-exchanged origin sent past _ _ _ (c.in_err-ask.ensures.err origin past c.args.round c.args.slot (past_text origin past) stands.plays stands.text))
+    (cut-ack origin c.args.operations.now c.args.round c.args.slot c.args.rn past _ _ _ (cut-exchanged origin sent past _ _ _ (c.in_err-ask.ensures.err origin past c.args.round c.args.slot (past_text origin past) stands.plays stands.text))
 
 pub list-requires : goal.list-requires
 list-requires g c =
-    let r = c.requires in
-    count-fits r.origin r.past c.args.air.now c.ask.new.self _ (c.ask.ensures.seen ∙ r.seen) r.room
+    let r = c.requires.underway in
+    count-fits r.origin r.past c.args.air.now c.ask.new.self _ (c.ask.ensures.seen ∙ r.seen) (some-room r.past 129 r.room)
 
 pub returns-in-None-clause-ok : goal.returns-in-None-clause-ok
 returns-in-None-clause-ok g c = λ origin past stands.
