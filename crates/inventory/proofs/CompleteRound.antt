@@ -1,12 +1,13 @@
 -- What an honest round says of the tags that it lists, in the history of a run.
-use Rattle.std.proofs.Common.{◌≡◌, ℕ, ◌+◌, ◌≤◌, ◌==◌, ◌&&◌, not, Bool, true, false, ◌⊎◌, inl, inr, List, [], ◌∷◌, ◌++◌, length, Option, Some, None, slice_get, if◌then◌else◌, refl, ap, sym, ◌∙◌, subst, append-nil, arith, add-one, eq-eqb}
+use Rattle.std.proofs.Common.{◌≡◌, ℕ, zero, suc, ◌+◌, ◌≤◌, ◌==◌, ◌&&◌, not, Bool, true, false, ◌⊎◌, inl, inr, List, [], ◌∷◌, ◌++◌, length, Option, Some, None, slice_get, if◌then◌else◌, refl, ap, sym, ◌∙◌, subst, append-nil, arith, add-one, eq-eqb}
 use Rattle.access_ops.specs.declared.OpList.{OpList}
 use Rattle.air_channel.specs.Past.{Start, Item, ended, tag_behind, rounds_in}
+use Rattle.air_events.specs.declared.Several.TheVariants as severals
 use Rattle.air_world.specs.Headline.{AreLegalSteps, rounds_of}
 use Rattle.air_world.specs.History.{past_behind_round, past_behind_step, past_behind, history_of}
 use Rattle.inventory.specs.Complete.{HasNumber, IsMatchedTag, ListsNoTagTwice, StepsFlags, IsQuietComplete, EndsByLimit, CompleteInventory}
 use Rattle.inventory.specs.Counted.{is_spoken_to, CountedRound}
-use Rattle.inventory.specs.Honest.{IsHonest}
+use Rattle.inventory.specs.Honest.{IsHonest, IsApart}
 use Rattle.inventory.specs.Listed.{is_of_round, is_of_slot, tags_listed_in, tags_listed_in_slot, times}
 use Rattle.inventory.specs.Moments.{Ending, ending_of, past_after_query, tag_after_query, is_matched_in, flags_after_query}
 use Rattle.inventory.specs.TagAtEnd.{StandsAtQuiet, StandsAtEnd, IsListedOnce}
@@ -15,7 +16,8 @@ use Rattle.inventory.proofs.Others.{AllRecords, records-at, records-behind, reco
 use Rattle.inventory.proofs.Standing.{StepsFlagsOf, StandsNext, known-once}
 use Rattle.inventory.proofs.TagEnds.{listed-once, quiet-stands, end-stands}
 use Rattle.inventory.proofs.Times.{bit}
-use Rattle.inventory.proofs.WholeRound.{IsUnsaid, past_at_query, round-test, slot-test, IsOver, round-stands}
+use Rattle.inventory.proofs.Totals.{as-many-listed}
+use Rattle.inventory.proofs.WholeRound.{IsFairIn, past_at_query, round-test, slot-test, IsOver, round-stands}
 use Rattle.pie_line.specs.Link.{LinkValue}
 use Rattle.q_round.specs.RoundFacts.{RoundFacts}
 use Rattle.q_round.specs.RoundLaws.{IsSilentFrame}
@@ -115,6 +117,12 @@ matched-either : (first : TagValue) (listed listed_now : Bool) → IsListedOnce 
 matched-either first listed listed_now once (inl is) = once.matched is
 matched-either first listed listed_now once (inr is) = once.matched_now is
 
+-- no tag has a number past the last
+past-the-end : (tags : List TagValue) (number : ℕ) → length tags ≤ number → slice_get tags number ≡ None
+past-the-end [] number above = refl
+past-the-end (tag ∷ tags) zero above = absurd (omega arith)
+past-the-end (tag ∷ tags) (suc number) above = past-the-end tags number (omega arith)
+
 abbrev ending_with : RoundEnd → ℕ → List Item → Ending
 ending_with end slots past = record { end = end; slots = slots; past = past }
 
@@ -166,6 +174,11 @@ module _ (start : Start) (spec : SpecValue) (round : ℕ) (history : List Item) 
     matched = matched-either (tag_after_query round history number tag) (by.listed number) (by.listed_now number) (single number tag numbered)
         (some-bit (by.listed number) (by.listed_now number) (subst (λ n. 1 ≤ n) (by.count number) some));
   }
+
+  strangers-unlisted : (number : ℕ) → slice_get start.tags number ≡ None → times number (tags_listed_in round history) ≡ 0
+  strangers-unlisted number none =
+      let (first, second) = by.strangers number none in
+      by.count number ∙ ap (λ (b : Bool). bit b + bit (by.listed_now number)) first ∙ ap (λ (b : Bool). bit false + bit b) second ∙ omega arith
 
   few-times : (number : ℕ) → times number (tags_listed_in round history) ≤ 1
   few-times number = subst (λ n. n ≤ 1) (sym (by.count number)) (few-bits (by.listed number) (by.listed_now number) (by.once number))
@@ -243,6 +256,10 @@ module _ (start : Start) (spec : SpecValue) (round : ℕ) (history : List Item) 
       complete = λ number tag numbered quiet spoken.
           (quiet-complete quiet).listed number tag numbered
           ∙ ap (λ (b : Bool). if b then 1 else 0) (by.spoken number tag numbered ∙ spoken);
+      as_many = λ quiet.
+          as-many-listed start spec round history (tags_listed_in round history)
+          (λ number tag numbered. (quiet-complete quiet).listed number tag numbered ∙ ap (λ (b : Bool). if b then 1 else 0) (by.spoken number tag numbered))
+          (λ number above. strangers-unlisted number (past-the-end start.tags number above));
       flags = λ number tag numbered.
           (by.tags number tag numbered).body.flags
           ∙ ap (λ (b : Bool). flags_in_round spec.session b (flags_after_query round history number tag))
@@ -276,11 +293,11 @@ record IsTold (start : Start) (spec : SpecValue) (round : ℕ) (history : List I
   now : List Item
   by : IsToldBy start spec round history end outcome earlier now
 
-told-behind : (start : Start) (spec : SpecValue) (round : ℕ) (before later behind : List Item) → AreOfOthers round later → AllRecords (IsUnsaid round) (later ++ behind)
+told-behind : (start : Start) (spec : SpecValue) (round : ℕ) (before later behind : List Item) → AreOfOthers round later → AllRecords (IsFairIn start round) (later ++ behind)
     → IsOver start spec round before behind → IsTold start spec round (later ++ behind)
 told-behind start spec round before later behind others unsaid over =
     let whole = ended round over.end (length (over.outcome ∷ over.earlier)) ∷ over.now in
-    let unsaid_now : AllRecords (IsUnsaid round) over.now = records-behind (IsUnsaid round) later whole (subst (λ (items : List Item). AllRecords (IsUnsaid round) (later ++ items)) over.is unsaid) in
+    let unsaid_now : AllRecords (IsFairIn start round) over.now = records-behind (IsFairIn start round) later whole (subst (λ (items : List Item). AllRecords (IsFairIn start round) (later ++ items)) over.is unsaid) in
     record {
       end = over.end;
       outcome = over.outcome;
@@ -293,12 +310,13 @@ told-behind start spec round before later behind others unsaid over =
 history-told : RoundsKeepLimit → RoundsHaveFacts → (start : Start) (before after : List Step) (spec : SpecValue) (operations : OpList)
     → AreLegalSteps (before ++ steps.Round spec operations ∷ after)
     → IsHonest (history_of start (before ++ steps.Round spec operations ∷ after)) (rounds_of before + 1) operations
+    → (start.several ≡ severals.Capture → IsApart (history_of start (before ++ steps.Round spec operations ∷ after)) (rounds_of before + 1))
     → IsTold start spec (rounds_of before + 1) (history_of start (before ++ steps.Round spec operations ∷ after))
-history-told keeps facts start before after spec operations legal honest =
+history-told keeps facts start before after spec operations legal honest apart =
     let history = history_of start (before ++ steps.Round spec operations ∷ after) in
     let (legal_before, legal_after) = legal-split before (steps.Round spec operations ∷ after) legal in
     let past = past_behind start before [] in
-    let behind = past_behind_round start spec past in
+    let behind = past_behind_round start operations spec past in
     let first : Adds [] past (rounds_of before) = steps-add keeps start before [] legal_before in
     let own : Adds past behind 1 = step-adds keeps start (steps.Round spec operations) past legal_after.0 in
     let rest : Adds behind (past_behind start after behind) (rounds_of after) = steps-add keeps start after behind legal_after.1 in
@@ -311,31 +329,40 @@ history-told keeps facts start before after spec operations legal honest =
     of-others (rounds_in behind) (rounds_in behind + rounds_of after) round rest.own (omega arith) (inl (omega (arith, own.rounds_are))) rest.of in
     let here : history ≡ rest.own ++ behind = past_behind-append start before (steps.Round spec operations ∷ after) [] ∙ rest.is in
     let same_round : rounds_of before + 1 ≡ round = ap (λ n. n + 1) (sym count) in
-    let unsaid : AllRecords (IsUnsaid (rounds_of before + 1)) history = records-all (IsUnsaid (rounds_of before + 1)) history honest.unsaid in
+    let fair : AllRecords (IsFairIn start (rounds_of before + 1)) history =
+    records-all (IsFairIn start (rounds_of before + 1)) history
+    (λ sent earlier recorded same. record {
+      unsaid = honest.unsaid sent earlier recorded same;
+      apart = λ captures begins. (apart captures).apart sent earlier recorded same begins;
+    }) in
     subst (λ n. IsTold start spec n history) (sym same_round)
     (subst (λ (items : List Item). IsTold start spec round items) (sym here)
     (told-behind start spec round past rest.own behind none_behind
-    (subst (AllRecords (IsUnsaid round)) here (subst (λ n. AllRecords (IsUnsaid n) history) same_round unsaid))
-    (round-stands start spec past (keeps spec legal_after.0) (facts spec start.link legal_after.0) none_before)))
+    (subst (AllRecords (IsFairIn start round)) here (subst (λ n. AllRecords (IsFairIn start n) history) same_round fair))
+    (round-stands start operations spec past (keeps spec legal_after.0.legal) (facts spec start.link legal_after.0.legal) honest.no_operations none_before)))
 
 pub complete-inventory : RoundsKeepLimit → RoundsHaveFacts → (start : Start) (taken before after : List Step) (spec : SpecValue) (operations : OpList)
     → AreLegalSteps taken → taken ≡ before ++ steps.Round spec operations ∷ after → IsHonest (history_of start taken) (rounds_of before + 1) operations
+    → (start.several ≡ severals.Capture → IsApart (history_of start taken) (rounds_of before + 1))
     → CompleteInventory start (history_of start taken) (rounds_of before + 1) spec.session
-complete-inventory keeps facts start taken before after spec operations legal is honest =
+complete-inventory keeps facts start taken before after spec operations legal is honest apart =
     let all = before ++ steps.Round spec operations ∷ after in
     let round : ℕ = rounds_of before + 1 in
     let told = history-told keeps facts start before after spec operations (subst AreLegalSteps is legal)
-    (subst (λ (s : List Step). IsHonest (history_of start s) round operations) is honest) in
+    (subst (λ (s : List Step). IsHonest (history_of start s) round operations) is honest)
+    (λ captures. subst (λ (s : List Step). IsApart (history_of start s) round) is (apart captures)) in
     subst (λ (s : List Step). CompleteInventory start (history_of start s) round spec.session) (sym is)
     (told-complete start spec round (history_of start all) told.end told.outcome told.earlier told.now told.by)
 
 pub counted-round : RoundsKeepLimit → RoundsHaveFacts → (start : Start) (taken before after : List Step) (spec : SpecValue) (operations : OpList)
     → AreLegalSteps taken → taken ≡ before ++ steps.Round spec operations ∷ after → IsHonest (history_of start taken) (rounds_of before + 1) operations
+    → (start.several ≡ severals.Capture → IsApart (history_of start taken) (rounds_of before + 1))
     → CountedRound start (history_of start taken) (rounds_of before + 1) spec
-counted-round keeps facts start taken before after spec operations legal is honest =
+counted-round keeps facts start taken before after spec operations legal is honest apart =
     let all = before ++ steps.Round spec operations ∷ after in
     let round : ℕ = rounds_of before + 1 in
     let told = history-told keeps facts start before after spec operations (subst AreLegalSteps is legal)
-    (subst (λ (s : List Step). IsHonest (history_of start s) round operations) is honest) in
+    (subst (λ (s : List Step). IsHonest (history_of start s) round operations) is honest)
+    (λ captures. subst (λ (s : List Step). IsApart (history_of start s) round) is (apart captures)) in
     subst (λ (s : List Step). CountedRound start (history_of start s) round spec) (sym is)
     (told-counted start spec round (history_of start all) told.end told.outcome told.earlier told.now told.by)

@@ -5,17 +5,21 @@ use Rattle.air_channel.specs.Air.{given_in}
 use Rattle.air_channel.specs.Channel.{Given, whole, default_given}
 use Rattle.air_channel.specs.Exchange.{Replied}
 use Rattle.air_channel.specs.Past.{Start, Item, tags_behind, next_entry, next_record}
-use Rattle.air_channel.specs.Reception.{Reception, whole_reply, no_such_reply, is_expected, reception_of}
+use Rattle.air_channel.specs.Reception.{is_expected, reception_of}
+use Rattle.reply_grammar.specs.Reception.{Reception, whole_reply, no_such_reply}
 use Rattle.air_events.specs.Entries.{no_entry}
 use Rattle.air_events.specs.declared.Entry.{Entry}
+use Rattle.air_events.specs.declared.Several.{Several}
+use Rattle.air_events.specs.declared.Several.TheVariants as severals
 use Rattle.air_world.specs.History.{outcome_of, slot_reception}
 use Rattle.air_world.specs.Listing.{listed_from}
 use Rattle.command_grammar.specs.declared.commands.Command.{Command}
 use Rattle.command_grammar.specs.declared.commands.Command.TheVariants as commands
 use Rattle.inventory.specs.Complete.{HasNumber}
+use Rattle.inventory.specs.Honest.{AreApart}
 use Rattle.inventory.specs.Listed.{sender_where, sender_listed_by}
 use Rattle.inventory.specs.TagInRound.{slot_answer_of, is_acknowledged_by}
-use Rattle.inventory.proofs.Population.{answer_behind, Among, reply_by, replies_behind, answer-replied, IsAnswerer, replied-answerer}
+use Rattle.inventory.proofs.Population.{answer_behind, Among, reply_by, replies_behind, contains-of, answer-replied, IsAnswerer, replied-answerer}
 use Rattle.q_round.specs.declared.frame.Outcome.TheVariants as outcomes
 use Rattle.reply_grammar.specs.declared.expected.Expect.TheVariants as expects
 use Rattle.reply_grammar.specs.declared.expected.Reply.{Reply}
@@ -26,39 +30,60 @@ use Rattle.tag_machine.specs.TagValue.{TagValue, StateValue, BodyValue, ReadySta
 
 -- where nothing is said of an exchange, the channel goes by its default
 pub slot-heard : (start : Start) (round slot : ℕ) (command : Command) (past : List Item) (reception : Reception) → next_entry start past ≡ no_entry
-    → slot_reception start round slot command past ≡ reception → reception_of expects.Rn16 (default_given (replies_behind 0 command start.tags past)) ≡ reception
+    → slot_reception start round slot command past ≡ reception → reception_of expects.Rn16 (default_given start.several (replies_behind 0 command start.tags past)) ≡ reception
 slot-heard start round slot command past reception unsaid is =
-    sym (ap (λ (entry : Entry). reception_of expects.Rn16 (given_in command entry (tags_behind start past))) unsaid) ∙ is
+    sym (ap (λ (entry : Entry). reception_of expects.Rn16 (given_in start.several command entry (tags_behind start past))) unsaid) ∙ is
 
 pub given-by-default : (start : Start) (round slot : ℕ) (command : Command) (past : List Item) → next_entry start past ≡ no_entry
-    → (next_record start round slot command past).given ≡ default_given (replies_behind 0 command start.tags past)
-given-by-default start round slot command past unsaid = ap (λ (entry : Entry). given_in command entry (tags_behind start past)) unsaid
+    → (next_record start round slot command past).given ≡ default_given start.several (replies_behind 0 command start.tags past)
+given-by-default start round slot command past unsaid = ap (λ (entry : Entry). given_in start.several command entry (tags_behind start past)) unsaid
 
 one-not-silent : (expected : Bool) (reply : Reply) → outcome_of (if expected then whole_reply reply else no_such_reply) ≡ outcomes.Silence → ⊥
 one-not-silent true reply is = absurd (cc)
 one-not-silent false reply is = absurd (cc)
 
 -- silence is heard only where there is no reply
-pub silent-none : (all : List Replied) → outcome_of (reception_of expects.Rn16 (default_given all)) ≡ outcomes.Silence → all ≡ []
-silent-none [] is = refl
-silent-none (one ∷ []) is = absurd (one-not-silent (is_expected expects.Rn16 one.sent) one.sent.reply is)
-silent-none (one ∷ other ∷ others) is = absurd (cc)
+pub silent-none : (several : Several) (all : List Replied) → outcome_of (reception_of expects.Rn16 (default_given several all)) ≡ outcomes.Silence → all ≡ []
+silent-none several [] is = refl
+silent-none several (one ∷ []) is = absurd (one-not-silent (is_expected expects.Rn16 one.sent) one.sent.reply is)
+silent-none severals.Break (one ∷ other ∷ others) is = absurd (cc)
+silent-none severals.Capture (one ∷ other ∷ others) is = absurd (one-not-silent (is_expected expects.Rn16 one.sent) one.sent.reply is)
 
--- one reply, and it has this RN16
+-- one of the replies, which alone has this RN16
 pub record IsOneReply (all : List Replied) (rn : ℕ) : Type 0 where
   pub replied : Replied
-  pub alone : all ≡ replied ∷ []
+  pub among : Among replied all
   pub reply : replied.sent.reply ≡ replies.Rn16 rn
+  pub only : (other : Replied) → Among other all → other.sent.reply ≡ replies.Rn16 rn → other.number ≡ replied.number
 
 whole-one : (expected : Bool) (reply : Reply) (rn : ℕ) → (if expected then whole_reply reply else no_such_reply) ≡ whole_reply (replies.Rn16 rn) → reply ≡ replies.Rn16 rn
 whole-one true reply rn is = cc
 whole-one false reply rn is = absurd (cc)
 
--- an RN16 is heard whole only where there is one reply
-pub heard-one : (all : List Replied) (rn : ℕ) → reception_of expects.Rn16 (default_given all) ≡ whole_reply (replies.Rn16 rn) → IsOneReply all rn
-heard-one [] rn is = absurd (cc)
-heard-one (one ∷ []) rn is = record { replied = one; alone = refl; reply = whole-one (is_expected expects.Rn16 one.sent) one.sent.reply rn is }
-heard-one (one ∷ other ∷ others) rn is = absurd (cc)
+alone-same : (one other : Replied) → Among other (one ∷ []) → other.number ≡ one.number
+alone-same one other (inl is) = ap (λ (r : Replied). r.number) (sym is)
+alone-same one other (inr none) = absurd none
+
+-- An RN16 is heard whole only where one tag replied, or where one of several is captured; then the others sent other RN16s.
+pub heard-one : (several : Several) (all : List Replied) (rn : ℕ) → (several ≡ severals.Capture → AreApart all)
+    → reception_of expects.Rn16 (default_given several all) ≡ whole_reply (replies.Rn16 rn) → IsOneReply all rn
+heard-one several [] rn apart is = absurd (cc)
+heard-one several (one ∷ []) rn apart is = record {
+  replied = one;
+  among = inl refl;
+  reply = whole-one (is_expected expects.Rn16 one.sent) one.sent.reply rn is;
+  only = λ other among same. alone-same one other among;
+}
+heard-one severals.Break (one ∷ other ∷ others) rn apart is = absurd (cc)
+heard-one severals.Capture (one ∷ other ∷ others) rn apart is =
+    let all = one ∷ other ∷ others in
+    let reply : one.sent.reply ≡ replies.Rn16 rn = whole-one (is_expected expects.Rn16 one.sent) one.sent.reply rn is in
+    record {
+      replied = one;
+      among = inl refl;
+      reply = reply;
+      only = λ second among same. apart refl second one (contains-of second all among) (contains-of one all (inl refl)) (same ∙ sym reply);
+    }
 
 answers-none : (start : Start) (command : Command) (past : List Item) (number : ℕ) (tag : TagValue) (answer : Option Sent)
     → replies_behind 0 command start.tags past ≡ [] → HasNumber start number tag → answer_behind command past number tag ≡ answer → answer ≡ None
@@ -87,15 +112,9 @@ pub record IsOnlyAnswerer (start : Start) (command : Command) (past : List Item)
   pub only : (other : ℕ) (tag : TagValue) (sent : Sent) → HasNumber start other tag → answer_behind command past other tag ≡ Some sent
       → sent.reply ≡ replies.Rn16 rn → other ≡ number
 
-alone-same : (one : Replied) (number : ℕ) (sent : Sent) → Among (reply_by number sent) (one ∷ []) → number ≡ one.number
-alone-same one number sent (inl is) = ap (λ (r : Replied). r.number) (sym is)
-alone-same one number sent (inr none) = absurd none
-
 pub one-answerer : (start : Start) (command : Command) (past : List Item) (rn : ℕ) → IsOneReply (replies_behind 0 command start.tags past) rn → IsOnlyAnswerer start command past rn
 one-answerer start command past rn one =
-    let all = replies_behind 0 command start.tags past in
-    let by : IsAnswerer command past 0 start.tags one.replied =
-    replied-answerer command past 0 start.tags one.replied (subst (λ (all : List Replied). Among one.replied all) (sym one.alone) (inl refl)) in
+    let by : IsAnswerer command past 0 start.tags one.replied = replied-answerer command past 0 start.tags one.replied one.among in
     record {
       number = one.replied.number;
       tag = by.tag;
@@ -105,9 +124,8 @@ one-answerer start command past rn one =
       reply = one.reply;
       only = λ other tag sent numbered answered same.
           let here : 0 + other ≡ other = omega arith in
-          let among : Among (reply_by (0 + other) sent) all =
-          answer-replied command past 0 start.tags other tag sent numbered (subst (λ n. answer_behind command past n tag ≡ Some sent) (sym here) answered) in
-          sym here ∙ alone-same one.replied (0 + other) sent (subst (λ (all : List Replied). Among (reply_by (0 + other) sent) all) one.alone among);
+          sym here ∙ one.only (reply_by (0 + other) sent)
+          (answer-replied command past 0 start.tags other tag sent numbered (subst (λ n. answer_behind command past n tag ≡ Some sent) (sym here) answered)) same;
     }
 
 abbrev rn16_sent : ℕ → Sent
@@ -186,5 +204,5 @@ pub ack-lists : (start : Start) (round slot rn : ℕ) (past : List Item) (number
     → sender_listed_by (next_record start round slot (commands.Ack rn) past) ≡ number ∷ []
 ack-lists start round slot rn past number body unsaid alone =
     let sent = next_record start round slot (commands.Ack rn) past in
-    let given : sent.given ≡ whole (reply_by number (epc_sent body)) = given-by-default start round slot (commands.Ack rn) past unsaid ∙ ap default_given alone in
+    let given : sent.given ≡ whole (reply_by number (epc_sent body)) = given-by-default start round slot (commands.Ack rn) past unsaid ∙ ap (λ (all : List Replied). default_given start.several all) alone in
     ap (λ (given : Given). sender_where (listed_from sent (reception_of expects.Epc given)) given) given

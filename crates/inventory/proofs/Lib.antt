@@ -9,5 +9,6 @@ pub mod TagEnds
 pub mod TagQuery
 pub mod TagSteps
 pub mod Times
+pub mod Totals
 pub mod Turns
 pub mod WholeRound

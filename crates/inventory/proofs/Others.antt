@@ -1,6 +1,7 @@
 -- What steps add to a past: items of rounds that came before or come behind. Nothing of it is of the round between.
 use Rattle.std.proofs.Common.{◌≡◌, ◌≢◌, ℕ, ◌+◌, ◌<◌, ◌≤◌, ◌==◌, ◌&&◌, ◌⊎◌, inl, inr, Bool, true, false, List, [], ◌∷◌, ◌++◌, length, Some, if◌then◌else◌, refl, ap, sym, ◌∙◌, subst, append_assoc, append-nil, arith, ne_eqb}
-use Rattle.air_channel.specs.Past.{Start, Record, Item, befell, exchanged, ended, next_record, past_behind_command, rounds_in}
+use Rattle.access_ops.specs.declared.OpList.{OpList}
+use Rattle.air_channel.specs.Past.{Start, Record, Item, befell, exchanged, operated, ended, next_record, past_behind_command, rounds_in}
 use Rattle.air_world.specs.Headline.{IsLegalStep, AreLegalSteps, IsRecordOf, rounds_of}
 use Rattle.air_world.specs.History.{past_behind_round, past_behind_step, past_behind}
 use Rattle.command_grammar.specs.declared.commands.Command.{Command}
@@ -17,6 +18,7 @@ abbrev pub AllRecords : (Record → List Item → Type 0) → List Item → Type
 AllRecords P [] = Unit {0}
 AllRecords P (befell event number ∷ past) = AllRecords P past
 AllRecords P (exchanged sent ∷ past) = P sent past × AllRecords P past
+AllRecords P (operated at slot index result ∷ past) = AllRecords P past
 AllRecords P (ended round end slots ∷ past) = AllRecords P past
 
 -- ... and so of one that is named
@@ -24,12 +26,14 @@ pub records-at : (P : Record → List Item → Type 0) (later : List Item) (sent
 records-at P [] sent earlier all = all.0
 records-at P (befell event number ∷ later) sent earlier all = records-at P later sent earlier all
 records-at P (exchanged other ∷ later) sent earlier all = records-at P later sent earlier all.1
+records-at P (operated at slot index result ∷ later) sent earlier all = records-at P later sent earlier all
 records-at P (ended round end slots ∷ later) sent earlier all = records-at P later sent earlier all
 
 pub records-behind : (P : Record → List Item → Type 0) (later past : List Item) → AllRecords P (later ++ past) → AllRecords P past
 records-behind P [] past all = all
 records-behind P (befell event number ∷ later) past all = records-behind P later past all
 records-behind P (exchanged other ∷ later) past all = records-behind P later past all.1
+records-behind P (operated at slot index result ∷ later) past all = records-behind P later past all
 records-behind P (ended round end slots ∷ later) past all = records-behind P later past all
 
 later-record : (item : Item) (past : List Item) (sent : Record) (earlier : List Item) → IsRecordOf past sent earlier → IsRecordOf (item ∷ past) sent earlier
@@ -42,6 +46,7 @@ records-all P (exchanged other ∷ past) each = (
   each other past (record { later = []; is = refl }),
   records-all P past (λ sent earlier recorded. each sent earlier (later-record (exchanged other) past sent earlier recorded)),
 )
+records-all P (operated at slot index result ∷ past) each = records-all P past (λ sent earlier recorded. each sent earlier (later-record (operated at slot index result) past sent earlier recorded))
 records-all P (ended round end slots ∷ past) each =
     records-all P past (λ sent earlier recorded. each sent earlier (later-record (ended round end slots) past sent earlier recorded))
 
@@ -54,6 +59,7 @@ abbrev pub AreBetween : ℕ → ℕ → List Item → Type 0
 AreBetween first last [] = Unit {0}
 AreBetween first last (befell event number ∷ items) = AreBetween first last items
 AreBetween first last (exchanged sent ∷ items) = IsBetween first last sent.round × AreBetween first last items
+AreBetween first last (operated at slot index result ∷ items) = AreBetween first last items
 AreBetween first last (ended round end slots ∷ items) = IsBetween first last round × AreBetween first last items
 
 is-between-wider : (a b c d round : ℕ) → c ≤ a → b ≤ d → IsBetween a b round → IsBetween c d round
@@ -64,12 +70,14 @@ between-wider : (a b c d : ℕ) (items : List Item) → c ≤ a → b ≤ d → 
 between-wider a b c d [] low high are = tt
 between-wider a b c d (befell event number ∷ items) low high are = between-wider a b c d items low high are
 between-wider a b c d (exchanged sent ∷ items) low high are = (is-between-wider a b c d sent.round low high are.0, between-wider a b c d items low high are.1)
+between-wider a b c d (operated at slot index result ∷ items) low high are = between-wider a b c d items low high are
 between-wider a b c d (ended round end slots ∷ items) low high are = (is-between-wider a b c d round low high are.0, between-wider a b c d items low high are.1)
 
 between-append : (a b : ℕ) (left right : List Item) → AreBetween a b left → AreBetween a b right → AreBetween a b (left ++ right)
 between-append a b [] right of_left of_right = of_right
 between-append a b (befell event number ∷ left) right of_left of_right = between-append a b left right of_left of_right
 between-append a b (exchanged sent ∷ left) right of_left of_right = (of_left.0, between-append a b left right of_left.1 of_right)
+between-append a b (operated at slot index result ∷ left) right of_left of_right = between-append a b left right of_left of_right
 between-append a b (ended round end slots ∷ left) right of_left of_right = (of_left.0, between-append a b left right of_left.1 of_right)
 
 -- what was added to a past ended so many rounds, and is of those rounds or of none
@@ -109,15 +117,22 @@ adds-command start past now slot command within = record {
   of = (inr (omega arith, omega arith), within.of);
 }
 
-round-adds : (start : Start) (spec : SpecValue) (past : List Item) → HasFewOutcomes spec → Adds past (past_behind_round start spec past) 1
-round-adds start spec past few =
+round-adds : (start : Start) (operations : OpList) (spec : SpecValue) (past : List Item) → HasFewOutcomes spec → Adds past (past_behind_round start operations spec past) 1
+round-adds start operations spec past few =
     let round : ℕ = rounds_in past + 1 in
-    round-holds (λ outcomes now. AddsWithin past now) (λ outcomes sent now. AddsWithin past (exchanged sent ∷ now)) (λ now. Adds past now 1) start spec past few
+    round-holds (λ outcomes now. AddsWithin past now) (λ outcomes sent now. AddsWithin past (exchanged sent ∷ now)) (λ now. Adds past now 1) start operations spec past few
     (record {
       slot = λ outcomes now command are is within. adds-command start past now (length outcomes + 1) command within;
       no_answer = λ outcomes now command reception heard none within. within;
       ack = λ outcomes now command rn heard within.
           adds-command start past (past_behind_command start round (length outcomes + 1) command now) (length outcomes + 1) (commands.Ack rn) within;
+      operation = λ some outcomes now command within. adds-command start past now (length outcomes + 1) command within;
+      result = λ some outcomes now index result within. record {
+        own = operated round (length outcomes + 1) index result ∷ within.own;
+        is = ap (λ (items : List Item). operated round (length outcomes + 1) index result ∷ items) within.is;
+        rounds_are = within.rounds_are;
+        of = within.of;
+      };
       end = λ outcomes now end are is within. record {
         own = ended round end (length outcomes) ∷ within.own;
         is = ap (λ (items : List Item). ended round end (length outcomes) ∷ items) within.is;
@@ -150,7 +165,7 @@ step-adds keeps start (steps.Event event number) past legal = record {
   rounds_are = omega arith;
   of = tt;
 }
-step-adds keeps start (steps.Round spec operations) past legal = round-adds start spec past (keeps spec legal)
+step-adds keeps start (steps.Round spec operations) past legal = round-adds start operations spec past (keeps spec legal.legal)
 
 rounds_of-more : (step : Step) (later : List Step) → rounds_of (step ∷ later) ≡ rounds_of (step ∷ []) + rounds_of later
 rounds_of-more (steps.Select command) later = omega arith
@@ -171,6 +186,7 @@ abbrev pub AreOfOthers : ℕ → List Item → Type 0
 AreOfOthers round [] = Unit {0}
 AreOfOthers round (befell event number ∷ items) = AreOfOthers round items
 AreOfOthers round (exchanged sent ∷ items) = (sent.round ≢ round) × AreOfOthers round items
+AreOfOthers round (operated at slot index result ∷ items) = AreOfOthers round items
 AreOfOthers round (ended number end slots ∷ items) = (number ≢ round) × AreOfOthers round items
 
 is-other : (first last round number : ℕ) → 1 ≤ round → (round ≤ first) ⊎ (last < round) → IsBetween first last number → number ≢ round
@@ -183,6 +199,7 @@ of-others first last round [] some outside are = tt
 of-others first last round (befell event number ∷ items) some outside are = of-others first last round items some outside are
 of-others first last round (exchanged sent ∷ items) some outside are =
     (is-other first last round sent.round some outside are.0, of-others first last round items some outside are.1)
+of-others first last round (operated at slot index result ∷ items) some outside are = of-others first last round items some outside are
 of-others first last round (ended number end slots ∷ items) some outside are =
     (is-other first last round number some outside are.0, of-others first last round items some outside are.1)
 
@@ -204,6 +221,7 @@ listed-others round test (exchanged sent ∷ own) past of others =
     (fails-others round test sent (test sent) of others.0 refl)
     ∙ append-nil (tags_listed_where test (own ++ past))
     ∙ listed-others round test own past of others.1
+listed-others round test (operated at slot index result ∷ own) past of others = listed-others round test own past of others
 listed-others round test (ended number end slots ∷ own) past of others = listed-others round test own past of others.1
 
 and-false : (a b : Bool) → b ≡ false → (a && b) ≡ false
@@ -220,6 +238,7 @@ query-others round (befell event number ∷ own) past others = query-others roun
 query-others round (exchanged sent ∷ own) past others =
     ap (λ (is : Bool). if is then exchanged sent ∷ own ++ past else past_after_query round (own ++ past)) (not-query round sent others.0)
     ∙ query-others round own past others.1
+query-others round (operated at slot index result ∷ own) past others = query-others round own past others
 query-others round (ended number end slots ∷ own) past others = query-others round own past others.1
 
 -- nor its end
@@ -227,6 +246,7 @@ pub ending-others : (round : ℕ) (own past : List Item) → AreOfOthers round o
 ending-others round [] past others = refl
 ending-others round (befell event number ∷ own) past others = ending-others round own past others
 ending-others round (exchanged sent ∷ own) past others = ending-others round own past others.1
+ending-others round (operated at slot index result ∷ own) past others = ending-others round own past others
 ending-others round (ended number end slots ∷ own) past others =
     ap (λ (is : Bool). if is then Some (record { end = end; slots = slots; past = own ++ past }) else ending_of round (own ++ past)) (ne_eqb number round others.0)
     ∙ ending-others round own past others.1
@@ -238,4 +258,5 @@ records-others P round [] past vacuous others all = all
 records-others P round (befell event number ∷ own) past vacuous others all = records-others P round own past vacuous others all
 records-others P round (exchanged sent ∷ own) past vacuous others all =
     (vacuous sent (own ++ past) others.0, records-others P round own past vacuous others.1 all)
+records-others P round (operated at slot index result ∷ own) past vacuous others all = records-others P round own past vacuous others all
 records-others P round (ended number end slots ∷ own) past vacuous others all = records-others P round own past vacuous others.1 all

@@ -1,6 +1,6 @@
 -- Who answers a command among the tags of a start, where nothing is said of the exchange: from each tag's own answer to the replies
 -- of the exchange, and back.
-use Rattle.std.proofs.Common.{◌≡◌, ◌≢◌, ℕ, zero, suc, ◌+◌, ◌⊎◌, inl, inr, List, [], ◌∷◌, ◌++◌, Option, Some, None, slice_get, refl, ap, sym, ◌∙◌, subst, arith}
+use Rattle.std.proofs.Common.{◌≡◌, ◌≢◌, ℕ, zero, suc, ◌+◌, ◌⊎◌, inl, inr, List, [], ◌∷◌, ◌++◌, Contains, Option, Some, None, slice_get, refl, ap, sym, ◌∙◌, subst, arith}
 use Rattle.air_channel.specs.Exchange.{Replied, reply_of, replies_from, outcome_in, outcomes_from}
 use Rattle.air_channel.specs.Past.{Start, Item, tag_behind, tags_behind_from, past_behind_command, next_entry}
 use Rattle.air_events.specs.Entries.{no_entry}
@@ -29,6 +29,12 @@ tag-steps start round slot command past number tag unsaid =
 abbrev pub Among : {A : Type 0} → A → List A → Type 0
 Among item [] = ⊥
 Among item (first ∷ others) = (first ≡ item) ⊎ Among item others
+
+pub contains-of : {A : Type 0} (item : A) (list : List A) → Among item list → Contains list item
+contains-of item [] among = absurd among
+contains-of item (first ∷ others) (inl here) = (zero, omega arith, here)
+contains-of item (first ∷ others) (inr there) =
+    let rest = contains-of item others there in (suc rest.0, omega (arith, rest.1), rest.2)
 
 among-left : {A : Type 0} (item : A) (left right : List A) → Among item left → Among item (left ++ right)
 among-left item [] right among = absurd among

@@ -2,7 +2,7 @@
 use Rattle.std.proofs.Common.{◌≡◌, ◌≢◌, ℕ, ◌+◌, ◌-◌, ◌<◌, ◌≤◌, ◌==◌, ◌&&◌, ◌||◌, Bool, true, false, List, [], ◌∷◌, ◌++◌, length, Option, Some, None, slice_get, if◌then◌else◌, refl, ap, sym, ◌∙◌, subst, arith, add-one, eq-eqb, ne_eqb}
 use Rattle.std.proofs.lemmas.Bool.{eqb-true}
 use Rattle.air_channel.specs.Past.{Start, Record, Item, exchanged, tag_behind, next_entry, next_record, past_behind_command}
-use Rattle.air_channel.specs.Reception.{Reception}
+use Rattle.reply_grammar.specs.Reception.{Reception}
 use Rattle.air_events.specs.Entries.{no_entry}
 use Rattle.air_world.specs.Headline.{begins_slot}
 use Rattle.air_world.specs.History.{outcome_of, slot_reception}
@@ -65,6 +65,7 @@ pub record CountsBefore (start : Start) (round slot : ℕ) (listed listed_now : 
 pub record StandsSent (start : Start) (spec : SpecValue) (round : ℕ) (query : List Item) (outcomes : List Outcome) (sent : Record) (past : List Item) : Type 0 where
   pub listed : ℕ → Bool
   pub unsaid : sent.entry ≡ no_entry
+  pub begins : begins_slot sent.command ≡ true
   pub tells : Tells start spec round query (exchanged sent ∷ past)
   pub counts : CountsAfter start round (length outcomes) listed (exchanged sent ∷ past)
   pub tags : (number : ℕ) (tag : TagValue) → HasNumber start number tag
@@ -98,7 +99,7 @@ silent-answer : (start : Start) (round slot : ℕ) (command : Command) (past : L
     → answer_behind command past number tag ≡ slot_answer_of state → outcome ≡ Silence → slot_answer_of state ≡ None
 silent-answer start round slot command past reception outcome number tag state unsaid heard is numbered answers silent =
     let all = replies_behind 0 command start.tags past in
-    let none : all ≡ [] = silent-none all (ap outcome_of (slot-heard start round slot command past reception unsaid heard) ∙ is ∙ silent) in
+    let none : all ≡ [] = silent-none start.several all (ap outcome_of (slot-heard start round slot command past reception unsaid heard) ∙ is ∙ silent) in
     sym answers ∙ no-replies-none start command past number tag none numbered
 
 pub stands-unacknowledged : (start : Start) (spec : SpecValue) (round : ℕ) (query : List Item) (outcomes : List Outcome) (past : List Item) (command : Command) (reception : Reception)
@@ -289,6 +290,7 @@ stands-sent start spec round query outcome before past command small next_small 
     record {
       listed = listed;
       unsaid = unsaid;
+      begins = later-begins command later;
       tells = record {
         query_is =
             ap (λ (is : Bool). if is then exchanged sent ∷ past else past_after_query round past) (no-query-of round sent (later-no-query command later))

@@ -1,13 +1,19 @@
 -- A round of which nothing is said, from its Query to its end.
 use Rattle.std.proofs.Common.{◌≡◌, ℕ, ◌+◌, ◌==◌, ◌&&◌, Bool, true, false, List, [], ◌∷◌, length, if◌then◌else◌, refl, ap, sym, ◌∙◌, subst, append-nil, eq-eqb}
 use Rattle.std.proofs.lemmas.Bool.{eqb-true}
-use Rattle.air_channel.specs.Past.{Start, Record, Item, exchanged, ended, tag_behind, next_entry, next_record, past_behind_command, rounds_in}
-use Rattle.air_channel.specs.Reception.{whole_reply}
+use Rattle.access_ops.specs.declared.OpList.{OpList}
+use Rattle.air_channel.specs.Air.{replies_in}
+use Rattle.air_channel.specs.Past.{Start, Record, Item, exchanged, ended, tag_behind, tags_behind, next_entry, next_record, past_behind_command, rounds_in}
+use Rattle.reply_grammar.specs.Reception.{whole_reply}
 use Rattle.air_events.specs.Entries.{no_entry}
+use Rattle.air_events.specs.declared.Entry.{Entry}
+use Rattle.air_events.specs.declared.Several.TheVariants as severals
+use Rattle.air_world.specs.Headline.{begins_slot}
 use Rattle.air_world.specs.History.{past_behind_round}
 use Rattle.command_grammar.specs.declared.commands.Command.{Command}
 use Rattle.command_grammar.specs.declared.commands.Command.TheVariants as commands
 use Rattle.inventory.specs.Counted.{is_spoken_to}
+use Rattle.inventory.specs.Honest.{AreApart}
 use Rattle.inventory.specs.Listed.{sender_listed_by, is_of_round, is_of_slot, tags_listed_where, times}
 use Rattle.inventory.specs.Moments.{past_after_query}
 use Rattle.inventory.specs.TagInRound.{is_matched, slot_answer_of, StandsAfterSlot}
@@ -31,9 +37,14 @@ use Rattle.q_round.specs.declared.round.RoundEnd.TheVariants as ends
 use Rattle.reply_grammar.specs.declared.expected.Reply.TheVariants as replies
 use Rattle.tag_machine.specs.TagValue.{TagValue}
 
--- a record of the round is one of which nothing is said
-abbrev pub IsUnsaid : ℕ → Record → List Item → Type 0
-IsUnsaid round sent earlier = sent.round ≡ round → sent.entry ≡ no_entry
+-- nothing is said of a record, and where the channel captures one of several replies no two tags answered a slot command alike
+pub record IsFair (start : Start) (sent : Record) : Type 0 where
+  pub unsaid : sent.entry ≡ no_entry
+  pub apart : start.several ≡ severals.Capture → begins_slot sent.command ≡ true → AreApart sent.replies
+
+-- ... where it is one of the round
+abbrev pub IsFairIn : Start → ℕ → Record → List Item → Type 0
+IsFairIn start round sent earlier = sent.round ≡ round → IsFair start sent
 
 -- the Query of a round
 abbrev pub query_command : SpecValue → LinkValue → Command
@@ -70,6 +81,7 @@ query-sent start spec round before facts others unsaid =
     record {
       listed = λ number. false;
       unsaid = unsaid;
+      begins = refl;
       tells = record {
         query_is = ap (λ (is : Bool). if is then query else past_after_query round before) (eq-eqb round round refl);
         spoken = λ number tag numbered.
@@ -104,12 +116,12 @@ query-sent start spec round before facts others unsaid =
 abbrev pub IsNext : Start → SpecValue → ℕ → List Item → List Outcome → List Item → Type 0
 IsNext start spec round before [] now = now ≡ before
 IsNext start spec round before (outcome ∷ outcomes) now =
-    AllRecords (IsUnsaid round) now → StandsNext start spec round (past_at_query start spec round before) outcome outcomes now
+    AllRecords (IsFairIn start round) now → StandsNext start spec round (past_at_query start spec round before) outcome outcomes now
 
 -- just after a slot command
 abbrev pub IsSent : Start → SpecValue → ℕ → List Item → List Outcome → Record → List Item → Type 0
 IsSent start spec round before outcomes sent now =
-    AllRecords (IsUnsaid round) (exchanged sent ∷ now) → StandsSent start spec round (past_at_query start spec round before) outcomes sent now
+    AllRecords (IsFairIn start round) (exchanged sent ∷ now) → StandsSent start spec round (past_at_query start spec round before) outcomes sent now
 
 -- behind the end
 pub record IsOver (start : Start) (spec : SpecValue) (round : ℕ) (before behind : List Item) : Type 0 where
@@ -118,7 +130,7 @@ pub record IsOver (start : Start) (spec : SpecValue) (round : ℕ) (before behin
   pub earlier : List Outcome
   pub now : List Item
   pub is : behind ≡ ended round end (length (outcome ∷ earlier)) ∷ now
-  pub stands : AllRecords (IsUnsaid round) now → StandsNext start spec round (past_at_query start spec round before) outcome earlier now
+  pub stands : AllRecords (IsFairIn start round) now → StandsNext start spec round (past_at_query start spec round before) outcome earlier now
   pub quiet : end ≡ ends.Quiet → IsSilentFrame (q_of spec earlier) (outcome ∷ frame_of spec earlier)
 
 first-sent : (start : Start) (spec : SpecValue) (round : ℕ) (before now : List Item) (command : Command) → RoundFacts spec start.link → AreOfOthers round before
@@ -135,13 +147,13 @@ slot-sent : (start : Start) (spec : SpecValue) (round : ℕ) (before : List Item
 slot-sent start spec round before facts others [] now command are is same unsaid =
     let sends : nexts.Send (query_command spec start.link) ≡ nexts.Send command = sym facts.begins ∙ is in
     let same_command : query_command spec start.link ≡ command = cc in
-    first-sent start spec round before now command facts others same_command (sym same) (unsaid.0 refl)
+    first-sent start spec round before now command facts others same_command (sym same) (unsaid.0 refl).unsaid
 slot-sent start spec round before facts others (outcome ∷ earlier) now command are is holds unsaid =
     let next : IsNextSlot command spec.session (q_of spec earlier) (outcome ∷ frame_of spec earlier) (q_of spec (outcome ∷ earlier)) (frame_of spec (outcome ∷ earlier)) =
     subst (λ (next : Next). IsNextTurn next spec.session (q_of spec earlier) (outcome ∷ frame_of spec earlier) (q_of spec (outcome ∷ earlier)) (frame_of spec (outcome ∷ earlier))) is
     (facts.turn outcome earlier are) in
     stands-sent start spec round (past_at_query start spec round before) outcome earlier now command (facts.range earlier are.1) (facts.range (outcome ∷ earlier) are) next
-    (unsaid.0 refl) (holds unsaid.1)
+    (unsaid.0 refl).unsaid (holds unsaid.1)
 
 no-end-yet : (spec : SpecValue) (link : LinkValue) (end : RoundEnd) → RoundFacts spec link → IsEndOf end (next_command spec link []) → ⊥
 no-end-yet spec link ends.Quiet facts is = let both : nexts.Send (query_command spec link) ≡ nexts.Quiet = sym facts.begins ∙ is in cc
@@ -168,22 +180,31 @@ round-over start spec round before facts (outcome ∷ earlier) now end are is ho
   quiet = silent-end spec start.link outcome earlier end facts are is;
 }
 
-pub round-stands : (start : Start) (spec : SpecValue) (before : List Item) → HasFewOutcomes spec → RoundFacts spec start.link → AreOfOthers (rounds_in before + 1) before
-    → IsOver start spec (rounds_in before + 1) before (past_behind_round start spec before)
-round-stands start spec before few facts others =
+-- what the replies to a slot command are, where nothing is said of it
+replies-behind : (start : Start) (round slot : ℕ) (command : Command) (past : List Item) → next_entry start past ≡ no_entry
+    → (next_record start round slot command past).replies ≡ replies_behind 0 command start.tags past
+replies-behind start round slot command past unsaid = ap (λ (entry : Entry). replies_in command entry (tags_behind start past)) unsaid
+
+pub round-stands : (start : Start) (operations : OpList) (spec : SpecValue) (before : List Item) → HasFewOutcomes spec → RoundFacts spec start.link → operations.ops ≡ []
+    → AreOfOthers (rounds_in before + 1) before → IsOver start spec (rounds_in before + 1) before (past_behind_round start operations spec before)
+round-stands start operations spec before few facts none others =
     let round : ℕ = rounds_in before + 1 in
     let query = past_at_query start spec round before in
-    round-holds (IsNext start spec round before) (IsSent start spec round before) (IsOver start spec round before) start spec before few
+    round-holds (IsNext start spec round before) (IsSent start spec round before) (IsOver start spec round before) start operations spec before few
     (record {
       slot = slot-sent start spec round before facts others;
-      no_answer = λ outcomes now command reception heard none holds unsaid.
-          stands-unacknowledged start spec round query outcomes now command reception heard (holds unsaid);
-      ack = λ outcomes now command rn heard holds unsaid.
-          let stands = holds unsaid.1 in
+      no_answer = λ outcomes now command reception heard none holds fair.
+          stands-unacknowledged start spec round query outcomes now command reception heard (holds fair);
+      ack = λ outcomes now command rn heard holds fair.
+          let stands = holds fair.1 in
+          let all = replies_behind 0 command start.tags now in
           stands-acknowledged start spec round query outcomes now command rn
-          (one-answerer start command now rn (heard-one (replies_behind 0 command start.tags now) rn
+          (one-answerer start command now rn (heard-one start.several all rn
+          (λ captures. subst AreApart (replies-behind start round (length outcomes + 1) command now stands.unsaid) ((fair.1.0 refl).apart captures stands.begins))
           (slot-heard start round (length outcomes + 1) command now (whole_reply (replies.Rn16 rn)) stands.unsaid heard)))
-          (unsaid.0 refl) stands;
+          (fair.0 refl).unsaid stands;
+      operation = λ some. absurd (some none);
+      result = λ some. absurd (some none);
       end = round-over start spec round before facts;
     })
     refl

@@ -1,5 +1,5 @@
 -- Profile: the same of an honest round, as a user sees it: which tags are listed, and what each flag of each tag is afterwards.
-use Rattle.std.specs.Prelude.{◌≡◌, ℕ, ◌≤◌, ◌==◌, ◌&&◌, not, Bool, true, List, Some}
+use Rattle.std.specs.Prelude.{◌≡◌, ℕ, ◌+◌, ◌≤◌, ◌==◌, ◌&&◌, not, Bool, true, List, [], ◌∷◌, length, Some, if◌then◌else◌}
 use Rattle.air_channel.specs.Past.{Start, Item, tag_behind}
 use Rattle.inventory.specs.Complete.{HasNumber, IsMatchedTag}
 use Rattle.inventory.specs.Listed.{tags_listed_in, tags_listed_in_slot, times}
@@ -13,6 +13,12 @@ use Rattle.tag_machine.specs.TagValue.{TagValue, is_present}
 -- a tag that the Query of a round speaks to: it is present, and its flags fit Sel, the session and Target
 abbrev pub is_spoken_to : SpecValue → TagValue → Bool
 is_spoken_to spec tag = is_present tag.state && matches spec.sel spec.session spec.target tag.body.flags
+
+-- how many such tags there are, of tags that are numbered from a number on
+abbrev pub tags_spoken_to : SpecValue → ℕ → List Item → ℕ → List TagValue → ℕ
+tags_spoken_to spec round history number [] = 0
+tags_spoken_to spec round history number (tag ∷ tags) =
+    (if is_spoken_to spec (tag_after_query round history number tag) then 1 else 0) + tags_spoken_to spec round history (number + 1) tags
 
 -- the tag was listed in the round, and not in its last slot, so that it heard a slot command since
 abbrev pub is_inverted : ℕ → ℕ → List Item → ℕ → Bool
@@ -29,6 +35,7 @@ pub record IsCountedRound (start : Start) (history : List Item) (round : ℕ) (s
   -- where the round ended quiet, each of those is listed
   pub complete : (number : ℕ) (tag : TagValue) → HasNumber start number tag → ending.end ≡ ends.Quiet
       → is_spoken_to spec (tag_after_query round history number tag) ≡ true → times number (tags_listed_in round history) ≡ 1
+  pub as_many : ending.end ≡ ends.Quiet → length (tags_listed_in round history) ≡ tags_spoken_to spec round history 0 start.tags
   -- at the end the flag of the session is inverted for the tags that were listed before the last slot, and no other flag of any tag
   pub flags : (number : ℕ) (tag : TagValue) → HasNumber start number tag
       → flags_behind number tag ending.past

@@ -1,7 +1,7 @@
 -- Profile: which tags a history lists, by their numbers. Two tags may have one EPC, but never one number.
 use Rattle.std.specs.Prelude.{ℕ, ◌==◌, ◌&&◌, Bool, List, [], ◌∷◌, ◌++◌, length, filter, if◌then◌else◌}
 use Rattle.air_channel.specs.Channel.{Given, silence, whole, broken}
-use Rattle.air_channel.specs.Past.{Record, Item, befell, exchanged, ended}
+use Rattle.air_channel.specs.Past.{Record, Item, befell, exchanged, operated, ended}
 use Rattle.air_world.specs.Listing.{Listed, listed_by}
 
 -- who sent what the channel gave whole
@@ -23,6 +23,7 @@ abbrev pub tags_listed_where : (Record → Bool) → List Item → List ℕ
 tags_listed_where test [] = []
 tags_listed_where test (befell event number ∷ past) = tags_listed_where test past
 tags_listed_where test (exchanged sent ∷ past) = tags_listed_where test past ++ (if test sent then sender_listed_by sent else [])
+tags_listed_where test (operated round slot index result ∷ past) = tags_listed_where test past
 tags_listed_where test (ended round end slots ∷ past) = tags_listed_where test past
 
 abbrev pub is_of_round : ℕ → Record → Bool

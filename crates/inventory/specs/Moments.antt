@@ -1,6 +1,6 @@
 -- Profile: the moments of a round of a history, each as what was past then.
 use Rattle.std.specs.Prelude.{ℕ, ◌==◌, ◌&&◌, Bool, true, false, List, [], ◌∷◌, Option, Some, None, if◌then◌else◌}
-use Rattle.air_channel.specs.Past.{Record, Item, befell, exchanged, ended, tag_behind}
+use Rattle.air_channel.specs.Past.{Record, Item, befell, exchanged, operated, ended, tag_behind}
 use Rattle.command_grammar.specs.declared.commands.Command.{Command}
 use Rattle.command_grammar.specs.declared.commands.Command.TheVariants as commands
 use Rattle.q_round.specs.declared.round.RoundEnd.{RoundEnd}
@@ -27,6 +27,7 @@ abbrev pub past_after_query : ℕ → List Item → List Item
 past_after_query round [] = []
 past_after_query round (befell event number ∷ past) = past_after_query round past
 past_after_query round (exchanged sent ∷ past) = (if is_query_of round sent then exchanged sent ∷ past else past_after_query round past)
+past_after_query round (operated number slot index result ∷ past) = past_after_query round past
 past_after_query round (ended number end slots ∷ past) = past_after_query round past
 
 -- how a round ended, behind how many slots, and what was past then
@@ -40,6 +41,7 @@ abbrev pub ending_of : ℕ → List Item → Option Ending
 ending_of round [] = None
 ending_of round (befell event number ∷ past) = ending_of round past
 ending_of round (exchanged sent ∷ past) = ending_of round past
+ending_of round (operated number slot index result ∷ past) = ending_of round past
 ending_of round (ended number end slots ∷ past) =
     (if number == round then Some (record { end = end; slots = slots; past = past }) else ending_of round past)
 

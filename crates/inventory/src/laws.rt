@@ -3,12 +3,13 @@ ghost use Rattle.std.specs.Prelude.{◌≡◌, ℕ, ◌+◌, List, [], ◌∷◌
 ghost use Rattle.access_ops.specs.declared.OpList.{OpList};
 ghost use Rattle.air_channel.specs.Past.{Start, Record, Item};
 ghost use Rattle.air_events.specs.Entries.{no_entry, entry_at};
+ghost use Rattle.air_events.specs.declared.Several.TheVariants as severals;
 ghost use Rattle.air_world.specs.Headline.{AreLegalSteps, IsRecordOf, rounds_of};
 ghost use Rattle.air_world.specs.History.{history_of};
 ghost use Rattle.air_world.specs.ScenarioStart.{history, start_of};
 ghost use Rattle.inventory.specs.Complete.{CompleteInventory};
 ghost use Rattle.inventory.specs.Counted.{CountedRound};
-ghost use Rattle.inventory.specs.Honest.{IsHonest};
+ghost use Rattle.inventory.specs.Honest.{IsHonest, IsApart};
 ghost use Rattle.q_round.specs.SpecValue.{SpecValue};
 ghost use Rattle.scenario.specs.Limits.{IsScenario};
 ghost use Rattle.scenario.specs.declared.values.Scenario.{Scenario};
@@ -26,9 +27,11 @@ use q_round::{round_facts, round_laws};
 pub fn complete_inventory()
     ensures run { (start : Start) (taken before after : List Step) (spec : SpecValue) (operations : OpList) → AreLegalSteps taken →
         taken ≡ before ++ steps.Round spec operations ∷ after → IsHonest (history_of start taken) (rounds_of before + 1) operations →
+        (start.several ≡ severals.Capture → IsApart (history_of start taken) (rounds_of before + 1)) →
         CompleteInventory start (history_of start taken) (rounds_of before + 1) spec.session }
     ensures scenario { (scenario : Scenario) (before after : List Step) (spec : SpecValue) (operations : OpList) → IsScenario scenario →
         scenario.steps ≡ before ++ steps.Round spec operations ∷ after → IsHonest (history scenario) (rounds_of before + 1) operations →
+        ((start_of scenario).several ≡ severals.Capture → IsApart (history scenario) (rounds_of before + 1)) →
         CompleteInventory (start_of scenario) (history scenario) (rounds_of before + 1) spec.session }
 {
     scenario_steps_are_legal();
@@ -44,9 +47,11 @@ pub fn complete_inventory()
 pub fn honest_rounds_count_tags()
     ensures run { (start : Start) (taken before after : List Step) (spec : SpecValue) (operations : OpList) → AreLegalSteps taken →
         taken ≡ before ++ steps.Round spec operations ∷ after → IsHonest (history_of start taken) (rounds_of before + 1) operations →
+        (start.several ≡ severals.Capture → IsApart (history_of start taken) (rounds_of before + 1)) →
         CountedRound start (history_of start taken) (rounds_of before + 1) spec }
     ensures scenario { (scenario : Scenario) (before after : List Step) (spec : SpecValue) (operations : OpList) → IsScenario scenario →
         scenario.steps ≡ before ++ steps.Round spec operations ∷ after → IsHonest (history scenario) (rounds_of before + 1) operations →
+        ((start_of scenario).several ≡ severals.Capture → IsApart (history scenario) (rounds_of before + 1)) →
         CountedRound (start_of scenario) (history scenario) (rounds_of before + 1) spec }
 {
     scenario_steps_are_legal();
