@@ -13,7 +13,7 @@ use Rattle.inventory.specs.Moments.{Ending, ending_of, past_after_query, tag_aft
 use Rattle.inventory.specs.TagAtEnd.{StandsAtQuiet, StandsAtEnd, IsListedOnce}
 use Rattle.inventory.specs.TagInRound.{is_matched, flags_in_round, StandsBeforeSlot}
 use Rattle.inventory.proofs.Others.{AllRecords, records-at, records-behind, records-all, AreOfOthers, of-others, listed-others, query-others, ending-others, records-others, Adds, RoundsKeepLimit, step-adds, steps-add}
-use Rattle.inventory.proofs.Standing.{StepsFlagsOf, StandsNext, known-once}
+use Rattle.inventory.proofs.Standing.{StepsFlagsOf, ListsOwnEpc, StandsNext, known-once}
 use Rattle.inventory.proofs.TagEnds.{listed-once, quiet-stands, end-stands}
 use Rattle.inventory.proofs.Times.{bit}
 use Rattle.inventory.proofs.Totals.{as-many-listed}
@@ -43,6 +43,7 @@ record IsToldBy (start : Start) (spec : SpecValue) (round : ℕ) (history : List
   spoken : (number : ℕ) (tag : TagValue) → HasNumber start number tag
       → is_matched_in round history number tag ≡ is_spoken_to spec (tag_after_query round history number tag)
   flags : AllRecords (StepsFlagsOf start round spec.session) history
+  epcs : AllRecords (ListsOwnEpc start round (past_after_query round history)) history
   tags : (number : ℕ) (tag : TagValue) → HasNumber start number tag
       → StandsBeforeSlot spec.session (q_of spec earlier) outcome (frame_of spec earlier) (tag_after_query round history number tag) (listed number) (listed_now number) (tag_behind number tag now)
   quiet : end ≡ ends.Quiet → IsSilentFrame (q_of spec earlier) (outcome ∷ frame_of spec earlier)
@@ -71,6 +72,8 @@ told start spec round before later end outcome earlier now others stands quiet =
       spoken = λ number tag numbered.
           subst (λ (query : List Item). is_matched (tag_behind number tag query).state ≡ is_spoken_to spec (tag_behind number tag query)) (sym query_is)
           (stands.tells.spoken number tag numbered);
+      epcs = subst (λ (query : List Item). AllRecords (ListsOwnEpc start round query) history) (sym query_is)
+          (records-others (ListsOwnEpc start round (past_at_query start spec round before)) round later behind (λ sent past differs same. absurd (differs same)) others stands.tells.epcs);
       flags = records-others (StepsFlagsOf start round spec.session) round later behind (λ sent past differs same. absurd (differs same)) others stands.tells.flags;
       tags = λ number tag numbered.
           subst (λ (query : List Item). StandsBeforeSlot spec.session (q_of spec earlier) outcome (frame_of spec earlier) (tag_behind number tag query)
@@ -253,6 +256,9 @@ module _ (start : Start) (spec : SpecValue) (round : ℕ) (history : List Item) 
           ∙ matched-either (tag_after_query round history number tag) (by.listed number) (by.listed_now number) (single number tag numbered)
           (some-bit (by.listed number) (by.listed_now number) (subst (λ n. 1 ≤ n) (by.count number) some));
       numbered = λ number some. matched-number number (slice_get start.tags number) refl some;
+      own_epc = λ sent past number tag recorded same numbered senders.
+          records-at (ListsOwnEpc start round (past_after_query round history)) recorded.later sent past
+          (subst (AllRecords (ListsOwnEpc start round (past_after_query round history))) recorded.is by.epcs) same number tag numbered senders;
       complete = λ number tag numbered quiet spoken.
           (quiet-complete quiet).listed number tag numbered
           ∙ ap (λ (b : Bool). if b then 1 else 0) (by.spoken number tag numbered ∙ spoken);

@@ -12,12 +12,12 @@ use Rattle.air_events.specs.declared.Entry.{Entry}
 use Rattle.air_events.specs.declared.Several.{Several}
 use Rattle.air_events.specs.declared.Several.TheVariants as severals
 use Rattle.air_world.specs.History.{outcome_of, slot_reception}
-use Rattle.air_world.specs.Listing.{listed_from}
+use Rattle.air_world.specs.Listing.{listed_from, listed_by}
 use Rattle.command_grammar.specs.declared.commands.Command.{Command}
 use Rattle.command_grammar.specs.declared.commands.Command.TheVariants as commands
 use Rattle.inventory.specs.Complete.{HasNumber}
 use Rattle.inventory.specs.Honest.{AreApart}
-use Rattle.inventory.specs.Listed.{sender_where, sender_listed_by}
+use Rattle.inventory.specs.Listed.{sender_where, sender_listed_by, listed_as}
 use Rattle.inventory.specs.TagInRound.{slot_answer_of, is_acknowledged_by}
 use Rattle.inventory.proofs.Population.{answer_behind, Among, reply_by, replies_behind, contains-of, answer-replied, IsAnswerer, replied-answerer}
 use Rattle.q_round.specs.declared.frame.Outcome.TheVariants as outcomes
@@ -163,7 +163,7 @@ abbrev pub AnswersByState : Start → Command → List Item → (ℕ → TagValu
 AnswersByState start command past state_of =
     (number : ℕ) (tag : TagValue) → HasNumber start number tag → answer_behind command past number tag ≡ slot_answer_of (state_of number tag)
 
-same-tag : (start : Start) (number other : ℕ) (tag tag_of_other : TagValue) → HasNumber start number tag → HasNumber start other tag_of_other → number ≡ other → tag ≡ tag_of_other
+pub same-tag : (start : Start) (number other : ℕ) (tag tag_of_other : TagValue) → HasNumber start number tag → HasNumber start other tag_of_other → number ≡ other → tag ≡ tag_of_other
 same-tag start number other tag tag_of_other numbered others same =
     let found : Some tag ≡ Some tag_of_other = sym numbered ∙ ap (λ n. slice_get start.tags n) same ∙ others in cc
 
@@ -206,3 +206,13 @@ ack-lists start round slot rn past number body unsaid alone =
     let sent = next_record start round slot (commands.Ack rn) past in
     let given : sent.given ≡ whole (reply_by number (epc_sent body)) = given-by-default start round slot (commands.Ack rn) past unsaid ∙ ap (λ (all : List Replied). default_given start.several all) alone in
     ap (λ (given : Given). sender_where (listed_from sent (reception_of expects.Epc given)) given) given
+
+-- ... with the PC and the EPC in its memory
+pub ack-lists-as : (start : Start) (round slot rn : ℕ) (past : List Item) (number : ℕ) (body : BodyValue) → next_entry start past ≡ no_entry
+    → replies_behind 0 (commands.Ack rn) start.tags past ≡ reply_by number (epc_sent body) ∷ []
+    → listed_by (next_record start round slot (commands.Ack rn) past) ≡ listed_as (next_record start round slot (commands.Ack rn) past) body.memory ∷ []
+ack-lists-as start round slot rn past number body unsaid alone =
+    let sent = next_record start round slot (commands.Ack rn) past in
+    let given : sent.given ≡ whole (reply_by number (epc_sent body)) =
+    given-by-default start round slot (commands.Ack rn) past unsaid ∙ ap (λ (all : List Replied). default_given start.several all) alone in
+    ap (λ (given : Given). listed_from sent (reception_of expects.Epc given)) given

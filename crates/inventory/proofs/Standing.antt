@@ -6,15 +6,15 @@ use Rattle.reply_grammar.specs.Reception.{Reception}
 use Rattle.air_events.specs.Entries.{no_entry}
 use Rattle.air_world.specs.Headline.{begins_slot}
 use Rattle.air_world.specs.History.{outcome_of, slot_reception}
-use Rattle.air_world.specs.Listing.{listed_from, reception_of_ack}
+use Rattle.air_world.specs.Listing.{listed_from, listed_by, reception_of_ack}
 use Rattle.command_grammar.specs.declared.commands.Command.{Command}
 use Rattle.command_grammar.specs.declared.commands.Command.TheVariants as commands
 use Rattle.inventory.specs.Complete.{HasNumber}
 use Rattle.inventory.specs.Counted.{is_spoken_to}
-use Rattle.inventory.specs.Listed.{sender_where, sender_listed_by, is_of_round, is_of_slot, tags_listed_in, tags_listed_in_slot, times}
+use Rattle.inventory.specs.Listed.{sender_where, sender_listed_by, listed_as, is_of_round, is_of_slot, tags_listed_in, tags_listed_in_slot, times}
 use Rattle.inventory.specs.Moments.{is_query, begins_later_slot, is_query_of, past_after_query, flags_behind}
 use Rattle.inventory.specs.TagInRound.{is_matched, flags_in_round, slot_answer_of, is_acknowledged_by, StandsAfterSlot, StandsBeforeSlot}
-use Rattle.inventory.proofs.Heard.{slot-heard, silent-none, no-replies-none, IsOnlyAnswerer, acknowledges-one, epc_sent, ack-lists}
+use Rattle.inventory.proofs.Heard.{slot-heard, silent-none, no-replies-none, IsOnlyAnswerer, same-tag, acknowledges-one, epc_sent, ack-lists, ack-lists-as}
 use Rattle.inventory.proofs.Others.{AllRecords}
 use Rattle.inventory.proofs.Population.{answer_behind, tag_stepped, tag-steps, reply_by, replies_behind, one-replies}
 use Rattle.inventory.proofs.TagBetween.{unacknowledged-stands, ack-stands, ack-answer, ack-body}
@@ -40,6 +40,17 @@ abbrev pub StepsFlagsOf : Start → (round session : ℕ) → Record → List It
 StepsFlagsOf start round session sent earlier =
     sent.round ≡ round → (number : ℕ) (tag : TagValue) → HasNumber start number tag → StepsOwnFlags round session sent earlier number tag
 
+-- a record of the round lists its sender with the PC and the EPC in its memory
+abbrev pub ListsOwnEpc : Start → ℕ → List Item → Record → List Item → Type 0
+ListsOwnEpc start round query sent earlier =
+    sent.round ≡ round → (number : ℕ) (tag : TagValue) → HasNumber start number tag → sender_listed_by sent ≡ number ∷ []
+    → listed_by sent ≡ listed_as sent (tag_behind number tag query).body.memory ∷ []
+
+-- a record that lists nobody
+pub lists-nobody : (start : Start) (round : ℕ) (query : List Item) (sent : Record) (earlier : List Item) → sender_listed_by sent ≡ [] → ListsOwnEpc start round query sent earlier
+lists-nobody start round query sent earlier none same number tag numbered one =
+    let both : [] ≡ number ∷ [] = sym none ∙ one in absurd (cc)
+
 -- What a past tells of the round so far: its Query, behind which the tags that take part are those that it speaks to, and that its
 -- records did to the flags what they may.
 pub record Tells (start : Start) (spec : SpecValue) (round : ℕ) (query past : List Item) : Type 0 where
@@ -47,6 +58,7 @@ pub record Tells (start : Start) (spec : SpecValue) (round : ℕ) (query past : 
   pub spoken : (number : ℕ) (tag : TagValue) → HasNumber start number tag
       → is_matched (tag_behind number tag query).state ≡ is_spoken_to spec (tag_behind number tag query)
   pub flags : AllRecords (StepsFlagsOf start round spec.session) past
+  pub epcs : AllRecords (ListsOwnEpc start round query) past
 
 -- how many times each number is listed in the round, just after the slot command behind so many slots
 pub record CountsAfter (start : Start) (round slots : ℕ) (listed : ℕ → Bool) (past : List Item) : Type 0 where
@@ -198,6 +210,17 @@ stands-acknowledged start spec round query outcomes past command rn one unsaid s
               (ack-body spec.session (q_of spec outcomes) (frame_of spec outcomes) (tag_behind number tag query) (stands.listed number) rn (tag_behind number tag now) (stands.tags number tag numbered)),
           stands.tells.flags,
         );
+        epcs = (
+          λ same number tag numbered senders.
+              let found : one.number ∷ [] ≡ number ∷ [] = sym lists ∙ senders in
+              let alike : one.number ≡ number = cc in
+              let tags : one.tag ≡ tag = same-tag start one.number number one.tag tag one.numbered numbered alike in
+              ack-lists-as start round slot rn now one.number body unsaid alone
+              ∙ ap (λ memory. listed_as sent memory ∷ []) (stands.tags one.number one.tag one.numbered).body.memory
+              ∙ ap (λ n. listed_as sent (tag_behind n one.tag query).body.memory ∷ []) alike
+              ∙ ap (λ (t : TagValue). listed_as sent (tag_behind number t query).body.memory ∷ []) tags,
+          stands.tells.epcs,
+        );
       };
       counts = record {
         count = λ number.
@@ -304,6 +327,7 @@ stands-sent start spec round query outcome before past command small next_small 
               (first number tag) (stands.listed number) (stands.listed_now number) (tag_behind number tag past) small next_small next (stands.tags number tag numbered)),
           stands.tells.flags,
         );
+        epcs = (lists-nobody start round query sent past none, stands.tells.epcs);
       };
       counts = record {
         count = λ number.

@@ -20,7 +20,7 @@ use Rattle.inventory.specs.TagInRound.{is_matched, slot_answer_of, StandsAfterSl
 use Rattle.inventory.proofs.Heard.{slot-heard, heard-one, one-answerer}
 use Rattle.inventory.proofs.Others.{AllRecords, AreOfOthers, IsTestOf, listed-others, records-others}
 use Rattle.inventory.proofs.Population.{tag-steps, replies_behind}
-use Rattle.inventory.proofs.Standing.{StepsFlagsOf, StandsSent, StandsNext, slot-no-sender, stands-unacknowledged, stands-acknowledged, stands-sent}
+use Rattle.inventory.proofs.Standing.{StepsFlagsOf, ListsOwnEpc, lists-nobody, StandsSent, StandsNext, slot-no-sender, stands-unacknowledged, stands-acknowledged, stands-sent}
 use Rattle.inventory.proofs.TagQuery.{query-stands, query-answer, query-spoken}
 use Rattle.inventory.proofs.Times.{lists-none}
 use Rattle.inventory.proofs.Turns.{IsEndOf, HasFewOutcomes, round-holds}
@@ -92,6 +92,11 @@ query-sent start spec round before facts others unsaid =
           λ same number tag numbered. record { slot = λ later. absurd (cc); other = λ not_slot not_query. absurd (cc) },
           subst (AllRecords (StepsFlagsOf start round spec.session)) (append-nil before)
               (records-others (StepsFlagsOf start round spec.session) round before [] (λ other earlier differs same. absurd (differs same)) others tt),
+        );
+        epcs = (
+          lists-nobody start round query sent before none,
+          subst (AllRecords (ListsOwnEpc start round query)) (append-nil before)
+              (records-others (ListsOwnEpc start round query) round before [] (λ other earlier differs same. absurd (differs same)) others tt),
         );
       };
       counts = record {

@@ -1,8 +1,10 @@
 -- Profile: the same of an honest round, as a user sees it: which tags are listed, and what each flag of each tag is afterwards.
 use Rattle.std.specs.Prelude.{◌≡◌, ℕ, ◌+◌, ◌≤◌, ◌==◌, ◌&&◌, not, Bool, true, List, [], ◌∷◌, length, Some, if◌then◌else◌}
-use Rattle.air_channel.specs.Past.{Start, Item, tag_behind}
+use Rattle.air_channel.specs.Past.{Start, Record, Item, tag_behind}
+use Rattle.air_world.specs.Headline.{IsRecordOf}
+use Rattle.air_world.specs.Listing.{listed_by}
 use Rattle.inventory.specs.Complete.{HasNumber, IsMatchedTag}
-use Rattle.inventory.specs.Listed.{tags_listed_in, tags_listed_in_slot, times}
+use Rattle.inventory.specs.Listed.{sender_listed_by, tags_listed_in, tags_listed_in_slot, times, listed_as}
 use Rattle.inventory.specs.Moments.{Ending, ending_of, tag_after_query, flags_behind, flags_after_query}
 use Rattle.inventory.specs.TagInRound.{flags_in_round}
 use Rattle.q_round.specs.SpecValue.{SpecValue}
@@ -32,6 +34,10 @@ pub record IsCountedRound (start : Start) (history : List Item) (round : ℕ) (s
   pub spoken_to : (number : ℕ) (tag : TagValue) → HasNumber start number tag → 1 ≤ times number (tags_listed_in round history)
       → is_spoken_to spec (tag_after_query round history number tag) ≡ true
   pub numbered : (number : ℕ) → 1 ≤ times number (tags_listed_in round history) → IsMatchedTag start history round number
+  -- ... with the PC and the EPC in its memory
+  pub own_epc : (sent : Record) (earlier : List Item) (number : ℕ) (tag : TagValue) → IsRecordOf history sent earlier → sent.round ≡ round
+      → HasNumber start number tag → sender_listed_by sent ≡ number ∷ []
+      → listed_by sent ≡ listed_as sent (tag_after_query round history number tag).body.memory ∷ []
   -- where the round ended quiet, each of those is listed
   pub complete : (number : ℕ) (tag : TagValue) → HasNumber start number tag → ending.end ≡ ends.Quiet
       → is_spoken_to spec (tag_after_query round history number tag) ≡ true → times number (tags_listed_in round history) ≡ 1

@@ -3,6 +3,7 @@ use Rattle.std.specs.Prelude.{ℕ, ◌==◌, ◌&&◌, Bool, List, [], ◌∷◌
 use Rattle.air_channel.specs.Channel.{Given, silence, whole, broken}
 use Rattle.air_channel.specs.Past.{Record, Item, befell, exchanged, operated, ended}
 use Rattle.air_world.specs.Listing.{Listed, listed_by}
+use Rattle.tag_memory.specs.Memory.{Banks, pc_of, epc_of}
 
 -- who sent what the channel gave whole
 abbrev pub sender_in : Given → List ℕ
@@ -43,3 +44,7 @@ tags_listed_in_slot round slot history = tags_listed_where (is_of_slot round slo
 -- how many times a number stands in a list
 abbrev pub times : ℕ → List ℕ → ℕ
 times number numbers = length (filter (λ other. other == number) numbers)
+
+-- what a record lists of a tag with this memory: the PC and the EPC in it
+abbrev pub listed_as : Record → Banks → Listed
+listed_as sent memory = record { round = sent.round; slot = sent.slot; pc = pc_of memory; epc = epc_of memory }
