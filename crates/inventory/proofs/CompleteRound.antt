@@ -30,28 +30,29 @@ use Rattle.scenario.specs.declared.values.Step.{Step}
 use Rattle.scenario.specs.declared.values.Step.TheVariants as steps
 use Rattle.tag_machine.specs.TagValue.{TagValue}
 
--- The round as the whole history tells it: in slots before the last one and in the last one a number was listed or not, and each tag
+-- The round as the whole history tells it, which began behind what was past before: in slots before the last one and in the last one a number was listed or not, and each tag
 -- stands where it stands at the end of the round, seen from where it stood just after the Query.
-record IsToldBy (start : Start) (spec : SpecValue) (round : ℕ) (history : List Item) (end : RoundEnd) (outcome : Outcome) (earlier : List Outcome) (now : List Item) : Type 0 where
-  listed : ℕ → Bool
-  listed_now : ℕ → Bool
-  ending : ending_of round history ≡ Some (record { end = end; slots = length (outcome ∷ earlier); past = now })
-  count : (number : ℕ) → times number (tags_listed_in round history) ≡ bit (listed number) + bit (listed_now number)
-  count_now : (number : ℕ) → times number (tags_listed_in_slot round (length (outcome ∷ earlier)) history) ≡ bit (listed_now number)
-  once : (number : ℕ) → listed number ≡ true → listed_now number ≡ false
-  strangers : (number : ℕ) → slice_get start.tags number ≡ None → (listed number ≡ false) × (listed_now number ≡ false)
-  spoken : (number : ℕ) (tag : TagValue) → HasNumber start number tag
+pub record IsToldBy (start : Start) (spec : SpecValue) (round : ℕ) (before history : List Item) (end : RoundEnd) (outcome : Outcome) (earlier : List Outcome) (now : List Item) : Type 0 where
+  pub listed : ℕ → Bool
+  pub listed_now : ℕ → Bool
+  pub ending : ending_of round history ≡ Some (record { end = end; slots = length (outcome ∷ earlier); past = now })
+  pub query_is : past_after_query round history ≡ past_at_query start spec round before
+  pub count : (number : ℕ) → times number (tags_listed_in round history) ≡ bit (listed number) + bit (listed_now number)
+  pub count_now : (number : ℕ) → times number (tags_listed_in_slot round (length (outcome ∷ earlier)) history) ≡ bit (listed_now number)
+  pub once : (number : ℕ) → listed number ≡ true → listed_now number ≡ false
+  pub strangers : (number : ℕ) → slice_get start.tags number ≡ None → (listed number ≡ false) × (listed_now number ≡ false)
+  pub spoken : (number : ℕ) (tag : TagValue) → HasNumber start number tag
       → is_matched_in round history number tag ≡ is_spoken_to spec (tag_after_query round history number tag)
-  flags : AllRecords (StepsFlagsOf start round spec.session) history
-  epcs : AllRecords (ListsOwnEpc start round (past_after_query round history)) history
-  tags : (number : ℕ) (tag : TagValue) → HasNumber start number tag
+  pub flags : AllRecords (StepsFlagsOf start round spec.session) history
+  pub epcs : AllRecords (ListsOwnEpc start round (past_after_query round history)) history
+  pub tags : (number : ℕ) (tag : TagValue) → HasNumber start number tag
       → StandsBeforeSlot spec.session (q_of spec earlier) outcome (frame_of spec earlier) (tag_after_query round history number tag) (listed number) (listed_now number) (tag_behind number tag now)
-  quiet : end ≡ ends.Quiet → IsSilentFrame (q_of spec earlier) (outcome ∷ frame_of spec earlier)
+  pub quiet : end ≡ ends.Quiet → IsSilentFrame (q_of spec earlier) (outcome ∷ frame_of spec earlier)
 
 told : (start : Start) (spec : SpecValue) (round : ℕ) (before later : List Item) (end : RoundEnd) (outcome : Outcome) (earlier : List Outcome) (now : List Item)
     → AreOfOthers round later → StandsNext start spec round (past_at_query start spec round before) outcome earlier now
     → (end ≡ ends.Quiet → IsSilentFrame (q_of spec earlier) (outcome ∷ frame_of spec earlier))
-    → IsToldBy start spec round (later ++ ended round end (length (outcome ∷ earlier)) ∷ now) end outcome earlier now
+    → IsToldBy start spec round before (later ++ ended round end (length (outcome ∷ earlier)) ∷ now) end outcome earlier now
 told start spec round before later end outcome earlier now others stands quiet =
     let slots : ℕ = length (outcome ∷ earlier) in
     let behind = ended round end slots ∷ now in
@@ -62,6 +63,7 @@ told start spec round before later end outcome earlier now others stands quiet =
       listed_now = stands.listed_now;
       ending = ending-others round later behind others
           ∙ ap (λ (is : Bool). if is then Some (record { end = end; slots = slots; past = now }) else ending_of round now) (eq-eqb round round refl);
+      query_is = query_is;
       count = λ number. ap (λ (tags : List ℕ). times number tags) (listed-others round (is_of_round round) later behind (round-test round) others) ∙ stands.counts.count number;
       count_now = λ number.
           ap (λ (tags : List ℕ). times number tags) (listed-others round (is_of_slot round slots) later behind (slot-test round slots) others)
@@ -145,8 +147,8 @@ same-ending end slots past other other_slots other_past same =
       past_is = ap (λ (ending : Ending). ending.past) whole;
     }
 
-module _ (start : Start) (spec : SpecValue) (round : ℕ) (history : List Item) (end : RoundEnd) (outcome : Outcome) (earlier : List Outcome) (now : List Item)
-    (by : IsToldBy start spec round history end outcome earlier now) where
+module _ (start : Start) (spec : SpecValue) (round : ℕ) (before history : List Item) (end : RoundEnd) (outcome : Outcome) (earlier : List Outcome) (now : List Item)
+    (by : IsToldBy start spec round before history end outcome earlier now) where
   single : (number : ℕ) (tag : TagValue) → HasNumber start number tag → IsListedOnce (tag_after_query round history number tag) (by.listed number) (by.listed_now number)
   single number tag numbered =
       listed-once spec.session (q_of spec earlier) outcome (frame_of spec earlier) (tag_after_query round history number tag) (by.listed number) (by.listed_now number)
@@ -245,7 +247,7 @@ module _ (start : Start) (spec : SpecValue) (round : ℕ) (history : List Item) 
         (subst (λ n. EndsByLimit start history round spec.session n now) parts.slots_are limit-end);
   }
 
-  told-counted : CountedRound start history round spec
+  pub told-counted : CountedRound start history round spec
   told-counted = (
     record { end = end; slots = length (outcome ∷ earlier); past = now },
     by.ending,
@@ -292,15 +294,15 @@ abbrev pub RoundsHaveFacts : Type 0
 RoundsHaveFacts = (spec : SpecValue) (link : LinkValue) → IsLegalSpec spec → RoundFacts spec link
 
 -- what the history of a run tells of a round that is honest
-record IsTold (start : Start) (spec : SpecValue) (round : ℕ) (history : List Item) : Type 0 where
-  end : RoundEnd
-  outcome : Outcome
-  earlier : List Outcome
-  now : List Item
-  by : IsToldBy start spec round history end outcome earlier now
+pub record IsTold (start : Start) (spec : SpecValue) (round : ℕ) (before history : List Item) : Type 0 where
+  pub end : RoundEnd
+  pub outcome : Outcome
+  pub earlier : List Outcome
+  pub now : List Item
+  pub by : IsToldBy start spec round before history end outcome earlier now
 
 told-behind : (start : Start) (spec : SpecValue) (round : ℕ) (before later behind : List Item) → AreOfOthers round later → AllRecords (IsFairIn start round) (later ++ behind)
-    → IsOver start spec round before behind → IsTold start spec round (later ++ behind)
+    → IsOver start spec round before behind → IsTold start spec round before (later ++ behind)
 told-behind start spec round before later behind others unsaid over =
     let whole = ended round over.end (length (over.outcome ∷ over.earlier)) ∷ over.now in
     let unsaid_now : AllRecords (IsFairIn start round) over.now = records-behind (IsFairIn start round) later whole (subst (λ (items : List Item). AllRecords (IsFairIn start round) (later ++ items)) over.is unsaid) in
@@ -309,15 +311,15 @@ told-behind start spec round before later behind others unsaid over =
       outcome = over.outcome;
       earlier = over.earlier;
       now = over.now;
-      by = subst (λ (items : List Item). IsToldBy start spec round (later ++ items) over.end over.outcome over.earlier over.now) (sym over.is)
+      by = subst (λ (items : List Item). IsToldBy start spec round before (later ++ items) over.end over.outcome over.earlier over.now) (sym over.is)
           (told start spec round before later over.end over.outcome over.earlier over.now others (over.stands unsaid_now) over.quiet);
     }
 
-history-told : RoundsKeepLimit → RoundsHaveFacts → (start : Start) (before after : List Step) (spec : SpecValue) (operations : OpList)
+pub history-told : RoundsKeepLimit → RoundsHaveFacts → (start : Start) (before after : List Step) (spec : SpecValue) (operations : OpList)
     → AreLegalSteps (before ++ steps.Round spec operations ∷ after)
     → IsHonest (history_of start (before ++ steps.Round spec operations ∷ after)) (rounds_of before + 1) operations
     → (start.several ≡ severals.Capture → IsApart (history_of start (before ++ steps.Round spec operations ∷ after)) (rounds_of before + 1))
-    → IsTold start spec (rounds_of before + 1) (history_of start (before ++ steps.Round spec operations ∷ after))
+    → IsTold start spec (rounds_of before + 1) (past_behind start before []) (history_of start (before ++ steps.Round spec operations ∷ after))
 history-told keeps facts start before after spec operations legal honest apart =
     let history = history_of start (before ++ steps.Round spec operations ∷ after) in
     let (legal_before, legal_after) = legal-split before (steps.Round spec operations ∷ after) legal in
@@ -341,8 +343,8 @@ history-told keeps facts start before after spec operations legal honest apart =
       unsaid = honest.unsaid sent earlier recorded same;
       apart = λ captures begins. (apart captures).apart sent earlier recorded same begins;
     }) in
-    subst (λ n. IsTold start spec n history) (sym same_round)
-    (subst (λ (items : List Item). IsTold start spec round items) (sym here)
+    subst (λ n. IsTold start spec n past history) (sym same_round)
+    (subst (λ (items : List Item). IsTold start spec round past items) (sym here)
     (told-behind start spec round past rest.own behind none_behind
     (subst (AllRecords (IsFairIn start round)) here (subst (λ n. AllRecords (IsFairIn start n) history) same_round fair))
     (round-stands start operations spec past (keeps spec legal_after.0.legal) (facts spec start.link legal_after.0.legal) honest.no_operations none_before)))
@@ -358,7 +360,7 @@ complete-inventory keeps facts start taken before after spec operations legal is
     (subst (λ (s : List Step). IsHonest (history_of start s) round operations) is honest)
     (λ captures. subst (λ (s : List Step). IsApart (history_of start s) round) is (apart captures)) in
     subst (λ (s : List Step). CompleteInventory start (history_of start s) round spec.session) (sym is)
-    (told-complete start spec round (history_of start all) told.end told.outcome told.earlier told.now told.by)
+    (told-complete start spec round (past_behind start before []) (history_of start all) told.end told.outcome told.earlier told.now told.by)
 
 pub counted-round : RoundsKeepLimit → RoundsHaveFacts → (start : Start) (taken before after : List Step) (spec : SpecValue) (operations : OpList)
     → AreLegalSteps taken → taken ≡ before ++ steps.Round spec operations ∷ after → IsHonest (history_of start taken) (rounds_of before + 1) operations
@@ -371,4 +373,4 @@ counted-round keeps facts start taken before after spec operations legal is hone
     (subst (λ (s : List Step). IsHonest (history_of start s) round operations) is honest)
     (λ captures. subst (λ (s : List Step). IsApart (history_of start s) round) is (apart captures)) in
     subst (λ (s : List Step). CountedRound start (history_of start s) round spec) (sym is)
-    (told-counted start spec round (history_of start all) told.end told.outcome told.earlier told.now told.by)
+    (told-counted start spec round (past_behind start before []) (history_of start all) told.end told.outcome told.earlier told.now told.by)

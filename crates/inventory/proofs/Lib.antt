@@ -1,4 +1,5 @@
 pub mod CompleteRound
+pub mod EveryTag
 pub mod Heard
 pub mod Honesty
 pub mod Others

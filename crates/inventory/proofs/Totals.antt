@@ -1,5 +1,5 @@
 -- How many tags are listed, from how many times each number is.
-use Rattle.std.proofs.Common.{◌≡◌, ◌≢◌, ℕ, zero, suc, ◌+◌, ◌<◌, ◌≤◌, ◌==◌, ◌⊎◌, inl, inr, Bool, true, false, List, [], ◌∷◌, length, Option, Some, None, slice_get, if◌then◌else◌, refl, ap, sym, ◌∙◌, subst, arith, eq-eqb, ne_eqb}
+use Rattle.std.proofs.Common.{◌≡◌, ℕ, zero, suc, ◌+◌, ◌<◌, ◌≤◌, ◌==◌, ◌⊎◌, inl, inr, List, [], ◌∷◌, length, Some, slice_get, if◌then◌else◌, refl, ap, sym, ◌∙◌, subst, arith, eq-eqb, ne_eqb}
 use Rattle.std.proofs.lemmas.Bool.{cases_lt}
 use Rattle.std.specs.List.{AllByRecursion}
 use Rattle.air_channel.specs.Past.{Start, Item}
@@ -111,4 +111,4 @@ as-many-listed start spec round history numbers each none =
     sym (times-sum (length start.tags) numbers (all-below (length start.tags) numbers none))
     ∙ spoken-sum spec round history 0 start.tags (λ number. times number numbers)
     (λ place tag at.
-        subst (λ n. times n numbers ≡ (if is_spoken_to spec (tag_after_query round history n tag) then 1 else 0)) (omega arith) (each place tag at))
+    subst (λ n. times n numbers ≡ (if is_spoken_to spec (tag_after_query round history n tag) then 1 else 0)) (omega arith) (each place tag at))

@@ -121,10 +121,10 @@ slot-holds Before Sent After start operations round spec each outcomes past comm
     answer-holds (λ outcome behind. Before (outcome ∷ outcomes) behind) start operations round slot reception now
     (λ none. each.no_answer outcomes past command reception refl none sent)
     (λ rn heard.
-        begun-holds (λ behind. Before (Whole ∷ outcomes) behind) start operations round slot rn (ack_reception start round slot rn now)
-        (past_behind_command start round slot (commands.Ack rn) now) operations.ops refl
-        (λ some. each.operation some outcomes) (λ some. each.result some outcomes)
-        (each.ack outcomes past command rn heard sent))
+    begun-holds (λ behind. Before (Whole ∷ outcomes) behind) start operations round slot rn (ack_reception start round slot rn now)
+    (past_behind_command start round slot (commands.Ack rn) now) operations.ops refl
+    (λ some. each.operation some outcomes) (λ some. each.result some outcomes)
+    (each.ack outcomes past command rn heard sent))
 
 -- a round that sends a command is not over
 sends-underway : (spec : SpecValue) (outcomes : List Outcome) (start : Start) (command : Command) (over : Bool) → is_over spec outcomes ≡ over

@@ -1,16 +1,19 @@
 //! What an honest round of a run says of the tags that it lists.
-ghost use Rattle.std.specs.Prelude.{◌≡◌, ℕ, ◌+◌, List, [], ◌∷◌, ◌++◌};
+ghost use Rattle.std.specs.Prelude.{◌≡◌, ℕ, ◌+◌, List, [], ◌∷◌, ◌++◌, Some};
 ghost use Rattle.access_ops.specs.declared.OpList.{OpList};
 ghost use Rattle.air_channel.specs.Past.{Start, Record, Item};
 ghost use Rattle.air_events.specs.Entries.{no_entry, entry_at};
 ghost use Rattle.air_events.specs.declared.Several.TheVariants as severals;
-ghost use Rattle.air_world.specs.Headline.{AreLegalSteps, IsRecordOf, rounds_of};
+ghost use Rattle.air_world.specs.Headline.{AreLegalSteps, IsLegalRound, IsRecordOf, rounds_of};
 ghost use Rattle.air_world.specs.History.{history_of};
 ghost use Rattle.air_world.specs.ScenarioStart.{history, start_of};
 ghost use Rattle.inventory.specs.Complete.{CompleteInventory};
 ghost use Rattle.inventory.specs.Counted.{CountedRound};
+ghost use Rattle.inventory.specs.EveryTag.{AllTakePart, HaveOwnEpcs, ListsEveryTag};
 ghost use Rattle.inventory.specs.Honest.{IsHonest, IsApart};
+ghost use Rattle.inventory.specs.Moments.{Ending, ending_of};
 ghost use Rattle.q_round.specs.SpecValue.{SpecValue};
+ghost use Rattle.q_round.specs.declared.round.RoundEnd.TheVariants as ends;
 ghost use Rattle.scenario.specs.Limits.{IsScenario};
 ghost use Rattle.scenario.specs.declared.values.Scenario.{Scenario};
 ghost use Rattle.scenario.specs.declared.values.Step.{Step};
@@ -70,4 +73,19 @@ pub fn rounds_are_honest_where_nothing_is_said()
         IsHonest (history_of start taken) round operations }
 {
     records_follow_from_the_past();
+}
+
+/// A run of one round in which nothing is said of any exchange, over tags that are ready, each with flags
+/// that the Query speaks to, and no two with one EPC: where the round ends quiet, the run has as many
+/// list lines as tags, and as many different pairs of PC and EPC.
+pub fn quiet_runs_list_every_tag()
+    ensures { (start : Start) (spec : SpecValue) (operations : OpList) (slots : ℕ) (past : List Item) → IsLegalRound spec operations →
+        AllTakePart start spec → HaveOwnEpcs start → start.entries ≡ [] → operations.ops ≡ [] →
+        (start.several ≡ severals.Capture → IsApart (history_of start (steps.Round spec operations ∷ [])) 1) →
+        ending_of 1 (history_of start (steps.Round spec operations ∷ [])) ≡ Some (record { end = ends.Quiet; slots = slots; past = past }) →
+        ListsEveryTag start (history_of start (steps.Round spec operations ∷ [])) }
+{
+    round_laws();
+    round_facts();
+    rounds_are_honest_where_nothing_is_said();
 }
