@@ -4,7 +4,7 @@ use Rattle.std.proofs.Common.{◌≡◌, ℕ, zero, suc, ◌+◌, ◌==◌, ◌�
 use Rattle.std.specs.Prelude.{if◌then◌else◌}
 use Rattle.std.specs.List.{AllByRecursion}
 use Rattle.std.proofs.lemmas.Bool.{eq-eqb}
-use Rattle.access_ops.specs.DialogueLaws.{Awaits}
+use Rattle.access_ops.specs.OperationLaws.{Expects}
 use Rattle.access_ops.specs.Operations.{words_expected}
 use Rattle.air_channel.specs.Air.{AreLegalTags, outcomes_in, replies_in, given_in}
 use Rattle.air_channel.specs.Exchange.{Replied, tag_after_own_event, tag_after_events, is_missed, outcome_unless, outcomes_from, reply_of, replies_from}
@@ -216,7 +216,7 @@ kill-unmistakable true expect extended rn state sent (inl asked) legal is =
           handle-or-header rn rn reply sent.reply (spelling sent.reply sent.handle) (subst (λ (e : Expect). AnswersExpected reply e (spelling sent.reply sent.handle)) asked.0 answers) sends;
     }
 
-row-unmistakable : (command : Command) (expect : Expect) (extended : Bool) (state : StateValue) (body : BodyValue) (sent : Sent) → Awaits command expect extended
+row-unmistakable : (command : Command) (expect : Expect) (extended : Bool) (state : StateValue) (body : BodyValue) (sent : Sent) → Expects command expect extended
     → IsSent (Some sent) → IsAnswerTo command state body sent → IsUnmistakable expect sent
 row-unmistakable (commands.ReqRn rn) expect extended state body sent asked legal is = expected-unmistakable expect expects.Handle sent asked.0 legal (number-expected sent _ is.reply)
 row-unmistakable (commands.Read bank pointer count rn) expect extended state body sent asked legal is =
@@ -235,7 +235,7 @@ row-unmistakable (commands.Kill covered rn) expect extended state body sent aske
 row-unmistakable command expect extended state body sent asked legal is = absurd asked
 
 -- what the channel gives of the answers of legal tags to a command of a dialogue is unmistakable
-pub given-unmistakable : (several : Several) (command : Command) (expect : Expect) (extended : Bool) (entry : Entry) (tags : List TagValue) → Awaits command expect extended → AnswersByRow → SendsInRange
+pub given-unmistakable : (several : Several) (command : Command) (expect : Expect) (extended : Bool) (entry : Entry) (tags : List TagValue) → Expects command expect extended → AnswersByRow → SendsInRange
     → StaysLegal → AreLegalTags tags → HoldsOfSent (IsUnmistakable expect) (given_in several command entry tags)
 given-unmistakable several command expect extended entry tags asked rows range stays legal =
     given-of-answers (IsUnmistakable expect) several command entry tags
