@@ -1,6 +1,6 @@
 -- A past only grows. What each command and each result of a dialogue keeps, the dialogue keeps; what holds after each slot of a
 -- round and at both of its ends holds of the round; and what holds after each step holds of the run.
-use Rattle.std.proofs.Common.{◌≡◌, ℕ, zero, suc, ◌+◌, ◌≤◌, Bool, true, false, List, [], ◌∷◌, ◌++◌, length, refl, ap, sym, ◌∙◌, append_assoc, append-nil, arith}
+use Rattle.std.proofs.Common.{◌≡◌, ℕ, zero, suc, ◌+◌, ◌≤◌, Bool, true, false, List, [], ◌∷◌, ◌++◌, length, None, refl, ap, sym, ◌∙◌, append_assoc, append-nil, arith}
 use Rattle.std.specs.List.{AllByRecursion}
 use Rattle.access_ops.specs.DialogueLaws.{AwaitsReplies, dialogues-await}
 use Rattle.access_ops.specs.OperationLaws.{Expects}
@@ -9,7 +9,8 @@ use Rattle.access_ops.specs.declared.OpList.{OpList}
 use Rattle.access_ops.specs.declared.op_next.OpResult.{OpResult}
 use Rattle.air_channel.specs.Past.{Start, Item, exchanged, operated, ended, next_record, past_behind_command, rounds_in}
 use Rattle.reply_grammar.specs.Reception.{Reception, no_stream, whole_reply, no_such_reply}
-use Rattle.air_world.specs.History.{outcome_of, operation_reception, past_behind_dialogue, past_behind_listing, ack_reception, past_behind_ack, past_behind_answer, slot_reception, past_behind_slot, past_behind_turn, past_behind_turns, past_behind_round, past_behind_step, past_behind}
+use Rattle.air_world.specs.History.{outcome_of, operation_reception, past_behind_dialogue, dialogue_begun, past_behind_listing, ack_reception, past_behind_ack, past_behind_answer, slot_reception, past_behind_slot, past_behind_turn, past_behind_turns, past_behind_round, past_behind_step, past_behind}
+use Rattle.air_world.specs.HistoryLaws.{rn_of}
 use Rattle.air_world.specs.Report.{item_lines, past_lines}
 use Rattle.air_world.specs.declared.mode.Mode.{Mode}
 use Rattle.command_grammar.specs.declared.commands.Command.{Command}
@@ -86,41 +87,61 @@ dialogue-keeps Holds start round slot kept index dialogue past awaits holds =
     })
     index dialogue past (awaits, holds)
 
+-- what holds where nothing is done, and of the dialogue with each tag whose EPC came whole, holds of what is done behind an ACK
+-- that brought this
+pub begun-holds : (Holds : Dialogue → Type 0) (operations : OpList) (rn : ℕ) (reception : Reception) → Holds done
+    → ((pc : ℕ) (epc : List ℕ) → reception ≡ whole_reply (replies.Epc pc epc) → Holds (dialogue_of operations epc rn))
+    → Holds (dialogue_begun operations rn reception)
+begun-holds Holds operations rn no_stream none whole = none
+begun-holds Holds operations rn no_such_reply none whole = none
+begun-holds Holds operations rn (whole_reply (replies.Rn16 number)) none whole = none
+begun-holds Holds operations rn (whole_reply (replies.Epc pc epc)) none whole = whole pc epc refl
+begun-holds Holds operations rn (whole_reply (replies.Handle number)) none whole = none
+begun-holds Holds operations rn (whole_reply (replies.Words words)) none whole = none
+begun-holds Holds operations rn (whole_reply replies.Header) none whole = none
+begun-holds Holds operations rn (whole_reply (replies.Error code)) none whole = none
+
+-- each command of it awaits a reply of its kind
+pub begun-awaits : (operations : OpList) (rn : ℕ) (reception : Reception) → AwaitsReplies (dialogue_begun operations rn reception)
+begun-awaits operations rn reception = begun-holds AwaitsReplies operations rn reception tt (λ pc epc is. dialogues-await operations epc rn)
+
 -- What holds behind an ACK, and what holds behind each dialogue with a tag whose EPC came whole, holds behind the rest of a slot
 -- whose ACK brought this.
 pub listing-holds : (Holds : List Item → Type 0) (start : Start) (operations : OpList) (round slot rn : ℕ) (reception : Reception) (past : List Item) → Holds past
     → ((pc : ℕ) (epc : List ℕ) → reception ≡ whole_reply (replies.Epc pc epc) → Holds (past_behind_dialogue start round slot 1 (dialogue_of operations epc rn) past))
     → Holds (past_behind_listing start operations round slot rn reception past)
-listing-holds Holds start operations round slot rn no_stream past holds whole = holds
-listing-holds Holds start operations round slot rn no_such_reply past holds whole = holds
-listing-holds Holds start operations round slot rn (whole_reply (replies.Rn16 number)) past holds whole = holds
-listing-holds Holds start operations round slot rn (whole_reply (replies.Epc pc epc)) past holds whole = whole pc epc refl
-listing-holds Holds start operations round slot rn (whole_reply (replies.Handle number)) past holds whole = holds
-listing-holds Holds start operations round slot rn (whole_reply (replies.Words words)) past holds whole = holds
-listing-holds Holds start operations round slot rn (whole_reply replies.Header) past holds whole = holds
-listing-holds Holds start operations round slot rn (whole_reply (replies.Error code)) past holds whole = holds
+listing-holds Holds start operations round slot rn reception past holds whole =
+    begun-holds (λ dialogue. Holds (past_behind_dialogue start round slot 1 dialogue past)) operations rn reception holds whole
 
--- what holds behind a slot command, and behind each ACK with what follows it, holds behind the rest of a slot whose slot command
--- brought this
+-- What holds where no RN16 came, and behind each ACK with what follows it, holds behind the rest of a slot whose slot command
+-- brought this.
+pub answer-cases : (Holds : List Item → Type 0) (start : Start) (operations : OpList) (round slot : ℕ) (reception : Reception) (past : List Item)
+    → (rn_of reception ≡ None → Holds past)
+    → ((rn : ℕ) → reception ≡ whole_reply (replies.Rn16 rn) → Holds (past_behind_ack start operations round slot rn past))
+    → Holds (past_behind_answer start operations round slot reception past)
+answer-cases Holds start operations round slot no_stream past none whole = none refl
+answer-cases Holds start operations round slot no_such_reply past none whole = none refl
+answer-cases Holds start operations round slot (whole_reply (replies.Rn16 rn)) past none whole = whole rn refl
+answer-cases Holds start operations round slot (whole_reply (replies.Epc pc epc)) past none whole = none refl
+answer-cases Holds start operations round slot (whole_reply (replies.Handle rn)) past none whole = none refl
+answer-cases Holds start operations round slot (whole_reply (replies.Words words)) past none whole = none refl
+answer-cases Holds start operations round slot (whole_reply replies.Header) past none whole = none refl
+answer-cases Holds start operations round slot (whole_reply (replies.Error code)) past none whole = none refl
+
+-- ... also of what holds behind the slot command whatever came
 pub answer-holds : (Holds : List Item → Type 0) (start : Start) (operations : OpList) (round slot : ℕ) (reception : Reception) (past : List Item) → Holds past
     → ((rn : ℕ) → reception ≡ whole_reply (replies.Rn16 rn) → Holds (past_behind_ack start operations round slot rn past))
     → Holds (past_behind_answer start operations round slot reception past)
-answer-holds Holds start operations round slot no_stream past holds whole = holds
-answer-holds Holds start operations round slot no_such_reply past holds whole = holds
-answer-holds Holds start operations round slot (whole_reply (replies.Rn16 rn)) past holds whole = whole rn refl
-answer-holds Holds start operations round slot (whole_reply (replies.Epc pc epc)) past holds whole = holds
-answer-holds Holds start operations round slot (whole_reply (replies.Handle rn)) past holds whole = holds
-answer-holds Holds start operations round slot (whole_reply (replies.Words words)) past holds whole = holds
-answer-holds Holds start operations round slot (whole_reply replies.Header) past holds whole = holds
-answer-holds Holds start operations round slot (whole_reply (replies.Error code)) past holds whole = holds
+answer-holds Holds start operations round slot reception past holds whole =
+    answer-cases Holds start operations round slot reception past (λ none. holds) whole
 
 -- what each command of an operation and each result keeps holds behind an ACK and what follows it, where it holds behind the ACK
 pub ack-keeps : (Holds : List Item → Type 0) (start : Start) (operations : OpList) (round slot rn : ℕ) (past : List Item) → KeptByOperations Holds start round slot
     → Holds (past_behind_command start round slot (commands.Ack rn) past) → Holds (past_behind_ack start operations round slot rn past)
 ack-keeps Holds start operations round slot rn past kept holds =
-    let sent = past_behind_command start round slot (commands.Ack rn) past in
-    listing-holds Holds start operations round slot rn (ack_reception start round slot rn past) sent holds
-    (λ pc epc is. dialogue-keeps Holds start round slot kept 1 (dialogue_of operations epc rn) sent (dialogues-await operations epc rn) holds)
+    let reception = ack_reception start round slot rn past in
+    dialogue-keeps Holds start round slot kept 1 (dialogue_begun operations rn reception) (past_behind_command start round slot (commands.Ack rn) past)
+    (begun-awaits operations rn reception) holds
 
 -- ... and behind the rest of a slot, where the ACK keeps it too
 pub answer-keeps : (Holds : List Item → Type 0) (start : Start) (operations : OpList) (round slot : ℕ) (reception : Reception) (past : List Item)
@@ -144,9 +165,7 @@ dialogue-grows start round slot index dialogue past =
 
 pub listing-grows : (start : Start) (operations : OpList) (round slot rn : ℕ) (reception : Reception) (past : List Item)
     → Grows past (past_behind_listing start operations round slot rn reception past)
-listing-grows start operations round slot rn reception past =
-    listing-holds (λ now. Grows past now) start operations round slot rn reception past (grows-none past)
-    (λ pc epc is. dialogue-grows start round slot 1 (dialogue_of operations epc rn) past)
+listing-grows start operations round slot rn reception past = dialogue-grows start round slot 1 (dialogue_begun operations rn reception) past
 
 pub ack-grows : (start : Start) (operations : OpList) (round slot rn : ℕ) (past : List Item) → Grows past (past_behind_ack start operations round slot rn past)
 ack-grows start operations round slot rn past =

@@ -41,9 +41,9 @@ ack-exchanges start operations round slot rn past =
     listing-holds (λ now. exchanges_in now ≤ exchanges_in past + (1 + most_operating operations)) start operations round slot rn
     (ack_reception start round slot rn past) sent (omega arith)
     (λ pc epc is.
-        let few : exchanges_in (past_behind_dialogue start round slot 1 (dialogue_of operations epc rn) sent) ≤ exchanges_in past + 1 + most_operating operations =
-        dialogue-exchanges start round slot 1 (most_operating operations) (dialogue_of operations epc rn) sent (dialogues-are-few operations epc rn) in
-        omega (arith, few))
+    let few : exchanges_in (past_behind_dialogue start round slot 1 (dialogue_of operations epc rn) sent) ≤ exchanges_in past + 1 + most_operating operations =
+    dialogue-exchanges start round slot 1 (most_operating operations) (dialogue_of operations epc rn) sent (dialogues-are-few operations epc rn) in
+    omega (arith, few))
 
 -- a slot command, and an ACK with the operations or none
 pub slot-exchanges : (start : Start) (operations : OpList) (round slot : ℕ) (command : Command) (past : List Item)
@@ -53,9 +53,9 @@ slot-exchanges start operations round slot command past =
     answer-holds (λ now. exchanges_in now ≤ exchanges_in past + (2 + most_operating operations)) start operations round slot
     (slot_reception start round slot command past) sent (omega arith)
     (λ rn is.
-        let few : exchanges_in (past_behind_ack start operations round slot rn sent) ≤ exchanges_in past + 1 + (1 + most_operating operations) =
-        ack-exchanges start operations round slot rn sent in
-        omega (arith, few))
+    let few : exchanges_in (past_behind_ack start operations round slot rn sent) ≤ exchanges_in past + 1 + (1 + most_operating operations) =
+    ack-exchanges start operations round slot rn sent in
+    omega (arith, few))
 
 pub round-exchanges : RoundsKeepLimit → (start : Start) (operations : OpList) (spec : SpecValue) (past : List Item) → IsLegalSpec spec
     → exchanges_in (past_behind_round start operations spec past) ≤ exchanges_in past + (2 + most_operating operations) * spec.limit

@@ -7,6 +7,7 @@ pub mod HeadlineLegal
 pub mod HeadlineLines
 pub mod HeadlineListed
 pub mod HeadlineNext
+pub mod HeadlineOperations
 pub mod HeadlineSent
 pub mod HeadlineSlots
 pub mod HeadlineTags

@@ -11,7 +11,7 @@ use Rattle.command_grammar.specs.declared.commands.Command.TheVariants as comman
 use Rattle.q_round.specs.SpecValue.{SpecValue, IsLegalSpec}
 use Rattle.q_round.specs.declared.round.RoundEnd.{RoundEnd}
 use Rattle.reply_grammar.specs.declared.expected.Reply.TheVariants.{Epc}
-use Rattle.report_lines.specs.ReportLine.{ReportLine, ListLine, RoundLine, TagLine}
+use Rattle.report_lines.specs.ReportLine.{ReportLine, ListLine, OpLine, RoundLine, TagLine}
 use Rattle.scenario.specs.declared.values.Step.{Step}
 use Rattle.scenario.specs.declared.values.Step.TheVariants as steps
 use Rattle.tag_machine.specs.Answers.{Sent}
@@ -105,6 +105,19 @@ is_round_line round line = false
 abbrev pub is_tag_line : ReportLine → Bool
 is_tag_line (TagLine number tag) = true
 is_tag_line line = false
+
+-- a line for the result of an operation
+abbrev pub is_op_line : ReportLine → Bool
+is_op_line (OpLine round slot index result) = true
+is_op_line line = false
+
+-- a line for each result in a past, in the order in which they came
+abbrev pub op_lines : List Item → List ReportLine
+op_lines [] = []
+op_lines (befell event number ∷ past) = op_lines past
+op_lines (exchanged sent ∷ past) = op_lines past
+op_lines (operated round slot index result ∷ past) = op_lines past ++ OpLine round slot index result ∷ []
+op_lines (ended number end slots ∷ past) = op_lines past
 
 -- a line for each tag, numbered from a number on, as it stands behind a past
 abbrev pub tag_lines_behind : ℕ → List TagValue → List Item → List ReportLine

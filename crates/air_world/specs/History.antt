@@ -41,12 +41,15 @@ past_behind_dialogue start round slot index (tells result later) past =
     past_behind_dialogue start round slot (index + 1) later (operated round slot index result ∷ past)
 past_behind_dialogue start round slot index done past = past
 
--- The past behind the rest of a slot, whose ACK with this RN16 brought this: with a tag whose EPC came whole the interrogator
--- does the operations of the round, and in each other case the slot ends.
+-- What the interrogator does in the slot behind an ACK with this RN16 that brought this: with a tag whose EPC came whole the
+-- operations of the round, and in each other case nothing.
+abbrev pub dialogue_begun : OpList → ℕ → Reception → Dialogue
+dialogue_begun operations rn (whole_reply (replies.Epc pc epc)) = dialogue_of operations epc rn
+dialogue_begun operations rn reception = done
+
+-- the past behind the rest of a slot, whose ACK with this RN16 brought this
 abbrev pub past_behind_listing : Start → OpList → (round slot rn : ℕ) → Reception → List Item → List Item
-past_behind_listing start operations round slot rn (whole_reply (replies.Epc pc epc)) past =
-    past_behind_dialogue start round slot 1 (dialogue_of operations epc rn) past
-past_behind_listing start operations round slot rn reception past = past
+past_behind_listing start operations round slot rn reception past = past_behind_dialogue start round slot 1 (dialogue_begun operations rn reception) past
 
 -- what an ACK brings
 abbrev pub ack_reception : Start → (round slot rn : ℕ) → List Item → Reception

@@ -1,12 +1,12 @@
 -- Profile: the history of a run, item by item. What comes next goes by the start, the steps and what is past alone.
 use Rattle.std.specs.Prelude.{◌≡◌, ℕ, ◌+◌, ◌==◌, List, [], ◌∷◌, length, map, Option, Some, None, slice_get, if◌then◌else◌}
-use Rattle.access_ops.specs.Operations.{Dialogue, sends, tells, done, dialogue_of}
+use Rattle.access_ops.specs.Operations.{Dialogue, sends, tells, done}
 use Rattle.access_ops.specs.declared.OpList.{OpList}
 use Rattle.air_channel.specs.Past.{Start, Record, Item, befell, exchanged, operated, ended, next_record, rounds_in}
 use Rattle.air_channel.specs.Reception.{reception_of, reception_with}
 use Rattle.reply_grammar.specs.Reception.{Reception, whole_reply}
 use Rattle.air_world.specs.Headline.{begins_slot, slot_records}
-use Rattle.air_world.specs.History.{outcome_of}
+use Rattle.air_world.specs.History.{outcome_of, dialogue_begun}
 use Rattle.command_grammar.specs.declared.commands.Command.{Command}
 use Rattle.command_grammar.specs.declared.commands.Command.TheVariants as commands
 use Rattle.q_round.specs.SpecValue.{SpecValue}
@@ -51,11 +51,6 @@ abbrev pub item_by_rule : Start → ℕ → List Outcome → List Item → Next 
 item_by_rule start round outcomes past (nexts.Send command) = exchanged (next_record start round (length outcomes + 1) command past)
 item_by_rule start round outcomes past nexts.Quiet = ended round ends.Quiet (length outcomes)
 item_by_rule start round outcomes past nexts.Limit = ended round ends.Limit (length outcomes)
-
--- what the interrogator does with a tag whose EPC came whole in reply to an ACK
-abbrev pub dialogue_begun : OpList → ℕ → Reception → Dialogue
-dialogue_begun operations rn (whole_reply (replies.Epc pc epc)) = dialogue_of operations epc rn
-dialogue_begun operations rn reception = done
 
 -- what is left of a dialogue behind the record of its command
 abbrev pub dialogue_behind_record : Start → Record → Dialogue → Dialogue
