@@ -178,7 +178,7 @@ text-operated origin past round slot index result =
 stands-operated : (origin : Origin) (past : List Item) (round slot index : ℕ) (result : OpResult) (air : AirValue) (run after : RunValue) (was_written written : Option (List ℕ)) (was_faults faults : ℕ)
     → StandsAt origin past air run was_written was_faults → after ≡ run → IsWritten origin (past_text origin past ++ report_line_text (OpLine round slot index result)) written faults
     → StandsAt origin (operated round slot index result ∷ past) air after written faults
-stands-operated origin past round slot index result air run after was_written written was_faults faults stands same done = record {
+stands-operated origin past round slot index result air run after was_written written was_faults faults stands same written_is = record {
   plays = subst (λ (r : RunValue). PlaysAt origin (operated round slot index result ∷ past) air r) (sym same) record {
     names = stands.plays.names;
     mode = stands.plays.mode;
@@ -191,7 +191,7 @@ stands-operated origin past round slot index result air run after was_written wr
     rounds = stands.plays.rounds;
   };
   seen = ap (λ (r : RunValue). r.seen) same ∙ stands.seen;
-  text = subst (λ (t : List ℕ). IsWritten origin t written faults) (sym (text-operated origin past round slot index result)) done;
+  text = subst (λ (t : List ℕ). IsWritten origin t written faults) (sym (text-operated origin past round slot index result)) written_is;
 }
 
 told-rest : (start : Start) (list : OpList) (epc : List ℕ) (rn round slot index : ℕ) (moves : List Move) (past whole : List Item) (result : OpResult) (later : Dialogue)
@@ -206,7 +206,7 @@ pub operations-told : (origin : Origin) (list : OpList) (epc : List ℕ) (rn rou
     → IsNextOperation (nexts.Result result) after list epc rn u.moves → answer ≡ None → then_run ≡ run
     → IsWritten origin (past_text origin u.past ++ report_line_text (OpLine round slot index result)) written faults → turns_left list after + 1 ≤ turns_left list operating
     → OperationsUnderway origin list epc rn round slot first whole after answer (index + 1) air then_run written faults
-operations-told origin list epc rn round slot first whole operating after was answer index air run then_run was_written written was_faults faults result u next is same done fewer =
+operations-told origin list epc rn round slot first whole operating after was answer index air run then_run was_written written was_faults faults result u next is same written_is fewer =
     let found = first-tells (dialogue_after list epc rn u.moves) result (sym next.next) in
     let later : Dialogue = found.0 in
     let behind : dialogue_after list epc rn (told ∷ u.moves) ≡ later = ap (λ (d : Dialogue). dialogue_behind told d) found.1 in
@@ -215,7 +215,7 @@ operations-told origin list epc rn round slot first whole operating after was an
       past = past;
       moves = told ∷ u.moves;
       left = u.left;
-      stands = stands-operated origin u.past round slot index result air run then_run was_written written was_faults faults u.stands same done;
+      stands = stands-operated origin u.past round slot index result air run then_run was_written written was_faults faults u.stands same written_is;
       goes = next.stands told tt;
       last = is;
       awaits = subst AwaitsReplies (sym behind) (subst AwaitsReplies found.1 u.awaits);
