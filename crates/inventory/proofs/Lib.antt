@@ -1,0 +1,13 @@
+pub mod CompleteRound
+pub mod Heard
+pub mod Honesty
+pub mod Others
+pub mod Population
+pub mod Standing
+pub mod TagBetween
+pub mod TagEnds
+pub mod TagQuery
+pub mod TagSteps
+pub mod Times
+pub mod Turns
+pub mod WholeRound

@@ -1,0 +1,7 @@
+pub mod TagInRound
+pub mod TagAtEnd
+pub mod Complete
+pub mod Counted
+pub mod Honest
+pub mod Listed
+pub mod Moments

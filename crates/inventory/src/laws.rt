@@ -1,0 +1,68 @@
+//! What an honest round of a run says of the tags that it lists.
+ghost use Rattle.std.specs.Prelude.{◌≡◌, ℕ, ◌+◌, List, [], ◌∷◌, ◌++◌};
+ghost use Rattle.access_ops.specs.declared.OpList.{OpList};
+ghost use Rattle.air_channel.specs.Past.{Start, Record, Item};
+ghost use Rattle.air_events.specs.Entries.{no_entry, entry_at};
+ghost use Rattle.air_world.specs.Headline.{AreLegalSteps, IsRecordOf, rounds_of};
+ghost use Rattle.air_world.specs.History.{history_of};
+ghost use Rattle.air_world.specs.ScenarioStart.{history, start_of};
+ghost use Rattle.inventory.specs.Complete.{CompleteInventory};
+ghost use Rattle.inventory.specs.Counted.{CountedRound};
+ghost use Rattle.inventory.specs.Honest.{IsHonest};
+ghost use Rattle.q_round.specs.SpecValue.{SpecValue};
+ghost use Rattle.scenario.specs.Limits.{IsScenario};
+ghost use Rattle.scenario.specs.declared.values.Scenario.{Scenario};
+ghost use Rattle.scenario.specs.declared.values.Step.{Step};
+ghost use Rattle.scenario.specs.declared.values.Step.TheVariants as steps;
+
+use air_world::{records_follow_from_the_past, scenario_steps_are_legal};
+use q_round::{round_facts, round_laws};
+
+/// Complete inventory. In an honest round of a run no tag is listed twice, and only tags that the Query
+/// matched are; at each slot command the flag of the round's session is inverted for the tag that was
+/// listed in the slot before, and no other flag of any tag changes; where the round ends quiet, exactly
+/// the matched tags are listed; and where it ends by its limit, each matched tag that isn't listed has
+/// its flags unchanged. Tags are told apart by their numbers, and not by their EPCs.
+pub fn complete_inventory()
+    ensures run { (start : Start) (taken before after : List Step) (spec : SpecValue) (operations : OpList) → AreLegalSteps taken →
+        taken ≡ before ++ steps.Round spec operations ∷ after → IsHonest (history_of start taken) (rounds_of before + 1) operations →
+        CompleteInventory start (history_of start taken) (rounds_of before + 1) spec.session }
+    ensures scenario { (scenario : Scenario) (before after : List Step) (spec : SpecValue) (operations : OpList) → IsScenario scenario →
+        scenario.steps ≡ before ++ steps.Round spec operations ∷ after → IsHonest (history scenario) (rounds_of before + 1) operations →
+        CompleteInventory (start_of scenario) (history scenario) (rounds_of before + 1) spec.session }
+{
+    scenario_steps_are_legal();
+    round_laws();
+    round_facts();
+}
+
+/// The same as a user sees it. An honest round of a run ended; each tag that it lists is one that is
+/// present and whose flags the Query speaks to, and it is listed once; where the round ended quiet, each
+/// such tag is listed. At its end the flag of the round's session is inverted for the tags that were
+/// listed before the last slot, and no other flag, no memory and no lock of any tag has changed since
+/// the Query.
+pub fn honest_rounds_count_tags()
+    ensures run { (start : Start) (taken before after : List Step) (spec : SpecValue) (operations : OpList) → AreLegalSteps taken →
+        taken ≡ before ++ steps.Round spec operations ∷ after → IsHonest (history_of start taken) (rounds_of before + 1) operations →
+        CountedRound start (history_of start taken) (rounds_of before + 1) spec }
+    ensures scenario { (scenario : Scenario) (before after : List Step) (spec : SpecValue) (operations : OpList) → IsScenario scenario →
+        scenario.steps ≡ before ++ steps.Round spec operations ∷ after → IsHonest (history scenario) (rounds_of before + 1) operations →
+        CountedRound (start_of scenario) (history scenario) (rounds_of before + 1) spec }
+{
+    scenario_steps_are_legal();
+    round_laws();
+    round_facts();
+}
+
+/// A round without operations is honest where nothing is said of the exchange of any of its records, and
+/// so where nothing is said of any exchange.
+pub fn rounds_are_honest_where_nothing_is_said()
+    ensures exchanges { (start : Start) (taken : List Step) (round : ℕ) (operations : OpList) → operations.ops ≡ [] →
+        ((sent : Record) (earlier : List Item) → IsRecordOf (history_of start taken) sent earlier → sent.round ≡ round →
+        entry_at start.entries sent.exchange ≡ no_entry) →
+        IsHonest (history_of start taken) round operations }
+    ensures run { (start : Start) (taken : List Step) (round : ℕ) (operations : OpList) → operations.ops ≡ [] → start.entries ≡ [] →
+        IsHonest (history_of start taken) round operations }
+{
+    records_follow_from_the_past();
+}
