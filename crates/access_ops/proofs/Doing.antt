@@ -15,11 +15,11 @@ use Rattle.access_ops.specs.declared.op_next.OpNext.{OpNext}
 use Rattle.access_ops.specs.declared.op_next.OpNext.TheVariants.{Send, Result}
 use Rattle.access_ops.specs.declared.op_next.OpResult.{OpResult}
 use Rattle.access_ops.specs.declared.op_next.OpResult.TheVariants as results
-use Rattle.access_ops.specs.declared.step.Covered.TheVariants.{Upper}
-use Rattle.access_ops.specs.declared.step.Purpose.TheVariants.{Handle, Cover}
-use Rattle.access_ops.specs.declared.step.Secret.TheVariants.{Access, Kill}
-use Rattle.access_ops.specs.declared.step.Step.{Step}
-use Rattle.access_ops.specs.declared.step.Step.TheVariants.{Deny, Number, Last}
+use Rattle.access_ops.specs.declared.stage.Covered.TheVariants.{Upper}
+use Rattle.access_ops.specs.declared.stage.Purpose.TheVariants.{Handle, Cover}
+use Rattle.access_ops.specs.declared.stage.Password.TheVariants.{Access, Kill}
+use Rattle.access_ops.specs.declared.stage.Stage.{Stage}
+use Rattle.access_ops.specs.declared.stage.Stage.TheVariants.{Deny, Number, Last}
 use Rattle.access_ops.specs.Operations.{Dialogue, sends, tells, behind_reception, behind_last, behind_number, operation, operations, denials, opened, first_of, Move, answered, told, reception_in, dialogue_behind, dialogue_after, next_operation, Follows}
 use Rattle.access_ops.specs.Standing.{OpRunValue, later_of, behind_heard, dialogue_at, dialogue_with, answer_in, last_answer, Does, OpRunStandsFor, IsNextOperation}
 
@@ -52,38 +52,38 @@ drop_here ops at op there =
 
 -- where there is an operation the handle is asked for
 opens : (list : OpList) (rn begun : ℕ) (ops : List Op) → drop begun list.ops ≡ ops → 0 < length ops
-    → Does (Send (commands.ReqRn rn) expects.Handle false) (record { rn = rn; begun = begun; step = Number Handle }) list (opened ops rn)
+    → Does (Send (commands.ReqRn rn) expects.Handle false) (record { rn = rn; begun = begun; stage = Number Handle }) list (opened ops rn)
 opens list rn begun [] is some = absurd (omega arith)
 opens list rn begun (op ∷ ops) is some =
-    does-send (commands.ReqRn rn) expects.Handle false (behind_reception (behind_number (λ handle. operations (op ∷ ops) handle))) list (record { rn = rn; begun = begun; step = Number Handle })
+    does-send (commands.ReqRn rn) expects.Handle false (behind_reception (behind_number (λ handle. operations (op ∷ ops) handle))) list (record { rn = rn; begun = begun; stage = Number Handle })
     (λ answer. ap (λ (os : List Op). behind_reception (behind_number (λ handle. operations os handle)) (reception_in answer)) (sym is))
 
 pub does-open : (list : OpList) (run : OpRunValue) → run.begun < length list.ops
-    → Does (Send (commands.ReqRn run.rn) expects.Handle false) (record run { step = Number Handle }) list (opened (drop run.begun list.ops) run.rn)
+    → Does (Send (commands.ReqRn run.rn) expects.Handle false) (record run { stage = Number Handle }) list (opened (drop run.begun list.ops) run.rn)
 does-open list run some = opens list run.rn run.begun (drop run.begun list.ops) refl (omega (arith, length-drop run.begun list.ops))
 
 -- ... or the operation is denied
 denies : (list : OpList) (rn begun : ℕ) (ops : List Op) → drop begun list.ops ≡ ops → 0 < length ops
-    → Does (Result results.Denied) (record { rn = rn; begun = begun + 1; step = Deny }) list (denials ops)
+    → Does (Result results.Denied) (record { rn = rn; begun = begun + 1; stage = Deny }) list (denials ops)
 denies list rn begun [] is some = absurd (omega arith)
 denies list rn begun (op ∷ ops) is some =
     let here : begun < length list.ops = omega (arith, length-drop begun list.ops, ap (λ (os : List Op). length os) is) in
     let split : drop begun list.ops ≡ get_or list.ops begun op ∷ drop (suc begun) list.ops = drop-cons list.ops begun op here in
     let same : ops ≡ drop (begun + 1) list.ops = rw add-one (cc) in
-    does-tell results.Denied (denials ops) list (record { rn = rn; begun = begun + 1; step = Deny }) (ap denials same)
+    does-tell results.Denied (denials ops) list (record { rn = rn; begun = begun + 1; stage = Deny }) (ap denials same)
 
-pub does-deny : (list : OpList) (run : OpRunValue) → run.step ≡ Deny → run.begun < length list.ops
+pub does-deny : (list : OpList) (run : OpRunValue) → run.stage ≡ Deny → run.begun < length list.ops
     → Does (Result results.Denied) (record run { begun = run.begun + 1 }) list (denials (drop run.begun list.ops))
 does-deny list run deny some = rw deny (denies list run.rn run.begun (drop run.begun list.ops) refl (omega (arith, length-drop run.begun list.ops)))
 
 -- an Access and a Kill ask for the cover of the upper half
 pub does-access : (list : OpList) (run : OpRunValue) (password : ℕ)
-    → Does (Send (commands.ReqRn run.rn) expects.Handle false) (record run { step = Number (Cover (Upper (Access password))) }) list (operation (ops.Access password) run.rn (later_of list run))
-does-access list run password = does-send (commands.ReqRn run.rn) expects.Handle false _ list (record run { step = Number (Cover (Upper (Access password))) }) (λ answer. refl)
+    → Does (Send (commands.ReqRn run.rn) expects.Handle false) (record run { stage = Number (Cover (Upper (Access password))) }) list (operation (ops.Access password) run.rn (later_of list run))
+does-access list run password = does-send (commands.ReqRn run.rn) expects.Handle false _ list (record run { stage = Number (Cover (Upper (Access password))) }) (λ answer. refl)
 
 pub does-kill : (list : OpList) (run : OpRunValue) (password : ℕ)
-    → Does (Send (commands.ReqRn run.rn) expects.Handle false) (record run { step = Number (Cover (Upper (Kill password))) }) list (operation (ops.Kill password) run.rn (later_of list run))
-does-kill list run password = does-send (commands.ReqRn run.rn) expects.Handle false _ list (record run { step = Number (Cover (Upper (Kill password))) }) (λ answer. refl)
+    → Does (Send (commands.ReqRn run.rn) expects.Handle false) (record run { stage = Number (Cover (Upper (Kill password))) }) list (operation (ops.Kill password) run.rn (later_of list run))
+does-kill list run password = does-send (commands.ReqRn run.rn) expects.Handle false _ list (record run { stage = Number (Cover (Upper (Kill password))) }) (λ answer. refl)
 
 -- what comes next is what is done first of what is left
 pub does-next : (said : OpNext) (run : OpRunValue) (new : OpRunValue) (list : OpList) (epc : List ℕ) (rn : ℕ) (moves : List Move) (answer : Option Answer)
@@ -100,7 +100,7 @@ does-next said run new list epc rn moves answer s given does =
     }
 
 -- ... where the last command of an operation was answered
-pub next-behind-last : (said : OpNext) (run : OpRunValue) (new : OpRunValue) (list : OpList) (epc : List ℕ) (rn : ℕ) (moves : List Move) (answer : Option Answer) → run.step ≡ Last
+pub next-behind-last : (said : OpNext) (run : OpRunValue) (new : OpRunValue) (list : OpList) (epc : List ℕ) (rn : ℕ) (moves : List Move) (answer : Option Answer) → run.stage ≡ Last
     → OpRunStandsFor run list epc rn moves → answer ≡ last_answer moves → Does said new list (behind_heard (behind_last (later_of list run)) answer) → IsNextOperation said new list epc rn moves
-next-behind-last said run new list epc rn moves answer step s given does =
-    does-next said run new list epc rn moves answer s given (subst (λ (at : Step). Does said new list (dialogue_at at list run answer)) (sym step) does)
+next-behind-last said run new list epc rn moves answer stage s given does =
+    does-next said run new list epc rn moves answer s given (subst (λ (at : Stage). Does said new list (dialogue_at at list run answer)) (sym stage) does)

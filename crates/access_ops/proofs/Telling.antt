@@ -1,6 +1,7 @@
 -- The laws of runs of operations.
 use Rattle.std.proofs.Common.{◌≡◌, ◌≢◌, ℕ, zero, suc, ◌+◌, ◌*◌, ◌≤◌, ◌⊎◌, inl, inr, Bool, true, false, List, [], ◌∷◌, ◌++◌, length, Some, slice_get, nat_lt, refl, sym, ◌∙◌, ap, subst, arith}
-use Rattle.std.specs.Prelude.{if◌then◌else◌}
+use Rattle.std.specs.Prelude.{◌↔◌, nat_eq, if◌then◌else◌}
+use Rattle.std.specs.Cmp.Lexicographic.{pointwise, same_text, other_text}
 use Rattle.std.proofs.lemmas.Bool.Decides.{nat_tests}
 use Rattle.command_grammar.specs.declared.commands.Command.{Command}
 use Rattle.reply_grammar.specs.declared.expected.Expect.{Expect}
@@ -196,3 +197,14 @@ denied-none list epc rn moves for are = λ next.
           well refl
       | inr o ↦ let none : End ≡ Result results.Denied = sym (ap first_of o.done_is) ∙ next in absurd (cc)
     ]
+
+-- the EPC of the list is that of the tag
+is-own : (epc : List ℕ) (own : Bool) → pointwise nat_eq epc epc ≡ own → pointwise nat_eq epc epc ≡ true
+is-own epc true is = is
+is-own epc false is = absurd (other_text epc epc (sym is) refl)
+
+pub for-named : (only epc : List ℕ) → (is_for (Some only) epc ≡ true) ↔ (only ≡ epc)
+for-named only epc = (
+  λ is. same_text only epc (sym is),
+  λ same. subst (λ (e : List ℕ). is_for (Some only) e ≡ true) same (is-own only (pointwise nat_eq only only) refl),
+)

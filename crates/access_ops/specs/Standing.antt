@@ -14,53 +14,53 @@ use Rattle.access_ops.specs.declared.op_next.OpNext.{OpNext}
 use Rattle.access_ops.specs.declared.op_next.OpNext.TheVariants as nexts
 use Rattle.access_ops.specs.declared.op_next.OpResult.{OpResult}
 use Rattle.access_ops.specs.declared.op_next.OpResult.TheVariants as results
-use Rattle.access_ops.specs.declared.step.Covered.{Covered}
-use Rattle.access_ops.specs.declared.step.Covered.TheVariants.{Word, Upper, Lower}
-use Rattle.access_ops.specs.declared.step.Purpose.{Purpose}
-use Rattle.access_ops.specs.declared.step.Purpose.TheVariants.{Handle, Cover, Same}
-use Rattle.access_ops.specs.declared.step.Secret.{Secret}
-use Rattle.access_ops.specs.declared.step.Secret.TheVariants.{Access, Kill}
-use Rattle.access_ops.specs.declared.step.Step.{Step}
-use Rattle.access_ops.specs.declared.step.Step.TheVariants.{Open, Deny, Begin, Number, Last, Done}
+use Rattle.access_ops.specs.declared.stage.Covered.{Covered}
+use Rattle.access_ops.specs.declared.stage.Covered.TheVariants.{Word, Upper, Lower}
+use Rattle.access_ops.specs.declared.stage.Purpose.{Purpose}
+use Rattle.access_ops.specs.declared.stage.Purpose.TheVariants.{Handle, Cover, Same}
+use Rattle.access_ops.specs.declared.stage.Password.{Password}
+use Rattle.access_ops.specs.declared.stage.Password.TheVariants.{Access, Kill}
+use Rattle.access_ops.specs.declared.stage.Stage.{Stage}
+use Rattle.access_ops.specs.declared.stage.Stage.TheVariants.{Open, Deny, Begin, Number, Last, Done}
 use Rattle.access_ops.specs.Operations.{Dialogue, sends, tells, done, behind_reception, behind_last, last_command, behind_number, upper_half, lower_half, send_lower, operations, denials, opened, first_of, Move, answered, told, reception_in, dialogue_behind, dialogue_after, next_operation, Follows, AreMoves}
 
 -- what a contract sees of a run of operations
 pub record OpRunValue : Type 0 where
   pub rn : ℕ
   pub begun : ℕ
-  pub step : Step
+  pub stage : Stage
 
 -- the command that shows a half of a password
-abbrev pub half_command : Secret → ℕ → ℕ → Command
-half_command (Access password) handle half = commands.Access half handle
-half_command (Kill password) handle half = commands.Kill half handle
+abbrev pub half_command : Password → ℕ → ℕ → Command
+half_command (Access value) handle half = commands.Access half handle
+half_command (Kill value) handle half = commands.Kill half handle
 
-abbrev pub password_of : Secret → ℕ
-password_of (Access password) = password
-password_of (Kill password) = password
+abbrev pub password_value : Password → ℕ
+password_value (Access value) = value
+password_value (Kill value) = value
 
 -- the reply to the lower half, and its preamble
-abbrev pub lower_expected : Secret → ℕ → Expect
-lower_expected (Access password) handle = expects.Same handle
-lower_expected (Kill password) handle = expects.Header handle
+abbrev pub lower_expected : Password → ℕ → Expect
+lower_expected (Access value) handle = expects.Same handle
+lower_expected (Kill value) handle = expects.Header handle
 
-abbrev pub lower_extended : Secret → Bool
-lower_extended (Access password) = false
-lower_extended (Kill password) = true
+abbrev pub lower_extended : Password → Bool
+lower_extended (Access value) = false
+lower_extended (Kill value) = true
 
 -- what is done behind the reply to the upper half
-abbrev pub behind_upper : Secret → ℕ → Dialogue → Dialogue
-behind_upper secret handle later = send_lower (half_command secret handle) (lower_expected secret handle) (lower_extended secret) (password_of secret) handle later
+abbrev pub behind_upper : Password → ℕ → Dialogue → Dialogue
+behind_upper password handle later = send_lower (half_command password handle) (lower_expected password handle) (lower_extended password) (password_value password) handle later
 
 -- what is done with a cover
 abbrev pub behind_cover : Covered → ℕ → Dialogue → ℕ → Dialogue
 behind_cover (Word bank pointer word) handle later cover =
     last_command (commands.Write bank pointer (bit_xor word cover) handle) (expects.Header handle) true later
-behind_cover (Upper secret) handle later cover =
-    sends (half_command secret handle (bit_xor (upper_half (password_of secret)) cover)) (expects.Same handle) false
-    (behind_reception (behind_number (λ same. behind_upper secret handle later)))
-behind_cover (Lower secret) handle later cover =
-    last_command (half_command secret handle (bit_xor (lower_half (password_of secret)) cover)) (lower_expected secret handle) (lower_extended secret) later
+behind_cover (Upper password) handle later cover =
+    sends (half_command password handle (bit_xor (upper_half (password_value password)) cover)) (expects.Same handle) false
+    (behind_reception (behind_number (λ same. behind_upper password handle later)))
+behind_cover (Lower password) handle later cover =
+    last_command (half_command password handle (bit_xor (lower_half (password_value password)) cover)) (lower_expected password handle) (lower_extended password) later
 
 -- the operations that have not begun
 abbrev pub later_of : OpList → OpRunValue → Dialogue
@@ -70,15 +70,15 @@ later_of list run = operations (drop run.begun list.ops) run.rn
 abbrev pub behind_purpose : Purpose → OpList → OpRunValue → ℕ → Dialogue
 behind_purpose Handle list run number = operations (drop run.begun list.ops) number
 behind_purpose (Cover covered) list run number = behind_cover covered run.rn (later_of list run) number
-behind_purpose (Same secret) list run number = behind_upper secret run.rn (later_of list run)
+behind_purpose (Same password) list run number = behind_upper password run.rn (later_of list run)
 
 -- where no answer was given, it is taken for silence
 abbrev pub behind_heard : (Reply → Dialogue) → Option Answer → Dialogue
 behind_heard go_on None = tells results.Silent done
 behind_heard go_on (Some answer) = behind_reception go_on (reception_in answer)
 
--- what a run with this step does, given this answer
-abbrev pub dialogue_at : Step → OpList → OpRunValue → Option Answer → Dialogue
+-- what a run with this stage does, given this answer
+abbrev pub dialogue_at : Stage → OpList → OpRunValue → Option Answer → Dialogue
 dialogue_at Open list run answer = opened (drop run.begun list.ops) run.rn
 dialogue_at Deny list run answer = denials (drop run.begun list.ops)
 dialogue_at Begin list run answer = later_of list run
@@ -87,7 +87,7 @@ dialogue_at Last list run answer = behind_heard (behind_last (later_of list run)
 dialogue_at Done list run answer = done
 
 abbrev pub dialogue_with : OpList → OpRunValue → Option Answer → Dialogue
-dialogue_with list run answer = dialogue_at run.step list run answer
+dialogue_with list run answer = dialogue_at run.stage list run answer
 
 -- the number in an answer, or the result with which all ends
 abbrev pub number_in_reply : Reply → Result ℕ OpResult
@@ -113,12 +113,12 @@ result_of (Some (Got (Refused place))) = results.Broken
 result_of (Some (Got (Whole reply))) = result_in_reply reply
 
 -- behind Silent and Broken all is done
-abbrev pub step_behind_result : OpResult → Step
-step_behind_result (results.Ok words) = Begin
-step_behind_result (results.TagError code) = Begin
-step_behind_result results.Silent = Done
-step_behind_result results.Broken = Done
-step_behind_result results.Denied = Begin
+abbrev pub stage_behind_result : OpResult → Stage
+stage_behind_result (results.Ok words) = Begin
+stage_behind_result (results.TagError code) = Begin
+stage_behind_result results.Silent = Done
+stage_behind_result results.Broken = Done
+stage_behind_result results.Denied = Begin
 
 -- the answer that a run is given: none at first, and behind a result and the end
 abbrev pub answer_in : Move → Option Answer
@@ -145,21 +145,21 @@ pub record IsNextOperation (said : OpNext) (run : OpRunValue) (list : OpList) (e
   pub stands : (move : Move) → Follows said move → OpRunStandsFor run list epc rn (move ∷ moves)
 
 -- how many commands and results are left at most of an operation
-abbrev pub turns_at : Step → ℕ
+abbrev pub turns_at : Stage → ℕ
 turns_at Open = 2
 turns_at Deny = 0
 turns_at Begin = 0
 turns_at (Number Handle) = 1
 turns_at (Number (Cover (Word bank pointer word))) = 2
-turns_at (Number (Cover (Upper secret))) = 4
-turns_at (Number (Same secret)) = 3
-turns_at (Number (Cover (Lower secret))) = 2
+turns_at (Number (Cover (Upper password))) = 4
+turns_at (Number (Same password)) = 3
+turns_at (Number (Cover (Lower password))) = 2
 turns_at Last = 1
 turns_at Done = 0
 
 -- how many commands and results are left at most of a run: an operation has five
 abbrev pub turns_left : OpList → OpRunValue → ℕ
-turns_left list run = turns_at run.step + 5 * (length list.ops - run.begun)
+turns_left list run = turns_at run.stage + 5 * (length list.ops - run.begun)
 
 -- how many commands and results this is
 abbrev pub turns_in : OpNext → ℕ

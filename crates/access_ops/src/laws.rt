@@ -1,5 +1,5 @@
 //! What holds of every run of operations.
-ghost use Rattle.std.specs.Prelude.{◌≡◌, ◌≢◌, ◌+◌, ◌*◌, ◌^◌, ◌≤◌, ◌⊎◌, ℕ, Bool, true, false, List, [], ◌∷◌, length, slice_get, nat_lt, bit_xor, if◌then◌else◌};
+ghost use Rattle.std.specs.Prelude.{◌≡◌, ◌≢◌, ◌+◌, ◌*◌, ◌^◌, ◌≤◌, ◌⊎◌, ◌↔◌, ℕ, Bool, true, false, List, ◌∷◌, length, Some, slice_get, nat_lt, bit_xor, if◌then◌else◌};
 ghost use Rattle.std.specs.List.{AllByRecursion};
 ghost use Rattle.command_grammar.specs.Commands.{IsLegalCommand, IsWord, spelling_of};
 ghost use Rattle.command_grammar.specs.declared.commands.Command.{Command};
@@ -35,6 +35,7 @@ pub fn operation_laws()
         → next_operation list epc rn moves ≡ (if nat_lt (results_told list epc rn moves) (length list.ops) then Result Denied else End) }
     ensures only { (list : OpList) (epc : List ℕ) (rn : ℕ) (moves : List Move) → is_for list.only epc ≡ true → AreMoves list epc rn moves
         → next_operation list epc rn moves ≢ Result Denied }
+    ensures named { (only epc : List ℕ) → (is_for (Some only) epc ≡ true) ↔ (only ≡ epc) }
 {}
 
 /// Each command of a run is legal, so that its bits are 4,162 at most, where the numbers of the operations

@@ -7,7 +7,7 @@ mod copies;
 mod laws;
 mod op_next;
 mod op_run;
-mod step;
+mod stage;
 
 pub use bit_strings::{Count1, List, Payload, Pointer};
 pub use command_grammar::{Bank, BlockWords, Command};

@@ -1,13 +1,13 @@
 //! The operations on one tag, done one thing at a time.
 ghost use Rattle.std.specs.Prelude.{◌≡◌, ◌+◌, ◌*◌, ◌-◌, ◌≤◌, ℕ, false, List, [], length, drop, option_copied, if◌then◌else◌};
 ghost use Rattle.access_ops.specs.Operations.{Move, behind_last, denials, is_for, opened, operation, words_expected};
-ghost use Rattle.access_ops.specs.Standing.{Does, IsNextOperation, OpRunStandsFor, behind_cover, behind_heard, behind_purpose, last_answer, later_of, step_behind_result, turns_at, turns_in, turns_left};
+ghost use Rattle.access_ops.specs.Standing.{Does, IsNextOperation, OpRunStandsFor, behind_cover, behind_heard, behind_purpose, last_answer, later_of, stage_behind_result, turns_at, turns_in, turns_left};
 ghost use Rattle.access_ops.specs.declared.OpList.{OpList};
 
 use crate::answers::{number_in, result_in};
 use crate::copies::copy_of_block;
 use crate::op_next::{Answer, OpNext, OpResult};
-use crate::step::{Covered, Purpose, Secret, Step};
+use crate::stage::{Covered, Password, Purpose, Stage};
 use crate::{Op, OpList};
 use bit_strings::{Count1, xor16};
 use command_grammar::Command;
@@ -23,7 +23,7 @@ use std::marker::Model;
 pub struct OpRun {
     rn: u16,
     begun: u32,
-    step: Step,
+    stage: Stage,
 }
 
 impl Model for OpRun {
@@ -31,7 +31,7 @@ impl Model for OpRun {
 
     ghost Value = { OpRunValue };
 
-    ghost view = { λ a. record { rn = a.rn; begun = a.begun; step = a.step } };
+    ghost view = { λ a. record { rn = a.rn; begun = a.begun; stage = a.stage } };
 }
 
 impl OpRun {
@@ -44,7 +44,7 @@ impl OpRun {
         OpRun {
             rn,
             begun: 0,
-            step: first_step(&list.only, epc),
+            stage: first_stage(&list.only, epc),
         }
     }
 
@@ -55,16 +55,16 @@ impl OpRun {
             → IsNextOperation result self.new list.now epc rn moves }
         ensures turns { turns_left list.now self.new + turns_in result ≤ turns_left list.now self.old }
     {
-        match self.step {
-            Step::Open => self.open(list),
-            Step::Deny => self.deny(list),
-            Step::Begin => self.begin(list),
-            Step::Number(purpose) => match number_in(answer) {
+        match self.stage {
+            Stage::Open => self.open(list),
+            Stage::Deny => self.deny(list),
+            Stage::Begin => self.begin(list),
+            Stage::Number(purpose) => match number_in(answer) {
                 Ok(number) => self.go_on(list, purpose, number),
                 Err(result) => self.break_off(result),
             },
-            Step::Last => self.end_operation(answer),
-            Step::Done => OpNext::End,
+            Stage::Last => self.end_operation(answer),
+            Stage::Done => OpNext::End,
         }
     }
 
@@ -81,7 +81,7 @@ impl OpRun {
 
     /// Denies the next operation, where there is one.
     fn deny(&mut self, list: &OpList) -> OpNext
-        requires { self.old.step ≡ Step.Deny }
+        requires { self.old.stage ≡ Stage.Deny }
         ensures does { Does result self.new list.now (denials (drop self.old.begun list.now.ops)) }
         ensures turns { turns_left list.now self.new + turns_in result ≤ 5 * (length list.now.ops - self.old.begun) }
     {
@@ -108,7 +108,7 @@ impl OpRun {
     fn begin_operation(&mut self, op: &Op) -> OpNext
         ensures does { (list : OpList) → Does result self.new list (operation op.now self.old.rn (later_of list self.old)) }
         ensures begun { self.new.begun ≡ self.old.begun }
-        ensures turns { turns_at self.new.step + turns_in result ≤ 5 }
+        ensures turns { turns_at self.new.stage + turns_in result ≤ 5 }
     {
         let handle = self.rn;
         match op {
@@ -171,11 +171,11 @@ impl OpRun {
                 self.send_last(command, Expect::Header(handle), true)
             }
             Op::Access { password } => {
-                let covered = Covered::Upper(Secret::Access(*password));
+                let covered = Covered::Upper(Password::Access(*password));
                 self.ask_for_number(Purpose::Cover(covered))
             }
             Op::Kill { password } => {
-                let covered = Covered::Upper(Secret::Kill(*password));
+                let covered = Covered::Upper(Password::Kill(*password));
                 self.ask_for_number(Purpose::Cover(covered))
             }
         }
@@ -184,7 +184,7 @@ impl OpRun {
     /// Goes on with a number that the tag was asked for.
     fn go_on(&mut self, list: &OpList, purpose: Purpose, number: u16) -> OpNext
         ensures does { Does result self.new list.now (behind_purpose purpose list.now self.old number) }
-        ensures turns { turns_left list.now self.new + turns_in result ≤ turns_at (Step.Number purpose) + 5 * (length list.now.ops - self.old.begun) }
+        ensures turns { turns_left list.now self.new + turns_in result ≤ turns_at (Stage.Number purpose) + 5 * (length list.now.ops - self.old.begun) }
     {
         match purpose {
             Purpose::Handle => {
@@ -192,7 +192,9 @@ impl OpRun {
                 self.begin(list)
             }
             Purpose::Cover(covered) => self.send_covered(covered, number),
-            Purpose::Same(secret) => { self.ask_for_number(Purpose::Cover(Covered::Lower(secret))) }
+            Purpose::Same(password) => {
+                self.ask_for_number(Purpose::Cover(Covered::Lower(password)))
+            }
         }
     }
 
@@ -200,7 +202,7 @@ impl OpRun {
     fn send_covered(&mut self, covered: Covered, cover: u16) -> OpNext
         ensures does { (list : OpList) → Does result self.new list (behind_cover covered self.old.rn (later_of list self.old) cover) }
         ensures begun { self.new.begun ≡ self.old.begun }
-        ensures turns { turns_at self.new.step + turns_in result ≤ turns_at (Step.Number (Purpose.Cover covered)) }
+        ensures turns { turns_at self.new.stage + turns_in result ≤ turns_at (Stage.Number (Purpose.Cover covered)) }
     {
         let handle = self.rn;
         match covered {
@@ -217,21 +219,21 @@ impl OpRun {
                 };
                 self.send_last(command, Expect::Header(handle), true)
             }
-            Covered::Upper(secret) => {
-                let command = secret.command(xor16(secret.upper(), cover), handle);
-                self.step = Step::Number(Purpose::Same(secret));
+            Covered::Upper(password) => {
+                let command = password.command(xor16(password.upper(), cover), handle);
+                self.stage = Stage::Number(Purpose::Same(password));
                 OpNext::Send {
                     command,
                     expect: Expect::Same(handle),
                     extended: false,
                 }
             }
-            Covered::Lower(secret) => {
-                let command = secret.command(xor16(secret.lower(), cover), handle);
+            Covered::Lower(password) => {
+                let command = password.command(xor16(password.lower(), cover), handle);
                 self.send_last(
                     command,
-                    secret.lower_expected(handle),
-                    secret.lower_extended(),
+                    password.lower_expected(handle),
+                    password.lower_extended(),
                 )
             }
         }
@@ -239,10 +241,10 @@ impl OpRun {
 
     /// Asks the tag for a number (6.3.2.11.3.1 Req_RN).
     fn ask_for_number(&mut self, purpose: Purpose) -> OpNext
-        ensures run { self.new ≡ record self.old { step = Step.Number purpose } }
+        ensures run { self.new ≡ record self.old { stage = Stage.Number purpose } }
         ensures send { result ≡ OpNext.Send (Command.ReqRn self.old.rn) Expect.Handle false }
     {
-        self.step = Step::Number(purpose);
+        self.stage = Stage::Number(purpose);
         OpNext::Send {
             command: Command::ReqRn { rn: self.rn },
             expect: Expect::Handle,
@@ -252,10 +254,10 @@ impl OpRun {
 
     /// Sends the command that ends an operation.
     fn send_last(&mut self, command: Command, expect: Expect, extended: bool) -> OpNext
-        ensures run { self.new ≡ record self.old { step = Step.Last } }
+        ensures run { self.new ≡ record self.old { stage = Stage.Last } }
         ensures send { result ≡ OpNext.Send command expect extended }
     {
-        self.step = Step::Last;
+        self.stage = Stage::Last;
         OpNext::Send {
             command,
             expect,
@@ -267,39 +269,39 @@ impl OpRun {
     fn end_operation(&mut self, answer: Option<&Answer>) -> OpNext
         ensures does { (list : OpList) → Does result self.new list (behind_heard (behind_last (later_of list self.old)) (option_copied answer.entry)) }
         ensures begun { self.new.begun ≡ self.old.begun }
-        ensures turns { turns_at self.new.step + turns_in result ≤ 1 }
+        ensures turns { turns_at self.new.stage + turns_in result ≤ 1 }
     {
         let result = result_in(answer);
-        self.step = step_behind(&result);
+        self.stage = stage_behind(&result);
         OpNext::Result(result)
     }
 
     /// Ends the run with this result.
     fn break_off(&mut self, last: OpResult) -> OpNext
-        ensures run { self.new ≡ record self.old { step = Step.Done } }
+        ensures run { self.new ≡ record self.old { stage = Stage.Done } }
         ensures next { result ≡ OpNext.Result last }
     {
-        self.step = Step::Done;
+        self.stage = Stage::Done;
         OpNext::Result(last)
     }
 
     /// Ends the run.
     fn end(&mut self) -> OpNext
-        ensures run { self.new ≡ record self.old { step = Step.Done } }
+        ensures run { self.new ≡ record self.old { stage = Stage.Done } }
         ensures next { result ≡ OpNext.End }
     {
-        self.step = Step::Done;
+        self.stage = Stage::Done;
         OpNext::End
     }
 }
 
 /// What a run begins with: the operations, or where another EPC is named, their denials.
-fn first_step(only: &Option<EpcWords>, epc: &EpcWords) -> Step
-    ensures { result ≡ (if is_for only.now epc.now then Step.Open else Step.Deny) }
+fn first_stage(only: &Option<EpcWords>, epc: &EpcWords) -> Stage
+    ensures { result ≡ (if is_for only.now epc.now then Stage.Open else Stage.Deny) }
 {
     match only {
-        Some(only) if only != epc => Step::Deny,
-        _ => Step::Open,
+        Some(only) if only != epc => Stage::Deny,
+        _ => Stage::Open,
     }
 }
 
@@ -314,11 +316,11 @@ fn expected_words(count: u8, handle: u16) -> Expect
 }
 
 /// What a run does behind the result of an operation: Silent and Broken end it.
-fn step_behind(told: &OpResult) -> Step
-    ensures { result ≡ step_behind_result told.now }
+fn stage_behind(told: &OpResult) -> Stage
+    ensures { result ≡ stage_behind_result told.now }
 {
     match told {
-        OpResult::Silent | OpResult::Broken => Step::Done,
-        OpResult::Ok(_) | OpResult::TagError(_) | OpResult::Denied => Step::Begin,
+        OpResult::Silent | OpResult::Broken => Stage::Done,
+        OpResult::Ok(_) | OpResult::TagError(_) | OpResult::Denied => Stage::Begin,
     }
 }

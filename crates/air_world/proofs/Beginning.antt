@@ -13,7 +13,7 @@ use Rattle.scenario_lines.specs.LineForm.{IsEvent, IsPlace}
 use Rattle.air_io.specs.Flow.{Adds, FaultsRose}
 use Rattle.air_io.specs.FlowLaws.{Adds-nothing}
 use Rattle.air_world.proofs.Lines.{report_text-append}
-use Rattle.air_world.proofs.Steps.{steps_most, grows-steps}
+use Rattle.air_world.proofs.Growth.{steps-grow}
 use Rattle.air_world.proofs.Writing.{cut-longer, cut-past, cut-text}
 use Rattle.air_world.specs.History.{past_behind}
 use Rattle.air_world.specs.Listing.{listing_of}
@@ -140,7 +140,7 @@ pub cut-first : (mode : Mode) (scenario : Scenario) (first written : Option (Lis
     → IsCutOff (origin_of mode scenario first before) (report_text_of mode scenario) written faults fault
 cut-first mode scenario first written before faults fault air run told fresh cut =
     cut-history mode scenario first written before faults fault
-    (cut-past (steps_most scenario.steps) (origin_of mode scenario first before) [] (history scenario) written faults fault (grows-steps (start_of scenario) scenario.steps [])
+    (cut-past (origin_of mode scenario first before) [] (history scenario) written faults fault (steps-grow (start_of scenario) scenario.steps [])
     (cut-text (origin_of mode scenario first before) _ _ written faults fault (first-text mode scenario first before air run told fresh) cut))
 
 -- all is written

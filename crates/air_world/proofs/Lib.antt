@@ -8,7 +8,6 @@ pub mod HeadlineLines
 pub mod HeadlineListed
 pub mod HeadlineNext
 pub mod HeadlineOperations
-mod HeadlineOperations
 pub mod HeadlineSent
 pub mod HeadlineSlots
 pub mod HeadlineTags

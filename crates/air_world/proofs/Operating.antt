@@ -1,5 +1,5 @@
 -- The moves of a dialogue with a tag, one after another.
-use Rattle.std.proofs.Common.{◌≡◌, ℕ, ◌+◌, ◌≤◌, ◌*◌, List, [], ◌∷◌, ◌++◌, length, Bool, Option, Some, None, refl, sym, ◌∙◌, ap, subst, arith}
+use Rattle.std.proofs.Common.{◌≡◌, ℕ, ◌+◌, ◌≤◌, ◌*◌, ◌-◌, ◌||◌, List, [], ◌∷◌, ◌++◌, length, Bool, Option, Some, None, refl, sym, ◌∙◌, ap, subst, arith}
 use Rattle.std.proofs.lemmas.List.{append-nil}
 use Rattle.access_ops.specs.DialogueLaws.{AwaitsReplies, SendsAtMost, dialogues-await, dialogues-are-few, first-sends, first-tells, first-done}
 use Rattle.access_ops.specs.OperationLaws.{Expects}
@@ -7,11 +7,17 @@ use Rattle.access_ops.specs.Operations.{Dialogue, sends, tells, done, dialogue_o
 use Rattle.access_ops.specs.Standing.{OpRunValue, OpRunStandsFor, IsNextOperation, last_answer, turns_left}
 use Rattle.access_ops.specs.declared.OpList.{OpList}
 use Rattle.access_ops.specs.declared.op_next.Answer.{Answer}
+use Rattle.access_ops.specs.declared.op_next.Answer.TheVariants.{Got}
 use Rattle.access_ops.specs.declared.op_next.OpNext.{OpNext}
 use Rattle.access_ops.specs.declared.op_next.OpNext.TheVariants as nexts
 use Rattle.access_ops.specs.declared.op_next.OpResult.{OpResult}
 use Rattle.air_channel.specs.Air.{AirValue}
 use Rattle.air_channel.specs.Past.{Start, Record, Item, exchanged, operated, next_record, past_behind_command, exchanges_in}
+use Rattle.air_channel.specs.AwaitedLaws.{awaited_reception}
+use Rattle.air_channel.specs.Channel.{Given, got_of, heard_levels}
+use Rattle.air_channel.specs.Received.{IsReceived}
+use Rattle.air_channel.specs.Reception.{HoldsOfSent, IsUnmistakable, reception_with}
+use Rattle.air_channel.specs.declared.air.Got.TheVariants as gots
 use Rattle.air_world.proofs.Growth.{dialogue-grows}
 use Rattle.air_world.proofs.Lines.{report_text-append}
 use Rattle.air_world.proofs.Slots.{cut-exchanged}
@@ -24,9 +30,29 @@ use Rattle.air_world.specs.Report.{past_lines, trace_lines}
 use Rattle.air_world.specs.declared.mode.PlayFault.{PlayFault}
 use Rattle.command_grammar.specs.declared.commands.Command.{Command}
 use Rattle.command_grammar.specs.declared.commands.Command.TheVariants as commands
+use Rattle.line_code.specs.Table.{Table}
+use Rattle.line_codes.specs.Codes.{table_of}
+use Rattle.pie_line.specs.Link.{LinkValue}
 use Rattle.reply_grammar.specs.Reception.{Reception, no_stream}
 use Rattle.reply_grammar.specs.declared.expected.Expect.{Expect}
+use Rattle.reply_grammar.specs.declared.expected.Received.{Received}
+use Rattle.reply_grammar.specs.declared.expected.Received.TheVariants.{Whole, Refused}
 use Rattle.report_lines.specs.ReportLine.{OpLine, report_line_text, report_text}
+
+-- a whole reply that is received is one that is expected
+pub received-answer : (t : Table) (trext : Bool) (expect : Expect) (levels : List Bool) (received : Received) → IsReceived t trext expect levels received → IsAnswerFor expect (Got received)
+received-answer t trext expect levels (Whole reply) is = (is.answers.suits, is.answers.in_range)
+received-answer t trext expect levels (Refused place) is = tt
+
+-- what is received of the stream of the last exchange, with the preamble that is awaited
+pub heard-awaited : (link : LinkValue) (given : Given) (air : AirValue) (expect : Expect) (extended : Bool) (received : Received) → air.link ≡ link → air.stream ≡ heard_levels link given
+    → got_of given ≡ gots.Stream → HoldsOfSent (IsUnmistakable expect) given → IsReceived (table_of air.link.code) (extended || air.link.trext) expect air.stream received
+    → reception_in (Got received) ≡ reception_with link.trext extended expect given
+heard-awaited link given air expect extended received link_is stream came is heard =
+    let at_link : IsReceived (table_of link.code) (extended || link.trext) expect air.stream received =
+    subst (λ (l : LinkValue). IsReceived (table_of l.code) (extended || l.trext) expect air.stream received) link_is heard in
+    sym (awaited_reception link extended expect given received is came
+    (subst (λ (levels : List Bool). IsReceived (table_of link.code) (extended || link.trext) expect levels received) stream at_link))
 
 -- between two moves of a dialogue whose end leaves a known past: the past and the moves so far, and how many commands are left
 pub record OperationsUnderway (origin : Origin) (list : OpList) (epc : List ℕ) (rn round slot : ℕ) (first whole : List Item) (operating : OpRunValue) (answer : Option Answer)
@@ -152,7 +178,7 @@ text-operated origin past round slot index result =
 stands-operated : (origin : Origin) (past : List Item) (round slot index : ℕ) (result : OpResult) (air : AirValue) (run after : RunValue) (was_written written : Option (List ℕ)) (was_faults faults : ℕ)
     → StandsAt origin past air run was_written was_faults → after ≡ run → IsWritten origin (past_text origin past ++ report_line_text (OpLine round slot index result)) written faults
     → StandsAt origin (operated round slot index result ∷ past) air after written faults
-stands-operated origin past round slot index result air run after was_written written was_faults faults stands same done = record {
+stands-operated origin past round slot index result air run after was_written written was_faults faults stands same written_is = record {
   plays = subst (λ (r : RunValue). PlaysAt origin (operated round slot index result ∷ past) air r) (sym same) record {
     names = stands.plays.names;
     mode = stands.plays.mode;
@@ -165,7 +191,7 @@ stands-operated origin past round slot index result air run after was_written wr
     rounds = stands.plays.rounds;
   };
   seen = ap (λ (r : RunValue). r.seen) same ∙ stands.seen;
-  text = subst (λ (t : List ℕ). IsWritten origin t written faults) (sym (text-operated origin past round slot index result)) done;
+  text = subst (λ (t : List ℕ). IsWritten origin t written faults) (sym (text-operated origin past round slot index result)) written_is;
 }
 
 told-rest : (start : Start) (list : OpList) (epc : List ℕ) (rn round slot index : ℕ) (moves : List Move) (past whole : List Item) (result : OpResult) (later : Dialogue)
@@ -180,7 +206,7 @@ pub operations-told : (origin : Origin) (list : OpList) (epc : List ℕ) (rn rou
     → IsNextOperation (nexts.Result result) after list epc rn u.moves → answer ≡ None → then_run ≡ run
     → IsWritten origin (past_text origin u.past ++ report_line_text (OpLine round slot index result)) written faults → turns_left list after + 1 ≤ turns_left list operating
     → OperationsUnderway origin list epc rn round slot first whole after answer (index + 1) air then_run written faults
-operations-told origin list epc rn round slot first whole operating after was answer index air run then_run was_written written was_faults faults result u next is same done fewer =
+operations-told origin list epc rn round slot first whole operating after was answer index air run then_run was_written written was_faults faults result u next is same written_is fewer =
     let found = first-tells (dialogue_after list epc rn u.moves) result (sym next.next) in
     let later : Dialogue = found.0 in
     let behind : dialogue_after list epc rn (told ∷ u.moves) ≡ later = ap (λ (d : Dialogue). dialogue_behind told d) found.1 in
@@ -189,7 +215,7 @@ operations-told origin list epc rn round slot first whole operating after was an
       past = past;
       moves = told ∷ u.moves;
       left = u.left;
-      stands = stands-operated origin u.past round slot index result air run then_run was_written written was_faults faults u.stands same done;
+      stands = stands-operated origin u.past round slot index result air run then_run was_written written was_faults faults u.stands same written_is;
       goes = next.stands told tt;
       last = is;
       awaits = subst AwaitsReplies (sym behind) (subst AwaitsReplies found.1 u.awaits);

@@ -287,6 +287,10 @@ cut-ack origin operations round slot rn past written faults fault cut =
     cut-past origin between (past_behind_ack origin.start operations round slot rn past) written faults fault
     (listing-grows origin.start operations round slot rn (ack_reception origin.start round slot rn past) between) cut
 
+-- less room is room
+pub some-room : (past : List Item) (more : ℕ) → HasRoom (1 + more) past → HasRoom 1 past
+some-room past more room = omega arith
+
 -- room for one exchange more
 pub room-behind : (start : Start) (round slot : ℕ) (command : Command) (past : List Item) (more : ℕ) → HasRoom (1 + more) past → HasRoom more (past_behind_command start round slot command past)
 room-behind start round slot command past more room = omega arith

@@ -1,6 +1,6 @@
 -- Profile: a run that is under way. A contract says of each part of it what the past becomes, and how much of the report is
 -- written.
-use Rattle.std.specs.Prelude.{◌≡◌, ℕ, ◌+◌, ◌≤◌, ◌^◌, List, [], ◌∷◌, ◌++◌, length, map, Option, Some, None}
+use Rattle.std.specs.Prelude.{◌≡◌, ℕ, ◌+◌, ◌*◌, ◌≤◌, ◌^◌, List, [], ◌∷◌, ◌++◌, length, map, Option, Some, None}
 use Rattle.air_channel.specs.Air.{AirValue, AreLegalTags, NamesTags}
 use Rattle.air_channel.specs.Past.{Start, Item, exchanges_in, rounds_in, tags_behind}
 use Rattle.air_events.specs.Entries.{entry_at}
@@ -101,7 +101,14 @@ pub record IsUnderway (more : ℕ) (air : AirValue) (run : RunValue) : Type 0 wh
   pub seen : run.seen ≡ seen_in (map pair_of (listing_of past))
   pub room : HasRoom more past
 
--- ... and their lines are written, and so many more steps fit
+-- ... and their lines are written
+pub record IsStanding (more : ℕ) (air : AirValue) (run : RunValue) (written : Option (List ℕ)) (faults : ℕ) : Type 0 where
+  pub origin : Origin
+  pub past : List Item
+  pub stands : StandsAt origin past air run written faults
+  pub room : HasRoom more past
+
+-- ... between two steps, and so many more steps fit
 pub record IsTold (steps : ℕ) (air : AirValue) (run : RunValue) (written : Option (List ℕ)) (faults : ℕ) : Type 0 where
   pub origin : Origin
   pub past : List Item

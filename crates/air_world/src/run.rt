@@ -9,7 +9,7 @@ ghost use Rattle.air_world.specs.History.{outcome_of, past_behind_ack, past_behi
 ghost use Rattle.line_codes.specs.Codes.{table_of};
 ghost use Rattle.report_lines.specs.SeenCounts.{count_of, seen_in};
 ghost use Rattle.air_world.specs.Heard.{heard_reception, rn16_in, pair_in};
-ghost use Rattle.air_world.specs.Playing.{Origin, PlaysAt, StandsAt, IsTold, IsUnderway, IsWritten, IsCutOff, past_text, expectation_of, last_exchange_lines};
+ghost use Rattle.air_world.specs.Playing.{Origin, PlaysAt, StandsAt, IsStanding, IsTold, IsUnderway, IsWritten, IsCutOff, past_text, expectation_of, last_exchange_lines};
 ghost use Rattle.air_world.specs.Report.{trace_lines};
 ghost use Rattle.report_lines.specs.ReportLine.{ListLine, RoundLine, RxLine, TxLine, report_line_text, report_text};
 
@@ -224,7 +224,7 @@ impl<'a, L: Ledger> Run<'a, L> {
         operations: &OpList,
         out: &mut O,
     ) -> Result<Outcome, PlayFault>
-        requires underway { IsUnderway 131 air.old self.old }
+        requires standing { IsStanding 131 air.old self.old (O.written out.old) (O.faults out.old) }
         requires few { length operations.now.ops ≤ 32 }
         requires expects { expectation_of command.now ≡ Some Expect.Rn16 }
         ensures ok { (origin : Origin) (past : List Item) → StandsAt origin past air.old self.old (O.written out.old) (O.faults out.old)
@@ -257,7 +257,7 @@ impl<'a, L: Ledger> Run<'a, L> {
         operations: &OpList,
         out: &mut O,
     ) -> Result<(), PlayFault>
-        requires underway { IsUnderway 130 air.old self.old }
+        requires standing { IsStanding 130 air.old self.old (O.written out.old) (O.faults out.old) }
         requires few { length operations.now.ops ≤ 32 }
         ensures ok { (origin : Origin) (past : List Item) → StandsAt origin past air.old self.old (O.written out.old) (O.faults out.old)
             → OnOk result (StandsAt origin (past_behind_ack origin.start operations.now round slot rn past) air.new self.new (O.written out.new) (O.faults out.new)) }

@@ -13,3 +13,5 @@ pub mod Places
 pub mod Reasons
 pub mod OneFault
 pub mod FirstLines
+pub mod Decisions
+pub mod SomeFault

@@ -12,3 +12,7 @@ pub mod ToldFields
 pub mod ToldLines
 pub mod LineShapes
 pub mod LineReasons
+pub mod Decisions
+pub mod FieldsDecided
+pub mod LinesDecided
+pub mod SomeReason

@@ -4,7 +4,7 @@ ghost use Rattle.access_ops.specs.Operations.{IsAnswerFor, dialogue_of, receptio
 ghost use Rattle.access_ops.specs.OperationLaws.{Expects};
 ghost use Rattle.air_channel.specs.Past.{Item, next_record, past_behind_command};
 ghost use Rattle.air_world.specs.History.{operation_reception, past_behind_dialogue};
-ghost use Rattle.air_world.specs.Playing.{Origin, PlaysAt, StandsAt, IsUnderway, IsWritten, IsCutOff, past_text};
+ghost use Rattle.air_world.specs.Playing.{Origin, PlaysAt, StandsAt, IsStanding, IsUnderway, IsWritten, IsCutOff, past_text};
 ghost use Rattle.air_world.specs.Report.{trace_lines};
 ghost use Rattle.report_lines.specs.ReportLine.{OpLine, report_line_text, report_text};
 
@@ -32,7 +32,7 @@ impl<'a, L: Ledger> Run<'a, L> {
         rn: u16,
         out: &mut O,
     ) -> Result<(), PlayFault>
-        requires underway { IsUnderway 129 air.old self.old }
+        requires standing { IsStanding 129 air.old self.old (O.written out.old) (O.faults out.old) }
         requires few { length operations.now.ops ≤ 32 }
         ensures ok { (origin : Origin) (past : List Item) → StandsAt origin past air.old self.old (O.written out.old) (O.faults out.old)
             → OnOk result (StandsAt origin (past_behind_dialogue origin.start round slot 1 (dialogue_of operations.now epc.now rn) past) air.new self.new (O.written out.new) (O.faults out.new)) }

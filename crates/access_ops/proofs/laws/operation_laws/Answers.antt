@@ -1,4 +1,4 @@
-use Rattle.access_ops.proofs.Telling.{commands-within, results-within, command-serves, last-result, whole-list, end-again, denied-each, denied-none}
+use Rattle.access_ops.proofs.Telling.{commands-within, results-within, command-serves, last-result, whole-list, end-again, denied-each, denied-none, for-named}
 use Rattle.access_ops.proofs.laws.operation_laws.Goals as goal
 
 pub returns-clause-commands : goal.returns-clause-commands
@@ -24,3 +24,6 @@ returns-clause-denied c = denied-each
 
 pub returns-clause-only : goal.returns-clause-only
 returns-clause-only c = denied-none
+
+pub returns-clause-named : goal.returns-clause-named
+returns-clause-named c = for-named

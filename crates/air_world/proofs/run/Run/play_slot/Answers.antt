@@ -1,6 +1,6 @@
 use Rattle.std.proofs.Common.{◌≡◌, Some, None, refl, sym, ◌∙◌, ap}
 use Rattle.air_channel.specs.Past.{Record, next_record, past_behind_command}
-use Rattle.air_world.proofs.Slots.{cut-slot, cut-same, slot-unlisted, seen-unlisted, slot-stands, slot-without, slot-with, other-answer, room-behind, stands-unlisted}
+use Rattle.air_world.proofs.Slots.{cut-slot, cut-same, slot-unlisted, slot-stands, slot-without, slot-with, other-answer, room-behind, stands-unlisted}
 use Rattle.air_world.proofs.Writing.{err-kept}
 use Rattle.air_world.specs.Heard.{heard_reception, rn16_in}
 use Rattle.air_world.specs.History.{outcome_of}
@@ -53,16 +53,16 @@ returns-in_default-clause-outcome g c = λ origin past stands.
     let whole : c.in_ok-ask.field-0 ≡ Some (Whole c.in-Some-Whole.reply) = cc (c.in-Some-Whole.is, c.in-Some-Whole.field-0-is) in
     ap outcome_of (ap heard_reception (sym whole) ∙ c.in_ok-ask.ensures.heard origin past c.args.round c.args.slot stands.plays)
 
-pub acknowledge-requires : goal.acknowledge-requires
-acknowledge-requires g c =
-    let r = c.requires.underway in
-    let sent : Record = next_record r.origin.start 0 0 c.args.command.now r.past in
+pub acknowledge-requires-clause-standing : goal.acknowledge-requires-clause-standing
+acknowledge-requires-clause-standing g c =
+    let r = c.requires.standing in
+    let sent : Record = next_record r.origin.start c.args.round c.args.slot c.args.command.now r.past in
     record {
       origin = r.origin;
-      past = past_behind_command r.origin.start 0 0 c.args.command.now r.past;
-      plays = c.ask.ensures.plays r.origin r.past 0 0 r.plays;
-      seen = c.ask.ensures.seen ∙ r.seen ∙ seen-unlisted sent r.past (slot-unlisted sent c.requires.expects);
-      room = room-behind r.origin.start 0 0 c.args.command.now r.past 130 r.room;
+      past = past_behind_command r.origin.start c.args.round c.args.slot c.args.command.now r.past;
+      stands = stands-unlisted r.origin sent r.past _ _ _ _ (c.ask.ensures.plays r.origin r.past c.args.round c.args.slot r.stands.plays) (c.ask.ensures.seen ∙ r.stands.seen)
+          (c.in_ok-ask.ensures.ok r.origin r.past c.args.round c.args.slot (past_text r.origin r.past) r.stands.plays r.stands.text) (slot-unlisted sent c.requires.expects);
+      room = room-behind r.origin.start c.args.round c.args.slot c.args.command.now r.past 130 r.room;
     }
 
 pub returns-in_err-acknowledge-in-Some-Whole-clause-err : goal.returns-in_err-acknowledge-in-Some-Whole-clause-err

@@ -1,7 +1,7 @@
 //! How far the operations on a tag are.
 ghost use Rattle.std.specs.Prelude.{◌≡◌, ◌/◌, ◌%◌, ◌^◌, ◌<◌};
 ghost use Rattle.access_ops.specs.Operations.{lower_half, upper_half};
-ghost use Rattle.access_ops.specs.Standing.{half_command, lower_expected, lower_extended, password_of};
+ghost use Rattle.access_ops.specs.Standing.{half_command, lower_expected, lower_extended, password_value};
 
 use bit_strings::Pointer;
 use command_grammar::{Bank, Command};
@@ -9,33 +9,33 @@ use reply_grammar::Expect;
 
 /// A password that is shown in two halves, each under a cover (6.3.2.11.3.4 Kill, 6.3.2.11.3.6 Access).
 #[derive(Clone, Copy)]
-pub(crate) enum Secret {
+pub(crate) enum Password {
     /// The access password.
     Access(u32),
     /// The kill password.
     Kill(u32),
 }
 
-impl Secret {
+impl Password {
     /// The upper half.
     pub(crate) fn upper(self) -> u16
-        ensures { result ≡ upper_half (password_of self) }
+        ensures { result ≡ upper_half (password_value self) }
     {
-        (self.password() >> 16) as u16
+        (self.value() >> 16) as u16
     }
 
     /// The lower half.
     pub(crate) fn lower(self) -> u16
-        ensures { result ≡ lower_half (password_of self) }
+        ensures { result ≡ lower_half (password_value self) }
     {
-        (self.password() % 65536) as u16
+        (self.value() % 65536) as u16
     }
 
-    fn password(self) -> u32
-        ensures { result ≡ password_of self }
+    fn value(self) -> u32
+        ensures { result ≡ password_value self }
     {
         match self {
-            Secret::Access(password) | Secret::Kill(password) => password,
+            Password::Access(value) | Password::Kill(value) => value,
         }
     }
 
@@ -44,11 +44,11 @@ impl Secret {
         ensures { result ≡ half_command self handle covered }
     {
         match self {
-            Secret::Access(_) => Command::Access {
+            Password::Access(_) => Command::Access {
                 covered,
                 rn: handle,
             },
-            Secret::Kill(_) => Command::Kill {
+            Password::Kill(_) => Command::Kill {
                 covered,
                 rn: handle,
             },
@@ -61,8 +61,8 @@ impl Secret {
         ensures { result ≡ lower_expected self handle }
     {
         match self {
-            Secret::Access(_) => Expect::Same(handle),
-            Secret::Kill(_) => Expect::Header(handle),
+            Password::Access(_) => Expect::Same(handle),
+            Password::Kill(_) => Expect::Header(handle),
         }
     }
 
@@ -71,8 +71,8 @@ impl Secret {
         ensures { result ≡ lower_extended self }
     {
         match self {
-            Secret::Access(_) => false,
-            Secret::Kill(_) => true,
+            Password::Access(_) => false,
+            Password::Kill(_) => true,
         }
     }
 }
@@ -87,9 +87,9 @@ pub(crate) enum Covered {
         word: u16,
     },
     /// The upper half of a password, which goes first.
-    Upper(Secret),
+    Upper(Password),
     /// The lower half of a password.
-    Lower(Secret),
+    Lower(Password),
 }
 
 /// What the interrogator does with a number that it asked for.
@@ -100,12 +100,12 @@ pub(crate) enum Purpose {
     /// It covers this.
     Cover(Covered),
     /// It is the handle again, in reply to the upper half of this password.
-    Same(Secret),
+    Same(Password),
 }
 
 /// What is done next.
 #[derive(Clone, Copy)]
-pub(crate) enum Step {
+pub(crate) enum Stage {
     /// The tag is asked for its handle.
     Open,
     /// The next operation is denied.

@@ -1,0 +1,10 @@
+pub mod BitFields
+pub mod PartitionRows
+pub mod EpcReading
+pub mod EpcWords
+pub mod EpcEncoding
+pub mod EpcAnswers
+pub mod EpcDecoding
+pub mod Padded
+pub mod UriReading
+pub mod UriAnswers

@@ -1,0 +1,6 @@
+pub mod SgtinValue
+pub mod Partitions
+pub mod Epc
+pub mod EpcFaults
+pub mod Uri
+pub mod UriFaults
