@@ -108,9 +108,9 @@ bit-set : (b : Bool) → bit b ≡ 1 → b ≡ true
 bit-set true one = refl
 bit-set false one = absurd (omega arith)
 
-bit-if : (b : Bool) → bit b + bit false ≡ (if b then 1 else 0)
-bit-if true = refl
-bit-if false = refl
+bit-alone : (b : Bool) → bit b + bit false ≡ (if b then 1 else 0)
+bit-alone true = refl
+bit-alone false = refl
 
 inverted-is : (first second : Bool) → (first ≡ true → second ≡ false) → (bit first + bit second == 1 && not (bit second == 1)) ≡ first
 inverted-is true true once = let none = once refl in absurd (cc)
@@ -211,7 +211,7 @@ module _ (start : Start) (spec : SpecValue) (round : ℕ) (before history : List
         by.count number
         ∙ ap (λ (b : Bool). bit (by.listed number) + bit b) stands.not_now
         ∙ ap (λ (b : Bool). bit b + bit false) stands.listed_is
-        ∙ bit-if (is_matched_in round history number tag);
+        ∙ bit-alone (is_matched_in round history number tag);
     flags = λ number tag numbered. (at-quiet is number tag numbered).flags;
     ready = λ number tag numbered present. (at-quiet is number tag numbered).ready present;
   }

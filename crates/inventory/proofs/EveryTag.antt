@@ -30,7 +30,7 @@ use Rattle.inventory.proofs.CompleteRound.{IsTold, IsToldBy, RoundsHaveFacts, hi
 use Rattle.inventory.proofs.Others.{AllRecords, records-at, records-all, RoundsKeepLimit}
 use Rattle.inventory.proofs.Population.{tag_stepped, tag-steps}
 use Rattle.inventory.proofs.TagQuery.{query-matched, query-memory}
-use Rattle.inventory.proofs.Times.{times-append, times-one, bit, lists-one}
+use Rattle.inventory.proofs.Times.{times-append, times-one, times-first, bit, bit-if, lists-one}
 use Rattle.inventory.proofs.Turns.{HasFewOutcomes, round-holds}
 use Rattle.inventory.proofs.WholeRound.{query_command}
 use Rattle.q_round.specs.SpecValue.{SpecValue}
@@ -168,9 +168,6 @@ abbrev StandOnce : List ℕ → Type 0
 StandOnce [] = Unit {0}
 StandOnce (number ∷ numbers) = AllByRecursion (λ other. other ≢ number) numbers × StandOnce numbers
 
-times-first : (number first : ℕ) (others : List ℕ) → times number (first ∷ others) ≡ bit (first == number) + times number others
-times-first number first others = times-append number (first ∷ []) others ∙ ap (λ n. n + times number others) (times-one number first)
-
 none-of : (number : ℕ) (numbers : List ℕ) → times number numbers ≡ 0 → AllByRecursion (λ other. other ≢ number) numbers
 none-of number [] none = tt
 none-of number (first ∷ others) none =
@@ -238,6 +235,12 @@ distinct-keys start (number ∷ numbers) own all once =
     (ap (filter (λ other. not (same_pair (key start number) other))) (distinct-keys start numbers own all.1 once.1)
     ∙ kept-all start number numbers own all.0 all.1 once.0)
 
+-- where the pairs that are listed are those of tags, each with its own, as many are distinct as there are tags
+distinct-length : (start : Start) (history : List Item) (numbers : List ℕ) → pairs_listed history ≡ map (key start) numbers
+    → distinct (map (key start) numbers) ≡ map (key start) numbers → length (distinct (pairs_listed history)) ≡ length numbers
+distinct-length start history numbers listed apart =
+    ap (λ (pairs : List (ℕ × List ℕ)). length (distinct pairs)) listed ∙ ap length apart ∙ length-map numbers (key start)
+
 -- who is listed by a record of a history is listed in it
 listed-somewhere : (test : Record → Bool) (later : List Item) (sent : Record) (earlier : List Item) (number : ℕ) → test sent ≡ true → sender_listed_by sent ≡ number ∷ []
     → 1 ≤ times number (tags_listed_where test (later ++ exchanged sent ∷ earlier))
@@ -254,10 +257,6 @@ listed-somewhere test (exchanged other ∷ later) sent earlier number passes sen
 listed-somewhere test (operated at slot index result ∷ later) sent earlier number passes sender = listed-somewhere test later sent earlier number passes sender
 listed-somewhere test (ended round end slots ∷ later) sent earlier number passes sender = listed-somewhere test later sent earlier number passes sender
 
-bit-is : (b : Bool) → (if b then 1 else 0) ≡ bit b
-bit-is true = refl
-bit-is false = refl
-
 -- where the Query speaks to each tag, it speaks to as many as there are
 all-spoken-to : (spec : SpecValue) (round : ℕ) (history : List Item) (number : ℕ) (tags : List TagValue)
     → ((place : ℕ) (tag : TagValue) → slice_get tags place ≡ Some tag → is_spoken_to spec (tag_after_query round history (number + place) tag) ≡ true)
@@ -268,7 +267,7 @@ all-spoken-to spec round history number (tag ∷ tags) each =
     subst (λ n. is_spoken_to spec (tag_after_query round history n tag) ≡ true) (omega arith) (each 0 tag refl) in
     let one : bit (is_spoken_to spec (tag_after_query round history number tag)) ≡ 1 = ap bit here in
     let counted : (if is_spoken_to spec (tag_after_query round history number tag) then 1 else 0) ≡ bit (is_spoken_to spec (tag_after_query round history number tag)) =
-    bit-is (is_spoken_to spec (tag_after_query round history number tag)) in
+    bit-if (is_spoken_to spec (tag_after_query round history number tag)) in
     let rest : tags_spoken_to spec round history (number + 1) tags ≡ length tags =
     all-spoken-to spec round history (number + 1) tags
     (λ place later at. subst (λ n. is_spoken_to spec (tag_after_query round history n later) ≡ true) (omega arith) (each (suc place) later at)) in
@@ -335,9 +334,5 @@ every-tag keeps facts start spec operations slots past legal part own silent hon
     let once : StandOnce numbers = stand-once numbers (λ number. subst (λ (tags : List ℕ). times number tags ≤ 1) (sym in_round) (counted.each_once number)) in
     record {
       listed = sym (listed-as-many history) ∙ count;
-      distinct_pairs =
-          ap (λ (pairs : List (ℕ × List ℕ)). length (distinct pairs)) (pairs-are-keys start history keys)
-          ∙ ap length (distinct-keys start numbers own all_there once)
-          ∙ length-map numbers (key start)
-          ∙ count;
+      distinct_pairs = distinct-length start history numbers (pairs-are-keys start history keys) (distinct-keys start numbers own all_there once) ∙ count;
     }

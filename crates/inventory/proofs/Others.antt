@@ -224,7 +224,7 @@ listed-others round test (exchanged sent ∷ own) past of others =
 listed-others round test (operated at slot index result ∷ own) past of others = listed-others round test own past of others
 listed-others round test (ended number end slots ∷ own) past of others = listed-others round test own past of others.1
 
-and-false : (a b : Bool) → b ≡ false → (a && b) ≡ false
+pub and-false : (a b : Bool) → b ≡ false → (a && b) ≡ false
 and-false true b e = e
 and-false false b e = refl
 

@@ -1,5 +1,5 @@
 -- Where the tags of a start stand in a round of which nothing is said: just after each slot command, and just before the next.
-use Rattle.std.proofs.Common.{◌≡◌, ◌≢◌, ℕ, ◌+◌, ◌-◌, ◌<◌, ◌≤◌, ◌==◌, ◌&&◌, ◌||◌, Bool, true, false, List, [], ◌∷◌, ◌++◌, length, Option, Some, None, slice_get, if◌then◌else◌, refl, ap, sym, ◌∙◌, subst, arith, add-one, eq-eqb, ne_eqb}
+use Rattle.std.proofs.Common.{◌≡◌, ◌≢◌, ℕ, ◌+◌, ◌-◌, ◌<◌, ◌≤◌, ◌==◌, ◌||◌, Bool, true, false, List, [], ◌∷◌, ◌++◌, length, Option, Some, None, slice_get, if◌then◌else◌, refl, ap, sym, ◌∙◌, subst, arith, add-one, eq-eqb, ne_eqb}
 use Rattle.std.proofs.lemmas.Bool.{eqb-true}
 use Rattle.air_channel.specs.Past.{Start, Record, Item, exchanged, tag_behind, next_entry, next_record, past_behind_command}
 use Rattle.reply_grammar.specs.Reception.{Reception}
@@ -15,7 +15,7 @@ use Rattle.inventory.specs.Listed.{sender_where, sender_listed_by, listed_as, is
 use Rattle.inventory.specs.Moments.{is_query, begins_later_slot, is_query_of, past_after_query, flags_behind}
 use Rattle.inventory.specs.TagInRound.{is_matched, flags_in_round, slot_answer_of, is_acknowledged_by, StandsAfterSlot, StandsBeforeSlot}
 use Rattle.inventory.proofs.Heard.{slot-heard, silent-none, no-replies-none, IsOnlyAnswerer, same-tag, acknowledges-one, epc_sent, ack-lists, ack-lists-as}
-use Rattle.inventory.proofs.Others.{AllRecords}
+use Rattle.inventory.proofs.Others.{AllRecords, and-false}
 use Rattle.inventory.proofs.Population.{answer_behind, tag_stepped, tag-steps, reply_by, replies_behind, one-replies}
 use Rattle.inventory.proofs.TagBetween.{unacknowledged-stands, ack-stands, ack-answer, ack-body}
 use Rattle.inventory.proofs.TagEnds.{listed-once}
@@ -143,10 +143,6 @@ same-slot round slot sent same_round same_slot =
     let first : (sent.round == round) ≡ true = eq-eqb sent.round round same_round in
     let second : (sent.slot == slot) ≡ true = eq-eqb sent.slot slot same_slot in
     rw first second
-
-and-false : (a b : Bool) → b ≡ false → (a && b) ≡ false
-and-false true b e = e
-and-false false b e = refl
 
 other-slot : (round slot : ℕ) (sent : Record) → sent.slot ≢ slot → is_of_slot round slot sent ≡ false
 other-slot round slot sent other = and-false (sent.round == round) (sent.slot == slot) (ne_eqb sent.slot slot other)

@@ -5,6 +5,7 @@ use Rattle.std.proofs.lemmas.List.Elements.{filter-append}
 use Rattle.air_channel.specs.Past.{Record, Item, exchanged}
 use Rattle.inventory.specs.Listed.{sender_listed_by, tags_listed_where, times}
 
+-- a test as a number
 abbrev pub bit : Bool → ℕ
 bit true = 1
 bit false = 0
@@ -20,6 +21,13 @@ kept number false = refl
 
 pub times-one : (number other : ℕ) → times number (other ∷ []) ≡ bit (other == number)
 times-one number other = kept other (other == number)
+
+pub times-first : (number first : ℕ) (others : List ℕ) → times number (first ∷ others) ≡ bit (first == number) + times number others
+times-first number first others = times-append number (first ∷ []) others ∙ ap (λ n. n + times number others) (times-one number first)
+
+pub bit-if : (b : Bool) → (if b then 1 else 0) ≡ bit b
+bit-if true = refl
+bit-if false = refl
 
 pub bit-either : (first second : Bool) → (first ≡ true → second ≡ false) → bit (first || second) ≡ bit first + bit second
 bit-either true second once = let none : bit second ≡ 0 = ap bit (once refl) in omega arith

@@ -7,7 +7,7 @@ use Rattle.inventory.specs.Complete.{HasNumber}
 use Rattle.inventory.specs.Counted.{is_spoken_to, tags_spoken_to}
 use Rattle.inventory.specs.Listed.{times}
 use Rattle.inventory.specs.Moments.{tag_after_query}
-use Rattle.inventory.proofs.Times.{bit, times-append, times-one}
+use Rattle.inventory.proofs.Times.{bit, times-first}
 use Rattle.q_round.specs.SpecValue.{SpecValue}
 use Rattle.tag_machine.specs.TagValue.{TagValue}
 
@@ -58,9 +58,6 @@ unfolding sum_from
 sum-once number first zero above below = absurd (omega arith)
 sum-once number first (suc more) above below =
     sum-step number first more above (cases_lt first number) (λ behind. sum-once number (first + 1) more (omega arith) (omega arith))
-
-times-first : (number first : ℕ) (others : List ℕ) → times number (first ∷ others) ≡ bit (first == number) + times number others
-times-first number first others = times-append number (first ∷ []) others ∙ ap (λ n. n + times number others) (times-one number first)
 
 -- numbers below one, each as often as it stands in a list, are as many as the list has
 times-sum : (count : ℕ) (numbers : List ℕ) → AllByRecursion (λ number. number < count) numbers → sum_from 0 count (λ k. times k numbers) ≡ length numbers

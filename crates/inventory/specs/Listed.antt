@@ -11,6 +11,7 @@ sender_in silence = []
 sender_in (whole replied) = replied.number ∷ []
 sender_in (broken replied place) = []
 
+-- ... where a record lists something
 abbrev pub sender_where : List Listed → Given → List ℕ
 sender_where [] given = []
 sender_where (listed ∷ more) given = sender_in given
@@ -27,9 +28,11 @@ tags_listed_where test (exchanged sent ∷ past) = tags_listed_where test past +
 tags_listed_where test (operated round slot index result ∷ past) = tags_listed_where test past
 tags_listed_where test (ended round end slots ∷ past) = tags_listed_where test past
 
+-- the record is one of a round
 abbrev pub is_of_round : ℕ → Record → Bool
 is_of_round round sent = sent.round == round
 
+-- ... and of a slot of it
 abbrev pub is_of_slot : ℕ → ℕ → Record → Bool
 is_of_slot round slot sent = sent.round == round && sent.slot == slot
 

@@ -8,6 +8,7 @@ use Rattle.session_flags.specs.declared.flags.Flags.{Flags}
 use Rattle.inventory.specs.TagInRound.{is_matched}
 use Rattle.tag_machine.specs.TagValue.{TagValue}
 
+-- 6.3.2.11.2.1 Query
 abbrev pub is_query : Command → Bool
 is_query (commands.Query dr code trext sel session target q) = true
 is_query command = false
