@@ -1,5 +1,5 @@
 -- The fields of an operation.
-use Rattle.std.proofs.Common.{◌≡◌, ◌≢◌, ◌<◌, ◌≤◌, ◌^◌, ℕ, List, [], ◌∷◌, ap, arith, refl, ◌∙◌}
+use Rattle.std.proofs.Common.{◌≡◌, ℕ, List, [], ◌∷◌, ap, arith, refl, ◌∙◌}
 use Rattle.std.specs.Fmt.{decimal}
 use Rattle.access_ops.specs.declared.Op.{Op}
 use Rattle.access_ops.specs.declared.Op.TheVariants as ops

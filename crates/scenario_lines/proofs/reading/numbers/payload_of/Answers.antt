@@ -1,5 +1,5 @@
 -- The words of the first four and of the last four digits spell a payload.
-use Rattle.std.proofs.Common.{◌≡◌, ◌^◌, ◌<◌, ◌≤◌, ◌+◌, ◌*◌, ◌/◌, ◌%◌, length, take, drop, arith, rules, sym, ◌∙◌}
+use Rattle.std.proofs.Common.{◌≡◌, ◌^◌, ◌<◌, ◌+◌, ◌*◌, ◌/◌, length, take, drop, arith, rules, ◌∙◌}
 use Rattle.text_fields.specs.Hexadecimal.{hex_word}
 use Rattle.scenario_lines.proofs.AirFields.{not_found}
 use Rattle.scenario_lines.proofs.Payloads.{no_upper, payload_is, payload_read, spelled_payload}
