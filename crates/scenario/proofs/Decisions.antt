@@ -1,5 +1,5 @@
 -- What the lines before a line leave open holds for it, or it doesn't.
-use Rattle.std.proofs.Common.{◌≡◌, ◌<◌, ◌≤◌, ◌⊎◌, ℕ, suc, List, [], ◌∷◌, length, Option, Some, None, refl, ap₂, inl, inr, arith}
+use Rattle.std.proofs.Common.{◌≡◌, ◌≢◌, ◌<◌, ◌≤◌, ◌⊎◌, ℕ, suc, List, [], ◌∷◌, length, Option, Some, None, refl, ap₂, inl, inr, arith}
 use Rattle.std.proofs.lemmas.Bool.{cases_eq, cases_lt}
 use Rattle.air_events.specs.declared.Entry.{Entry}
 use Rattle.scenario_lines.specs.declared.first_fields.Word.{Word}
@@ -8,8 +8,8 @@ use Rattle.scenario_lines.specs.declared.line.Happening.{Happening}
 use Rattle.scenario_lines.specs.declared.line.Happening.TheVariants as happenings
 use Rattle.scenario_lines.specs.declared.line.Line.{Line}
 use Rattle.scenario_lines.specs.declared.line.Line.TheVariants as lines
-use Rattle.scenario.specs.Limits.{most_air_lines, most_steps, most_tags}
-use Rattle.scenario.specs.Standing.{ChoosesOnce, DraftValue, HasRoom, KeepsOrder, MayFollow, MayStand, NamesTag, Standing, begun, start, within}
+use Rattle.scenario.specs.Limits.{most_air_lines, most_ops, most_steps, most_tags}
+use Rattle.scenario.specs.Standing.{ChoosesOnce, DraftValue, HasRoom, IsBareRound, KeepsOrder, MayFollow, MayStand, NamesTag, Standing, begun, start, steps_of, within}
 
 -- a fact holds, or it doesn't
 abbrev pub Decided : Type 0 → Type 0
@@ -43,16 +43,28 @@ none_decided : {A : Type 0} → (option : Option A) → Decided (option ≡ None
 none_decided None = inl refl
 none_decided (Some value) = inr (λ same. cc)
 
+some_decided : {A : Type 0} → (option : Option A) → Decided (option ≢ None)
+some_decided None = inr (λ some. some refl)
+some_decided (Some value) = inl (λ same. cc)
+
+bare_decided : (draft : DraftValue) → Decided (IsBareRound draft)
+bare_decided draft = elim (both (some_decided draft.round) (both (none_decided draft.operations.only) (empty_decided draft.operations.ops))) [
+  | inl bare ↦ inl (record { round = bare.0; only = bare.1.0; ops = bare.1.1 })
+  | inr never ↦ inr (λ bare. never (bare.round, (bare.only, bare.ops)))
+]
+
 -- a line with this word may follow, or may not
 pub may_stand_decided : (standing : Standing) (word : Word) → Decided (MayStand standing word)
 may_stand_decided start words.Version = inl tt
 may_stand_decided begun words.Link = inl tt
-may_stand_decided (within draft) words.Tag = both (number_decided draft.airs 0) (empty_decided draft.steps)
-may_stand_decided (within draft) words.Air = empty_decided draft.steps
+may_stand_decided (within draft) words.Tag = both (number_decided draft.airs 0) (empty_decided (steps_of draft))
+may_stand_decided (within draft) words.Air = empty_decided (steps_of draft)
 may_stand_decided (within draft) words.Select = inl tt
 may_stand_decided (within draft) words.Nak = inl tt
 may_stand_decided (within draft) words.Event = inl tt
 may_stand_decided (within draft) words.Round = inl tt
+may_stand_decided (within draft) words.Only = bare_decided draft
+may_stand_decided (within draft) words.Op = some_decided draft.round
 may_stand_decided (within draft) words.End = inl tt
 may_stand_decided standing word = inr (λ stands. stands)
 
@@ -60,10 +72,11 @@ may_stand_decided standing word = inr (λ stands. stands)
 pub has_room_decided : (standing : Standing) (word : Word) → Decided (HasRoom standing word)
 has_room_decided (within draft) words.Tag = lt_decided (length draft.tags) most_tags
 has_room_decided (within draft) words.Air = lt_decided draft.airs most_air_lines
-has_room_decided (within draft) words.Select = lt_decided (length draft.steps) most_steps
-has_room_decided (within draft) words.Nak = lt_decided (length draft.steps) most_steps
-has_room_decided (within draft) words.Event = lt_decided (length draft.steps) most_steps
-has_room_decided (within draft) words.Round = lt_decided (length draft.steps) most_steps
+has_room_decided (within draft) words.Select = lt_decided (length (steps_of draft)) most_steps
+has_room_decided (within draft) words.Nak = lt_decided (length (steps_of draft)) most_steps
+has_room_decided (within draft) words.Event = lt_decided (length (steps_of draft)) most_steps
+has_room_decided (within draft) words.Round = lt_decided (length (steps_of draft)) most_steps
+has_room_decided (within draft) words.Op = lt_decided (length draft.operations.ops) most_ops
 has_room_decided standing word = inl tt
 
 -- the tag that a line names is there, or isn't

@@ -1,5 +1,6 @@
 pub mod PrintedLines
 pub mod Leading
+pub mod StepLines
 pub mod Settled
 pub mod Spoken
 pub mod Cursors

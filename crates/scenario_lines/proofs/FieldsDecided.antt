@@ -10,7 +10,9 @@ use Rattle.text_fields.specs.Binary.{binary, binary_digit, hyphen, or_hyphen}
 use Rattle.text_fields.specs.CodeNames.{code_word}
 use Rattle.text_fields.specs.Hexadecimal.{hex_word, hex_words}
 use Rattle.text_fields.specs.ToldApart.{binary_told, hex_words_told}
-use Rattle.command_text.specs.CommandText.{flag_word, mask_bank_word, side_word}
+use Rattle.command_text.specs.CommandText.{bank_word, flag_word, mask_bank_word, payload_digits, side_word}
+use Rattle.command_grammar.specs.declared.field_values.Bank.{Bank}
+use Rattle.command_grammar.specs.declared.field_values.Bank.TheVariants as all_banks
 use Rattle.command_grammar.specs.declared.field_values.FlagName.{FlagName}
 use Rattle.command_grammar.specs.declared.field_values.FlagName.TheVariants as flags
 use Rattle.command_grammar.specs.declared.field_values.MaskBank.{MaskBank}
@@ -39,6 +41,9 @@ decimal_decided least most field =
     (λ found. (found.0, (found.2.0, omega (arith, found.1)), found.2.1))
     (λ found. (found.0, omega (arith, found.1.1), (found.1.0, found.2)))
     (below_decided (λ n. (least ≤ n) × (field ≡ decimal n)) (λ n. both (le_decided least n) (text_decided field (decimal n))) (suc most))
+
+pub payload_decided : (field : List ℕ) → Decided (Spelled payload_digits (λ payload. payload < 1048576) field)
+payload_decided field = spelled_below payload_digits 1048576 field
 
 pub password_decided : (field : List ℕ) → Decided (Spelled password_text (λ password. password < 2 ^ 32) field)
 password_decided field = spelled_below password_text (2 ^ 32) field
@@ -90,6 +95,18 @@ no_bank field epc tid user banks.User is = user is
 pub bank_decided : (field : List ℕ) → Decided (Spelled mask_bank_word Any field)
 bank_decided field =
     tried banks.Epc tt (λ epc. tried banks.Tid tt (λ tid. tried banks.User tt (λ user. inr (λ found. no_bank field epc tid user found.0 found.2))))
+
+no_any_bank : (field : List ℕ) → field ≢ bank_word all_banks.Reserved → field ≢ bank_word all_banks.Epc → field ≢ bank_word all_banks.Tid
+    → field ≢ bank_word all_banks.User → (bank : Bank) → field ≡ bank_word bank → ⊥
+no_any_bank field res epc tid user all_banks.Reserved is = res is
+no_any_bank field res epc tid user all_banks.Epc is = epc is
+no_any_bank field res epc tid user all_banks.Tid is = tid is
+no_any_bank field res epc tid user all_banks.User is = user is
+
+pub any_bank_decided : (field : List ℕ) → Decided (Spelled bank_word Any field)
+any_bank_decided field =
+    tried all_banks.Reserved tt (λ res. tried all_banks.Epc tt (λ epc. tried all_banks.Tid tt (λ tid. tried all_banks.User tt (λ user.
+    inr (λ found. no_any_bank field res epc tid user found.0 found.2)))))
 
 no_code : (field : List ℕ) → field ≢ code_word line_codes.Fm0 → field ≢ code_word line_codes.M2 → field ≢ code_word line_codes.M4
     → field ≢ code_word line_codes.M8 → (code : Code) → field ≡ code_word code → ⊥
@@ -210,7 +227,7 @@ abbrev AreSmall : List ℕ → Type 0
 AreSmall words = All (λ word. word < 2 ^ 16) words
 
 -- four digits of one word
-word_decided : (digits : List ℕ) → Decided (Spelled hex_word (λ word. word < 2 ^ 16) digits)
+pub word_decided : (digits : List ℕ) → Decided (Spelled hex_word (λ word. word < 2 ^ 16) digits)
 word_decided digits = spelled_below hex_word (2 ^ 16) digits
 
 short_words : (digits : List ℕ) → digits ≢ [] → length digits < 4 → (words : List ℕ) → digits ≡ flat_map hex_word words → ⊥

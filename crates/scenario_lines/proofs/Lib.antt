@@ -5,11 +5,15 @@ pub mod Passwords
 pub mod Masks
 pub mod Events
 pub mod AirFields
+pub mod OpFields
+pub mod WordDigits
+pub mod Payloads
 pub mod TagFields
 pub mod LineTexts
 pub mod ToldNames
 pub mod ToldFields
 pub mod ToldLines
+pub mod OneOp
 pub mod LineShapes
 pub mod LineReasons
 pub mod Decisions

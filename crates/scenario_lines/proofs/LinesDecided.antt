@@ -1,8 +1,12 @@
 -- The fields of a line are each of their form and range, or they are of no line's.
-use Rattle.std.proofs.Common.{◌≡◌, ◌≢◌, ◌≤◌, ℕ, List, [], ◌∷◌, refl, sym, ◌∙◌, ap, ap₂, inl, inr, arith}
+use Rattle.std.proofs.Common.{◌≡◌, ◌≢◌, ◌<◌, ◌≤◌, ◌^◌, ℕ, List, [], ◌∷◌, refl, sym, ◌∙◌, ap, ap₂, inl, inr, arith}
 use Rattle.std.specs.Prelude.{codes}
 use Rattle.std.specs.Fmt.{decimal}
-use Rattle.command_text.specs.CommandText.{flag_word}
+use Rattle.text_fields.specs.Hexadecimal.{hex_word, hex_words}
+use Rattle.command_text.specs.CommandText.{bank_word, flag_word, payload_digits}
+use Rattle.command_grammar.specs.declared.field_values.Bank.{Bank}
+use Rattle.access_ops.specs.declared.Op.{Op}
+use Rattle.access_ops.specs.declared.Op.TheVariants as ops
 use Rattle.air_events.specs.declared.Event.{Event}
 use Rattle.air_events.specs.declared.Event.TheVariants as events
 use Rattle.air_events.specs.declared.Choice.TheVariants as choices
@@ -10,6 +14,8 @@ use Rattle.command_grammar.specs.declared.field_values.FlagName.{FlagName}
 use Rattle.command_grammar.specs.declared.field_values.FlagName.TheVariants as flags
 use Rattle.scenario_lines.specs.declared.first_fields.EventKind.{EventKind}
 use Rattle.scenario_lines.specs.declared.first_fields.EventKind.TheVariants as event_kinds
+use Rattle.scenario_lines.specs.declared.first_fields.OpKind.{OpKind}
+use Rattle.scenario_lines.specs.declared.first_fields.OpKind.TheVariants as op_kinds
 use Rattle.scenario_lines.specs.declared.first_fields.AirKind.{AirKind}
 use Rattle.scenario_lines.specs.declared.first_fields.AirKind.TheVariants as airs
 use Rattle.scenario_lines.specs.declared.first_fields.Word.{Word}
@@ -18,15 +24,15 @@ use Rattle.scenario_lines.specs.declared.line.Happening.{Happening}
 use Rattle.scenario_lines.specs.declared.line.Happening.TheVariants as happenings
 use Rattle.scenario_lines.specs.declared.line.Line.{Line}
 use Rattle.scenario_lines.specs.declared.line.Line.TheVariants as lines
-use Rattle.scenario_lines.specs.Names.{air_kind, air_word, event_kind, event_word}
-use Rattle.scenario_lines.specs.TagForm.{IsTagForm, tag_of}
-use Rattle.scenario_lines.specs.LineForm.{HasForm, IsEvent, IsHappening, IsLinkForm, IsPlace, IsRound, IsSelection, most_level, most_nanoseconds}
-use Rattle.scenario_lines.specs.Spelling.{event_fields, happening_fields, link_fields, other_fields, round_fields, select_fields, tag_fields, word_of_line}
-use Rattle.scenario_lines.specs.Reading.{IsEventText, IsHappeningText}
+use Rattle.scenario_lines.specs.Names.{air_kind, air_word, event_kind, event_word, op_kind, op_word}
+use Rattle.scenario_lines.specs.TagForm.{IsTagForm, IsWordList, tag_of}
+use Rattle.scenario_lines.specs.LineForm.{HasForm, IsEvent, IsHappening, IsLinkForm, IsOp, IsPlace, IsRound, IsSelection, most_level, most_nanoseconds}
+use Rattle.scenario_lines.specs.Spelling.{event_fields, happening_fields, link_fields, op_fields, other_fields, password_text, round_fields, select_fields, tag_fields, word_of_line}
+use Rattle.scenario_lines.specs.Reading.{IsEventText, IsHappeningText, IsOpText}
 use Rattle.scenario_lines.proofs.Decisions.{Any, Decided, Only, Spelled, behind_decided, list_decided, nothing_decided, only_decided, same_answer, text_decided}
-use Rattle.scenario_lines.proofs.FieldsDecided.{IsLasting, IsWithin, bank_decided, bit_decided, code_decided, decimal_decided, flag_decided, lasting_decided, locks_decided, mask_decided, password_decided, sel_decided, side_decided, tried, words_decided}
+use Rattle.scenario_lines.proofs.FieldsDecided.{IsLasting, IsWithin, any_bank_decided, bank_decided, bit_decided, code_decided, decimal_decided, flag_decided, lasting_decided, locks_decided, mask_decided, password_decided, payload_decided, sel_decided, side_decided, tried, word_decided, words_decided}
 use Rattle.scenario_lines.proofs.ToldLines.{same_fields}
-use Rattle.scenario_lines.proofs.ToldNames.{air_word_told, event_word_told}
+use Rattle.scenario_lines.proofs.ToldNames.{air_word_told, event_word_told, op_word_told}
 
 -- no more fields
 abbrev nothing : Unit {0} → List (List ℕ)
@@ -239,6 +245,129 @@ event_decided (field ∷ fields) = elim (event_kind_decided field) [
       unknown (event_kind event, tt, (same_fields field (event_word (event_kind event)) fields (event_fields event some.0.1) some.2).0))
 ]
 
+-- the kind of an operation
+no_op_kind : (field : List ℕ) → field ≢ op_word op_kinds.Read → field ≢ op_word op_kinds.Write → field ≢ op_word op_kinds.BlockWrite
+    → field ≢ op_word op_kinds.BlockErase → field ≢ op_word op_kinds.Lock → field ≢ op_word op_kinds.Access → field ≢ op_word op_kinds.Kill
+    → (kind : OpKind) → field ≡ op_word kind → ⊥
+no_op_kind field reads writes blocks erases locks shows kills op_kinds.Read is = reads is
+no_op_kind field reads writes blocks erases locks shows kills op_kinds.Write is = writes is
+no_op_kind field reads writes blocks erases locks shows kills op_kinds.BlockWrite is = blocks is
+no_op_kind field reads writes blocks erases locks shows kills op_kinds.BlockErase is = erases is
+no_op_kind field reads writes blocks erases locks shows kills op_kinds.Lock is = locks is
+no_op_kind field reads writes blocks erases locks shows kills op_kinds.Access is = shows is
+no_op_kind field reads writes blocks erases locks shows kills op_kinds.Kill is = kills is
+
+pub op_kind_decided : (field : List ℕ) → Decided (Spelled op_word Any field)
+op_kind_decided field =
+    tried op_kinds.Read tt (λ reads. tried op_kinds.Write tt (λ writes. tried op_kinds.BlockWrite tt (λ blocks. tried op_kinds.BlockErase tt (λ erases.
+    tried op_kinds.Lock tt (λ locks. tried op_kinds.Access tt (λ shows. tried op_kinds.Kill tt (λ kills.
+    inr (λ found. no_op_kind field reads writes blocks erases locks shows kills found.0 found.2))))))))
+
+-- what stands behind the kind of an operation
+abbrev HasOp : OpKind → List (List ℕ) → Type 0
+HasOp kind fields = (op : Op) × IsOpText kind fields op
+
+-- the fields of an operation at a place, whose last field is spelled so
+abbrev placed : {V : Type 0} → (V → List ℕ) → Bank × (ℕ × (V × Unit {0})) → List (List ℕ)
+placed last = with bank_word (with decimal (with last nothing))
+
+abbrev IsPlaced : {V : Type 0} → (V → Type 0) → Bank × (ℕ × (V × Unit {0})) → Type 0
+IsPlaced May = Both Any (Both (IsWithin 0 268435455) (Both May Any))
+
+at_place : {V : Type 0} {last : V → List ℕ} {May : V → Type 0} → ((field : List ℕ) → Decided (Spelled last May field)) → FieldsDecided (placed last) (IsPlaced May)
+at_place decided = then any_bank_decided (then (number 0 268435455) (then decided end))
+
+read_there : (fields : List (List ℕ)) → HasOp op_kinds.Read fields → Spelled (placed decimal) (IsPlaced (IsWithin 0 255)) fields
+read_there fields (ops.Read bank pointer count, text) =
+    ((bank, (pointer, (count, tt))), (tt, ((omega arith, text.is.0), ((omega arith, text.is.1), tt))), text.spelling)
+read_there fields (op, text) = let is = text.same_kind in cc
+
+write_there : (fields : List (List ℕ)) → HasOp op_kinds.Write fields → Spelled (placed hex_word) (IsPlaced (λ word. word < 2 ^ 16)) fields
+write_there fields (ops.Write bank pointer word, text) =
+    ((bank, (pointer, (word, tt))), (tt, ((omega arith, text.is.0), (text.is.1, tt))), text.spelling)
+write_there fields (op, text) = let is = text.same_kind in cc
+
+block_write_there : (fields : List (List ℕ)) → HasOp op_kinds.BlockWrite fields → Spelled (placed hex_words) (IsPlaced (IsWordList 1 255)) fields
+block_write_there fields (ops.BlockWrite bank pointer block, text) =
+    ((bank, (pointer, (block, tt))), (tt, ((omega arith, text.is.0), (text.is.1, tt))), text.spelling)
+block_write_there fields (op, text) = let is = text.same_kind in cc
+
+block_erase_there : (fields : List (List ℕ)) → HasOp op_kinds.BlockErase fields → Spelled (placed decimal) (IsPlaced (IsWithin 1 255)) fields
+block_erase_there fields (ops.BlockErase bank pointer count, text) =
+    ((bank, (pointer, (count, tt))), (tt, ((omega arith, text.is.0), ((text.is.1, text.is.2), tt))), text.spelling)
+block_erase_there fields (op, text) = let is = text.same_kind in cc
+
+lock_there : (fields : List (List ℕ)) → HasOp op_kinds.Lock fields → Spelled (with payload_digits nothing) (Both (λ n. n < 1048576) Any) fields
+lock_there fields (ops.Lock payload, text) = ((payload, tt), (omega (arith, text.is), tt), text.spelling)
+lock_there fields (op, text) = let is = text.same_kind in cc
+
+access_there : (fields : List (List ℕ)) → HasOp op_kinds.Access fields → Spelled (with password_text nothing) (Both (λ n. n < 2 ^ 32) Any) fields
+access_there fields (ops.Access password, text) = ((password, tt), (text.is, tt), text.spelling)
+access_there fields (op, text) = let is = text.same_kind in cc
+
+kill_there : (fields : List (List ℕ)) → HasOp op_kinds.Kill fields → Spelled (with password_text nothing) (Both (λ n. n < 2 ^ 32) Any) fields
+kill_there fields (ops.Kill password, text) = ((password, tt), (text.is, tt), text.spelling)
+kill_there fields (op, text) = let is = text.same_kind in cc
+
+op_behind : (kind : OpKind) (fields : List (List ℕ)) → Decided (HasOp kind fields)
+op_behind op_kinds.Read fields =
+    same_answer (λ found. (
+      ops.Read found.0.0 found.0.1.0 found.0.1.1.0,
+      record { same_kind = refl; spelling = found.2; is = (found.1.1.0.1, found.1.1.1.0.1) },
+    )) (read_there fields) (at_place (number 0 255) fields)
+op_behind op_kinds.Write fields =
+    same_answer (λ found. (
+      ops.Write found.0.0 found.0.1.0 found.0.1.1.0,
+      record { same_kind = refl; spelling = found.2; is = (found.1.1.0.1, found.1.1.1.0) },
+    )) (write_there fields) (at_place word_decided fields)
+op_behind op_kinds.BlockWrite fields =
+    same_answer (λ found. (
+      ops.BlockWrite found.0.0 found.0.1.0 found.0.1.1.0,
+      record { same_kind = refl; spelling = found.2; is = (found.1.1.0.1, found.1.1.1.0) },
+    )) (block_write_there fields) (at_place (words_decided 1 255) fields)
+op_behind op_kinds.BlockErase fields =
+    same_answer (λ found. (
+      ops.BlockErase found.0.0 found.0.1.0 found.0.1.1.0,
+      record { same_kind = refl; spelling = found.2; is = (found.1.1.0.1, found.1.1.1.0.0, found.1.1.1.0.1) },
+    )) (block_erase_there fields) (at_place (number 1 255) fields)
+op_behind op_kinds.Lock fields =
+    same_answer (λ found. (ops.Lock found.0.0, record { same_kind = refl; spelling = found.2; is = omega (arith, found.1.0) })) (lock_there fields)
+    (then payload_decided end fields)
+op_behind op_kinds.Access fields =
+    same_answer (λ found. (ops.Access found.0.0, record { same_kind = refl; spelling = found.2; is = found.1.0 })) (access_there fields)
+    (then password_decided end fields)
+op_behind op_kinds.Kill fields =
+    same_answer (λ found. (ops.Kill found.0.0, record { same_kind = refl; spelling = found.2; is = found.1.0 })) (kill_there fields)
+    (then password_decided end fields)
+
+-- an operation, with the word for its kind
+abbrev op_text : Op → List (List ℕ)
+op_text op = op_word (op_kind op) ∷ op_fields op
+
+op_decided : FieldsDecided op_text IsOp
+op_decided [] = inr (λ some. let same = some.2 in cc)
+op_decided (field ∷ fields) = elim (op_kind_decided field) [
+  | inl known ↦ elim (op_behind known.0 fields) [
+    | inl found ↦ inl (
+      found.0,
+      found.1.is,
+      ap₂ (λ x xs. x ∷ xs) (known.2 ∙ ap op_word (sym found.1.same_kind)) found.1.spelling,
+    )
+    | inr never ↦ inr (λ some.
+        let same = same_fields field (op_word (op_kind some.0)) fields (op_fields some.0) some.2 in
+        never (
+          some.0,
+          record {
+            same_kind = op_word_told (op_kind some.0) known.0 (sym same.0 ∙ known.2);
+            spelling = same.1;
+            is = some.1;
+          },
+        ))
+  ]
+  | inr unknown ↦ inr (λ some.
+      unknown (op_kind some.0, tt, (same_fields field (op_word (op_kind some.0)) fields (op_fields some.0) some.2).0))
+]
+
 -- what stands behind the kind of an air line
 abbrev HasHappening : AirKind → List (List ℕ) → Type 0
 HasHappening kind fields = (happening : Happening) × IsHappeningText kind fields happening
@@ -369,6 +498,14 @@ round_there : (others : List (List ℕ)) → FormedBehind words.Round others →
 round_there others (lines.Round spec, form, same, is) = (spec, form, is)
 round_there others (line, form, same, is) = cc
 
+only_there : (others : List (List ℕ)) → FormedBehind words.Only others → Spelled (with hex_words nothing) (Both (IsWordList 0 31) Any) others
+only_there others (lines.Only epc, form, same, is) = ((epc, tt), (form, tt), is)
+only_there others (line, form, same, is) = cc
+
+op_there : (others : List (List ℕ)) → FormedBehind words.Op others → Spelled op_text IsOp others
+op_there others (lines.Op op, form, same, is) = (op, form, is)
+op_there others (line, form, same, is) = cc
+
 end_there : (others : List (List ℕ)) → FormedBehind words.End others → Spelled nothing Any others
 end_there others (lines.End, form, same, is) = (tt, tt, is)
 end_there others (line, form, same, is) = cc
@@ -386,4 +523,7 @@ formed_behind words.Nak others = same_answer (λ found. (lines.Nak, tt, refl, fo
 formed_behind words.Event others =
     same_answer (λ found. (lines.Event found.0.0 found.0.1, found.1, refl, found.2)) (event_line_there others) (event_decided others)
 formed_behind words.Round others = same_answer (λ found. (lines.Round found.0, found.1, refl, found.2)) (round_there others) (round_decided others)
+formed_behind words.Only others =
+    same_answer (λ found. (lines.Only found.0.0, found.1.0, refl, found.2)) (only_there others) (then (words_decided 0 31) end others)
+formed_behind words.Op others = same_answer (λ found. (lines.Op found.0, found.1, refl, found.2)) (op_there others) (op_decided others)
 formed_behind words.End others = same_answer (λ found. (lines.End, tt, refl, found.2)) (end_there others) (end others)

@@ -15,7 +15,7 @@ use Rattle.scenario_lines.specs.declared.line.Line.{Line}
 use Rattle.scenario_lines.specs.declared.line.Line.TheVariants as lines
 use Rattle.scenario_lines.specs.declared.fault.LineFault.{LineFault}
 use Rattle.scenario_lines.specs.declared.fault.LineFault.TheVariants.{Word as WordFault, Shape, Number, Pc}
-use Rattle.scenario_lines.specs.Names.{air_field_count, air_word, event_field_count, word_text}
+use Rattle.scenario_lines.specs.Names.{air_field_count, air_word, event_field_count, op_field_count, word_text}
 use Rattle.scenario_lines.specs.LineForm.{HasForm, IsLinkForm}
 use Rattle.scenario_lines.specs.TagForm.{IsTagForm}
 use Rattle.scenario_lines.specs.LineFaults.{AreFilled, BeginsWith, HasKnownKind, HasShape, IsFaultyLine, SpellsLine}
@@ -24,29 +24,31 @@ use Rattle.scenario_lines.specs.Spelling.{line_fields, link_fields, tag_fields, 
 use Rattle.scenario_lines.proofs.Counted.{Filled}
 use Rattle.scenario_lines.proofs.Decisions.{Any, Decided, Spelled, both, le_decided, number_decided, same_answer}
 use Rattle.scenario_lines.proofs.FieldsDecided.{tried}
-use Rattle.scenario_lines.proofs.LinesDecided.{air_kind_decided, event_kind_decided, formed_behind}
+use Rattle.scenario_lines.proofs.LinesDecided.{air_kind_decided, event_kind_decided, formed_behind, op_kind_decided}
 use Rattle.scenario_lines.proofs.ToldLines.{same_fields}
-use Rattle.scenario_lines.proofs.ToldNames.{air_word_told, event_word_told, word_told}
+use Rattle.scenario_lines.proofs.ToldNames.{air_word_told, event_word_told, op_word_told, word_told}
 
 -- the first field of a line
 no_word : (field : List ℕ) → field ≢ word_text words.Version → field ≢ word_text words.Link → field ≢ word_text words.Tag → field ≢ word_text words.Air
     → field ≢ word_text words.Select → field ≢ word_text words.Nak → field ≢ word_text words.Event → field ≢ word_text words.Round
-    → field ≢ word_text words.End → (word : Word) → field ≡ word_text word → ⊥
-no_word field version link tag air select nak event round end words.Version is = version is
-no_word field version link tag air select nak event round end words.Link is = link is
-no_word field version link tag air select nak event round end words.Tag is = tag is
-no_word field version link tag air select nak event round end words.Air is = air is
-no_word field version link tag air select nak event round end words.Select is = select is
-no_word field version link tag air select nak event round end words.Nak is = nak is
-no_word field version link tag air select nak event round end words.Event is = event is
-no_word field version link tag air select nak event round end words.Round is = round is
-no_word field version link tag air select nak event round end words.End is = end is
+    → field ≢ word_text words.Only → field ≢ word_text words.Op → field ≢ word_text words.End → (word : Word) → field ≡ word_text word → ⊥
+no_word field version link tag air select nak event round epc op end words.Version is = version is
+no_word field version link tag air select nak event round epc op end words.Link is = link is
+no_word field version link tag air select nak event round epc op end words.Tag is = tag is
+no_word field version link tag air select nak event round epc op end words.Air is = air is
+no_word field version link tag air select nak event round epc op end words.Select is = select is
+no_word field version link tag air select nak event round epc op end words.Nak is = nak is
+no_word field version link tag air select nak event round epc op end words.Event is = event is
+no_word field version link tag air select nak event round epc op end words.Round is = round is
+no_word field version link tag air select nak event round epc op end words.Only is = epc is
+no_word field version link tag air select nak event round epc op end words.Op is = op is
+no_word field version link tag air select nak event round epc op end words.End is = end is
 
 word_decided : (field : List ℕ) → Decided (Spelled word_text Any field)
 word_decided field =
     tried words.Version tt (λ version. tried words.Link tt (λ link. tried words.Tag tt (λ tag. tried words.Air tt (λ air. tried words.Select tt (λ select.
-    tried words.Nak tt (λ nak. tried words.Event tt (λ event. tried words.Round tt (λ round. tried words.End tt (λ end.
-    inr (λ found. no_word field version link tag air select nak event round end found.0 found.2))))))))))
+    tried words.Nak tt (λ nak. tried words.Event tt (λ event. tried words.Round tt (λ round. tried words.Only tt (λ epc. tried words.Op tt (λ op.
+    tried words.End tt (λ end. inr (λ found. no_word field version link tag air select nak event round epc op end found.0 found.2))))))))))))
 
 -- the kind, where one is there
 kind_decided : (first : Word) (others : List (List ℕ)) → Decided (HasKnownKind first others)
@@ -56,6 +58,8 @@ kind_decided words.Event (kind ∷ others) = same_answer (λ found. (found.0, fo
 kind_decided words.Air [] = inl tt
 kind_decided words.Air (exchange ∷ []) = inl tt
 kind_decided words.Event [] = inl tt
+kind_decided words.Op (kind ∷ others) = same_answer (λ found. (found.0, found.2)) (λ known. (known.0, tt, known.1)) (op_kind_decided kind)
+kind_decided words.Op [] = inl tt
 kind_decided word others = inl tt
 
 -- so many fields, none of them empty
@@ -93,6 +97,14 @@ event_shape_decided kind others = elim (event_kind_decided kind) [
       (count_decided (event_field_count known.0) others)
 ]
 
+op_shape_decided : (kind : List ℕ) (others : List (List ℕ)) → Decided (HasShape words.Op (kind ∷ others))
+op_shape_decided kind others = elim (op_kind_decided kind) [
+  | inr unknown ↦ inr (λ shape. unknown (shape.0, tt, shape.1))
+  | inl known ↦ same_answer (λ (are : AreFilled (op_field_count known.0) others). (known.0, known.2, are))
+      (λ shape. subst (λ other. AreFilled (op_field_count other) others) (op_word_told shape.0 known.0 (sym shape.1 ∙ known.2)) shape.2)
+      (count_decided (op_field_count known.0) others)
+]
+
 shape_decided : (first : Word) (others : List (List ℕ)) → Decided (HasShape first others)
 shape_decided words.Version others = count_decided 1 others
 shape_decided words.Link others = count_decided 7 others
@@ -105,6 +117,9 @@ shape_decided words.Nak others = count_decided 0 others
 shape_decided words.Event [] = inr (λ shape. shape)
 shape_decided words.Event (kind ∷ others) = event_shape_decided kind others
 shape_decided words.Round others = count_decided 6 others
+shape_decided words.Only others = count_decided 1 others
+shape_decided words.Op [] = inr (λ shape. shape)
+shape_decided words.Op (kind ∷ others) = op_shape_decided kind others
 shape_decided words.End others = count_decided 0 others
 
 -- Some word of a scenario stands at the head of fields, with a kind that is known where a kind is there, or none does.
@@ -183,6 +198,8 @@ coherent_or_not fields (lines.Select selection) form is = inl (lines.Select sele
 coherent_or_not fields lines.Nak form is = inl (lines.Nak, record { spelling = is; is = record { form = form; coherent = tt } })
 coherent_or_not fields (lines.Event event tag) form is = inl (lines.Event event tag, record { spelling = is; is = record { form = form; coherent = tt } })
 coherent_or_not fields (lines.Round spec) form is = inl (lines.Round spec, record { spelling = is; is = record { form = form; coherent = tt } })
+coherent_or_not fields (lines.Only epc) form is = inl (lines.Only epc, record { spelling = is; is = record { form = form; coherent = tt } })
+coherent_or_not fields (lines.Op op) form is = inl (lines.Op op, record { spelling = is; is = record { form = form; coherent = tt } })
 coherent_or_not fields lines.End form is = inl (lines.End, record { spelling = is; is = record { form = form; coherent = tt } })
 
 behind_or_not : (fields : List (List ℕ)) (word : Word) (others : List (List ℕ)) → fields ≡ word_text word ∷ others → HasKnownKind word others → SaysOrIsFaulty fields
