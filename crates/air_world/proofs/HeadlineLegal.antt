@@ -1,12 +1,11 @@
 -- The limits of a scenario, as the laws of its run take them.
-use Rattle.std.proofs.Common.{◌≡◌, ℕ, ◌≤◌, List, [], ◌∷◌, length, arith}
+use Rattle.std.proofs.Common.{ℕ, List, [], ◌∷◌, length}
 use Rattle.std.proofs.lemmas.List.Elements.{recursion_from_All}
 use Rattle.std.specs.List.{AllByRecursion}
-use Rattle.access_ops.specs.declared.OpList.{OpList}
-use Rattle.air_world.specs.Headline.{IsSelect, IsLegalStep, AreLegalSteps, most_operations}
+use Rattle.air_world.specs.Headline.{IsSelect, IsLegalStep, AreLegalSteps}
 use Rattle.command_grammar.specs.declared.commands.Command.{Command}
 use Rattle.command_grammar.specs.declared.commands.Command.TheVariants as commands
-use Rattle.scenario.specs.Limits.{IsStep, IsScenario, no_operations}
+use Rattle.scenario.specs.Limits.{IsStep, IsScenario}
 use Rattle.scenario.specs.declared.values.Scenario.{Scenario}
 use Rattle.scenario.specs.declared.values.Step.{Step}
 use Rattle.scenario.specs.declared.values.Step.TheVariants as steps
@@ -15,14 +14,11 @@ legal-select : (tags : ℕ) (command : Command) → IsStep tags (steps.Select co
 legal-select tags (commands.Select target action bank pointer mask) is = tt
 legal-select tags command is = absurd is
 
-few-operations : (operations : OpList) → operations ≡ no_operations → length operations.ops ≤ most_operations
-few-operations operations none = rw none (omega arith)
-
 pub legal-step : (tags : ℕ) (step : Step) → IsStep tags step → IsLegalStep step
 legal-step tags (steps.Select command) is = legal-select tags command is
 legal-step tags steps.Nak is = tt
 legal-step tags (steps.Event event number) is = tt
-legal-step tags (steps.Round spec operations) is = record { legal = is.0.legal; few = few-operations operations is.1 }
+legal-step tags (steps.Round spec operations) is = record { legal = is.0.legal; few = is.1.few }
 
 legal-each : (tags : ℕ) (steps : List Step) → AllByRecursion (IsStep tags) steps → AreLegalSteps steps
 legal-each tags [] are = tt

@@ -12,6 +12,7 @@ use Rattle.q_round.specs.SpecValue.{SpecValue, IsLegalSpec}
 use Rattle.q_round.specs.declared.round.RoundEnd.{RoundEnd}
 use Rattle.reply_grammar.specs.declared.expected.Reply.TheVariants.{Epc}
 use Rattle.report_lines.specs.ReportLine.{ReportLine, ListLine, OpLine, RoundLine, TagLine}
+use Rattle.scenario.specs.Limits.{most_ops}
 use Rattle.scenario.specs.declared.values.Step.{Step}
 use Rattle.scenario.specs.declared.values.Step.TheVariants as steps
 use Rattle.tag_machine.specs.Answers.{Sent}
@@ -23,14 +24,10 @@ abbrev pub IsSelect : Command → Type 0
 IsSelect (commands.Select target action bank pointer mask) = Unit {0}
 IsSelect command = ⊥
 
--- the most operations that a round may have
-abbrev pub most_operations : ℕ
-most_operations = 32
-
 -- the numbers of a round are in their ranges, and it has no more operations than that
 pub record IsLegalRound (spec : SpecValue) (operations : OpList) : Type 0 where
   pub legal : IsLegalSpec spec
-  pub few : length operations.ops ≤ most_operations
+  pub few : length operations.ops ≤ most_ops
 
 -- what is used of the limits of a scenario: a Select step sends a Select, and the rounds are legal
 abbrev pub IsLegalStep : Step → Type 0
