@@ -21,10 +21,10 @@ turn-fits spec link outcome before (adjust Down) t are s known =
     rw t (record { session_is = refl; q_moves = omega arith; frame_is = refl })
 turn-fits spec link outcome before (adjust Same) t are s known = rw t (record { session_is = refl; q_moves = refl; frame_is = refl })
 turn-fits spec link outcome before rep t are s known = rw t (record {
-    session_is = refl;
-    q_is = refl;
-    frame_is = refl;
-    room = rw (← add-one (length (frame_of spec before))) (rep-sound (next_at spec outcome before) s known.1 known.2).slots;
+  session_is = refl;
+  q_is = refl;
+  frame_is = refl;
+  room = rw (← add-one (length (frame_of spec before))) (rep-sound (next_at spec outcome before) s known.1 known.2).slots;
 })
 turn-fits spec link outcome before quiet t are s known = rw t (quiet-frame spec link outcome before are (ap (λ turn. answer_of spec link turn) t))
 turn-fits spec link outcome before limit t are s known = rw t tt

@@ -46,4 +46,4 @@ pub record RoundFacts (spec : SpecValue) (link : LinkValue) : Type 0 where
   pub range : (outcomes : List Outcome) → AreOutcomes spec outcomes → q_of spec outcomes ≤ 15
   pub turn : (outcome : Outcome) (before : List Outcome) → AreOutcomes spec (outcome ∷ before)
       → IsNextTurn (next_command spec link (outcome ∷ before)) spec.session (q_of spec before) (outcome ∷ frame_of spec before)
-        (q_of spec (outcome ∷ before)) (frame_of spec (outcome ∷ before))
+      (q_of spec (outcome ∷ before)) (frame_of spec (outcome ∷ before))
