@@ -33,6 +33,7 @@ use Rattle.inventory.proofs.TagQuery.{query-matched, query-memory}
 use Rattle.inventory.proofs.Times.{times-append, times-one, times-first, bit, bit-if, lists-one}
 use Rattle.inventory.proofs.Turns.{HasFewOutcomes, round-holds}
 use Rattle.inventory.proofs.WholeRound.{query_command}
+use Rattle.pie_line.specs.Link.{LinkValue}
 use Rattle.q_round.specs.SpecValue.{SpecValue}
 use Rattle.q_round.specs.declared.round.RoundEnd.{RoundEnd}
 use Rattle.q_round.specs.declared.round.RoundEnd.TheVariants as ends
@@ -43,7 +44,7 @@ use Rattle.reply_grammar.specs.declared.expected.Reply.TheVariants as replies
 use Rattle.report_lines.specs.SeenCounts.{same_pair, distinct}
 use Rattle.scenario.specs.declared.values.Step.TheVariants as steps
 use Rattle.session_flags.specs.Flags.{matches}
-use Rattle.tag_machine.specs.TagValue.{TagValue, StateValue, is_present}
+use Rattle.tag_machine.specs.TagValue.{TagValue, StateValue, ReadyState, is_present}
 use Rattle.tag_memory.specs.Memory.{Banks, pc_of, epc_of}
 
 -- each record of a past is one of the round
@@ -273,6 +274,21 @@ all-spoken-to spec round history number (tag ∷ tags) each =
     (λ place later at. subst (λ n. is_spoken_to spec (tag_after_query round history n later) ≡ true) (omega arith) (each (suc place) later at)) in
     ap (λ n. n + tags_spoken_to spec round history (number + 1) tags) (counted ∙ one) ∙ omega (arith, rest)
 
+-- a tag just after the first Query of a run has the memory that it had at the start
+first-memory : (spec : SpecValue) (link : LinkValue) (number : ℕ) (tag after : TagValue) → after ≡ tag_stepped (query_command spec link) [] number tag
+    → after.body.memory ≡ tag.body.memory
+first-memory spec link number tag after is =
+    ap (λ (t : TagValue). t.body.memory) is ∙ query-memory link.dr link.code link.trext spec.sel spec.session spec.target spec.q tag
+
+-- ... and where it was ready with flags that the Query speaks to, it matched
+first-matched : (spec : SpecValue) (link : LinkValue) (number : ℕ) (tag after : TagValue) → after ≡ tag_stepped (query_command spec link) [] number tag
+    → tag.state ≡ ReadyState → matches spec.sel spec.session spec.target tag.body.flags ≡ true → is_matched after.state ≡ true
+first-matched spec link number tag after is ready matching =
+    ap (λ (t : TagValue). is_matched t.state) is
+    ∙ query-matched link.dr link.code link.trext spec.sel spec.session spec.target spec.q tag
+    ∙ ap (λ (state : StateValue). is_present state && matches spec.sel spec.session spec.target (flags_behind_query spec.session state tag.body.flags)) ready
+    ∙ matching
+
 end_of : Option Ending → RoundEnd
 end_of None = ends.Limit
 end_of (Some ending) = ending.end
@@ -300,16 +316,11 @@ every-tag keeps facts start spec operations slots past legal part own silent hon
     ap (λ (query : List Item). tag_behind number tag query) by.query_is
     ∙ tag-steps start 1 1 (query_command spec link) [] number tag unsaid in
     let memory : (number : ℕ) (tag : TagValue) → (tag_after_query 1 history number tag).body.memory ≡ tag.body.memory =
-    λ number tag.
-    ap (λ (t : TagValue). t.body.memory) (after number tag)
-    ∙ query-memory link.dr link.code link.trext spec.sel spec.session spec.target spec.q tag in
+    λ number tag. first-memory spec link number tag (tag_after_query 1 history number tag) (after number tag) in
     let spoken : (number : ℕ) (tag : TagValue) → HasNumber start number tag → is_spoken_to spec (tag_after_query 1 history number tag) ≡ true =
     λ number tag numbered.
     sym (by.spoken number tag numbered)
-    ∙ ap (λ (t : TagValue). is_matched t.state) (after number tag)
-    ∙ query-matched link.dr link.code link.trext spec.sel spec.session spec.target spec.q tag
-    ∙ ap (λ (state : StateValue). is_present state && matches spec.sel spec.session spec.target (flags_behind_query spec.session state tag.body.flags)) (part.ready number tag numbered)
-    ∙ part.matching number tag numbered in
+    ∙ first-matched spec link number tag (tag_after_query 1 history number tag) (after number tag) (part.ready number tag numbered) (part.matching number tag numbered) in
     let round : AreOfRound 1 history = one-round start operations spec (keeps spec legal.legal) in
     let numbers = tags_listed_where (λ sent. true) history in
     let in_round : numbers ≡ tags_listed_in 1 history = all-in-round 1 history round in
