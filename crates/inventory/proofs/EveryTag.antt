@@ -23,7 +23,7 @@ use Rattle.inventory.specs.Complete.{HasNumber}
 use Rattle.inventory.specs.Counted.{is_spoken_to, tags_spoken_to}
 use Rattle.inventory.specs.EveryTag.{AllTakePart, HaveOwnEpcs, pairs_listed, ListsEveryTag}
 use Rattle.inventory.specs.Honest.{IsHonest, IsApart}
-use Rattle.inventory.specs.Listed.{sender_where, sender_listed_by, is_of_round, tags_listed_where, tags_listed_in, times}
+use Rattle.inventory.specs.Listed.{listed_as, sender_where, sender_listed_by, is_of_round, tags_listed_where, tags_listed_in, times}
 use Rattle.inventory.specs.Moments.{Ending, ending_of, tag_after_query}
 use Rattle.inventory.specs.TagInRound.{is_matched, flags_behind_query}
 use Rattle.inventory.proofs.CompleteRound.{IsTold, IsToldBy, RoundsHaveFacts, history-told, told-counted}
@@ -146,6 +146,13 @@ pair_of listed = (listed.pc, listed.epc)
 -- a record lists its sender with the PC and the EPC that it has at the start
 abbrev ListsKey : Start → Record → List Item → Type 0
 ListsKey start sent earlier = (number : ℕ) → sender_listed_by sent ≡ number ∷ [] → map pair_of (listed_by sent) ≡ key start number ∷ []
+
+lists-key : (start : Start) (sent : Record) (number : ℕ) (tag : TagValue) (banks : Banks) → HasNumber start number tag → listed_by sent ≡ listed_as sent banks ∷ []
+    → banks ≡ tag.body.memory → map pair_of (listed_by sent) ≡ key start number ∷ []
+lists-key start sent number tag banks numbered is same =
+    ap (map pair_of) is
+    ∙ ap (λ (b : Banks). (pc_of b, epc_of b) ∷ []) same
+    ∙ ap (λ (found : Option TagValue). key_of found ∷ []) (sym numbered)
 
 keys-of : (start : Start) (listed : List Listed) (senders : List ℕ) → Lists listed senders
     → ((number : ℕ) → senders ≡ number ∷ [] → map pair_of listed ≡ key start number ∷ []) → map pair_of listed ≡ map (key start) senders
@@ -337,9 +344,8 @@ every-tag keeps facts start spec operations slots past legal part own silent hon
     subst (λ (items : List Item). 1 ≤ times number (tags_listed_in 1 items)) (sym recorded.is)
     (listed-somewhere (is_of_round 1) recorded.later sent earlier number (eq-eqb sent.round 1 same) sender) in
     let one = there number some in
-    ap (map pair_of) (counted.own_epc sent earlier number one.tag recorded same one.numbered sender)
-    ∙ ap (λ (banks : Banks). (pc_of banks, epc_of banks) ∷ []) (memory number one.tag)
-    ∙ ap (λ (found : Option TagValue). key_of found ∷ []) (sym one.numbered)) in
+    lists-key start sent number one.tag (tag_after_query 1 history number one.tag).body.memory one.numbered
+    (counted.own_epc sent earlier number one.tag recorded same one.numbered sender) (memory number one.tag)) in
     let all_there : AllByRecursion (IsThere start) numbers =
     all-of (IsThere start) numbers (λ number some. there number (subst (λ (tags : List ℕ). 1 ≤ times number tags) in_round some)) in
     let once : StandOnce numbers = stand-once numbers (λ number. subst (λ (tags : List ℕ). times number tags ≤ 1) (sym in_round) (counted.each_once number)) in
