@@ -26,14 +26,7 @@ ReportsSayHeadlines = (mode : Mode) (scenario : Scenario) → IsScenario scenari
 
 text_says : ReportsSayHeadlines → (form : Form) (bytes text : List ℕ) → WritesOf form bytes text → HeadlineOf form bytes text
 text_says say Decode bytes text writes = tt
-text_says say (Run mode) bytes text writes = record {
-  scenario = writes.scenario;
-  legal = writes.legal;
-  spelled = writes.spelled;
-  lines = report_of mode (start_of writes.scenario) writes.scenario.steps;
-  text_is = writes.report;
-  headline = say mode writes.scenario writes.legal;
-}
+text_says say (Run mode) bytes text writes = record { reports = writes; headline = say mode writes.scenario writes.legal }
 
 -- what holds of the text that is written holds of what is written
 named_so : (T U : Form → List ℕ → List ℕ → Type 0) → ((form : Form) (bytes text : List ℕ) → T form bytes text → U form bytes text)
@@ -68,9 +61,7 @@ RoundsAreCounted = (scenario : Scenario) (before after : List Step) (spec : Spec
 text_counts : RoundsAreComplete → RoundsAreCounted → (form : Form) (bytes text : List ℕ) → WritesOf form bytes text → InventoryOf form bytes text
 text_counts complete counted Decode bytes text writes = tt
 text_counts complete counted (Run mode) bytes text writes = record {
-  scenario = writes.scenario;
-  legal = writes.legal;
-  spelled = writes.spelled;
+  reports = writes;
   complete = λ before after spec operations is honest apart. complete writes.scenario before after spec operations writes.legal is honest apart;
   counted = λ before after spec operations is honest apart. counted writes.scenario before after spec operations writes.legal is honest apart;
 }

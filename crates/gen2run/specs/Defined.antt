@@ -28,9 +28,9 @@ DefinesOf form bytes text = WritesOf form bytes text ⊎ RefusesOf form bytes te
 -- the headline of what the form has to write, where it has one
 abbrev pub HeadlineOf : Form → List ℕ → List ℕ → Type 0
 HeadlineOf Decode bytes text = Unit {0}
-HeadlineOf (Run mode) bytes text = SaysHeadline bytes text
+HeadlineOf (Run mode) bytes text = SaysHeadline mode bytes text
 
 -- what the rounds of what the form has to write prove of the tags, where it has rounds
 abbrev pub InventoryOf : Form → List ℕ → List ℕ → Type 0
 InventoryOf Decode bytes text = Unit {0}
-InventoryOf (Run mode) bytes text = SaysInventory bytes text
+InventoryOf (Run mode) bytes text = SaysInventory mode bytes text

@@ -229,7 +229,9 @@ module _ (start : Start) (spec : SpecValue) (round : ℕ) (before history : List
         let bits = first-bit (by.listed number) (by.listed_now number) (sym (by.count number) ∙ one) (sym (by.count_now number) ∙ none) in
         let stands = (at-end number tag numbered).earlier bits.0 in
         record { state = stands.0; flags = stands.1 };
-    not_matched = λ number tag numbered outside. (at-end number tag numbered).outside outside;
+    not_matched = λ number tag numbered outside.
+        let stands = (at-end number tag numbered).outside outside in
+        record { state = stands.0; flags = stands.1 };
   }
 
   told-complete : CompleteInventory start history round spec.session
@@ -252,6 +254,7 @@ module _ (start : Start) (spec : SpecValue) (round : ℕ) (before history : List
     record { end = end; slots = length (outcome ∷ earlier); past = now },
     by.ending,
     record {
+      matched = by.spoken;
       each_once = few-times;
       spoken_to = λ number tag numbered some.
           sym (by.spoken number tag numbered)

@@ -80,23 +80,29 @@ record IsWhere (matched listed listed_now : Bool) (state : StateValue) : Type 0 
   unlisted : matched ≡ true → listed ≡ false → listed_now ≡ false → is_matched state ≡ true
   last : listed_now ≡ true → is_acknowledged state ≡ true
   earlier : listed ≡ true → state ≡ ReadyState
+  outside : matched ≡ false → is_present state ≡ true → state ≡ ReadyState
 
 is-where : (session q : ℕ) (outcome : SlotOutcome) (frame : List SlotOutcome) (matched listed listed_now : Bool) (state : StateValue)
     → IsBeforeSlot session q outcome frame matched listed listed_now state → IsWhere matched listed listed_now state
 is-where session q outcome frame matched listed listed_now ReadyState is =
-    let e = is.earlier in let n = is.not_now in record { unlisted = λ part new none. absurd (cc); last = λ now. absurd (cc); earlier = λ before. refl }
+    let e = is.earlier in let n = is.not_now in record { unlisted = λ part new none. absurd (cc); last = λ now. absurd (cc); earlier = λ before. refl; outside = λ none present. refl }
 is-where session q outcome frame matched listed listed_now (ArbitrateState own own_q slot) is =
-    let n = is.not_now in let u = is.unlisted.not_listed in record { unlisted = λ part new none. refl; last = λ now. absurd (cc); earlier = λ before. absurd (cc) }
+    let n = is.not_now in let u = is.unlisted.not_listed in let p = is.unlisted.takes_part in
+    record { unlisted = λ part new none. refl; last = λ now. absurd (cc); earlier = λ before. absurd (cc); outside = λ none present. absurd (cc) }
 is-where session q outcome frame matched listed listed_now (ReplyState own own_q rn) is =
-    let n = is.not_now in let u = is.unlisted.not_listed in record { unlisted = λ part new none. refl; last = λ now. absurd (cc); earlier = λ before. absurd (cc) }
+    let n = is.not_now in let u = is.unlisted.not_listed in let p = is.unlisted.takes_part in
+    record { unlisted = λ part new none. refl; last = λ now. absurd (cc); earlier = λ before. absurd (cc); outside = λ none present. absurd (cc) }
 is-where session q outcome frame matched listed listed_now (AcknowledgedState own own_q rn) is =
-    let n = is.now in let u = is.unlisted.not_listed in record { unlisted = λ part new none. absurd (cc); last = λ now. refl; earlier = λ before. absurd (cc) }
+    let n = is.now in let u = is.unlisted.not_listed in let p = is.unlisted.takes_part in
+    record { unlisted = λ part new none. absurd (cc); last = λ now. refl; earlier = λ before. absurd (cc); outside = λ none present. absurd (cc) }
 is-where session q outcome frame matched listed listed_now (OpenState held) is = absurd is
 is-where session q outcome frame matched listed listed_now (SecuredState held) is = absurd is
 is-where session q outcome frame matched listed listed_now KilledState is =
-    let p = is.0.no_part in let u = is.0.not_listed in let n = is.1 in record { unlisted = λ part new none. absurd (cc); last = λ now. absurd (cc); earlier = λ before. absurd (cc) }
+    let p = is.0.no_part in let u = is.0.not_listed in let n = is.1 in
+    record { unlisted = λ part new none. absurd (cc); last = λ now. absurd (cc); earlier = λ before. absurd (cc); outside = λ none present. absurd (cc) }
 is-where session q outcome frame matched listed listed_now UnpoweredState is =
-    let p = is.0.no_part in let u = is.0.not_listed in let n = is.1 in record { unlisted = λ part new none. absurd (cc); last = λ now. absurd (cc); earlier = λ before. absurd (cc) }
+    let p = is.0.no_part in let u = is.0.not_listed in let n = is.1 in
+    record { unlisted = λ part new none. absurd (cc); last = λ now. absurd (cc); earlier = λ before. absurd (cc); outside = λ none present. absurd (cc) }
 
 not_both : (b : Bool) → (b ≡ true → ⊥) → b ≡ false
 not_both true never = absurd (never refl)
@@ -116,5 +122,5 @@ end-stands session q outcome frame first listed listed_now tag stands =
       unlisted = λ part new none. (known.unlisted part new none, flags false new);
       last = λ now. (known.last now, flags false (new_now now));
       earlier = λ before. (known.earlier before, flags true before);
-      outside = λ none. flags false (new_outside none);
+      outside = λ none. (known.outside none, flags false (new_outside none));
     }

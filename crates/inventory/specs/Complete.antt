@@ -53,7 +53,7 @@ pub record StandsWith (IsState : StateValue → Type 0) (inverted : Bool) (round
 
 -- Where a round ended by its limit, each matched tag that isn't listed is in arbitrate or reply with its flags unchanged. A tag listed
 -- in the last slot is in acknowledged with its flags unchanged. Every other listed tag is in ready with the flag of the session
--- inverted and its other flags unchanged. A tag that wasn't matched has its flags unchanged.
+-- inverted and its other flags unchanged. A tag that wasn't matched is ready, if it is present, with its flags unchanged.
 pub record EndsByLimit (start : Start) (history : List Item) (round session slots : ℕ) (past : List Item) : Type 0 where
   pub not_listed : (number : ℕ) (tag : TagValue) → HasNumber start number tag → is_matched_in round history number tag ≡ true
       → times number (tags_listed_in round history) ≡ 0
@@ -65,7 +65,7 @@ pub record EndsByLimit (start : Start) (history : List Item) (round session slot
       → times number (tags_listed_in round history) ≡ 1 → times number (tags_listed_in_slot round slots history) ≡ 0
       → StandsWith (λ state. state ≡ ReadyState) true round session history past number tag
   pub not_matched : (number : ℕ) (tag : TagValue) → HasNumber start number tag → is_matched_in round history number tag ≡ false
-      → flags_behind number tag past ≡ flags_after_query round history number tag
+      → StandsWith (λ state. is_present state ≡ true → state ≡ ReadyState) false round session history past number tag
 
 -- Complete inventory: what holds of a round of this session that is honest.
 pub record CompleteInventory (start : Start) (history : List Item) (round session : ℕ) : Type 0 where

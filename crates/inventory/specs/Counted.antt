@@ -5,7 +5,7 @@ use Rattle.air_world.specs.Headline.{IsRecordOf}
 use Rattle.air_world.specs.Listing.{listed_by}
 use Rattle.inventory.specs.Complete.{HasNumber, IsMatchedTag}
 use Rattle.inventory.specs.Listed.{sender_listed_by, tags_listed_in, tags_listed_in_slot, times, listed_as}
-use Rattle.inventory.specs.Moments.{Ending, ending_of, tag_after_query, flags_behind, flags_after_query}
+use Rattle.inventory.specs.Moments.{Ending, ending_of, is_matched_in, tag_after_query, flags_behind, flags_after_query}
 use Rattle.inventory.specs.TagInRound.{flags_in_round}
 use Rattle.q_round.specs.SpecValue.{SpecValue}
 use Rattle.q_round.specs.declared.round.RoundEnd.TheVariants as ends
@@ -29,7 +29,10 @@ is_inverted round slots history number =
 
 -- A round that ended. Tags are meant as they stand just after its Query, and their numbers are those of the start.
 pub record IsCountedRound (start : Start) (history : List Item) (round : ℕ) (spec : SpecValue) (ending : Ending) : Type 0 where
-  -- each tag that is listed is one of those that the Query speaks to, and is listed once
+  -- the Query matched exactly the tags that it speaks to
+  pub matched : (number : ℕ) (tag : TagValue) → HasNumber start number tag
+      → is_matched_in round history number tag ≡ is_spoken_to spec (tag_after_query round history number tag)
+  -- each tag that is listed is one of those, and is listed once
   pub each_once : (number : ℕ) → times number (tags_listed_in round history) ≤ 1
   pub spoken_to : (number : ℕ) (tag : TagValue) → HasNumber start number tag → 1 ≤ times number (tags_listed_in round history)
       → is_spoken_to spec (tag_after_query round history number tag) ≡ true

@@ -27,12 +27,12 @@ pub record StandsAtQuiet (session : ℕ) (first : TagValue) (listed listed_now :
 -- Behind the last slot, whichever way the round ends. A tag that matched and wasn't listed is in arbitrate or reply, with its
 -- flags as they were; one that was listed in the last slot is in acknowledged, with its flags as they were; one that was listed
 -- in an earlier slot is ready, with its flag of the round's session inverted and its other flags as they were. A tag that didn't
--- match has its flags as they were.
+-- match is ready, if it is present, with its flags as they were.
 pub record StandsAtEnd (session : ℕ) (first : TagValue) (listed listed_now : Bool) (tag : TagValue) : Type 0 where
   pub unlisted : is_matched first.state ≡ true → listed ≡ false → listed_now ≡ false → (is_matched tag.state ≡ true) × (tag.body.flags ≡ first.body.flags)
   pub last : listed_now ≡ true → (is_acknowledged tag.state ≡ true) × (tag.body.flags ≡ first.body.flags)
   pub earlier : listed ≡ true → (tag.state ≡ ReadyState) × (tag.body.flags ≡ flags_after_inversion first.body.flags session)
-  pub outside : is_matched first.state ≡ false → tag.body.flags ≡ first.body.flags
+  pub outside : is_matched first.state ≡ false → (is_present tag.state ≡ true → tag.state ≡ ReadyState) × (tag.body.flags ≡ first.body.flags)
 
 -- A tag is listed in at most one slot of a round, and only where it matched.
 pub record IsListedOnce (first : TagValue) (listed listed_now : Bool) : Type 0 where
