@@ -1,5 +1,5 @@
 //! A scenario, line by line.
-ghost use Rattle.std.specs.Prelude.{◌≡◌, ◌≢◌, ◌<◌, ◌≤◌, ◌+◌, ◌^◌, ◌↔◌, ◌++◌, [], ◌∷◌, length, None, IsTrue, IfOk, IfErr, OnOk, OnErr};
+ghost use Rattle.std.specs.Prelude.{◌≡◌, ◌<◌, ◌≤◌, ◌+◌, ◌^◌, ◌↔◌, ◌++◌, [], ◌∷◌, length, IsTrue, IfOk, IfErr, OnOk, OnErr};
 ghost use Rattle.std.specs.List.{flat_map};
 ghost use Rattle.text_fields.specs.Lines.{fields_of};
 ghost use Rattle.scenario.specs.ScenarioText.{step_lines};
@@ -313,7 +313,7 @@ impl Draft {
     }
 
     /// Puts the last step behind the others, where it is a round: no more is said of its operations.
-    fn close_round(&mut self, alloc: Global) -> Result<(), OutOfMemory>
+    fn end_round(&mut self, alloc: Global) -> Result<(), OutOfMemory>
         ensures { OnOk result (self.new ≡ record self.old { steps = steps_of self.old; round = None; operations = no_operations }) }
     {
         let lines = self.round_lines();
@@ -332,7 +332,7 @@ impl Draft {
         requires line { length (step_lines step) ≡ 1 }
         ensures { OnOk result (self.new ≡ with_step self.old step) }
     {
-        self.close_round(alloc)?;
+        self.end_round(alloc)?;
         self.steps.push(step)?;
         self.line_count += 1;
         Ok(())
@@ -343,14 +343,13 @@ impl Draft {
         requires { length (steps_of self.old) < most_steps }
         ensures { OnOk result (self.new ≡ with_round self.old spec) }
     {
-        self.close_round(alloc)?;
+        self.end_round(alloc)?;
         self.round = Some(spec);
         Ok(())
     }
 
     /// Names the one EPC that the operations of the last round are for.
     fn add_only(&mut self, epc: EpcWords)
-        requires { IsBareRound self.old }
         ensures { self.new ≡ with_only self.old epc }
     {
         self.only = Some(epc);
@@ -358,8 +357,7 @@ impl Draft {
 
     /// Adds an operation to the last round.
     fn add_op(&mut self, op: Op) -> Result<(), OutOfMemory>
-        requires round { self.old.round ≢ None }
-        requires room { length self.old.operations.ops < most_ops }
+        requires { length self.old.operations.ops < most_ops }
         ensures { OnOk result (self.new ≡ with_op self.old op) }
     {
         self.ops.push(op)?;
@@ -378,8 +376,7 @@ impl Draft {
 
     /// Adds what a line says that may follow. The version, the link and the end add nothing.
     fn add(&mut self, alloc: Global, line: Line) -> Result<(), OutOfMemory>
-        requires stands { MayStand (within self.old) (word_of_line line) }
-        requires room { HasRoom (within self.old) (word_of_line line) }
+        requires { HasRoom (within self.old) (word_of_line line) }
         ensures { OnOk result (self.new ≡ grown self.old line.entry) }
     {
         match line {
@@ -389,8 +386,7 @@ impl Draft {
                 happening,
             } => self.add_air(alloc, exchange, happening),
             Line::Select(selection) => {
-                let step = Step::Select(selection.into_command());
-                self.add_step(alloc, step)
+                self.add_step(alloc, Step::Select(selection.into_command()))
             }
             Line::Nak => self.add_step(alloc, Step::Nak),
             Line::Event { event, tag } => self.add_step(alloc, Step::Event(event, tag)),

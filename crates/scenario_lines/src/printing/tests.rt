@@ -2,14 +2,12 @@
 
 use super::*;
 use crate::{Happening, TagSpec};
-use access_ops::Op;
 use air_events::{Choice, Event};
-use bit_strings::{Code, Count1, List, Payload, Pointer, QValue, Session};
-use command_grammar::{Bank, BlockWords, FlagName, Sel, Side};
+use bit_strings::{Code, List, QValue, Session};
+use command_grammar::{FlagName, Sel, Side};
 use lock_rules::Locks;
 use pie_line::Link;
 use q_round::RoundSpec;
-use reply_grammar::EpcWords;
 use session_flags::DrawWords;
 use std::test::Fail;
 use tag_memory::BankImage;
@@ -126,57 +124,6 @@ fn air_and_event_lines(rt: HostRuntime) -> Result<(), Fail> {
         text.as_str(),
         "event expire sl 3\nevent expire s2 0\nevent expire s3 10\nevent off 0\n"
     );
-    Ok(())
-}
-
-#[test]
-fn only_and_op_lines(rt: HostRuntime) -> Result<(), Fail> {
-    let mut text = String::new(rt.alloc());
-    let mut epc = EpcWords::new();
-    push_only(&mut text, &epc)?;
-    epc.push(0x0A1B).map_err(|_| "room")?;
-    epc.push(0x2C3D).map_err(|_| "room")?;
-    push_only(&mut text, &epc)?;
-    let pointer = Pointer::new(268_435_455).ok_or("a pointer")?;
-    let mut words = BlockWords::first(0x0001);
-    words.push(0xFFFF).map_err(|_| "room")?;
-    let ops = [
-        Op::Read {
-            bank: Bank::Reserved,
-            pointer,
-            count: 0,
-        },
-        Op::Write {
-            bank: Bank::Epc,
-            pointer,
-            word: 0xA5C3,
-        },
-        Op::BlockWrite {
-            bank: Bank::Tid,
-            pointer,
-            words,
-        },
-        Op::BlockErase {
-            bank: Bank::User,
-            pointer,
-            count: Count1::new(255).ok_or("a count")?,
-        },
-        Op::Lock {
-            payload: Payload::new(0x0C030).ok_or("a payload")?,
-        },
-        Op::Access {
-            password: 0x0123_ABCD,
-        },
-        Op::Kill {
-            password: 0xFFFF_0000,
-        },
-    ];
-    for op in &ops {
-        push_op(&mut text, op)?;
-    }
-    let lines =
-        "only -\nonly 0A1B2C3D\nop read res 268435455 0\nop write epc 268435455 A5C3\nop blockwrite tid 268435455 0001FFFF\nop blockerase user 268435455 255\nop lock 0C030\nop access 0123ABCD\nop kill FFFF0000\n";
-    assert_eq!(rt; text.as_str(), lines);
     Ok(())
 }
 
