@@ -1,0 +1,2 @@
+pub mod SixWords
+pub mod OneName
