@@ -7,7 +7,7 @@ use Rattle.air_world.specs.declared.mode.Mode.{Mode}
 use Rattle.gen2run.specs.Defined.{WritesOf, HeadlineOf}
 use Rattle.gen2run.specs.Outcome.{WritesWhole}
 use Rattle.gen2run.specs.declared.forms.Form.{Form}
-use Rattle.gen2run.specs.declared.forms.Form.TheVariants.{Decode, Run}
+use Rattle.gen2run.specs.declared.forms.Form.TheVariants.{Decode, Run, Names}
 use Rattle.scenario.specs.Limits.{IsScenario}
 use Rattle.scenario.specs.declared.values.Scenario.{Scenario}
 
@@ -18,6 +18,7 @@ ReportsSayHeadlines = (mode : Mode) (scenario : Scenario) → IsScenario scenari
 
 text_says : ReportsSayHeadlines → (form : Form) (bytes text : List ℕ) → WritesOf form bytes text → HeadlineOf form bytes text
 text_says say Decode bytes text writes = tt
+text_says say Names bytes text writes = tt
 text_says say (Run mode) bytes text writes = record {
   scenario = writes.scenario;
   legal = writes.legal;

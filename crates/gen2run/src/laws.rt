@@ -6,6 +6,7 @@ ghost use Rattle.gen2run.specs.Defined.{IsGrammaticalOf, WritesOf, RefusesOf, De
 
 use crate::decode::laws::decode_lines_have_one_text;
 use scenario::{scenario_texts_are_not_faulty, scenarios_are_told_apart, texts_have_one_fault};
+use sgtin_text::lines_have_names;
 
 /// A list of words is the spelling of one form at most.
 pub fn forms_are_told_apart()
@@ -28,5 +29,6 @@ pub fn inputs_have_one_text()
     decode_lines_have_one_text();
     scenarios_are_told_apart();
     texts_have_one_fault();
+    lines_have_names();
     grammatical_inputs_are_not_refused();
 }

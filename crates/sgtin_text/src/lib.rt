@@ -8,6 +8,6 @@ mod printing;
 #[cfg(test)]
 mod tests;
 
-pub use laws::lines_have_one_name;
+pub use laws::lines_have_names;
 pub use naming::named;
 pub use printing::{push_epc_fault, push_name, push_sgtin_words, push_uri_fault};
