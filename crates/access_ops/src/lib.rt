@@ -2,9 +2,19 @@
 //! EPCglobal Class-1 Generation-2 standard, version 1.2.0).
 #![tactic(auto)]
 
-use bit_strings::{Count1, List, Payload, Pointer};
-use command_grammar::{Bank, BlockWords};
-use reply_grammar::EpcWords;
+mod answers;
+mod copies;
+mod laws;
+mod op_next;
+mod op_run;
+mod stage;
+
+pub use bit_strings::{Count1, List, Payload, Pointer};
+pub use command_grammar::{Bank, BlockWords, Command};
+pub use laws::{operation_commands, operation_laws};
+pub use op_next::{Answer, OpNext, OpResult};
+pub use op_run::OpRun;
+pub use reply_grammar::{EpcWords, Expect, ReadWords, Received, Reply};
 
 /// One operation on a singulated tag.
 #[derive(Drop)]
@@ -71,3 +81,6 @@ pub struct OpList {
     /// The operations, in order.
     pub ops: List<Op>,
 }
+
+#[cfg(test)]
+mod tests;

@@ -2,6 +2,7 @@
 use Rattle.std.proofs.Common.{◌≡◌, ℕ, ◌+◌, Bool, List, [], ◌∷◌, length, refl, ap, ◌∙◌, if◌then◌else◌}
 use Rattle.air_events.specs.declared.Entry.{Entry}
 use Rattle.air_events.specs.declared.Event.{Event}
+use Rattle.air_events.specs.declared.Several.{Several}
 use Rattle.command_grammar.specs.declared.commands.Command.{Command}
 use Rattle.tag_machine.specs.Answers.{Outcome}
 use Rattle.tag_machine.specs.TagValue.{TagValue}
@@ -50,22 +51,22 @@ outcomes_are command heard entry events tags befallen same events_are befell =
 pub exchange_air : (old : AirValue) (command heard : Command) (entry : Entry) (events : List (Event × ℕ)) (befallen tags : List TagValue) (frame : List ℕ) (stream : List Bool)
     (kept : KeptReplies) (exchanges : ℕ) → heard ≡ command → events ≡ entry.events → befallen ≡ tags_after_events 0 events old.tags
     → tags ≡ tags_after (hearing_from 0 heard entry befallen) → frame ≡ wave_for old.link command → RepliesStandFor (replies_from 0 (hearing_from 0 heard entry befallen)) kept
-    → ((replies : List Replied) → RepliesStandFor replies kept → stream ≡ heard_levels old.link (given_of replies entry.choice)) → exchanges ≡ next_exchange old.exchanges
-    → (let new : AirValue = record { link = old.link; tags = tags; frame = frame; stream = stream; replies = kept.count; exchanges = exchanges } in new) ≡ air_after old command entry
+    → ((replies : List Replied) → RepliesStandFor replies kept → stream ≡ heard_levels old.link (given_of replies entry.choice old.several)) → exchanges ≡ next_exchange old.exchanges
+    → (let new : AirValue = record { link = old.link; several = old.several; tags = tags; frame = frame; stream = stream; replies = kept.count; exchanges = exchanges } in new) ≡ air_after old command entry
 exchange_air old command heard entry events befallen tags frame stream kept exchanges same events_are befell heard_all wave stands gives counts =
     let outcomes = outcomes_are command heard entry events old.tags befallen same events_are befell in
     let tags_are : tags ≡ tags_after (outcomes_in command entry old.tags) = heard_all ∙ ap (λ (l : List Outcome). tags_after l) outcomes in
-    let stream_is : stream ≡ heard_levels old.link (given_in command entry old.tags) =
-    gives (replies_from 0 (hearing_from 0 heard entry befallen)) stands ∙ ap (λ (l : List Outcome). heard_levels old.link (given_of (replies_from 0 l) entry.choice)) outcomes in
+    let stream_is : stream ≡ heard_levels old.link (given_in old.several command entry old.tags) =
+    gives (replies_from 0 (hearing_from 0 heard entry befallen)) stands ∙ ap (λ (l : List Outcome). heard_levels old.link (given_of (replies_from 0 l) entry.choice old.several)) outcomes in
     let count_is : kept.count ≡ length (replies_in command entry old.tags) = stands.count_is ∙ ap (λ (l : List Outcome). length (replies_from 0 l)) outcomes in
     rw (tags_are, wave, stream_is, count_is, counts) refl
 
-pub exchange_got : (old : List TagValue) (command heard : Command) (entry : Entry) (events : List (Event × ℕ)) (befallen : List TagValue) (kept : KeptReplies) (got : Got)
+pub exchange_got : (several : Several) (old : List TagValue) (command heard : Command) (entry : Entry) (events : List (Event × ℕ)) (befallen : List TagValue) (kept : KeptReplies) (got : Got)
     → heard ≡ command → events ≡ entry.events → befallen ≡ tags_after_events 0 events old → RepliesStandFor (replies_from 0 (hearing_from 0 heard entry befallen)) kept
-    → ((replies : List Replied) → RepliesStandFor replies kept → got ≡ got_of (given_of replies entry.choice)) → got ≡ got_of (given_in command entry old)
-exchange_got old command heard entry events befallen kept got same events_are befell stands gives =
+    → ((replies : List Replied) → RepliesStandFor replies kept → got ≡ got_of (given_of replies entry.choice several)) → got ≡ got_of (given_in several command entry old)
+exchange_got several old command heard entry events befallen kept got same events_are befell stands gives =
     let outcomes = outcomes_are command heard entry events old befallen same events_are befell in
-    gives (replies_from 0 (hearing_from 0 heard entry befallen)) stands ∙ ap (λ (l : List Outcome). got_of (given_of (replies_from 0 l) entry.choice)) outcomes
+    gives (replies_from 0 (hearing_from 0 heard entry befallen)) stands ∙ ap (λ (l : List Outcome). got_of (given_of (replies_from 0 l) entry.choice several)) outcomes
 
 pub exchange_steps : (old : List TagValue) (entry : Entry) (events : List (Event × ℕ)) (befallen : List TagValue) (start steps : ℕ) → events ≡ entry.events
     → befallen ≡ tags_after_events 0 events old → steps ≡ start + hearers_from 0 entry befallen → steps ≡ start + hearers_from 0 entry old

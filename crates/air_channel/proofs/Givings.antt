@@ -2,6 +2,8 @@
 use Rattle.std.proofs.Common.{◌≡◌, ◌≢◌, ℕ, zero, suc, ◌%◌, ◌<◌, ◌≤◌, Bool, List, [], ◌∷◌, length, Some, refl, sym, ap, ◌∙◌, arith}
 use Rattle.std.specs.Prelude.{slice_get}
 use Rattle.std.proofs.lemmas.Option.{slice_get_past}
+use Rattle.air_events.specs.declared.Several.{Several}
+use Rattle.air_events.specs.declared.Several.TheVariants as severals
 use Rattle.line_code.specs.Laws.{with_level_flipped}
 use Rattle.pie_line.specs.Link.{LinkValue}
 use Rattle.reply_grammar.specs.declared.expected.Reply.{Reply}
@@ -10,7 +12,7 @@ use Rattle.reply_grammar.specs.Table.{FitsBank}
 use Rattle.reply_grammar.specs.SuitingLaws.{spelling-within}
 use Rattle.tag_machine.specs.Answers.{Sent, HasFewWords}
 use Rattle.air_channel.specs.Exchange.{Replied}
-use Rattle.air_channel.specs.Channel.{Given, whole_or_silence, first_broken, default_given, silence, heard_levels, levels_of}
+use Rattle.air_channel.specs.Channel.{Given, whole_or_silence, first_broken, first_of_several, default_given, silence, heard_levels, levels_of}
 use Rattle.air_channel.specs.Kept.{KeptReplies, IsKept, RepliesStandFor, kept_levels}
 use Rattle.air_channel.specs.Giving.{Means}
 use Rattle.air_channel.specs.declared.replies.Giving.TheVariants.{Whole, Broken}
@@ -37,19 +39,26 @@ pub broken_none : (replies : List Replied) (count place : ℕ) → count ≡ 0 �
 broken_none [] count place none is = refl
 broken_none (replied ∷ replies) count place none is = absurd (omega arith)
 
-pub default_none : (replies : List Replied) (count : ℕ) → count ≡ 0 → count ≡ length replies → default_given replies ≡ silence
-default_none [] count none is = refl
-default_none (replied ∷ replies) count none is = absurd (omega arith)
+pub default_none : (several : Several) (replies : List Replied) (count : ℕ) → count ≡ 0 → count ≡ length replies → default_given several replies ≡ silence
+default_none several [] count none is = refl
+default_none several (replied ∷ replies) count none is = absurd (omega arith)
 
-pub default_one : (replies : List Replied) (count : ℕ) → count ≡ 1 → count ≡ length replies → Means Whole replies 0 (default_given replies)
-default_one [] count one is = absurd (omega arith)
-default_one (replied ∷ []) count one is = (replied, refl, refl)
-default_one (replied ∷ other ∷ others) count one is = absurd (omega arith)
+pub default_one : (several : Several) (replies : List Replied) (count : ℕ) → count ≡ 1 → count ≡ length replies → Means Whole replies 0 (default_given several replies)
+default_one several [] count one is = absurd (omega arith)
+default_one several (replied ∷ []) count one is = (replied, refl, refl)
+default_one several (replied ∷ other ∷ others) count one is = absurd (omega arith)
 
-pub default_several : (replies : List Replied) (count : ℕ) → count ≢ 0 → count ≢ 1 → count ≡ length replies → Means (Broken 0) replies 0 (default_given replies)
-default_several [] count some several is = absurd (some is)
-default_several (replied ∷ []) count some several is = absurd (several is)
-default_several (replied ∷ other ∷ others) count some several is = (replied, refl, refl)
+pub default_broken : (several : Several) (replies : List Replied) (count : ℕ) → several ≡ severals.Break → count ≢ 0 → count ≢ 1 → count ≡ length replies
+    → Means (Broken 0) replies 0 (default_given several replies)
+default_broken several [] count breaks some others is = absurd (some is)
+default_broken several (replied ∷ []) count breaks some others is = absurd (others is)
+default_broken several (replied ∷ other ∷ rest) count breaks some others is = (replied, refl, ap (λ (s : Several). first_of_several s replied) breaks)
+
+pub default_captured : (several : Several) (replies : List Replied) (count : ℕ) → several ≡ severals.Capture → count ≢ 0 → count ≢ 1 → count ≡ length replies
+    → Means Whole replies 0 (default_given several replies)
+default_captured several [] count captures some others is = absurd (some is)
+default_captured several (replied ∷ []) count captures some others is = absurd (others is)
+default_captured several (replied ∷ other ∷ rest) count captures some others is = (replied, refl, ap (λ (s : Several). first_of_several s replied) captures)
 
 few_fit : (reply : Reply) → HasFewWords reply → FitsBank reply
 few_fit (Rn16 rn) few = tt

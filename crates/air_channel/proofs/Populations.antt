@@ -170,6 +170,11 @@ heard_steps command entry start counted wanted number seats kept steps heard pas
     omega (arith, last)
 
 -- tags that are still to be seated
+-- no tag is lost
+pub length-heard : (number : ℕ) (command : Command) (entry : Entry) (tags : List TagValue) → length (tags_after (hearing_from number command entry tags)) ≡ length tags
+length-heard number command entry [] = refl
+length-heard number command entry (tag ∷ tags) = ap (λ n. suc n) (length-heard (number + 1) command entry tags)
+
 pub length-seated : (seats : List TagValue) (tags more : List AnyTag) → seats ++ map tag_value_of more ≡ map tag_value_of tags → length seats + length more ≡ length tags
 length-seated seats tags more same =
     omega (arith, ap (λ (l : List TagValue). length l) same, length-append seats (map tag_value_of more), length-map more tag_value_of, length-map tags tag_value_of)

@@ -3,6 +3,7 @@ use Rattle.std.specs.Prelude.{ℕ, ◌+◌, ◌<◌, ◌==◌, Bool, List, lengt
 use Rattle.std.specs.List.{AllByRecursion}
 use Rattle.air_events.specs.declared.Entry.{Entry}
 use Rattle.air_events.specs.declared.Event.{Event}
+use Rattle.air_events.specs.declared.Several.{Several}
 use Rattle.command_grammar.specs.declared.commands.Command.{Command}
 use Rattle.pie_line.specs.Link.{LinkValue}
 use Rattle.tag_machine.specs.TagValue.{TagValue, IsLegalTag}
@@ -10,10 +11,11 @@ use Rattle.tag_machine.specs.Answers.{Outcome}
 use Rattle.air_channel.specs.Exchange.{Replied, outcomes_from, replies_from, tags_after, tags_after_event}
 use Rattle.air_channel.specs.Channel.{Given, given_of, heard_levels, wave_for}
 
--- the link, the tags in the order of their numbers, the frame that was sent last, the stream that came back, how many tags
--- replied, and how many exchanges there were
+-- the link, what the channel gives of several replies, the tags in the order of their numbers, the frame that was sent last,
+-- the stream that came back, how many tags replied, and how many exchanges there were
 pub record AirValue : Type 0 where
   pub link : LinkValue
+  pub several : Several
   pub tags : List TagValue
   pub frame : List ℕ
   pub stream : List Bool
@@ -36,16 +38,17 @@ abbrev pub replies_in : Command → Entry → List TagValue → List Replied
 replies_in command entry tags = replies_from 0 (outcomes_in command entry tags)
 
 -- what the channel gives of it
-abbrev pub given_in : Command → Entry → List TagValue → Given
-given_in command entry tags = given_of (replies_in command entry tags) entry.choice
+abbrev pub given_in : Several → Command → Entry → List TagValue → Given
+given_in several command entry tags = given_of (replies_in command entry tags) entry.choice several
 
 -- the air after an exchange
 abbrev pub air_after : AirValue → Command → Entry → AirValue
 air_after air command entry = record {
   link = air.link;
+  several = air.several;
   tags = tags_after (outcomes_in command entry air.tags);
   frame = wave_for air.link command;
-  stream = heard_levels air.link (given_in command entry air.tags);
+  stream = heard_levels air.link (given_in air.several command entry air.tags);
   replies = length (replies_in command entry air.tags);
   exchanges = next_exchange air.exchanges;
 }

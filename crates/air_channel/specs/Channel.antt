@@ -3,6 +3,8 @@
 use Rattle.std.specs.Prelude.{ℕ, ◌%◌, Bool, ◌||◌, List, [], ◌∷◌, length, Option, Some, None, slice_get}
 use Rattle.air_events.specs.declared.Choice.{Choice}
 use Rattle.air_events.specs.declared.Choice.TheVariants as choices
+use Rattle.air_events.specs.declared.Several.{Several}
+use Rattle.air_events.specs.declared.Several.TheVariants as severals
 use Rattle.command_grammar.specs.declared.commands.Command.{Command}
 use Rattle.command_grammar.specs.declared.commands.Command.TheVariants as commands
 use Rattle.command_grammar.specs.Commands.{spelling_of}
@@ -44,18 +46,23 @@ abbrev pub first_broken : List Replied → ℕ → Given
 first_broken [] place = silence
 first_broken (replied ∷ others) place = broken replied place
 
--- where nothing is chosen: several replies break the first of them at its first level
-abbrev pub default_given : List Replied → Given
-default_given [] = silence
-default_given (replied ∷ []) = whole replied
-default_given (replied ∷ other ∷ others) = broken replied 0
+-- where several tags replied: the first reply, broken at its first level or captured whole
+abbrev pub first_of_several : Several → Replied → Given
+first_of_several severals.Break replied = broken replied 0
+first_of_several severals.Capture replied = whole replied
 
--- what the channel gives of these replies, in the order of the tags, by what is chosen
-abbrev pub given_of : List Replied → Option Choice → Given
-given_of replies (Some (choices.Pick number)) = whole_or_silence (slice_get replies number)
-given_of replies (Some choices.Silent) = silence
-given_of replies (Some (choices.Break place)) = first_broken replies place
-given_of replies None = default_given replies
+-- where nothing is chosen
+abbrev pub default_given : Several → List Replied → Given
+default_given several [] = silence
+default_given several (replied ∷ []) = whole replied
+default_given several (replied ∷ other ∷ others) = first_of_several several replied
+
+-- what the channel gives of these replies, in the order of the tags, by what is chosen, or by the default for several
+abbrev pub given_of : List Replied → Option Choice → Several → Given
+given_of replies (Some (choices.Pick number)) several = whole_or_silence (slice_get replies number)
+given_of replies (Some choices.Silent) several = silence
+given_of replies (Some (choices.Break place)) several = first_broken replies place
+given_of replies None several = default_given several replies
 
 -- the levels of a reply (6.3.1.3.2): with the extended preamble where the tag marked it so, else by the link's TRext
 abbrev pub levels_of : LinkValue → Sent → List Bool

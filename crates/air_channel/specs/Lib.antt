@@ -5,6 +5,7 @@ pub mod Channel
 pub mod Air
 pub mod Reception
 pub mod ReceptionLaws
+pub mod AwaitedLaws
 pub mod Past
 pub mod Seats
 pub mod Kept

@@ -1,10 +1,11 @@
--- Profile: what has happened so far in a run: events between exchanges, exchanges, and ends of rounds. A past is a list of
--- these, the latest first. It begins with a start, and each record of an exchange is computed from the start and the past
+-- Profile: what has happened so far in a run: events between exchanges, exchanges, results of operations, and ends of rounds.
+-- A past is a list of these, the latest first. It begins with a start, and each record of an exchange is computed from the start and the past
 -- behind it alone.
-use Rattle.std.specs.Prelude.{ℕ, zero, suc, ◌+◌, ◌==◌, Bool, false, List, [], ◌∷◌, ◌++◌, length, Option, Some, None, if◌then◌else◌}
-use Rattle.air_events.specs.declared.Choice.{Choice}
+use Rattle.std.specs.Prelude.{ℕ, ◌+◌, Bool, false, List, [], ◌∷◌, if◌then◌else◌}
+use Rattle.access_ops.specs.declared.op_next.OpResult.{OpResult}
 use Rattle.air_events.specs.declared.Entry.{Entry}
 use Rattle.air_events.specs.declared.Event.{Event}
+use Rattle.air_events.specs.declared.Several.{Several}
 use Rattle.air_events.specs.Entries.{entry_at}
 use Rattle.command_grammar.specs.declared.commands.Command.{Command}
 use Rattle.pie_line.specs.Link.{LinkValue}
@@ -14,12 +15,13 @@ use Rattle.air_channel.specs.Exchange.{Replied, tag_after_own_event, tag_after_e
 use Rattle.air_channel.specs.Channel.{Given}
 use Rattle.air_channel.specs.Air.{replies_in, given_in}
 
--- what a run begins with: the link, the tags, numbered from 0, and what is said of exchanges, each with its number, counted
--- from 1 over the whole run
+-- what a run begins with: the link, the tags, numbered from 0, what is said of exchanges, each with its number, counted
+-- from 1 over the whole run, and what the channel gives of several replies
 pub record Start : Type 0 where
   pub link : LinkValue
   pub tags : List TagValue
   pub entries : List (ℕ × Entry)
+  pub several : Several
 
 -- One exchange: its number, the round and the slot that it belongs to (0 outside rounds), the command, what is said of it,
 -- the tags that heard the command, what tags replied, in the order of the tags, and what the channel gave.
@@ -38,6 +40,8 @@ pub data Item : Type 0 where
   befell : (event : Event) → (number : ℕ) → Item
   -- a command was sent
   exchanged : (sent : Record) → Item
+  -- an operation had its result: in a round and a slot, the operation of this number, counted from 1 for each listed tag
+  operated : (round slot index : ℕ) → (result : OpResult) → Item
   -- a round ended, which had so many slots
   ended : (round : ℕ) → (end : RoundEnd) → (slots : ℕ) → Item
 
@@ -47,6 +51,7 @@ abbrev pub tag_behind : ℕ → TagValue → List Item → TagValue
 tag_behind number start [] = start
 tag_behind number start (befell event befallen ∷ past) = tag_after_own_event number event befallen (tag_behind number start past)
 tag_behind number start (exchanged sent ∷ past) = (outcome_in number sent.command sent.entry (tag_behind number start past)).tag
+tag_behind number start (operated round slot index result ∷ past) = tag_behind number start past
 tag_behind number start (ended round end slots ∷ past) = tag_behind number start past
 
 -- the tags, numbered from a number on
@@ -62,6 +67,7 @@ abbrev pub exchanges_in : List Item → ℕ
 exchanges_in [] = 0
 exchanges_in (befell event number ∷ past) = exchanges_in past
 exchanges_in (exchanged sent ∷ past) = exchanges_in past + 1
+exchanges_in (operated round slot index result ∷ past) = exchanges_in past
 exchanges_in (ended round end slots ∷ past) = exchanges_in past
 
 -- how many rounds ended
@@ -69,6 +75,7 @@ abbrev pub rounds_in : List Item → ℕ
 rounds_in [] = 0
 rounds_in (befell event number ∷ past) = rounds_in past
 rounds_in (exchanged sent ∷ past) = rounds_in past
+rounds_in (operated round slot index result ∷ past) = rounds_in past
 rounds_in (ended round end slots ∷ past) = rounds_in past + 1
 
 -- a tag hears the command where it is present after the events and doesn't miss it
@@ -97,7 +104,7 @@ next_record start round slot command past =
       entry = entry;
       hearers = hearers_of 0 entry tags;
       replies = replies_in command entry tags;
-      given = given_in command entry tags;
+      given = given_in start.several command entry tags;
     }
 
 -- the past behind a command

@@ -7,6 +7,8 @@ use Rattle.std.proofs.lemmas.List.{length-set}
 use Rattle.std.proofs.lemmas.Nat.{mod_below}
 use Rattle.air_events.specs.declared.Choice.{Choice}
 use Rattle.air_events.specs.declared.Choice.TheVariants as choices
+use Rattle.air_events.specs.declared.Several.{Several}
+use Rattle.air_events.specs.declared.Several.TheVariants as severals
 use Rattle.line_code.specs.Laws.{with_level_flipped, inverse_of}
 use Rattle.line_code.specs.Stream.{stream_of, Streams}
 use Rattle.line_codes.specs.CodeLaws.{code_refuses_flips, stream_least, stream_most}
@@ -27,7 +29,8 @@ use Rattle.air_channel.specs.declared.air.Got.TheVariants as gots
 use Rattle.air_channel.specs.Exchange.{Replied}
 use Rattle.air_channel.specs.Received.{IsReceived}
 use Rattle.air_channel.specs.ReceivedLaws.{same_received}
-use Rattle.air_channel.specs.Reception.{no_stream, whole_reply, no_such_reply, has_handle, reception_of, reception_from, HoldsOfSent, IsGiven, IsReplyFor, IsGivenFor}
+use Rattle.air_channel.specs.Reception.{has_handle, is_expected, reception_of, HoldsOfSent, IsGiven, IsReplyFor, IsGivenFor}
+use Rattle.reply_grammar.specs.Reception.{no_stream, whole_reply, no_such_reply, reception_from}
 
 both_true : (a b : Bool) → (a && b) ≡ true → (a ≡ true) × (b ≡ true)
 both_true true b e = (refl, e)
@@ -52,10 +55,10 @@ suiting_answers (Error code) (OneHeader named) handle suit same range fits = ans
 suiting_answers reply expect handle suit same range fits = absurd suit
 
 -- what is sent and expected answers
-reply_answers : (expect : Expect) (sent : Sent) → IsReplyFor expect sent → AnswersExpected sent.reply expect (spelling sent.reply sent.handle)
-reply_answers expect sent meets =
-    let both = both_true (suits sent.reply expect) (has_handle sent.reply sent.handle (handle_of expect)) meets.expected in
-    suiting_answers sent.reply expect sent.handle (suits-true sent.reply expect both.0) both.1 meets.in_range.0 meets.in_range.1
+pub expected_answers : (expect : Expect) (sent : Sent) → IsSent (Some sent) → is_expected expect sent ≡ true → AnswersExpected sent.reply expect (spelling sent.reply sent.handle)
+expected_answers expect sent in_range expected =
+    let both = both_true (suits sent.reply expect) (has_handle sent.reply sent.handle (handle_of expect)) expected in
+    suiting_answers sent.reply expect sent.handle (suits-true sent.reply expect both.0) both.1 in_range.0 in_range.1
 
 -- a reply by the link's TRext is sent as the stream of its bits
 by_link_levels : (link : LinkValue) (sent : Sent) → sent.extended ≡ false → levels_of link sent ≡ stream_of (table_of link.code) link.trext (spelling sent.reply sent.handle)
@@ -67,10 +70,10 @@ pub whole_heard : (link : LinkValue) (expect : Expect) (replied : Replied) → I
 whole_heard link expect replied meets = record {
   bits = spelling replied.sent.reply replied.sent.handle;
   stream = by_link_levels link replied.sent meets.by_link;
-  answers = reply_answers expect replied.sent meets;
+  answers = expected_answers expect replied.sent meets.in_range meets.expected;
 }
 
-levels_least : (link : LinkValue) (sent : Sent) → 1 ≤ length (levels_of link sent)
+pub levels_least : (link : LinkValue) (sent : Sent) → 1 ≤ length (levels_of link sent)
 levels_least link sent = stream_least link.code (sent.extended || link.trext) (spelling sent.reply sent.handle)
 
 -- a reply that is given broken is no stream
@@ -166,11 +169,12 @@ picked P (replied ∷ others) zero all = all.0
 picked P (replied ∷ others) (suc number) all = picked P others number all.1
 
 -- what holds of each reply holds of the one that the channel gives
-pub given_of_sent : (P : Sent → Type 0) (replies : List Replied) (choice : Option Choice) → AllByRecursion (λ replied. P replied.sent) replies → HoldsOfSent P (given_of replies choice)
-given_of_sent P replies (Some (choices.Pick number)) all = picked P replies number all
-given_of_sent P replies (Some choices.Silent) all = tt
-given_of_sent P [] (Some (choices.Break place)) all = tt
-given_of_sent P (replied ∷ others) (Some (choices.Break place)) all = all.0
-given_of_sent P [] None all = tt
-given_of_sent P (replied ∷ []) None all = all.0
-given_of_sent P (replied ∷ other ∷ others) None all = all.0
+pub given_of_sent : (P : Sent → Type 0) (replies : List Replied) (choice : Option Choice) (several : Several) → AllByRecursion (λ replied. P replied.sent) replies → HoldsOfSent P (given_of replies choice several)
+given_of_sent P replies (Some (choices.Pick number)) several all = picked P replies number all
+given_of_sent P replies (Some choices.Silent) several all = tt
+given_of_sent P [] (Some (choices.Break place)) several all = tt
+given_of_sent P (replied ∷ others) (Some (choices.Break place)) several all = all.0
+given_of_sent P [] None several all = tt
+given_of_sent P (replied ∷ []) None several all = all.0
+given_of_sent P (replied ∷ other ∷ others) None severals.Break all = all.0
+given_of_sent P (replied ∷ other ∷ others) None severals.Capture all = all.0

@@ -18,7 +18,7 @@ use pie_line::{Intervals, Link};
 use std::alloc::Global;
 use std::marker::Model;
 use std::sync::ledger::Ledger;
-use tag_machine::{AnyTag, Entry, Event, Steps};
+use tag_machine::{AnyTag, Entry, Event, Several, Steps};
 
 /// How many bits of a command there is room for, and how many intervals of its frame: more than the 4,162 and
 /// the 8,331 of the longest command.
@@ -38,11 +38,12 @@ pub enum Got {
 
 /// The air between one interrogator and a population of tags, with the buffers for what goes through it.
 ///
-/// A contract sees the link, the tags, the frame that was sent last, the stream that came back, the number of
+/// A contract sees the link, what the channel gives of several replies, the tags, the frame that was sent last, the stream that came back, the number of
 /// tags that replied, and the number of exchanges.
 #[derive(Drop)]
 pub struct Air {
     link: Link,
+    several: Several,
     population: Population,
     bits: Bits,
     frame: Intervals,
@@ -57,16 +58,21 @@ impl Model for Air {
 
     ghost Value = { AirValue };
 
-    ghost view = { λ a. record { link = a.link; tags = a.population; frame = a.frame.items; stream = a.stream.items; replies = a.replies.count; exchanges = a.exchanges } };
+    ghost view = { λ a. record { link = a.link; several = a.several; tags = a.population; frame = a.frame.items; stream = a.stream.items; replies = a.replies.count; exchanges = a.exchanges } };
 
     ghost invariant = { λ a. HasRoom a.bits a.frame a.stream };
 }
 
 impl Air {
-    /// The air between this population and an interrogator with this link. It takes all memory that exchanges
-    /// want.
-    pub fn new(alloc: Global, population: Population, link: Link) -> Result<Air, OutOfMemory>
-        ensures { IfOk result (λ air. air ≡ record { link = link; tags = population; frame = []; stream = []; replies = 0; exchanges = 0 }) }
+    /// The air between this population and an interrogator with this link. Where several tags reply and nothing is
+    /// chosen, the channel gives what `several` says. It takes all memory that exchanges want.
+    pub fn new(
+        alloc: Global,
+        population: Population,
+        link: Link,
+        several: Several,
+    ) -> Result<Air, OutOfMemory>
+        ensures { IfOk result (λ air. air ≡ record { link = link; several = several; tags = population; frame = []; stream = []; replies = 0; exchanges = 0 }) }
     {
         let bits = Bits::new(alloc, COMMAND_ROOM)?;
         let frame = Intervals::new(alloc, COMMAND_ROOM)?;
@@ -74,6 +80,7 @@ impl Air {
         let stream = Levels::new(alloc, STREAM_ROOM)?;
         Ok(Air {
             link,
+            several,
             population,
             bits,
             frame,
@@ -93,7 +100,7 @@ impl Air {
     ) -> Got
         requires named { NamesTags (length self.old.tags) entry.now }
         ensures air { self.new ≡ air_after self.old command.now entry.now }
-        ensures got { result ≡ got_of (given_in command.now entry.now self.old.tags) }
+        ensures got { result ≡ got_of (given_in self.old.several command.now entry.now self.old.tags) }
         ensures counted { steps.new ≡ steps.old + hearers_from 0 entry.now self.old.tags }
         ensures legal { AreLegalTags self.new.tags }
         ensures command { IsLegalCommand command.now }
@@ -105,7 +112,7 @@ impl Air {
             .hear(&heard, entry, &mut self.replies, steps);
         self.exchanges = next_exchange(self.exchanges);
         self.replies
-            .give(&entry.choice, &self.link, &mut self.stream)
+            .give(&entry.choice, self.several, &self.link, &mut self.stream)
     }
 
     /// Lets an event befall the tag with this number.

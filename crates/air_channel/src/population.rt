@@ -99,6 +99,7 @@ impl Population {
     )
         requires { RepliesStandFor [] replies.old }
         ensures tags { self.new ≡ tags_after (hearing_from 0 command.now entry.now self.old) }
+        ensures count { length self.new ≡ length self.old }
         ensures replies { RepliesStandFor (replies_from 0 (hearing_from 0 command.now entry.now self.old)) replies.new }
         ensures wanted { replies.new.wanted ≡ replies.old.wanted }
         ensures counted { steps.new ≡ steps.old + hearers_from 0 entry.now self.old }
@@ -120,6 +121,7 @@ fn hear_each<L: Ledger>(
     requires few { length seats.old ≤ 256 }
     requires legal { AreLegalTags seats.old }
     ensures tags { seats.new ≡ tags_after (hearing_from 0 command.now entry.now seats.old) }
+    ensures count { length seats.new ≡ length seats.old }
     ensures replies { RepliesStandFor (replies_from 0 (hearing_from 0 command.now entry.now seats.old)) replies.new }
     ensures wanted { replies.new.wanted ≡ replies.old.wanted }
     ensures counted { steps.new ≡ steps.old + hearers_from 0 entry.now seats.old }

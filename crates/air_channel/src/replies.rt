@@ -18,7 +18,7 @@ use pie_line::Link;
 use std::alloc::Global;
 use std::marker::Model;
 use std::sync::ledger::Ledger;
-use tag_machine::{Answered, Choice, Steps};
+use tag_machine::{Answered, Choice, Several, Steps};
 
 /// How many bits there is room for: more than the 8,225 of the longest reply.
 const ROOM: u32 = 8240;
@@ -157,17 +157,24 @@ impl Replies {
         self.count += replies_in(answered);
     }
 
-    /// Writes the stream that the channel gives by this choice to `stream`, in place of what that holds.
-    pub(crate) fn give(&self, choice: &Option<Choice>, link: &Link, stream: &mut Levels) -> Got
+    /// Writes the stream that the channel gives by this choice, or by the default for several replies, to
+    /// `stream`, in place of what that holds.
+    pub(crate) fn give(
+        &self,
+        choice: &Option<Choice>,
+        several: Several,
+        link: &Link,
+        stream: &mut Levels,
+    ) -> Got
         requires stands { (replies : List Replied) × RepliesStandFor replies self.now }
         requires wanted { self.now.wanted ≡ wanted_by choice.now }
         requires room { 132208 ≤ stream.old.capacity }
-        ensures stream { (replies : List Replied) → RepliesStandFor replies self.now → stream.new.items ≡ heard_levels link.now (given_of replies choice.now) }
-        ensures got { (replies : List Replied) → RepliesStandFor replies self.now → result ≡ got_of (given_of replies choice.now) }
+        ensures stream { (replies : List Replied) → RepliesStandFor replies self.now → stream.new.items ≡ heard_levels link.now (given_of replies choice.now several) }
+        ensures got { (replies : List Replied) → RepliesStandFor replies self.now → result ≡ got_of (given_of replies choice.now several) }
         ensures most { length stream.new.items ≤ 131968 }
         ensures capacity { stream.new.capacity ≡ stream.old.capacity }
     {
-        match giving_of(choice, self.count) {
+        match giving_of(choice, several, self.count) {
             Giving::Nothing => {
                 stream.clear();
                 Got::Silence
@@ -210,15 +217,15 @@ fn invert_level(number: u32, levels: &mut Levels)
     levels.flip(at);
 }
 
-/// What the channel gives of so many replies by this choice.
-fn giving_of(choice: &Option<Choice>, count: u32) -> Giving
-    ensures { (replies : List Replied) → count ≡ length replies → Means result replies (wanted_by choice.now) (given_of replies choice.now) }
+/// What the channel gives of so many replies by this choice, or by the default for several.
+fn giving_of(choice: &Option<Choice>, several: Several, count: u32) -> Giving
+    ensures { (replies : List Replied) → count ≡ length replies → Means result replies (wanted_by choice.now) (given_of replies choice.now several) }
 {
     match choice {
         Some(Choice::Pick(number)) => picked(*number, count),
         Some(Choice::Silent) => Giving::Nothing,
         Some(Choice::Break(place)) => first_broken(*place, count),
-        None => unchosen(count),
+        None => unchosen(several, count),
     }
 }
 
@@ -245,15 +252,18 @@ fn first_broken(place: u32, count: u32) -> Giving
 }
 
 /// What is given of so many replies where nothing is chosen.
-fn unchosen(count: u32) -> Giving
-    ensures { (replies : List Replied) → count ≡ length replies → Means result replies 0 (default_given replies) }
+fn unchosen(several: Several, count: u32) -> Giving
+    ensures { (replies : List Replied) → count ≡ length replies → Means result replies 0 (default_given several replies) }
 {
     if count == 0 {
-        Giving::Nothing
-    } else if count == 1 {
-        Giving::Whole
-    } else {
-        Giving::Broken(0)
+        return Giving::Nothing;
+    }
+    if count == 1 {
+        return Giving::Whole;
+    }
+    match several {
+        Several::Break => Giving::Broken(0),
+        Several::Capture => Giving::Whole,
     }
 }
 

@@ -30,6 +30,15 @@ pub enum Choice {
     Break(u32),
 }
 
+/// What the channel gives where several tags reply and nothing is chosen.
+#[derive(Clone, Copy, Debug, PartialEq, Eq)]
+pub enum Several {
+    /// The first reply's stream with its first level inverted, so that no reply is received.
+    Break,
+    /// The first reply whole: that of the strongest tag, where tags are numbered by strength.
+    Capture,
+}
+
 /// What a scenario says of one exchange.
 #[derive(Drop)]
 pub struct Entry {

@@ -13,7 +13,7 @@ use Rattle.scenario_lines.specs.LineForm.{IsEvent, IsPlace}
 use Rattle.air_io.specs.Flow.{Adds, FaultsRose}
 use Rattle.air_io.specs.FlowLaws.{Adds-nothing}
 use Rattle.air_world.proofs.Lines.{report_text-append}
-use Rattle.air_world.proofs.Steps.{steps_most, grows-steps}
+use Rattle.air_world.proofs.Growth.{steps-grow}
 use Rattle.air_world.proofs.Writing.{cut-longer, cut-past, cut-text}
 use Rattle.air_world.specs.History.{past_behind}
 use Rattle.air_world.specs.Listing.{listing_of}
@@ -69,6 +69,7 @@ stands-first mode scenario first written before faults air run is fresh legal le
     names = scenario-names scenario is;
     mode = ap (λ (r : RunValue). r.mode) run_is;
     link = ap (λ (a : AirValue). a.link) fresh;
+    several = ap (λ (a : AirValue). a.several) fresh;
     tags = ap (λ (a : AirValue). a.tags) fresh ∙ sym (tags-before 0 (start_of scenario).tags);
     legal = legal;
     exchanges = ap (λ (a : AirValue). a.exchanges) fresh;
@@ -81,12 +82,13 @@ stands-first mode scenario first written before faults air run is fresh legal le
 
 -- there is room for all steps
 pub told-first : (mode : Mode) (scenario : Scenario) (first written : Option (List ℕ)) (before faults : ℕ) (air : AirValue) (run : RunValue) → IsScenario scenario
-    → StandsAt (origin_of mode scenario first before) [] air run written faults → IsTold (140002 * length scenario.steps) air run written faults
+    → StandsAt (origin_of mode scenario first before) [] air run written faults → IsTold (length scenario.steps) air run written faults
 told-first mode scenario first written before faults air run is stands = record {
   origin = origin_of mode scenario first before;
   past = [];
   stands = stands;
   room = omega (arith, is.few_steps);
+  rounds = omega (arith, is.few_steps);
 }
 
 pub steps-legal : (scenario : Scenario) (air : AirValue) → IsScenario scenario → air ≡ new_air (start_of scenario) → All (IsStep (length air.tags)) scenario.steps
@@ -138,7 +140,7 @@ pub cut-first : (mode : Mode) (scenario : Scenario) (first written : Option (Lis
     → IsCutOff (origin_of mode scenario first before) (report_text_of mode scenario) written faults fault
 cut-first mode scenario first written before faults fault air run told fresh cut =
     cut-history mode scenario first written before faults fault
-    (cut-past (steps_most scenario.steps) (origin_of mode scenario first before) [] (history scenario) written faults fault (grows-steps (start_of scenario) scenario.steps [])
+    (cut-past (origin_of mode scenario first before) [] (history scenario) written faults fault (steps-grow (start_of scenario) scenario.steps [])
     (cut-text (origin_of mode scenario first before) _ _ written faults fault (first-text mode scenario first before air run told fresh) cut))
 
 -- all is written

@@ -14,11 +14,11 @@ legal-select : (tags : ℕ) (command : Command) → IsStep tags (steps.Select co
 legal-select tags (commands.Select target action bank pointer mask) is = tt
 legal-select tags command is = absurd is
 
-legal-step : (tags : ℕ) (step : Step) → IsStep tags step → IsLegalStep step
+pub legal-step : (tags : ℕ) (step : Step) → IsStep tags step → IsLegalStep step
 legal-step tags (steps.Select command) is = legal-select tags command is
 legal-step tags steps.Nak is = tt
 legal-step tags (steps.Event event number) is = tt
-legal-step tags (steps.Round spec operations) is = is.0.legal
+legal-step tags (steps.Round spec operations) is = record { legal = is.0.legal; few = is.1.few }
 
 legal-each : (tags : ℕ) (steps : List Step) → AllByRecursion (IsStep tags) steps → AreLegalSteps steps
 legal-each tags [] are = tt

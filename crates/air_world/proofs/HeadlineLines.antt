@@ -1,15 +1,16 @@
--- Which lines of a report pass a test that only lines of listed EPCs and of ends of rounds may pass.
+-- Which lines of a report pass a test that only lines of listed EPCs, of results and of ends of rounds may pass.
 use Rattle.std.proofs.Common.{◌≡◌, ℕ, ◌+◌, Bool, true, false, ◌&&◌, List, [], ◌∷◌, ◌++◌, length, map, filter, refl, ap, ◌∙◌, append-nil}
 use Rattle.std.proofs.lemmas.List.Elements.{filter-append}
+use Rattle.access_ops.specs.declared.op_next.OpResult.{OpResult}
 use Rattle.air_channel.specs.Channel.{heard_levels, wave_for}
 use Rattle.air_channel.specs.Past.{Start, Record, Item, exchanged, tags_behind}
 use Rattle.air_world.specs.Headline.{is_round_line, is_list_line}
-use Rattle.air_world.specs.Listing.{listed_by, listing_of}
+use Rattle.air_world.specs.Listing.{Listed, listed_by, listing_of}
 use Rattle.air_world.specs.Report.{trace_lines, list_line, item_lines, past_lines, tag_lines, last_lines}
 use Rattle.air_world.specs.declared.mode.Mode.{Mode}
 use Rattle.air_world.specs.declared.mode.Mode.TheVariants.{Plain, Trace}
 use Rattle.pie_line.specs.Link.{LinkValue}
-use Rattle.report_lines.specs.ReportLine.{ReportLine, TxLine, RxLine, SeenLine, TagLine, DoneLine}
+use Rattle.report_lines.specs.ReportLine.{ReportLine, TxLine, RxLine, OpLine, SeenLine, TagLine, DoneLine}
 use Rattle.report_lines.specs.SeenCounts.{Seen, seen_in}
 use Rattle.tag_machine.specs.TagValue.{TagValue}
 
@@ -53,10 +54,32 @@ sent-passes test few mode link sent past =
     (filter-append test (trace_lines mode link sent) (map list_line (listed_by sent))
     ∙ ap (λ (lines : List ReportLine). lines ++ filter test (map list_line (listed_by sent))) (no-trace test few mode link sent))
 
+-- where no list line passes, what is listed adds nothing
+pub no-listed : (test : ReportLine → Bool) → ((listed : Listed) → test (list_line listed) ≡ false) → (listing : List Listed)
+    → filter test (map list_line listing) ≡ []
+no-listed test fails [] = refl
+no-listed test fails (listed ∷ listing) = rw (fails listed) (no-listed test fails listing)
+
+-- ... and no exchange
+pub sent-adds-none : (test : ReportLine → Bool) → PassesFew test → ((listed : Listed) → test (list_line listed) ≡ false) → (mode : Mode) (link : LinkValue) (sent : Record) (past : List Item)
+    → filter test (past_lines mode link (exchanged sent ∷ past)) ≡ filter test (past_lines mode link past)
+sent-adds-none test few fails mode link sent past =
+    sent-passes test few mode link sent past
+    ∙ ap (λ (lines : List ReportLine). filter test (past_lines mode link past) ++ lines) (no-listed test fails (listed_by sent))
+    ∙ append-nil (filter test (past_lines mode link past))
+
 -- an event has no line
 pub befell-passes : (test : ReportLine → Bool) (mode : Mode) (link : LinkValue) (past : List Item)
     → filter test (past_lines mode link past ++ []) ≡ filter test (past_lines mode link past)
 befell-passes test mode link past = ap (λ (lines : List ReportLine). filter test lines) (append-nil (past_lines mode link past))
+
+-- where the line of a result does not pass, the result adds nothing
+pub operated-passes : (test : ReportLine → Bool) (mode : Mode) (link : LinkValue) (round slot index : ℕ) (result : OpResult) (past : List Item)
+    → test (OpLine round slot index result) ≡ false
+    → filter test (past_lines mode link past ++ OpLine round slot index result ∷ []) ≡ filter test (past_lines mode link past)
+operated-passes test mode link round slot index result past fails =
+    filter-append test (past_lines mode link past) (OpLine round slot index result ∷ [])
+    ∙ rw fails (append-nil (filter test (past_lines mode link past)))
 
 no-last : (test : ReportLine → Bool) → PassesFew test → (seen : List Seen) (number : ℕ) (tags : List TagValue)
     → filter test (map (λ seen. SeenLine seen.count seen.pc seen.epc) seen ++ tag_lines number tags ++ DoneLine ∷ []) ≡ []

@@ -1,18 +1,21 @@
 -- What came whole is listed once: the rounds and slots of ACKs rise along a history, so that each list line has its own.
 use Rattle.std.proofs.Common.{◌≡◌, ℕ, ◌+◌, ◌<◌, ◌==◌, ◌&&◌, Bool, true, false, ◌⊎◌, inl, inr, List, [], ◌∷◌, ◌++◌, length, map, filter, if◌then◌else◌, refl, ap, sym, ◌∙◌, subst, append-nil, arith, add-one, ne_eqb, eq-eqb}
 use Rattle.std.proofs.lemmas.List.Elements.{filter-append}
+use Rattle.access_ops.specs.OperationLaws.{Expects}
+use Rattle.access_ops.specs.declared.OpList.{OpList}
 use Rattle.air_channel.specs.Channel.{Given, whole}
 use Rattle.air_channel.specs.Exchange.{Replied}
-use Rattle.air_channel.specs.Past.{Start, Record, Item, befell, exchanged, ended, next_record, rounds_in}
-use Rattle.air_channel.specs.Reception.{Reception, no_stream, whole_reply, no_such_reply, has_handle, is_expected, reception_of}
+use Rattle.air_channel.specs.Past.{Start, Record, Item, befell, exchanged, operated, ended, next_record, rounds_in}
+use Rattle.air_channel.specs.Reception.{has_handle, is_expected, reception_of}
+use Rattle.reply_grammar.specs.Reception.{Reception, no_stream, whole_reply, no_such_reply}
 use Rattle.air_world.specs.Headline.{IsSelect, IsLegalStep, AreLegalSteps, IsRecordOf, Acknowledges, IsGivenWhole, is_list_line, begins_slot}
 use Rattle.air_world.specs.History.{past_behind_answer, slot_reception, past_behind_slot, past_behind_round, past_behind_step, history_of}
 use Rattle.air_world.specs.Listing.{Listed, reception_of_ack, listed_from, listed_by}
 use Rattle.air_world.specs.Report.{list_line, past_lines, last_lines}
 use Rattle.air_world.specs.declared.mode.Mode.{Mode}
 use Rattle.air_world.specs.declared.mode.Mode.TheVariants.{Plain, Trace}
-use Rattle.air_world.proofs.Growth.{RoundsKeepLimit, round-holds, steps-hold}
-use Rattle.air_world.proofs.HeadlineLines.{list-lines-pass, sent-passes, befell-passes, report-passes, and-false}
+use Rattle.air_world.proofs.Growth.{RoundsKeepLimit, answer-holds, ack-keeps, round-holds, steps-hold}
+use Rattle.air_world.proofs.HeadlineLines.{list-lines-pass, sent-passes, befell-passes, operated-passes, report-passes, and-false}
 use Rattle.air_world.proofs.HeadlineSlots.{next-begins, slot-rounds}
 use Rattle.command_grammar.specs.declared.commands.Command.{Command}
 use Rattle.command_grammar.specs.declared.commands.Command.TheVariants as commands
@@ -20,6 +23,7 @@ use Rattle.pie_line.specs.Link.{LinkValue}
 use Rattle.q_round.specs.SpecValue.{SpecValue, IsLegalSpec}
 use Rattle.q_round.specs.declared.round.RoundEnd.{RoundEnd}
 use Rattle.reply_grammar.specs.Table.{handle_of, suits}
+use Rattle.reply_grammar.specs.declared.expected.Expect.{Expect}
 use Rattle.reply_grammar.specs.declared.expected.Expect.TheVariants as expects
 use Rattle.reply_grammar.specs.declared.expected.Reply.{Reply}
 use Rattle.reply_grammar.specs.declared.expected.Reply.TheVariants as replies
@@ -42,6 +46,11 @@ select-no-ack : (command : Command) → IsSelect command → is_ack command ≡ 
 select-no-ack (commands.Ack rn) is = absurd is
 select-no-ack command is = refl
 
+-- no command of an operation is an ACK
+pub expects-no-ack : (command : Command) (expect : Expect) (extended : Bool) → Expects command expect extended → is_ack command ≡ false
+expects-no-ack (commands.Ack rn) expect extended suits = absurd suits
+expects-no-ack command expect extended suits = refl
+
 -- one round and slot come before another
 abbrev pub IsEarlier : (round slot later_round later_slot : ℕ) → Type 0
 IsEarlier round slot later_round later_slot = (round < later_round) ⊎ ((round ≡ later_round) × (slot < later_slot))
@@ -61,6 +70,7 @@ abbrev pub AcksBefore : ℕ → ℕ → List Item → Type 0
 AcksBefore round slot [] = Unit {0}
 AcksBefore round slot (befell event number ∷ past) = AcksBefore round slot past
 AcksBefore round slot (exchanged sent ∷ past) = (is_ack sent.command ≡ true → IsEarlier sent.round sent.slot round slot) × AcksBefore round slot past
+AcksBefore round slot (operated number place index result ∷ past) = AcksBefore round slot past
 AcksBefore round slot (ended number end slots ∷ past) = AcksBefore round slot past
 
 -- the rounds and slots of the ACKs of a past rise
@@ -68,6 +78,7 @@ abbrev pub AcksRise : List Item → Type 0
 AcksRise [] = Unit {0}
 AcksRise (befell event number ∷ past) = AcksRise past
 AcksRise (exchanged sent ∷ past) = (is_ack sent.command ≡ true → AcksBefore sent.round sent.slot past) × AcksRise past
+AcksRise (operated number place index result ∷ past) = AcksRise past
 AcksRise (ended number end slots ∷ past) = AcksRise past
 
 before-on : (round slot later_round later_slot : ℕ) (past : List Item) → IsEarlier round slot later_round later_slot
@@ -76,6 +87,8 @@ before-on round slot later_round later_slot [] less before = tt
 before-on round slot later_round later_slot (befell event number ∷ past) less before = before-on round slot later_round later_slot past less before
 before-on round slot later_round later_slot (exchanged sent ∷ past) less before =
     (λ ack. earlier-on sent.round sent.slot round slot later_round later_slot (before.0 ack) less, before-on round slot later_round later_slot past less before.1)
+before-on round slot later_round later_slot (operated number place index result ∷ past) less before =
+    before-on round slot later_round later_slot past less before
 before-on round slot later_round later_slot (ended number end slots ∷ past) less before = before-on round slot later_round later_slot past less before
 
 -- the ACKs of a past rise, and come before a round and slot
@@ -97,21 +110,21 @@ rise-more round slot past holds = record {
 }
 
 -- an ACK may come at that round and slot, and later ones behind it
-rise-answer : (start : Start) (round slot : ℕ) (reception : Reception) (past : List Item) → Rise round slot past
-    → Rise round (slot + 1) (past_behind_answer start round slot reception past)
-rise-answer start round slot no_stream past holds = rise-more round slot past holds
-rise-answer start round slot no_such_reply past holds = rise-more round slot past holds
-rise-answer start round slot (whole_reply (replies.Rn16 rn)) past holds =
-    let more = rise-more round slot past holds in
-    record {
+rise-answer : (start : Start) (operations : OpList) (round slot : ℕ) (reception : Reception) (past : List Item) → Rise round slot past
+    → Rise round (slot + 1) (past_behind_answer start operations round slot reception past)
+rise-answer start operations round slot reception past holds =
+    let more : Rise round (slot + 1) past = rise-more round slot past holds in
+    answer-holds (Rise round (slot + 1)) start operations round slot reception past more
+    (λ rn is. ack-keeps (Rise round (slot + 1)) start operations round slot rn past
+    (record {
+      command = λ command expect extended now suits rises.
+          rise-other round (slot + 1) (next_record start round slot command now) now (expects-no-ack command expect extended suits) rises;
+      result = λ index result now rises. record { before = rises.before; rise = rises.rise };
+    })
+    (record {
       before = (λ ack. inr (refl, omega arith), more.before);
       rise = (λ ack. holds.before, holds.rise);
-    }
-rise-answer start round slot (whole_reply (replies.Epc pc epc)) past holds = rise-more round slot past holds
-rise-answer start round slot (whole_reply (replies.Handle rn)) past holds = rise-more round slot past holds
-rise-answer start round slot (whole_reply (replies.Words words)) past holds = rise-more round slot past holds
-rise-answer start round slot (whole_reply replies.Header) past holds = rise-more round slot past holds
-rise-answer start round slot (whole_reply (replies.Error code)) past holds = rise-more round slot past holds
+    }))
 
 -- within a round: its ACKs come before its next slot
 record RiseIn (round slot : ℕ) (past : List Item) : Type 0 where
@@ -122,21 +135,21 @@ record RiseIn (round slot : ℕ) (past : List Item) : Type 0 where
 abbrev pub AcksRiseBefore : List Item → Type 0
 AcksRiseBefore past = AcksRise past × AcksBefore (rounds_in past + 1) 1 past
 
-round-rise : RoundsKeepLimit → (start : Start) (spec : SpecValue) (past : List Item) → IsLegalSpec spec → AcksRiseBefore past
-    → AcksRiseBefore (past_behind_round start spec past)
-round-rise keeps start spec past legal holds =
+round-rise : RoundsKeepLimit → (start : Start) (operations : OpList) (spec : SpecValue) (past : List Item) → IsLegalSpec spec → AcksRiseBefore past
+    → AcksRiseBefore (past_behind_round start operations spec past)
+round-rise keeps start operations spec past legal holds =
     let round : ℕ = rounds_in past + 1 in
-    round-holds (λ outcomes now. RiseIn round (length outcomes + 1) now) AcksRiseBefore start spec past keeps legal
+    round-holds (λ outcomes now. RiseIn round (length outcomes + 1) now) AcksRiseBefore start operations spec past keeps legal
     (record {
       slot = λ outcomes now command are is inside.
           let slot : ℕ = length outcomes + 1 in
           let sent = next_record start round slot command now in
           let other : is_ack command ≡ false = slot-no-ack command (next-begins spec start.link outcomes command is) in
-          let count : rounds_in (past_behind_slot start round slot command now) ≡ rounds_in now = slot-rounds start round slot command now in
+          let count : rounds_in (past_behind_slot start operations round slot command now) ≡ rounds_in now = slot-rounds start operations round slot command now in
           record {
             rounds = ap (λ n. n + 1) count ∙ inside.rounds;
-            rise = subst (λ n. Rise round (n + 1) (past_behind_slot start round slot command now)) (add-one (length outcomes))
-                (rise-answer start round slot (slot_reception start round slot command now) (exchanged sent ∷ now) (rise-other round slot sent now other inside.rise));
+            rise = subst (λ n. Rise round (n + 1) (past_behind_slot start operations round slot command now)) (add-one (length outcomes))
+                (rise-answer start operations round slot (slot_reception start round slot command now) (exchanged sent ∷ now) (rise-other round slot sent now other inside.rise));
           };
       end = λ outcomes now end are is inside.
           let last : rounds_in now + 1 ≡ round = inside.rounds in
@@ -150,7 +163,7 @@ step-rise keeps start (steps.Select command) past legal holds =
     ((λ ack. absurd (cc), holds.0), (λ ack. absurd (cc), holds.1))
 step-rise keeps start steps.Nak past legal holds = ((λ ack. absurd (cc), holds.0), (λ ack. absurd (cc), holds.1))
 step-rise keeps start (steps.Event event number) past legal holds = holds
-step-rise keeps start (steps.Round spec operations) past legal holds = round-rise keeps start spec past legal holds
+step-rise keeps start (steps.Round spec operations) past legal holds = round-rise keeps start operations spec past legal.legal holds
 
 -- along a history they rise
 pub history-rises : RoundsKeepLimit → (start : Start) (steps : List Step) → AreLegalSteps steps → AcksRise (history_of start steps)
@@ -160,6 +173,7 @@ history-rises keeps start steps legal =
 pub rise-split : (item : Item) (past : List Item) → AcksRise (item ∷ past) → AcksRise past
 rise-split (befell event number) past rise = rise
 rise-split (exchanged sent) past rise = rise.1
+rise-split (operated number place index result) past rise = rise
 rise-split (ended number end slots) past rise = rise
 
 before-at : (round slot : ℕ) (later : List Item) (sent : Record) (earlier : List Item) → AcksBefore round slot (later ++ exchanged sent ∷ earlier)
@@ -167,6 +181,7 @@ before-at : (round slot : ℕ) (later : List Item) (sent : Record) (earlier : Li
 before-at round slot [] sent earlier before ack = before.0 ack
 before-at round slot (befell event number ∷ later) sent earlier before ack = before-at round slot later sent earlier before ack
 before-at round slot (exchanged other ∷ later) sent earlier before ack = before-at round slot later sent earlier before.1 ack
+before-at round slot (operated number place index result ∷ later) sent earlier before ack = before-at round slot later sent earlier before ack
 before-at round slot (ended number end slots ∷ later) sent earlier before ack = before-at round slot later sent earlier before ack
 
 -- the list lines of a round and slot among the lines of a past
@@ -225,6 +240,8 @@ none-before mode link round slot (befell event number ∷ past) before = befell-
 none-before mode link round slot (exchanged sent ∷ past) before =
     passes-record mode link round slot sent past (λ ack. other-place sent.round sent.slot round slot (before.0 ack))
     ∙ none-before mode link round slot past before.1
+none-before mode link round slot (operated number place index result ∷ past) before =
+    operated-passes (is_list_line round slot) mode link number place index result past refl ∙ none-before mode link round slot past before
 none-before mode link round slot (ended number end slots ∷ past) before = no-end-line mode link round slot number end slots past ∙ none-before mode link round slot past before
 
 -- what follows an ACK lists nothing in its round and slot
@@ -237,6 +254,9 @@ none-after mode link (exchanged other ∷ later) sent earlier rise ack =
     passes-record mode link sent.round sent.slot other (later ++ exchanged sent ∷ earlier)
     (λ its. later-place other.round other.slot sent.round sent.slot (before-at other.round other.slot later sent earlier (rise.0 its) ack))
     ∙ none-after mode link later sent earlier rise.1 ack
+none-after mode link (operated number place index result ∷ later) sent earlier rise ack =
+    operated-passes (is_list_line sent.round sent.slot) mode link number place index result (later ++ exchanged sent ∷ earlier) refl
+    ∙ none-after mode link later sent earlier rise ack
 none-after mode link (ended number end slots ∷ later) sent earlier rise ack =
     no-end-line mode link sent.round sent.slot number end slots (later ++ exchanged sent ∷ earlier) ∙ none-after mode link later sent earlier rise ack
 

@@ -1,15 +1,18 @@
 -- A history grows by what comes next alone, and stops where nothing does.
-use Rattle.std.proofs.Common.{◌≡◌, ℕ, zero, suc, ◌+◌, ◌<◌, ◌==◌, true, false, List, [], ◌∷◌, ◌++◌, length, map, Option, Some, None, slice_get, refl, ap, sym, ◌∙◌, arith, add-one, ne_eqb, eq-eqb}
+use Rattle.std.proofs.Common.{◌≡◌, ℕ, zero, suc, ◌+◌, ◌<◌, ◌==◌, Bool, true, false, List, [], ◌∷◌, ◌++◌, length, map, Option, Some, None, slice_get, refl, ap, sym, ◌∙◌, subst, arith, add-one, ne_eqb, eq-eqb}
+use Rattle.access_ops.specs.DialogueLaws.{AwaitsReplies}
+use Rattle.access_ops.specs.OperationLaws.{Expects}
+use Rattle.access_ops.specs.Operations.{Dialogue, sends, tells, done}
 use Rattle.access_ops.specs.declared.OpList.{OpList}
-use Rattle.air_channel.specs.Past.{Start, Record, Item, exchanged, ended, next_record, past_behind_command, rounds_in}
-use Rattle.air_channel.specs.Reception.{Reception, no_stream, whole_reply, no_such_reply}
+use Rattle.air_channel.specs.Past.{Start, Record, Item, exchanged, operated, ended, next_record, past_behind_command, rounds_in}
+use Rattle.reply_grammar.specs.Reception.{Reception}
 use Rattle.air_world.specs.Headline.{IsSelect, IsLegalStep, AreLegalSteps, begins_slot, begins_slot_of, slot_records}
-use Rattle.air_world.specs.History.{outcome_of, past_behind_answer, slot_reception, past_behind_round, past_behind_step, past_behind, history_of}
-use Rattle.air_world.specs.HistoryLaws.{finished_in, reception_of_slot, outcomes_of_round, rn_of, rn_received, item_by_rule, item_in_round, item_of_step, next_item, GrowsByNext}
+use Rattle.air_world.specs.History.{outcome_of, operation_reception, past_behind_dialogue, dialogue_begun, ack_reception, past_behind_ack, past_behind_answer, slot_reception, past_behind_round, past_behind_step, past_behind, history_of}
+use Rattle.air_world.specs.HistoryLaws.{finished_in, reception_of_slot, outcomes_of_round, rn_of, rn_received, item_by_rule, dialogue_behind_record, dialogue_behind_result, dialogue_behind_exchange, dialogue_left, results_behind_exchange, results_told, item_of_slots, item_in_round, item_of_step, next_item, GrowsByNext}
 use Rattle.air_world.specs.declared.mode.Mode.TheVariants.{Plain}
-use Rattle.air_world.proofs.Growth.{RoundsKeepLimit, next_at_end, round-holds}
+use Rattle.air_world.proofs.Growth.{RoundsKeepLimit, dialogue-holds, begun-awaits, answer-cases, next_at_end, round-holds}
 use Rattle.air_world.proofs.HeadlineLines.{and-true}
-use Rattle.air_world.proofs.HeadlineSlots.{Fresh, step-fresh, first-fresh, next-begins}
+use Rattle.air_world.proofs.HeadlineSlots.{Fresh, step-fresh, first-fresh, next-begins, expects-begins-none}
 use Rattle.command_grammar.specs.declared.commands.Command.{Command}
 use Rattle.command_grammar.specs.declared.commands.Command.TheVariants as commands
 use Rattle.q_round.specs.SpecValue.{SpecValue, IsLegalSpec}
@@ -17,29 +20,38 @@ use Rattle.q_round.specs.declared.frame.Outcome.{Outcome}
 use Rattle.q_round.specs.declared.round.Next.{Next}
 use Rattle.q_round.specs.declared.round.RoundEnd.{RoundEnd}
 use Rattle.q_round.specs.declared.round.RoundEnd.TheVariants as round_ends
-use Rattle.reply_grammar.specs.declared.expected.Reply.TheVariants as replies
+use Rattle.reply_grammar.specs.declared.expected.Expect.{Expect}
 use Rattle.scenario.specs.declared.values.Step.{Step}
 use Rattle.scenario.specs.declared.values.Step.TheVariants as steps
 
--- within a round that began with so many rounds and steps behind it: the past so far, with the outcomes of its slots and the
--- RN16 that was just received
-record Inside (start : Start) (all : List Step) (finished rounds : ℕ) (outcomes : List Outcome) (received : Option ℕ) (past : List Item) : Type 0 where
+-- within a round that began with so many rounds and steps behind it: the past so far, with the outcomes of its slots, the RN16
+-- that was just received, and what is left of the dialogue with the tag that was listed last
+record Inside (start : Start) (all : List Step) (operations : OpList) (finished rounds : ℕ) (outcomes : List Outcome) (received : Option ℕ) (left : Dialogue) (past : List Item) : Type 0 where
   pub grows : GrowsByNext start all past
   pub finished_is : finished_in past ≡ finished
   pub rounds_are : rounds_in past ≡ rounds
   pub outcomes_are : outcomes_of_round (rounds + 1) past ≡ outcomes
   pub received_is : rn_received past ≡ received
+  pub left_is : dialogue_left start operations past ≡ left
 
 -- what comes next within a round
-next-inside : (start : Start) (all : List Step) (finished rounds : ℕ) (outcomes : List Outcome) (received : Option ℕ) (past : List Item) (spec : SpecValue) (operations : OpList)
-    → slice_get all finished ≡ Some (steps.Round spec operations) → Inside start all finished rounds outcomes received past
-    → next_item start all past ≡ Some (item_in_round start spec (rounds + 1) outcomes past received)
-next-inside start all finished rounds outcomes received past spec operations at inside =
+next-inside : (start : Start) (all : List Step) (operations : OpList) (finished rounds : ℕ) (outcomes : List Outcome) (received : Option ℕ) (left : Dialogue) (past : List Item) (spec : SpecValue)
+    → slice_get all finished ≡ Some (steps.Round spec operations) → Inside start all operations finished rounds outcomes received left past
+    → next_item start all past ≡ Some (item_in_round start spec (rounds + 1) outcomes past left)
+next-inside start all operations finished rounds outcomes received left past spec at inside =
     ap (λ n. item_of_step start past (slice_get all n)) inside.finished_is
     ∙ ap (λ (step : Option Step). item_of_step start past step) at
-    ∙ ap (λ n. Some (item_in_round start spec (n + 1) (outcomes_of_round (n + 1) past) past (rn_received past))) inside.rounds_are
-    ∙ ap (λ (o : List Outcome). Some (item_in_round start spec (rounds + 1) o past (rn_received past))) inside.outcomes_are
-    ∙ ap (λ (rn : Option ℕ). Some (item_in_round start spec (rounds + 1) outcomes past rn)) inside.received_is
+    ∙ ap (λ n. Some (item_in_round start spec (n + 1) (outcomes_of_round (n + 1) past) past (dialogue_left start operations past))) inside.rounds_are
+    ∙ ap (λ (o : List Outcome). Some (item_in_round start spec (rounds + 1) o past (dialogue_left start operations past))) inside.outcomes_are
+    ∙ ap (λ (dialogue : Dialogue). Some (item_in_round start spec (rounds + 1) outcomes past dialogue)) inside.left_is
+
+-- ... where no operation is left
+next-of-slots : (start : Start) (all : List Step) (operations : OpList) (finished rounds : ℕ) (outcomes : List Outcome) (received : Option ℕ) (past : List Item) (spec : SpecValue)
+    → slice_get all finished ≡ Some (steps.Round spec operations) → Inside start all operations finished rounds outcomes received done past
+    → next_item start all past ≡ Some (item_of_slots start spec (rounds + 1) outcomes past received)
+next-of-slots start all operations finished rounds outcomes received past spec at inside =
+    next-inside start all operations finished rounds outcomes received done past spec at inside
+    ∙ ap (λ (rn : Option ℕ). Some (item_of_slots start spec (rounds + 1) outcomes past rn)) inside.received_is
 
 -- the exchanges of a round finish no step
 round-unfinished : (sent : Record) (past : List Item) (rounds : ℕ) → sent.round ≡ rounds + 1 → finished_in (exchanged sent ∷ past) ≡ finished_in past
@@ -47,14 +59,20 @@ round-unfinished sent past rounds is =
     let other : (sent.round == 0) ≡ false = ne_eqb sent.round 0 (λ none. absurd (omega (arith, is, none))) in
     rw other refl
 
+-- a slot command begins no dialogue
+slot-done : (start : Start) (operations : OpList) (sent : Record) (command : Command) → begins_slot command ≡ true
+    → dialogue_behind_exchange start operations sent command done ≡ done
+slot-done start operations sent (commands.Ack rn) begins = absurd (cc)
+slot-done start operations sent command begins = refl
+
 -- a slot command of the round: it brings one outcome more, and an RN16 or none
-inside-sent : (start : Start) (all : List Step) (finished rounds : ℕ) (outcomes : List Outcome) (past : List Item) (command : Command)
+inside-sent : (start : Start) (all : List Step) (operations : OpList) (finished rounds : ℕ) (outcomes : List Outcome) (past : List Item) (command : Command)
     → begins_slot command ≡ true → next_item start all past ≡ Some (exchanged (next_record start (rounds + 1) (length outcomes + 1) command past))
-    → Inside start all finished rounds outcomes None past
-    → Inside start all finished rounds (outcome_of (slot_reception start (rounds + 1) (length outcomes + 1) command past) ∷ outcomes)
-    (rn_of (slot_reception start (rounds + 1) (length outcomes + 1) command past))
+    → Inside start all operations finished rounds outcomes None done past
+    → Inside start all operations finished rounds (outcome_of (slot_reception start (rounds + 1) (length outcomes + 1) command past) ∷ outcomes)
+    (rn_of (slot_reception start (rounds + 1) (length outcomes + 1) command past)) done
     (past_behind_command start (rounds + 1) (length outcomes + 1) command past)
-inside-sent start all finished rounds outcomes past command begins next inside =
+inside-sent start all operations finished rounds outcomes past command begins next inside =
     let sent = next_record start (rounds + 1) (length outcomes + 1) command past in
     let this : begins_slot_of (rounds + 1) sent ≡ true = and-true (begins_slot command) (rounds + 1 == rounds + 1) begins (eq-eqb (rounds + 1) (rounds + 1) refl) in
     let slots : slot_records (rounds + 1) (exchanged sent ∷ past) ≡ sent ∷ slot_records (rounds + 1) past = rw this refl in
@@ -65,42 +83,117 @@ inside-sent start all finished rounds outcomes past command begins next inside =
       outcomes_are = ap (λ (sents : List Record). map (λ sent. outcome_of (reception_of_slot sent)) sents) slots
           ∙ ap (λ (o : List Outcome). outcome_of (reception_of_slot sent) ∷ o) inside.outcomes_are;
       received_is = rw begins refl;
+      left_is = ap (λ (dialogue : Dialogue). dialogue_behind_exchange start operations sent command dialogue) inside.left_is
+          ∙ slot-done start operations sent command begins;
     }
 
--- the ACK that follows a whole RN16
-inside-ack : (start : Start) (all : List Step) (finished rounds : ℕ) (outcomes : List Outcome) (slot rn : ℕ) (past : List Item) (spec : SpecValue) (operations : OpList)
-    → slice_get all finished ≡ Some (steps.Round spec operations) → length outcomes ≡ slot → Inside start all finished rounds outcomes (Some rn) past
-    → Inside start all finished rounds outcomes None (past_behind_command start (rounds + 1) slot (commands.Ack rn) past)
-inside-ack start all finished rounds outcomes slot rn past spec operations at count inside = record {
-  grows = (
-    next-inside start all finished rounds outcomes (Some rn) past spec operations at inside
-        ∙ ap (λ n. Some (exchanged (next_record start (rounds + 1) n (commands.Ack rn) past))) count,
-    inside.grows,
-  );
-  finished_is = round-unfinished (next_record start (rounds + 1) slot (commands.Ack rn) past) past rounds refl ∙ inside.finished_is;
-  rounds_are = inside.rounds_are;
-  outcomes_are = inside.outcomes_are;
-  received_is = refl;
-}
+-- what an exchange leaves that begins no slot: it brings no outcome, and no RN16 of a slot
+inside-exchange : (start : Start) (all : List Step) (operations : OpList) (finished rounds : ℕ) (outcomes : List Outcome) (received : Option ℕ) (left now_left : Dialogue) (past : List Item) (sent : Record)
+    → sent.round ≡ rounds + 1 → begins_slot sent.command ≡ false → next_item start all past ≡ Some (exchanged sent)
+    → dialogue_left start operations (exchanged sent ∷ past) ≡ now_left
+    → Inside start all operations finished rounds outcomes received left past → Inside start all operations finished rounds outcomes None now_left (exchanged sent ∷ past)
+inside-exchange start all operations finished rounds outcomes received left now_left past sent round_is begins_none next left_is inside =
+    let slots : slot_records (rounds + 1) (exchanged sent ∷ past) ≡ slot_records (rounds + 1) past = rw begins_none refl in
+    record {
+      grows = (next, inside.grows);
+      finished_is = round-unfinished sent past rounds round_is ∙ inside.finished_is;
+      rounds_are = inside.rounds_are;
+      outcomes_are = ap (λ (sents : List Record). map (λ sent. outcome_of (reception_of_slot sent)) sents) slots ∙ inside.outcomes_are;
+      received_is = rw begins_none refl;
+      left_is = left_is;
+    }
 
-inside-answer : (start : Start) (all : List Step) (finished rounds : ℕ) (outcomes : List Outcome) (slot : ℕ) (reception : Reception) (past : List Item) (spec : SpecValue) (operations : OpList)
-    → slice_get all finished ≡ Some (steps.Round spec operations) → length outcomes ≡ slot → Inside start all finished rounds outcomes (rn_of reception) past
-    → Inside start all finished rounds outcomes None (past_behind_answer start (rounds + 1) slot reception past)
-inside-answer start all finished rounds outcomes slot no_stream past spec operations at count inside = inside
-inside-answer start all finished rounds outcomes slot no_such_reply past spec operations at count inside = inside
-inside-answer start all finished rounds outcomes slot (whole_reply (replies.Rn16 rn)) past spec operations at count inside =
-    inside-ack start all finished rounds outcomes slot rn past spec operations at count inside
-inside-answer start all finished rounds outcomes slot (whole_reply (replies.Epc pc epc)) past spec operations at count inside = inside
-inside-answer start all finished rounds outcomes slot (whole_reply (replies.Handle rn)) past spec operations at count inside = inside
-inside-answer start all finished rounds outcomes slot (whole_reply (replies.Words words)) past spec operations at count inside = inside
-inside-answer start all finished rounds outcomes slot (whole_reply replies.Header) past spec operations at count inside = inside
-inside-answer start all finished rounds outcomes slot (whole_reply (replies.Error code)) past spec operations at count inside = inside
+-- a command of an operation goes on with the dialogue
+goes-on : (start : Start) (operations : OpList) (sent : Record) (command : Command) (expect : Expect) (extended : Bool) (left : Dialogue) → Expects command expect extended
+    → dialogue_behind_exchange start operations sent command left ≡ dialogue_behind_record start sent left
+goes-on start operations sent (commands.Ack rn) expect extended left suits = absurd suits
+goes-on start operations sent command expect extended left suits = refl
+
+-- ... and tells no result
+tells-none : (command : Command) (expect : Expect) (extended : Bool) (told : ℕ) → Expects command expect extended → results_behind_exchange command told ≡ told
+tells-none (commands.Ack rn) expect extended told suits = absurd suits
+tells-none command expect extended told suits = refl
+
+-- within a dialogue, whose next result has this number
+record InDialogue (start : Start) (all : List Step) (operations : OpList) (finished rounds : ℕ) (outcomes : List Outcome) (index : ℕ) (left : Dialogue) (past : List Item) : Type 0 where
+  pub inside : Inside start all operations finished rounds outcomes None left past
+  pub told_is : results_told past + 1 ≡ index
+  pub awaits : AwaitsReplies left
+
+-- a dialogue grows by what comes next alone
+inside-dialogue : (start : Start) (all : List Step) (operations : OpList) (finished rounds : ℕ) (outcomes : List Outcome) (slot index : ℕ) (left : Dialogue) (past : List Item) (spec : SpecValue)
+    → slice_get all finished ≡ Some (steps.Round spec operations) → length outcomes ≡ slot → InDialogue start all operations finished rounds outcomes index left past
+    → Inside start all operations finished rounds outcomes None done (past_behind_dialogue start (rounds + 1) slot index left past)
+inside-dialogue start all operations finished rounds outcomes slot index left past spec at count holds =
+    dialogue-holds (InDialogue start all operations finished rounds outcomes) (Inside start all operations finished rounds outcomes None done) start (rounds + 1) slot
+    (record {
+      command = λ index command expect extended go_on now here.
+          let sent = next_record start (rounds + 1) slot command now in
+          let suits : Expects command expect extended = here.awaits.0 in
+          record {
+            inside = inside-exchange start all operations finished rounds outcomes None (sends command expect extended go_on)
+                (go_on (operation_reception start (rounds + 1) slot command expect extended now)) now sent refl (expects-begins-none command expect extended suits)
+                (next-inside start all operations finished rounds outcomes None (sends command expect extended go_on) now spec at here.inside
+                ∙ ap (λ n. Some (exchanged (next_record start (rounds + 1) n command now))) count)
+                (ap (λ (dialogue : Dialogue). dialogue_behind_exchange start operations sent command dialogue) here.inside.left_is
+                ∙ goes-on start operations sent command expect extended (sends command expect extended go_on) suits)
+                here.inside;
+            told_is = ap (λ n. n + 1) (tells-none command expect extended (results_told now) suits) ∙ here.told_is;
+            awaits = here.awaits.1 _;
+          };
+      result = λ index result later now here. record {
+        inside = record {
+          grows = (
+            next-inside start all operations finished rounds outcomes None (tells result later) now spec at here.inside
+                ∙ ap (λ n. Some (operated (rounds + 1) n (results_told now + 1) result)) count
+                ∙ ap (λ n. Some (operated (rounds + 1) slot n result)) here.told_is,
+            here.inside.grows,
+          );
+          finished_is = here.inside.finished_is;
+          rounds_are = here.inside.rounds_are;
+          outcomes_are = here.inside.outcomes_are;
+          received_is = refl;
+          left_is = ap dialogue_behind_result here.inside.left_is;
+        };
+        told_is = ap (λ n. n + 1) here.told_is;
+        awaits = here.awaits;
+      };
+      end = λ index now here. here.inside;
+    })
+    index left past holds
+
+-- the ACK that follows a whole RN16, and what follows it
+inside-ack : (start : Start) (all : List Step) (operations : OpList) (finished rounds : ℕ) (outcomes : List Outcome) (slot rn : ℕ) (past : List Item) (spec : SpecValue)
+    → slice_get all finished ≡ Some (steps.Round spec operations) → length outcomes ≡ slot → Inside start all operations finished rounds outcomes (Some rn) done past
+    → Inside start all operations finished rounds outcomes None done (past_behind_ack start operations (rounds + 1) slot rn past)
+inside-ack start all operations finished rounds outcomes slot rn past spec at count inside =
+    let sent = next_record start (rounds + 1) slot (commands.Ack rn) past in
+    let begun = dialogue_begun operations rn (ack_reception start (rounds + 1) slot rn past) in
+    inside-dialogue start all operations finished rounds outcomes slot 1 begun (exchanged sent ∷ past) spec at count
+    (record {
+      inside = inside-exchange start all operations finished rounds outcomes (Some rn) done begun past sent refl refl
+          (next-of-slots start all operations finished rounds outcomes (Some rn) past spec at inside
+          ∙ ap (λ n. Some (exchanged (next_record start (rounds + 1) n (commands.Ack rn) past))) count)
+          refl inside;
+      told_is = refl;
+      awaits = begun-awaits operations rn (ack_reception start (rounds + 1) slot rn past);
+    })
+
+inside-answer : (start : Start) (all : List Step) (operations : OpList) (finished rounds : ℕ) (outcomes : List Outcome) (slot : ℕ) (reception : Reception) (past : List Item) (spec : SpecValue)
+    → slice_get all finished ≡ Some (steps.Round spec operations) → length outcomes ≡ slot → Inside start all operations finished rounds outcomes (rn_of reception) done past
+    → Inside start all operations finished rounds outcomes None done (past_behind_answer start operations (rounds + 1) slot reception past)
+inside-answer start all operations finished rounds outcomes slot reception past spec at count inside =
+    answer-cases (Inside start all operations finished rounds outcomes None done) start operations (rounds + 1) slot reception past
+    (λ none. subst (λ (received : Option ℕ). Inside start all operations finished rounds outcomes received done past) none inside)
+    (λ rn is. inside-ack start all operations finished rounds outcomes slot rn past spec at count
+    (subst (λ (reception : Reception). Inside start all operations finished rounds outcomes (rn_of reception) done past) is inside))
 
 -- between steps, of which so many are finished
 record Between (start : Start) (all : List Step) (finished : ℕ) (past : List Item) : Type 0 where
   pub grows : GrowsByNext start all past
   pub finished_is : finished_in past ≡ finished
   pub received_is : rn_received past ≡ None
+  pub over : (operations : OpList) → dialogue_left start operations past ≡ done
   pub fresh : Fresh Plain start.link past
 
 -- what a round leaves
@@ -108,6 +201,7 @@ record Behind (start : Start) (all : List Step) (finished : ℕ) (past : List It
   pub grows : GrowsByNext start all past
   pub finished_is : finished_in past ≡ finished
   pub received_is : rn_received past ≡ None
+  pub over : (operations : OpList) → dialogue_left start operations past ≡ done
 
 end-item : (start : Start) (round : ℕ) (outcomes : List Outcome) (past : List Item) (end : RoundEnd)
     → item_by_rule start round outcomes past (next_at_end end) ≡ ended round end (length outcomes)
@@ -115,31 +209,32 @@ end-item start round outcomes past round_ends.Quiet = refl
 end-item start round outcomes past round_ends.Limit = refl
 
 round-grows : RoundsKeepLimit → (start : Start) (all : List Step) (finished : ℕ) (past : List Item) (spec : SpecValue) (operations : OpList) → IsLegalSpec spec
-    → slice_get all finished ≡ Some (steps.Round spec operations) → Between start all finished past → Behind start all (finished + 1) (past_behind_round start spec past)
+    → slice_get all finished ≡ Some (steps.Round spec operations) → Between start all finished past → Behind start all (finished + 1) (past_behind_round start operations spec past)
 round-grows keeps start all finished past spec operations legal at between =
     let rounds : ℕ = rounds_in past in
-    round-holds (λ outcomes now. Inside start all finished rounds outcomes None now) (λ now. Behind start all (finished + 1) now)
-    start spec past keeps legal
+    round-holds (λ outcomes now. Inside start all operations finished rounds outcomes None done now) (λ now. Behind start all (finished + 1) now)
+    start operations spec past keeps legal
     (record {
       slot = λ outcomes now command are is inside.
           let slot : ℕ = length outcomes + 1 in
           let begins : begins_slot command ≡ true = next-begins spec start.link outcomes command is in
           let next : next_item start all now ≡ Some (exchanged (next_record start (rounds + 1) slot command now)) =
-          next-inside start all finished rounds outcomes None now spec operations at inside
+          next-of-slots start all operations finished rounds outcomes None now spec at inside
           ∙ ap (λ (next : Next). Some (item_by_rule start (rounds + 1) outcomes now next)) is in
           let reception = slot_reception start (rounds + 1) slot command now in
-          inside-answer start all finished rounds (outcome_of reception ∷ outcomes) slot reception (past_behind_command start (rounds + 1) slot command now) spec operations at
+          inside-answer start all operations finished rounds (outcome_of reception ∷ outcomes) slot reception (past_behind_command start (rounds + 1) slot command now) spec at
           (sym (add-one (length outcomes)))
-          (inside-sent start all finished rounds outcomes now command begins next inside);
+          (inside-sent start all operations finished rounds outcomes now command begins next inside);
       end = λ outcomes now end are is inside. record {
         grows = (
-          next-inside start all finished rounds outcomes None now spec operations at inside
+          next-of-slots start all operations finished rounds outcomes None now spec at inside
               ∙ ap (λ (next : Next). Some (item_by_rule start (rounds + 1) outcomes now next)) is
               ∙ ap (λ (item : Item). Some item) (end-item start (rounds + 1) outcomes now end),
           inside.grows,
         );
         finished_is = ap (λ n. n + 1) inside.finished_is;
         received_is = refl;
+        over = λ other. refl;
       };
     })
     (record {
@@ -148,12 +243,19 @@ round-grows keeps start all finished past spec operations legal at between =
       rounds_are = refl;
       outcomes_are = ap (λ (sents : List Record). map (λ sent. outcome_of (reception_of_slot sent)) sents) (between.fresh (rounds + 1) (omega arith)).slots;
       received_is = between.received_is;
+      left_is = between.over operations;
     })
 
 -- a Select begins no slot
 select-begins-none : (command : Command) → IsSelect command → begins_slot command ≡ false
 select-begins-none (commands.Select target action bank pointer mask) is = refl
 select-begins-none command is = absurd is
+
+-- ... and no dialogue
+select-done : (start : Start) (operations : OpList) (sent : Record) (command : Command) → IsSelect command
+    → dialogue_behind_exchange start operations sent command done ≡ done
+select-done start operations sent (commands.Ack rn) is = absurd is
+select-done start operations sent command is = refl
 
 -- what comes next between steps
 next-between : (start : Start) (all : List Step) (finished : ℕ) (past : List Item) (step : Option Step) → slice_get all finished ≡ step → Between start all finished past
@@ -169,19 +271,24 @@ step-grows-by-next keeps start all finished past (steps.Select command) legal at
       grows = (next-between start all finished past (Some (steps.Select command)) at between, between.grows);
       finished_is = ap (λ n. n + 1) between.finished_is;
       received_is = rw none refl;
+      over = λ operations.
+          ap (λ (dialogue : Dialogue). dialogue_behind_exchange start operations (next_record start 0 0 command past) command dialogue) (between.over operations)
+          ∙ select-done start operations (next_record start 0 0 command past) command legal;
     }
 step-grows-by-next keeps start all finished past steps.Nak legal at between = record {
   grows = (next-between start all finished past (Some steps.Nak) at between, between.grows);
   finished_is = ap (λ n. n + 1) between.finished_is;
   received_is = refl;
+  over = λ operations. ap (λ (dialogue : Dialogue). dialogue_behind_record start (next_record start 0 0 commands.Nak past) dialogue) (between.over operations);
 }
 step-grows-by-next keeps start all finished past (steps.Event event number) legal at between = record {
   grows = (next-between start all finished past (Some (steps.Event event number)) at between, between.grows);
   finished_is = ap (λ n. n + 1) between.finished_is;
   received_is = refl;
+  over = λ operations. refl;
 }
 step-grows-by-next keeps start all finished past (steps.Round spec operations) legal at between =
-    round-grows keeps start all finished past spec operations legal at between
+    round-grows keeps start all finished past spec operations legal.legal at between
 
 -- a run grows by what comes next, and nothing comes next where no step is left
 record Ends (start : Start) (all : List Step) (history : List Item) : Type 0 where
@@ -203,13 +310,14 @@ steps-grow-by-next keeps start all (step ∷ left) finished past legal at betwee
       grows = behind.grows;
       finished_is = behind.finished_is;
       received_is = behind.received_is;
+      over = behind.over;
       fresh = step-fresh keeps Plain start step past legal.0 between.fresh;
     })
 
 history-ends : RoundsKeepLimit → (start : Start) (all : List Step) → AreLegalSteps all → Ends start all (history_of start all)
 history-ends keeps start all legal =
     steps-grow-by-next keeps start all all 0 [] legal (λ place more is. ap (λ n. slice_get all n) (is ∙ omega arith))
-    (record { grows = tt; finished_is = refl; received_is = refl; fresh = first-fresh Plain start.link })
+    (record { grows = tt; finished_is = refl; received_is = refl; over = λ operations. refl; fresh = first-fresh Plain start.link })
 
 pub history-grows : RoundsKeepLimit → (start : Start) (all : List Step) → AreLegalSteps all → GrowsByNext start all (history_of start all)
 history-grows keeps start all legal = (history-ends keeps start all legal).grows

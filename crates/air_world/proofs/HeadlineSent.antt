@@ -1,21 +1,25 @@
 -- Each list line is what a present tag sent: from the line to the record that lists it, from what the channel gave to a reply,
 -- and from the reply to the tag with its number.
 use Rattle.std.proofs.Common.{◌≡◌, ℕ, zero, suc, ◌+◌, Bool, true, false, ◌⊎◌, inl, inr, List, [], ◌∷◌, ◌++◌, length, map, Contains, Option, Some, None, slice_get, if◌then◌else◌, refl, ap, sym, ◌∙◌, subst, le_of_suc-le-suc, arith}
+use Rattle.access_ops.specs.declared.OpList.{OpList}
 use Rattle.air_channel.specs.Air.{replies_in, given_in}
 use Rattle.air_channel.specs.Channel.{Given, silence, whole, broken, whole_or_silence, first_broken, default_given, given_of}
 use Rattle.air_channel.specs.Exchange.{Replied, reply_of, replies_from, is_missed, outcome_unless, outcome_in, outcomes_from, tag_after_events}
-use Rattle.air_channel.specs.Past.{Start, Record, Item, befell, exchanged, ended, tag_behind, tags_behind, tags_behind_from, next_entry, next_record, past_behind_command, rounds_in, is_hearer, hearers_of}
-use Rattle.air_channel.specs.Reception.{Reception, no_stream, whole_reply, no_such_reply, is_expected, reception_of}
+use Rattle.air_channel.specs.Past.{Start, Record, Item, befell, exchanged, operated, ended, tag_behind, tags_behind, tags_behind_from, next_entry, next_record, past_behind_command, rounds_in, is_hearer, hearers_of}
+use Rattle.air_channel.specs.Reception.{is_expected, reception_of}
+use Rattle.reply_grammar.specs.Reception.{whole_reply, no_such_reply}
 use Rattle.air_events.specs.declared.Choice.{Choice}
 use Rattle.air_events.specs.declared.Choice.TheVariants as choices
 use Rattle.air_events.specs.declared.Entry.{Entry}
+use Rattle.air_events.specs.declared.Several.{Several}
+use Rattle.air_events.specs.declared.Several.TheVariants as severals
 use Rattle.air_world.specs.Headline.{AreLegalSteps, IsRecordOf, Acknowledges, tag_in, IsFromTag, IsGivenWhole, IsSentByATag}
-use Rattle.air_world.specs.History.{past_behind_answer, slot_reception, past_behind_slot, past_behind_step, past_behind, history_of}
+use Rattle.air_world.specs.History.{slot_reception, past_behind_slot, past_behind_step, past_behind, history_of}
 use Rattle.air_world.specs.Listing.{reception_of_ack, listed_from, listed_by, listing_of}
 use Rattle.air_world.specs.Report.{first_lines, trace_lines, list_line, item_lines, past_lines, tag_lines, last_lines, report_of}
 use Rattle.air_world.specs.declared.mode.Mode.{Mode}
 use Rattle.air_world.specs.declared.mode.Mode.TheVariants.{Plain, Trace}
-use Rattle.air_world.proofs.Growth.{RoundsKeepLimit, always-holds}
+use Rattle.air_world.proofs.Growth.{RoundsKeepLimit, answer-keeps, always-holds}
 use Rattle.air_world.proofs.HeadlineListed.{one-ack}
 use Rattle.command_grammar.specs.declared.commands.Command.{Command}
 use Rattle.command_grammar.specs.declared.commands.Command.TheVariants as commands
@@ -36,32 +40,25 @@ abbrev pub AreMade : Start → List Item → Type 0
 AreMade start [] = Unit {0}
 AreMade start (befell event number ∷ past) = AreMade start past
 AreMade start (exchanged sent ∷ past) = (sent ≡ next_record start sent.round sent.slot sent.command past) × AreMade start past
+AreMade start (operated round slot index result ∷ past) = AreMade start past
 AreMade start (ended round end slots ∷ past) = AreMade start past
 
-made-answer : (start : Start) (round slot : ℕ) (reception : Reception) (past : List Item) → AreMade start past
-    → AreMade start (past_behind_answer start round slot reception past)
-made-answer start round slot no_stream past made = made
-made-answer start round slot no_such_reply past made = made
-made-answer start round slot (whole_reply (replies.Rn16 rn)) past made = (refl, made)
-made-answer start round slot (whole_reply (replies.Epc pc epc)) past made = made
-made-answer start round slot (whole_reply (replies.Handle rn)) past made = made
-made-answer start round slot (whole_reply (replies.Words words)) past made = made
-made-answer start round slot (whole_reply replies.Header) past made = made
-made-answer start round slot (whole_reply (replies.Error code)) past made = made
-
-pub made-slot : (start : Start) (round slot : ℕ) (command : Command) (past : List Item) → AreMade start past
-    → AreMade start (past_behind_slot start round slot command past)
-made-slot start round slot command past made =
-    made-answer start round slot (slot_reception start round slot command past) (past_behind_command start round slot command past) (refl, made)
+pub made-slot : (start : Start) (operations : OpList) (round slot : ℕ) (command : Command) (past : List Item) → AreMade start past
+    → AreMade start (past_behind_slot start operations round slot command past)
+made-slot start operations round slot command past made =
+    answer-keeps (AreMade start) start operations round slot (slot_reception start round slot command past) (past_behind_command start round slot command past)
+    (record { command = λ command expect extended now awaits holds. (refl, holds); result = λ index result now holds. holds })
+    (λ rn holds. (refl, holds))
+    (refl, made)
 
 made-step : (start : Start) (step : Step) (past : List Item) → AreMade start past → AreMade start (past_behind_step start step past)
 made-step start (steps.Select command) past made = (refl, made)
 made-step start steps.Nak past made = (refl, made)
 made-step start (steps.Event event number) past made = made
 made-step start (steps.Round spec operations) past made =
-    always-holds (AreMade start) start (rounds_in past + 1) spec
+    always-holds (AreMade start) start operations (rounds_in past + 1) spec
     (record {
-      slot = λ outcomes now command are is holds. made-slot start (rounds_in past + 1) (length outcomes + 1) command now holds;
+      slot = λ outcomes now command are is holds. made-slot start operations (rounds_in past + 1) (length outcomes + 1) command now holds;
       end = λ outcomes now end are is holds. holds;
     })
     (suc spec.limit) [] past tt made
@@ -75,6 +72,7 @@ pub made-at : (start : Start) (later : List Item) (sent : Record) (earlier : Lis
 made-at start [] sent earlier made = made.0
 made-at start (befell event number ∷ later) sent earlier made = made-at start later sent earlier made
 made-at start (exchanged other ∷ later) sent earlier made = made-at start later sent earlier made.1
+made-at start (operated round slot index result ∷ later) sent earlier made = made-at start later sent earlier made
 made-at start (ended round end slots ∷ later) sent earlier made = made-at start later sent earlier made
 
 -- an item is one of a list
@@ -176,6 +174,8 @@ told-trace Trace link sent round slot pc epc (inr (inr none)) = none
 told-item : (mode : Mode) (link : LinkValue) (item : Item) (past : List Item) (round slot pc : ℕ) (epc : List ℕ)
     → Among (ListLine round slot pc epc) (item_lines mode link item) → IsTold (item ∷ past) round slot pc epc
 told-item mode link (befell event number) past round slot pc epc among = absurd among
+told-item mode link (operated number place index result) past round slot pc epc (inl is) = absurd (cc)
+told-item mode link (operated number place index result) past round slot pc epc (inr none) = absurd none
 told-item mode link (ended number end slots) past round slot pc epc (inl is) = absurd (cc)
 told-item mode link (ended number end slots) past round slot pc epc (inr none) = absurd none
 told-item mode link (exchanged sent) past round slot pc epc among =
@@ -226,21 +226,22 @@ picked : (replies : List Replied) (found : Option Replied) (number : ℕ) (repli
 picked replies None number replied is given = absurd (cc)
 picked replies (Some other) number replied is given = among-get replies number replied (is ∙ ap (λ (r : Replied). Some r) (cc))
 
-by-default : (replies : List Replied) (replied : Replied) → default_given replies ≡ whole replied → Among replied replies
-by-default [] replied given = absurd (cc)
-by-default (one ∷ []) replied given = inl (cc)
-by-default (one ∷ other ∷ others) replied given = absurd (cc)
+by-default : (several : Several) (replies : List Replied) (replied : Replied) → default_given several replies ≡ whole replied → Among replied replies
+by-default several [] replied given = absurd (cc)
+by-default several (one ∷ []) replied given = inl (cc)
+by-default severals.Break (one ∷ other ∷ others) replied given = absurd (cc)
+by-default severals.Capture (one ∷ other ∷ others) replied given = inl (cc)
 
 first-broken : (replies : List Replied) (place : ℕ) (replied : Replied) → first_broken replies place ≡ whole replied → Among replied replies
 first-broken [] place replied given = absurd (cc)
 first-broken (one ∷ others) place replied given = absurd (cc)
 
 -- what the channel gives whole is one of the replies
-pub given-among : (replies : List Replied) (choice : Option Choice) (replied : Replied) → given_of replies choice ≡ whole replied → Among replied replies
-given-among replies (Some (choices.Pick number)) replied given = picked replies (slice_get replies number) number replied refl given
-given-among replies (Some choices.Silent) replied given = absurd (cc)
-given-among replies (Some (choices.Break place)) replied given = first-broken replies place replied given
-given-among replies None replied given = by-default replies replied given
+pub given-among : (replies : List Replied) (choice : Option Choice) (several : Several) (replied : Replied) → given_of replies choice several ≡ whole replied → Among replied replies
+given-among replies (Some (choices.Pick number)) several replied given = picked replies (slice_get replies number) number replied refl given
+given-among replies (Some choices.Silent) several replied given = absurd (cc)
+given-among replies (Some (choices.Break place)) several replied given = first-broken replies place replied given
+given-among replies None several replied given = by-default several replies replied given
 
 -- the tag with the number in a reply, among tags that are numbered from a number on
 record Answerer (number : ℕ) (command : Command) (entry : Entry) (past : List Item) (starts : List TagValue) (replied : Replied) : Type 0 where
@@ -331,9 +332,9 @@ from-tag start sent earlier rn replied made acknowledges given =
     let entry_is : sent.entry ≡ entry = ap (λ (r : Record). r.entry) made in
     let replies_are : sent.replies ≡ replies_in sent.command entry (tags_behind start earlier) = ap (λ (r : Record). r.replies) made in
     let hearers_are : sent.hearers ≡ hearers_of 0 entry (tags_behind start earlier) = ap (λ (r : Record). r.hearers) made in
-    let given_is : given_in sent.command entry (tags_behind start earlier) ≡ whole replied = sym (ap (λ (r : Record). r.given) made) ∙ given in
+    let given_is : given_in start.several sent.command entry (tags_behind start earlier) ≡ whole replied = sym (ap (λ (r : Record). r.given) made) ∙ given in
     let among : Among replied (replies_in sent.command entry (tags_behind start earlier)) =
-    given-among (replies_in sent.command entry (tags_behind start earlier)) entry.choice replied given_is in
+    given-among (replies_in sent.command entry (tags_behind start earlier)) entry.choice start.several replied given_is in
     let by = answerer 0 sent.command entry earlier start.tags replied among in
     let tag = tag_after_events replied.number entry.events (tag_behind replied.number by.tag earlier) in
     let heard : Hears (is_missed replied.number entry) sent.command tag replied.sent = hears (is_missed replied.number entry) sent.command tag replied.sent by.answered in

@@ -1,17 +1,18 @@
 -- How many slot commands a round has: at most its limit, as many as its line says, and no other round adds to them.
-use Rattle.std.proofs.Common.{◌≡◌, ◌≢◌, ℕ, suc, ◌+◌, ◌<◌, ◌≤◌, ◌==◌, ◌⊎◌, inl, inr, Bool, true, false, List, [], ◌∷◌, ◌++◌, length, map, filter, refl, ap, sym, ◌∙◌, subst, append-nil, arith, ne_eqb, eq-eqb}
+use Rattle.std.proofs.Common.{◌≡◌, ◌≢◌, ℕ, suc, ◌+◌, ◌<◌, ◌≤◌, ◌==◌, ◌⊎◌, inl, inr, Bool, true, false, List, [], ◌∷◌, ◌++◌, length, filter, refl, ap, sym, ◌∙◌, subst, append-nil, arith, ne_eqb, eq-eqb}
 use Rattle.std.proofs.lemmas.List.Elements.{filter-append}
+use Rattle.access_ops.specs.OperationLaws.{Expects}
 use Rattle.access_ops.specs.declared.OpList.{OpList}
-use Rattle.air_channel.specs.Past.{Start, Record, Item, exchanged, ended, next_record, past_behind_command, rounds_in}
-use Rattle.air_channel.specs.Reception.{Reception, no_stream, whole_reply, no_such_reply}
+use Rattle.access_ops.specs.declared.op_next.OpResult.{OpResult}
+use Rattle.air_channel.specs.Past.{Start, Record, Item, exchanged, operated, ended, next_record, past_behind_command, rounds_in}
+use Rattle.reply_grammar.specs.Reception.{Reception}
 use Rattle.air_world.specs.Headline.{IsLegalStep, AreLegalSteps, is_round_line, begins_slot, begins_slot_of, slot_records, rounds_of, KeepsLimit}
 use Rattle.air_world.specs.History.{past_behind_answer, slot_reception, past_behind_slot, past_behind_round, past_behind_step, past_behind, history_of}
-use Rattle.air_world.specs.Listing.{Listed, listed_by}
-use Rattle.air_world.specs.Report.{list_line, past_lines, last_lines, report_of}
+use Rattle.air_world.specs.Report.{past_lines, last_lines, report_of}
 use Rattle.air_world.specs.declared.mode.Mode.{Mode}
 use Rattle.air_world.specs.declared.mode.Mode.TheVariants.{Plain, Trace}
-use Rattle.air_world.proofs.HeadlineLines.{round-lines-pass, sent-passes, befell-passes, report-passes, and-false, and-true}
-use Rattle.air_world.proofs.Growth.{RoundsKeepLimit, round-holds, few-outcomes}
+use Rattle.air_world.proofs.HeadlineLines.{round-lines-pass, sent-adds-none, befell-passes, operated-passes, report-passes, and-false, and-true}
+use Rattle.air_world.proofs.Growth.{RoundsKeepLimit, answer-keeps, round-holds, few-outcomes}
 use Rattle.command_grammar.specs.declared.commands.Command.{Command}
 use Rattle.command_grammar.specs.declared.commands.Command.TheVariants as commands
 use Rattle.pie_line.specs.Link.{LinkValue}
@@ -21,7 +22,7 @@ use Rattle.q_round.specs.declared.frame.Outcome.{Outcome}
 use Rattle.q_round.specs.declared.round.Next.{Next}
 use Rattle.q_round.specs.declared.round.Next.TheVariants as nexts
 use Rattle.q_round.specs.declared.round.RoundEnd.{RoundEnd}
-use Rattle.reply_grammar.specs.declared.expected.Reply.TheVariants as replies
+use Rattle.reply_grammar.specs.declared.expected.Expect.{Expect}
 use Rattle.report_lines.specs.ReportLine.{ReportLine, RoundLine}
 use Rattle.scenario.specs.declared.values.Step.{Step}
 use Rattle.scenario.specs.declared.values.Step.TheVariants as steps
@@ -30,17 +31,10 @@ use Rattle.scenario.specs.declared.values.Step.TheVariants as steps
 abbrev pub round_lines : Mode → LinkValue → ℕ → List Item → List ReportLine
 round_lines mode link round past = filter (is_round_line round) (past_lines mode link past)
 
-no-listed : (round : ℕ) (listing : List Listed) → filter (is_round_line round) (map list_line listing) ≡ []
-no-listed round [] = refl
-no-listed round (listed ∷ listing) = no-listed round listing
-
 -- an exchange has no such line
 sent-no-line : (mode : Mode) (link : LinkValue) (round : ℕ) (sent : Record) (past : List Item)
     → round_lines mode link round (exchanged sent ∷ past) ≡ round_lines mode link round past
-sent-no-line mode link round sent past =
-    sent-passes (is_round_line round) (round-lines-pass round) mode link sent past
-    ∙ ap (λ (lines : List ReportLine). round_lines mode link round past ++ lines) (no-listed round (listed_by sent))
-    ∙ append-nil (round_lines mode link round past)
+sent-no-line mode link round sent past = sent-adds-none (is_round_line round) (round-lines-pass round) (λ listed. refl) mode link sent past
 
 -- a past has the same slot commands and lines of a round as another
 pub record SameOf (mode : Mode) (link : LinkValue) (round : ℕ) (past now : List Item) : Type 0 where
@@ -59,45 +53,60 @@ pub same-sent : (mode : Mode) (link : LinkValue) (round : ℕ) (sent : Record) (
     → SameOf mode link round past (exchanged sent ∷ past)
 same-sent mode link round sent past no_slot = record { slots = rw no_slot refl; lines = sent-no-line mode link round sent past }
 
-pub same-answer : (mode : Mode) (link : LinkValue) (of : ℕ) (start : Start) (round slot : ℕ) (reception : Reception) (past : List Item)
-    → SameOf mode link of past (past_behind_answer start round slot reception past)
-same-answer mode link of start round slot no_stream past = same-of mode link of past
-same-answer mode link of start round slot no_such_reply past = same-of mode link of past
-same-answer mode link of start round slot (whole_reply (replies.Rn16 rn)) past = same-sent mode link of (next_record start round slot (commands.Ack rn) past) past refl
-same-answer mode link of start round slot (whole_reply (replies.Epc pc epc)) past = same-of mode link of past
-same-answer mode link of start round slot (whole_reply (replies.Handle rn)) past = same-of mode link of past
-same-answer mode link of start round slot (whole_reply (replies.Words words)) past = same-of mode link of past
-same-answer mode link of start round slot (whole_reply replies.Header) past = same-of mode link of past
-same-answer mode link of start round slot (whole_reply (replies.Error code)) past = same-of mode link of past
+-- a result adds nothing
+same-result : (mode : Mode) (link : LinkValue) (of round slot index : ℕ) (result : OpResult) (past : List Item)
+    → SameOf mode link of past (operated round slot index result ∷ past)
+same-result mode link of round slot index result past = record {
+  slots = refl;
+  lines = operated-passes (is_round_line of) mode link round slot index result past refl;
+}
+
+-- no command of an operation begins a slot
+pub expects-begins-none : (command : Command) (expect : Expect) (extended : Bool) → Expects command expect extended → begins_slot command ≡ false
+expects-begins-none (commands.Query dr code trext sel session target q) expect extended suits = absurd suits
+expects-begins-none (commands.QueryAdjust session updn) expect extended suits = absurd suits
+expects-begins-none (commands.QueryRep session) expect extended suits = absurd suits
+expects-begins-none command expect extended suits = refl
+
+pub operation-begins-none : (of : ℕ) (sent : Record) (expect : Expect) (extended : Bool) → Expects sent.command expect extended → begins_slot_of of sent ≡ false
+operation-begins-none of sent expect extended suits = rw (expects-begins-none sent.command expect extended suits) refl
+
+-- what follows a slot command in its slot adds nothing to any round
+pub same-answer : (mode : Mode) (link : LinkValue) (of : ℕ) (start : Start) (operations : OpList) (round slot : ℕ) (reception : Reception) (past : List Item)
+    → SameOf mode link of past (past_behind_answer start operations round slot reception past)
+same-answer mode link of start operations round slot reception past =
+    answer-keeps (λ now. SameOf mode link of past now) start operations round slot reception past
+    (record {
+      command = λ command expect extended now suits same.
+          let sent = next_record start round slot command now in
+          same-on mode link of past now (exchanged sent ∷ now) same (same-sent mode link of sent now (operation-begins-none of sent expect extended suits));
+      result = λ index result now same.
+          same-on mode link of past now (operated round slot index result ∷ now) same (same-result mode link of round slot index result now);
+    })
+    (λ rn same. same-sent mode link of (next_record start round slot (commands.Ack rn) past) past refl)
+    (same-of mode link of past)
 
 -- a record of another round begins no slot of this one
 other-round : (round : ℕ) (sent : Record) → sent.round ≢ round → begins_slot_of round sent ≡ false
 other-round round sent other = and-false (begins_slot sent.command) (sent.round == round) (ne_eqb sent.round round other)
 
-pub same-slot : (mode : Mode) (link : LinkValue) (of : ℕ) (start : Start) (round slot : ℕ) (command : Command) (past : List Item) → round ≢ of
-    → SameOf mode link of past (past_behind_slot start round slot command past)
-same-slot mode link of start round slot command past other =
+pub same-slot : (mode : Mode) (link : LinkValue) (of : ℕ) (start : Start) (operations : OpList) (round slot : ℕ) (command : Command) (past : List Item) → round ≢ of
+    → SameOf mode link of past (past_behind_slot start operations round slot command past)
+same-slot mode link of start operations round slot command past other =
     let sent = next_record start round slot command past in
-    same-on mode link of past (exchanged sent ∷ past) (past_behind_slot start round slot command past)
+    same-on mode link of past (exchanged sent ∷ past) (past_behind_slot start operations round slot command past)
     (same-sent mode link of sent past (other-round of sent other))
-    (same-answer mode link of start round slot (slot_reception start round slot command past) (exchanged sent ∷ past))
-
-answer-rounds : (start : Start) (round slot : ℕ) (reception : Reception) (past : List Item)
-    → rounds_in (past_behind_answer start round slot reception past) ≡ rounds_in past
-answer-rounds start round slot no_stream past = refl
-answer-rounds start round slot no_such_reply past = refl
-answer-rounds start round slot (whole_reply (replies.Rn16 rn)) past = refl
-answer-rounds start round slot (whole_reply (replies.Epc pc epc)) past = refl
-answer-rounds start round slot (whole_reply (replies.Handle rn)) past = refl
-answer-rounds start round slot (whole_reply (replies.Words words)) past = refl
-answer-rounds start round slot (whole_reply replies.Header) past = refl
-answer-rounds start round slot (whole_reply (replies.Error code)) past = refl
+    (same-answer mode link of start operations round slot (slot_reception start round slot command past) (exchanged sent ∷ past))
 
 -- in a slot no round ends
-pub slot-rounds : (start : Start) (round slot : ℕ) (command : Command) (past : List Item)
-    → rounds_in (past_behind_slot start round slot command past) ≡ rounds_in past
-slot-rounds start round slot command past =
-    answer-rounds start round slot (slot_reception start round slot command past) (past_behind_command start round slot command past)
+pub slot-rounds : (start : Start) (operations : OpList) (round slot : ℕ) (command : Command) (past : List Item)
+    → rounds_in (past_behind_slot start operations round slot command past) ≡ rounds_in past
+slot-rounds start operations round slot command past =
+    answer-keeps (λ now. rounds_in now ≡ rounds_in past) start operations round slot (slot_reception start round slot command past)
+    (past_behind_command start round slot command past)
+    (record { command = λ command expect extended now suits same. same; result = λ index result now same. same })
+    (λ rn same. same)
+    refl
 
 -- the end of a round has a line, and begins no slot
 end-line : (mode : Mode) (link : LinkValue) (round number : ℕ) (end : RoundEnd) (slots : ℕ) (past : List Item)
@@ -116,18 +125,18 @@ pub record Passes (mode : Mode) (link : LinkValue) (of : ℕ) (past now : List I
   pub same : SameOf mode link of past now
   pub rounds : rounds_in now ≡ rounds_in past + more
 
-pub round-passes : RoundsKeepLimit → (mode : Mode) (link : LinkValue) (of : ℕ) (start : Start) (spec : SpecValue) (past : List Item) → IsLegalSpec spec
-    → (rounds_in past + 1) ≢ of → Passes mode link of past (past_behind_round start spec past) 1
-round-passes keeps mode link of start spec past legal other =
+pub round-passes : RoundsKeepLimit → (mode : Mode) (link : LinkValue) (of : ℕ) (start : Start) (operations : OpList) (spec : SpecValue) (past : List Item) → IsLegalSpec spec
+    → (rounds_in past + 1) ≢ of → Passes mode link of past (past_behind_round start operations spec past) 1
+round-passes keeps mode link of start operations spec past legal other =
     let round : ℕ = rounds_in past + 1 in
     round-holds (λ outcomes now. Passes mode link of past now 0) (λ now. Passes mode link of past now 1)
-    start spec past keeps legal
+    start operations spec past keeps legal
     (record {
       slot = λ outcomes now command are is holds.
-          let behind = past_behind_slot start round (length outcomes + 1) command now in
-          let count : rounds_in behind ≡ rounds_in now = slot-rounds start round (length outcomes + 1) command now in
+          let behind = past_behind_slot start operations round (length outcomes + 1) command now in
+          let count : rounds_in behind ≡ rounds_in now = slot-rounds start operations round (length outcomes + 1) command now in
           record {
-            same = same-on mode link of past now behind holds.same (same-slot mode link of start round (length outcomes + 1) command now other);
+            same = same-on mode link of past now behind holds.same (same-slot mode link of start operations round (length outcomes + 1) command now other);
             rounds = omega arith;
           };
       end = λ outcomes now end are is holds. record {
@@ -156,19 +165,19 @@ pub next-begins : (spec : SpecValue) (link : LinkValue) (outcomes : List Outcome
 next-begins spec link outcomes command sends = answer-begins spec link (turn_of spec outcomes) command sends
 
 -- a slot of the round adds its record to the round's
-pub own-slot : (mode : Mode) (link : LinkValue) (start : Start) (round slot : ℕ) (command : Command) (past : List Item) → begins_slot command ≡ true
-    → slot_records round (past_behind_slot start round slot command past) ≡ next_record start round slot command past ∷ slot_records round past
-own-slot mode link start round slot command past begins =
+pub own-slot : (mode : Mode) (link : LinkValue) (start : Start) (operations : OpList) (round slot : ℕ) (command : Command) (past : List Item) → begins_slot command ≡ true
+    → slot_records round (past_behind_slot start operations round slot command past) ≡ next_record start round slot command past ∷ slot_records round past
+own-slot mode link start operations round slot command past begins =
     let sent = next_record start round slot command past in
     let this : begins_slot_of round sent ≡ true = and-true (begins_slot command) (round == round) begins (eq-eqb round round refl) in
     let first : slot_records round (exchanged sent ∷ past) ≡ sent ∷ slot_records round past = rw this refl in
-    (same-answer mode link round start round slot (slot_reception start round slot command past) (exchanged sent ∷ past)).slots ∙ first
+    (same-answer mode link round start operations round slot (slot_reception start round slot command past) (exchanged sent ∷ past)).slots ∙ first
 
-own-lines : (mode : Mode) (link : LinkValue) (start : Start) (round slot : ℕ) (command : Command) (past : List Item)
-    → round_lines mode link round (past_behind_slot start round slot command past) ≡ round_lines mode link round past
-own-lines mode link start round slot command past =
+own-lines : (mode : Mode) (link : LinkValue) (start : Start) (operations : OpList) (round slot : ℕ) (command : Command) (past : List Item)
+    → round_lines mode link round (past_behind_slot start operations round slot command past) ≡ round_lines mode link round past
+own-lines mode link start operations round slot command past =
     let sent = next_record start round slot command past in
-    (same-answer mode link round start round slot (slot_reception start round slot command past) (exchanged sent ∷ past)).lines
+    (same-answer mode link round start operations round slot (slot_reception start round slot command past) (exchanged sent ∷ past)).lines
     ∙ sent-no-line mode link round sent past
 
 -- no slot command and no line of the round stands in a past
@@ -199,24 +208,24 @@ count-on same is = ap (λ n. n + 1) same ∙ is
 one-line : (round : ℕ) (end : RoundEnd) (slots : ℕ) → filter (is_round_line round) (RoundLine round end slots ∷ []) ≡ RoundLine round end slots ∷ []
 one-line round end slots = let this : (round == round) ≡ true = eq-eqb round round refl in rw this refl
 
-pub round-settles : RoundsKeepLimit → (mode : Mode) (start : Start) (spec : SpecValue) (past : List Item) → IsLegalSpec spec
-    → NothingOf mode start.link (rounds_in past + 1) past → IsBehind mode start.link (rounds_in past + 1) spec.limit (past_behind_round start spec past)
-round-settles keeps mode start spec past legal none =
+pub round-settles : RoundsKeepLimit → (mode : Mode) (start : Start) (operations : OpList) (spec : SpecValue) (past : List Item) → IsLegalSpec spec
+    → NothingOf mode start.link (rounds_in past + 1) past → IsBehind mode start.link (rounds_in past + 1) spec.limit (past_behind_round start operations spec past)
+round-settles keeps mode start operations spec past legal none =
     let round : ℕ = rounds_in past + 1 in
     let link : LinkValue = start.link in
     round-holds (λ outcomes now. Counts mode link round outcomes now) (λ now. IsBehind mode link round spec.limit now)
-    start spec past keeps legal
+    start operations spec past keeps legal
     (record {
       slot = λ outcomes now command are is holds.
           let slot : ℕ = length outcomes + 1 in
-          let behind = past_behind_slot start round slot command now in
+          let behind = past_behind_slot start operations round slot command now in
           let begins : begins_slot command ≡ true = next-begins spec link outcomes command is in
-          let count : rounds_in behind ≡ rounds_in now = slot-rounds start round slot command now in
-          let more : length (slot_records round behind) ≡ suc (length (slot_records round now)) = ap length (own-slot mode link start round slot command now begins) in
+          let count : rounds_in behind ≡ rounds_in now = slot-rounds start operations round slot command now in
+          let more : length (slot_records round behind) ≡ suc (length (slot_records round now)) = ap length (own-slot mode link start operations round slot command now begins) in
           record {
             rounds = count-on count holds.rounds;
             slots = more ∙ ap suc holds.slots;
-            lines = own-lines mode link start round slot command now ∙ holds.lines;
+            lines = own-lines mode link start operations round slot command now ∙ holds.lines;
           };
       end = λ outcomes now end are is holds.
           let few : length outcomes ≤ spec.limit = few-outcomes keeps spec outcomes legal are in
@@ -273,7 +282,7 @@ step-passes keeps mode start (steps.Event event number) past of legal some other
   rounds = omega arith;
 }
 step-passes keeps mode start (steps.Round spec operations) past of legal some other =
-    round-passes keeps mode start.link of start spec past legal (λ same. not-between (rounds_in past) of same other)
+    round-passes keeps mode start.link of start operations spec past legal.legal (λ same. not-between (rounds_in past) of same other)
 
 -- how many rounds a step ends
 pub step-rounds : RoundsKeepLimit → (mode : Mode) (start : Start) (step : Step) (past : List Item) → IsLegalStep step
@@ -352,10 +361,10 @@ round-keeps keeps mode start before after spec operations legal =
     let all = before ++ steps.Round spec operations ∷ after in
     let (legal_before, legal_after) = legal-split before (steps.Round spec operations ∷ after) legal in
     let past = past_behind start before [] in
-    let behind = past_behind_round start spec past in
+    let behind = past_behind_round start operations spec past in
     let numbered : Numbered mode start.link past (0 + rounds_of before) = steps-numbered keeps mode start before [] legal_before (first-fresh mode start.link) in
     let count : rounds_in past ≡ rounds_of before = numbered.count ∙ omega arith in
-    let own : IsBehind mode start.link (rounds_in past + 1) spec.limit behind = round-settles keeps mode start spec past legal_after.0 (numbered.fresh (rounds_in past + 1) (omega arith)) in
+    let own : IsBehind mode start.link (rounds_in past + 1) spec.limit behind = round-settles keeps mode start operations spec past legal_after.0.legal (numbered.fresh (rounds_in past + 1) (omega arith)) in
     let same : SameOf mode start.link (rounds_in past + 1) behind (past_behind start after behind) =
     steps-same keeps mode start after behind (rounds_in past + 1) legal_after.1 (omega arith) (omega (arith, own.rounds)) in
     let settled : Settled mode start.link (rounds_in past + 1) spec.limit (past_behind start after behind) =

@@ -1,26 +1,24 @@
 -- The tag lines of a report are those of each tag as it stands in the end.
 use Rattle.std.proofs.Common.{◌≡◌, ℕ, ◌+◌, List, [], ◌∷◌, ◌++◌, map, filter, refl, ap, ◌∙◌}
 use Rattle.std.proofs.lemmas.List.Elements.{filter-append}
-use Rattle.air_channel.specs.Past.{Start, Item, befell, exchanged, ended, tag_behind, tags_behind_from}
+use Rattle.air_channel.specs.Past.{Start, Item, befell, exchanged, operated, ended, tag_behind, tags_behind_from}
 use Rattle.air_world.specs.Headline.{is_tag_line, tag_lines_behind}
-use Rattle.air_world.specs.Listing.{Listed, listed_by, listing_of}
-use Rattle.air_world.specs.Report.{list_line, item_lines, past_lines, tag_lines, last_lines}
+use Rattle.air_world.specs.Listing.{listed_by, listing_of}
+use Rattle.air_world.specs.Report.{item_lines, past_lines, tag_lines, last_lines}
 use Rattle.air_world.specs.declared.mode.Mode.{Mode}
 use Rattle.air_world.specs.declared.mode.Mode.TheVariants.{Plain, Trace}
+use Rattle.air_world.proofs.HeadlineLines.{no-listed}
 use Rattle.pie_line.specs.Link.{LinkValue}
 use Rattle.report_lines.specs.ReportLine.{ReportLine, SeenLine, TagLine, DoneLine}
 use Rattle.report_lines.specs.SeenCounts.{Seen, seen_in}
 use Rattle.tag_machine.specs.TagValue.{TagValue}
 
-no-listed : (listing : List Listed) → filter is_tag_line (map list_line listing) ≡ []
-no-listed [] = refl
-no-listed (listed ∷ listing) = no-listed listing
-
 -- no item has a tag line
 no-item : (mode : Mode) (link : LinkValue) (item : Item) → filter is_tag_line (item_lines mode link item) ≡ []
 no-item mode link (befell event number) = refl
-no-item Plain link (exchanged sent) = no-listed (listed_by sent)
-no-item Trace link (exchanged sent) = no-listed (listed_by sent)
+no-item Plain link (exchanged sent) = no-listed is_tag_line (λ listed. refl) (listed_by sent)
+no-item Trace link (exchanged sent) = no-listed is_tag_line (λ listed. refl) (listed_by sent)
+no-item mode link (operated round slot index result) = refl
 no-item mode link (ended round end slots) = refl
 
 -- no past has one

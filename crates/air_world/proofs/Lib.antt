@@ -7,12 +7,13 @@ pub mod HeadlineLegal
 pub mod HeadlineLines
 pub mod HeadlineListed
 pub mod HeadlineNext
+pub mod HeadlineOperations
 pub mod HeadlineSent
 pub mod HeadlineSlots
 pub mod HeadlineTags
 pub mod LastLines
 pub mod Lines
-pub mod Moments
+pub mod Operating
 pub mod Rounds
 pub mod Sending
 pub mod Slots

@@ -1,15 +1,18 @@
 -- The slots of a round, one after another.
 use Rattle.std.proofs.Common.{◌≡◌, ℕ, zero, suc, ◌+◌, ◌*◌, ◌≤◌, false, List, [], ◌∷◌, ◌++◌, length, Option, Some, refl, sym, ◌∙◌, ap, subst, arith}
 use Rattle.std.proofs.lemmas.List.{append-nil}
+use Rattle.access_ops.specs.declared.OpList.{OpList}
 use Rattle.air_channel.specs.Air.{AirValue}
-use Rattle.air_channel.specs.Reception.{Reception, no_stream, whole_reply, no_such_reply}
+use Rattle.reply_grammar.specs.Reception.{Reception, no_stream, whole_reply, no_such_reply}
 use Rattle.air_channel.specs.Past.{Start, Item, ended, past_behind_command, exchanges_in, rounds_in}
-use Rattle.air_world.proofs.Moments.{Grows, grows-slot, grows-turns}
+use Rattle.air_world.proofs.Growth.{answer-keeps, turns-grow}
+use Rattle.air_world.proofs.HeadlineCounts.{slot-exchanges}
 use Rattle.air_world.proofs.Lines.{report_text-append}
 use Rattle.air_world.proofs.Tags.{tags-ended}
 use Rattle.air_world.proofs.Writing.{cut-past}
 use Rattle.air_world.specs.History.{outcome_of, slot_reception, past_behind_answer, past_behind_slot, past_behind_turn, past_behind_turns, past_behind_round}
-use Rattle.air_world.specs.Playing.{Origin, RunValue, StandsAt, IsWritten, IsCutOff, moments_in, past_text, expectation_of}
+use Rattle.air_world.specs.Headline.{most_operating}
+use Rattle.air_world.specs.Playing.{Origin, RunValue, StandsAt, IsWritten, IsCutOff, most_in_slot, past_text, expectation_of}
 use Rattle.air_world.specs.Report.{past_lines}
 use Rattle.air_world.specs.declared.mode.PlayFault.{PlayFault}
 use Rattle.command_grammar.specs.declared.commands.Command.{Command}
@@ -30,7 +33,7 @@ use Rattle.scenario.specs.Cursor.{IsLeft}
 
 -- between two slots of a round whose end leaves a known past: the past so far, the outcomes so far, the turns that are left,
 -- and the slot command that comes next
-pub record RoundUnderway (origin : Origin) (first whole : List Item) (number : ℕ) (spec : SpecValue) (round : RoundValue) (command : Command)
+pub record RoundUnderway (origin : Origin) (operations : OpList) (first whole : List Item) (number : ℕ) (spec : SpecValue) (round : RoundValue) (command : Command)
     (air : AirValue) (run : RunValue) (written : Option (List ℕ)) (faults : ℕ) : Type 0 where
   pub past : List Item
   pub outcomes : List Outcome
@@ -40,8 +43,8 @@ pub record RoundUnderway (origin : Origin) (first whole : List Item) (number : �
   pub on : is_over spec outcomes ≡ false
   pub sends : next_command spec origin.start.link outcomes ≡ nexts.Send command
   pub slots : suc left + length outcomes ≡ spec.limit
-  pub rest : past_behind_turns (suc (suc left)) origin.start number spec outcomes past ≡ whole
-  pub few : moments_in past + 2 * suc (suc left) ≤ moments_in first + 2 * suc spec.limit
+  pub rest : past_behind_turns (suc (suc left)) origin.start operations number spec outcomes past ≡ whole
+  pub few : exchanges_in past + most_in_slot * suc left ≤ exchanges_in first + most_in_slot * spec.limit
   pub rounds : number ≡ rounds_in past + 1
 
 -- a command that a round sends is answered with an RN16
@@ -65,11 +68,11 @@ suc-pred zero some = absurd (omega arith)
 suc-pred (suc n) some = refl
 
 -- a round begins
-pub round-begins : (origin : Origin) (past : List Item) (number : ℕ) (spec : SpecValue) (round : RoundValue) (command : Command) (air : AirValue) (run : RunValue) (written : Option (List ℕ)) (faults : ℕ)
+pub round-begins : (origin : Origin) (operations : OpList) (past : List Item) (number : ℕ) (spec : SpecValue) (round : RoundValue) (command : Command) (air : AirValue) (run : RunValue) (written : Option (List ℕ)) (faults : ℕ)
     → 1 ≤ spec.limit → number ≡ rounds_in past + 1 → StandsAt origin past air run written faults → RoundStandsFor round spec []
     → next_command spec origin.start.link [] ≡ nexts.Send command
-    → RoundUnderway origin past (past_behind_round origin.start spec past) number spec round command air run written faults
-round-begins origin past number spec round command air run written faults some is stands goes sends =
+    → RoundUnderway origin operations past (past_behind_round origin.start operations spec past) number spec round command air run written faults
+round-begins origin operations past number spec round command air run written faults some is stands goes sends =
     let left : ℕ = pred spec.limit in
     let whole : suc left ≡ spec.limit = suc-pred spec.limit some in
     record {
@@ -81,36 +84,36 @@ round-begins origin past number spec round command air run written faults some i
       on = refl;
       sends = sends;
       slots = omega (arith, whole);
-      rest = ap (λ n. past_behind_turns (suc n) origin.start number spec [] past) whole ∙ ap (λ n. past_behind_turns (suc spec.limit) origin.start n spec [] past) is;
-      few = omega arith;
+      rest = ap (λ n. past_behind_turns (suc n) origin.start operations number spec [] past) whole ∙ ap (λ n. past_behind_turns (suc spec.limit) origin.start operations n spec [] past) is;
+      few = omega (arith, whole);
       rounds = is;
     }
 
 -- the past behind the slot that comes next
-abbrev pub slot_past : (origin : Origin) (number : ℕ) (outcomes : List Outcome) (command : Command) (past : List Item) → List Item
-slot_past origin number outcomes command past = past_behind_slot origin.start number (length outcomes + 1) command past
+abbrev pub slot_past : (origin : Origin) (operations : OpList) (number : ℕ) (outcomes : List Outcome) (command : Command) (past : List Item) → List Item
+slot_past origin operations number outcomes command past = past_behind_slot origin.start operations number (length outcomes + 1) command past
 
 abbrev pub slot_outcome : (origin : Origin) (number : ℕ) (outcomes : List Outcome) (command : Command) (past : List Item) → Outcome
 slot_outcome origin number outcomes command past = outcome_of (slot_reception origin.start number (length outcomes + 1) command past)
 
-pub turn-rest : (origin : Origin) (number : ℕ) (spec : SpecValue) (outcomes : List Outcome) (command : Command) (past : List Item) (left : ℕ)
+pub turn-rest : (origin : Origin) (operations : OpList) (number : ℕ) (spec : SpecValue) (outcomes : List Outcome) (command : Command) (past : List Item) (left : ℕ)
     → next_command spec origin.start.link outcomes ≡ nexts.Send command
-    → past_behind_turns (suc left) origin.start number spec outcomes past
-    ≡ past_behind_turns left origin.start number spec (slot_outcome origin number outcomes command past ∷ outcomes) (slot_past origin number outcomes command past)
-turn-rest origin number spec outcomes command past left sends =
-    ap (λ (n : Next). past_behind_turn (past_behind_turns left origin.start number spec) origin.start number outcomes past n) sends
+    → past_behind_turns (suc left) origin.start operations number spec outcomes past
+    ≡ past_behind_turns left origin.start operations number spec (slot_outcome origin number outcomes command past ∷ outcomes) (slot_past origin operations number outcomes command past)
+turn-rest origin operations number spec outcomes command past left sends =
+    ap (λ (n : Next). past_behind_turn (past_behind_turns left origin.start operations number spec) origin.start operations number outcomes past n) sends
 
 -- a slot whose lines were cut off
-pub cut-round : (origin : Origin) (first whole : List Item) (number : ℕ) (spec : SpecValue) (round : RoundValue) (command : Command) (air : AirValue) (run : RunValue) (was_written written : Option (List ℕ)) (was_faults faults : ℕ)
-    (slot : ℕ) (fault : PlayFault) → (u : RoundUnderway origin first whole number spec round command air run was_written was_faults) → slot ≡ length u.outcomes + 1
-    → IsCutOff origin (past_text origin (past_behind_slot origin.start number slot command u.past)) written faults fault → IsCutOff origin (past_text origin whole) written faults fault
-cut-round origin first whole number spec round command air run was_written written was_faults faults slot fault u is cut =
-    let between : List Item = slot_past origin number u.outcomes command u.past in
+pub cut-round : (origin : Origin) (operations : OpList) (first whole : List Item) (number : ℕ) (spec : SpecValue) (round : RoundValue) (command : Command) (air : AirValue) (run : RunValue) (was_written written : Option (List ℕ)) (was_faults faults : ℕ)
+    (slot : ℕ) (fault : PlayFault) → (u : RoundUnderway origin operations first whole number spec round command air run was_written was_faults) → slot ≡ length u.outcomes + 1
+    → IsCutOff origin (past_text origin (past_behind_slot origin.start operations number slot command u.past)) written faults fault → IsCutOff origin (past_text origin whole) written faults fault
+cut-round origin operations first whole number spec round command air run was_written written was_faults faults slot fault u is cut =
+    let between : List Item = slot_past origin operations number u.outcomes command u.past in
     let later : List Outcome = slot_outcome origin number u.outcomes command u.past ∷ u.outcomes in
-    let end : past_behind_turns (suc u.left) origin.start number spec later between ≡ whole = sym (turn-rest origin number spec u.outcomes command u.past (suc u.left) u.sends) ∙ u.rest in
-    let here : IsCutOff origin (past_text origin between) written faults fault = subst (λ n. IsCutOff origin (past_text origin (past_behind_slot origin.start number n command u.past)) written faults fault) is cut in
+    let end : past_behind_turns (suc u.left) origin.start operations number spec later between ≡ whole = sym (turn-rest origin operations number spec u.outcomes command u.past (suc u.left) u.sends) ∙ u.rest in
+    let here : IsCutOff origin (past_text origin between) written faults fault = subst (λ n. IsCutOff origin (past_text origin (past_behind_slot origin.start operations number n command u.past)) written faults fault) is cut in
     subst (λ (p : List Item). IsCutOff origin (past_text origin p) written faults fault) end
-    (cut-past (2 * suc u.left) origin between (past_behind_turns (suc u.left) origin.start number spec later between) written faults fault (grows-turns (suc u.left) origin.start number spec later between) here)
+    (cut-past origin between (past_behind_turns (suc u.left) origin.start operations number spec later between) written faults fault (turns-grow (suc u.left) origin.start operations number spec later between) here)
 
 -- the number of the slot that comes next
 pub slot-number : (spec : SpecValue) (round : RoundValue) (outcomes : List Outcome) (slot : ℕ) → RoundStandsFor round spec outcomes → is_over spec outcomes ≡ false
@@ -121,38 +124,32 @@ slot-number spec round outcomes slot goes on counted = counted spec outcomes goe
 abbrev pub KeepsLimit : Type 0
 KeepsLimit = (spec : SpecValue) (outcomes : List Outcome) → IsLegalSpec spec → AreOutcomes spec outcomes → slots_of spec outcomes ≤ spec.limit
 
-rounds-answer : (start : Start) (round slot : ℕ) (reception : Reception) (past : List Item) → rounds_in (past_behind_answer start round slot reception past) ≡ rounds_in past
-rounds-answer start round slot no_stream past = refl
-rounds-answer start round slot no_such_reply past = refl
-rounds-answer start round slot (whole_reply (replies.Rn16 rn)) past = refl
-rounds-answer start round slot (whole_reply (replies.Epc pc epc)) past = refl
-rounds-answer start round slot (whole_reply (replies.Handle rn)) past = refl
-rounds-answer start round slot (whole_reply (replies.Words words)) past = refl
-rounds-answer start round slot (whole_reply replies.Header) past = refl
-rounds-answer start round slot (whole_reply (replies.Error code)) past = refl
-
 -- no round ends in a slot
-pub rounds-slot : (start : Start) (round slot : ℕ) (command : Command) (past : List Item) → rounds_in (past_behind_slot start round slot command past) ≡ rounds_in past
-rounds-slot start round slot command past = rounds-answer start round slot (slot_reception start round slot command past) (past_behind_command start round slot command past)
+pub rounds-slot : (start : Start) (operations : OpList) (round slot : ℕ) (command : Command) (past : List Item)
+    → rounds_in (past_behind_slot start operations round slot command past) ≡ rounds_in past
+rounds-slot start operations round slot command past =
+    answer-keeps (λ now. rounds_in now ≡ rounds_in past) start operations round slot (slot_reception start round slot command past) (past_behind_command start round slot command past)
+    (record { command = λ sent expect extended now expects same. same; result = λ index result now same. same })
+    (λ rn same. same) refl
 
 -- a slot of a round that goes on
-pub round-goes-on : (origin : Origin) (first whole : List Item) (number : ℕ) (spec : SpecValue) (round after : RoundValue) (command next : Command) (air then_air : AirValue) (run then_run : RunValue)
+pub round-goes-on : (origin : Origin) (operations : OpList) (first whole : List Item) (number : ℕ) (spec : SpecValue) (round after : RoundValue) (command next : Command) (air then_air : AirValue) (run then_run : RunValue)
     (was_written written : Option (List ℕ)) (was_faults faults : ℕ) (slot : ℕ) (outcome : Outcome)
-    → (u : RoundUnderway origin first whole number spec round command air run was_written was_faults) → IsLegalSpec spec → KeepsLimit → slot ≡ length u.outcomes + 1
-    → outcome ≡ outcome_of (slot_reception origin.start number slot command u.past) → StandsAt origin (past_behind_slot origin.start number slot command u.past) then_air then_run written faults
-    → IsNextAnswer (nexts.Send next) after spec (outcome ∷ u.outcomes) → RoundUnderway origin first whole number spec after next then_air then_run written faults
-round-goes-on origin first whole number spec round after command next air then_air run then_run was_written written was_faults faults slot outcome u legal keeps is outcome_is stands answers =
-    let between : List Item = past_behind_slot origin.start number slot command u.past in
+    → (u : RoundUnderway origin operations first whole number spec round command air run was_written was_faults) → length operations.ops ≤ 32 → IsLegalSpec spec → KeepsLimit → slot ≡ length u.outcomes + 1
+    → outcome ≡ outcome_of (slot_reception origin.start number slot command u.past) → StandsAt origin (past_behind_slot origin.start operations number slot command u.past) then_air then_run written faults
+    → IsNextAnswer (nexts.Send next) after spec (outcome ∷ u.outcomes) → RoundUnderway origin operations first whole number spec after next then_air then_run written faults
+round-goes-on origin operations first whole number spec round after command next air then_air run then_run was_written written was_faults faults slot outcome u few_operations legal keeps is outcome_is stands answers =
+    let between : List Item = past_behind_slot origin.start operations number slot command u.past in
     let on : is_over spec (outcome ∷ u.outcomes) ≡ false = answers.over in
     let sent : slots_of spec (outcome ∷ u.outcomes) ≡ suc (length u.outcomes) + 1 = slots-underway spec (outcome ∷ u.outcomes) answers.stands.outcomes_are on in
     let fits = keeps spec (outcome ∷ u.outcomes) legal answers.stands.outcomes_are in
     let some : 1 ≤ u.left = omega (arith, u.slots, sent, fits) in
     let one : suc (pred u.left) ≡ u.left = suc-pred u.left some in
-    let turned : past_behind_turns (suc u.left) origin.start number spec (outcome ∷ u.outcomes) between ≡ whole =
-    ap (λ (o : Outcome). past_behind_turns (suc u.left) origin.start number spec (o ∷ u.outcomes) between) outcome_is
-    ∙ ap (λ n. past_behind_turns (suc u.left) origin.start number spec (outcome_of (slot_reception origin.start number n command u.past) ∷ u.outcomes) (past_behind_slot origin.start number n command u.past)) is
-    ∙ sym (turn-rest origin number spec u.outcomes command u.past (suc u.left) u.sends) ∙ u.rest in
-    let grown : Grows 2 u.past between = grows-slot origin.start number slot command u.past in
+    let turned : past_behind_turns (suc u.left) origin.start operations number spec (outcome ∷ u.outcomes) between ≡ whole =
+    ap (λ (o : Outcome). past_behind_turns (suc u.left) origin.start operations number spec (o ∷ u.outcomes) between) outcome_is
+    ∙ ap (λ n. past_behind_turns (suc u.left) origin.start operations number spec (outcome_of (slot_reception origin.start number n command u.past) ∷ u.outcomes) (past_behind_slot origin.start operations number n command u.past)) is
+    ∙ sym (turn-rest origin operations number spec u.outcomes command u.past (suc u.left) u.sends) ∙ u.rest in
+    let grown : exchanges_in between ≤ exchanges_in u.past + (2 + most_operating operations) = slot-exchanges origin.start operations number slot command u.past in
     record {
       past = between;
       outcomes = outcome ∷ u.outcomes;
@@ -162,25 +159,25 @@ round-goes-on origin first whole number spec round after command next air then_a
       on = on;
       sends = sym (answers.next origin.start.link);
       slots = omega (arith, one, u.slots);
-      rest = ap (λ n. past_behind_turns (suc n) origin.start number spec (outcome ∷ u.outcomes) between) one ∙ turned;
-      few = omega (arith, one, u.few, grown.few);
-      rounds = u.rounds ∙ ap (λ n. n + 1) (sym (rounds-slot origin.start number slot command u.past));
+      rest = ap (λ n. past_behind_turns (suc n) origin.start operations number spec (outcome ∷ u.outcomes) between) one ∙ turned;
+      few = omega (arith, one, u.few, grown, few_operations);
+      rounds = u.rounds ∙ ap (λ n. n + 1) (sym (rounds-slot origin.start operations number slot command u.past));
     }
 
 -- the past that the end of a round leaves
-pub round-left : (origin : Origin) (first whole : List Item) (number : ℕ) (spec : SpecValue) (round after : RoundValue) (command : Command) (air : AirValue) (run : RunValue)
+pub round-left : (origin : Origin) (operations : OpList) (first whole : List Item) (number : ℕ) (spec : SpecValue) (round after : RoundValue) (command : Command) (air : AirValue) (run : RunValue)
     (was_written : Option (List ℕ)) (was_faults : ℕ) (slot : ℕ) (outcome : Outcome) (next : Next)
-    → (u : RoundUnderway origin first whole number spec round command air run was_written was_faults) → slot ≡ length u.outcomes + 1
+    → (u : RoundUnderway origin operations first whole number spec round command air run was_written was_faults) → slot ≡ length u.outcomes + 1
     → outcome ≡ outcome_of (slot_reception origin.start number slot command u.past)
     → IsNextAnswer next after spec (outcome ∷ u.outcomes)
-    → past_behind_turn (past_behind_turns u.left origin.start number spec) origin.start number (outcome ∷ u.outcomes) (past_behind_slot origin.start number slot command u.past) next ≡ whole
-round-left origin first whole number spec round after command air run was_written was_faults slot outcome next u is outcome_is answers =
-    let between : List Item = past_behind_slot origin.start number slot command u.past in
-    let turned : past_behind_turns (suc u.left) origin.start number spec (outcome ∷ u.outcomes) between ≡ whole =
-    ap (λ (o : Outcome). past_behind_turns (suc u.left) origin.start number spec (o ∷ u.outcomes) between) outcome_is
-    ∙ ap (λ n. past_behind_turns (suc u.left) origin.start number spec (outcome_of (slot_reception origin.start number n command u.past) ∷ u.outcomes) (past_behind_slot origin.start number n command u.past)) is
-    ∙ sym (turn-rest origin number spec u.outcomes command u.past (suc u.left) u.sends) ∙ u.rest in
-    ap (λ (n : Next). past_behind_turn (past_behind_turns u.left origin.start number spec) origin.start number (outcome ∷ u.outcomes) between n) (answers.next origin.start.link) ∙ turned
+    → past_behind_turn (past_behind_turns u.left origin.start operations number spec) origin.start operations number (outcome ∷ u.outcomes) (past_behind_slot origin.start operations number slot command u.past) next ≡ whole
+round-left origin operations first whole number spec round after command air run was_written was_faults slot outcome next u is outcome_is answers =
+    let between : List Item = past_behind_slot origin.start operations number slot command u.past in
+    let turned : past_behind_turns (suc u.left) origin.start operations number spec (outcome ∷ u.outcomes) between ≡ whole =
+    ap (λ (o : Outcome). past_behind_turns (suc u.left) origin.start operations number spec (o ∷ u.outcomes) between) outcome_is
+    ∙ ap (λ n. past_behind_turns (suc u.left) origin.start operations number spec (outcome_of (slot_reception origin.start number n command u.past) ∷ u.outcomes) (past_behind_slot origin.start operations number n command u.past)) is
+    ∙ sym (turn-rest origin operations number spec u.outcomes command u.past (suc u.left) u.sends) ∙ u.rest in
+    ap (λ (n : Next). past_behind_turn (past_behind_turns u.left origin.start operations number spec) origin.start operations number (outcome ∷ u.outcomes) between n) (answers.next origin.start.link) ∙ turned
 
 -- with the number of its last slot
 pub ended-slots : (number : ℕ) (end : RoundEnd) (slot : ℕ) (outcome : Outcome) (outcomes : List Outcome) (past whole : List Item) → slot ≡ length outcomes + 1
@@ -205,6 +202,7 @@ stands-ended origin past number end slots air run after before_written written b
     names = stands.plays.names;
     mode = ap (λ (r : RunValue). r.mode) is ∙ stands.plays.mode;
     link = stands.plays.link;
+    several = stands.plays.several;
     tags = stands.plays.tags ∙ sym (tags-ended origin.start number end slots past);
     legal = stands.plays.legal;
     exchanges = stands.plays.exchanges;

@@ -32,10 +32,13 @@ entry-names origin past air run entry plays is =
     subst (λ n. NamesTags n entry) (sym count) named
 
 -- what the channel gives is what the record says
-pub given-recorded : (origin : Origin) (past : List Item) (round slot : ℕ) (command : Command) (air : AirValue) (entry : Entry) → air.tags ≡ tags_behind origin.start past
-    → entry ≡ entry_at origin.start.entries (exchanges_in past + 1)
-    → given_in command entry air.tags ≡ (next_record origin.start round slot command past).given
-given-recorded origin past round slot command air entry tags is = ap (λ e. given_in command e air.tags) is ∙ ap (λ t. given_in command (entry_at origin.start.entries (exchanges_in past + 1)) t) tags
+pub given-recorded : (origin : Origin) (past : List Item) (round slot : ℕ) (command : Command) (air : AirValue) (entry : Entry) → air.several ≡ origin.start.several
+    → air.tags ≡ tags_behind origin.start past → entry ≡ entry_at origin.start.entries (exchanges_in past + 1)
+    → given_in air.several command entry air.tags ≡ (next_record origin.start round slot command past).given
+given-recorded origin past round slot command air entry several tags is =
+    ap (λ s. given_in s command entry air.tags) several
+    ∙ ap (λ e. given_in origin.start.several command e air.tags) is
+    ∙ ap (λ t. given_in origin.start.several command (entry_at origin.start.entries (exchanges_in past + 1)) t) tags
 
 replies-recorded : (origin : Origin) (past : List Item) (round slot : ℕ) (command : Command) (air : AirValue) (entry : Entry) → air.tags ≡ tags_behind origin.start past
     → entry ≡ entry_at origin.start.entries (exchanges_in past + 1)
@@ -55,6 +58,7 @@ sent-plays origin past round slot command air next run after entry left plays is
       names = plays.names;
       mode = ap (λ (r : RunValue). r.mode) after_is ∙ plays.mode;
       link = ap (λ (a : AirValue). a.link) is ∙ plays.link;
+      several = ap (λ (a : AirValue). a.several) is ∙ plays.several;
       tags = ap (λ (a : AirValue). a.tags) is ∙ moved ∙ sym (tags-exchanged origin.start sent past);
       legal = legal;
       exchanges = ap (λ (a : AirValue). a.exchanges) is ∙ next-below air.exchanges few ∙ ap (λ n. n + 1) plays.exchanges;
@@ -63,17 +67,17 @@ sent-plays origin past round slot command air next run after entry left plays is
     }
 
 lines-of-mode : (mode : Mode) (origin : Origin) (past : List Item) (round slot : ℕ) (command : Command) (air next : AirValue) (entry : Entry)
-    → next ≡ air_after air command entry → air.link ≡ origin.start.link → air.tags ≡ tags_behind origin.start past → air.exchanges ≡ exchanges_in past
+    → next ≡ air_after air command entry → air.link ≡ origin.start.link → air.several ≡ origin.start.several → air.tags ≡ tags_behind origin.start past → air.exchanges ≡ exchanges_in past
     → entry ≡ entry_at origin.start.entries (exchanges_in past + 1) → air.exchanges < last_exchange
     → last_exchange_lines mode next ≡ trace_lines mode origin.start.link (next_record origin.start round slot command past)
-lines-of-mode Plain origin past round slot command air next entry is link tags exchanges entry_is few = refl
-lines-of-mode Trace origin past round slot command air next entry is link tags exchanges entry_is few =
+lines-of-mode Plain origin past round slot command air next entry is link several tags exchanges entry_is few = refl
+lines-of-mode Trace origin past round slot command air next entry is link several tags exchanges entry_is few =
     let sent : Record = next_record origin.start round slot command past in
     let number : next.exchanges ≡ sent.exchange = ap (λ (a : AirValue). a.exchanges) is ∙ next-below air.exchanges few ∙ ap (λ n. n + 1) exchanges in
     let frame : next.frame ≡ wave_for origin.start.link command = ap (λ (a : AirValue). a.frame) is ∙ ap (λ l. wave_for l command) link in
     let count : next.replies ≡ length sent.replies = ap (λ (a : AirValue). a.replies) is ∙ ap length (replies-recorded origin past round slot command air entry tags entry_is) in
     let stream : next.stream ≡ heard_levels origin.start.link sent.given =
-    ap (λ (a : AirValue). a.stream) is ∙ ap (λ l. heard_levels l (given_in command entry air.tags)) link ∙ ap (λ g. heard_levels origin.start.link g) (given-recorded origin past round slot command air entry tags entry_is) in
+    ap (λ (a : AirValue). a.stream) is ∙ ap (λ l. heard_levels l (given_in air.several command entry air.tags)) link ∙ ap (λ g. heard_levels origin.start.link g) (given-recorded origin past round slot command air entry several tags entry_is) in
     let tx : TxLine next.exchanges next.frame ≡ TxLine sent.exchange (wave_for origin.start.link command) = cc in
     let rx : RxLine next.exchanges next.replies next.stream ≡ RxLine sent.exchange (length sent.replies) (heard_levels origin.start.link sent.given) = cc in
     ap (λ (line : ReportLine). line ∷ RxLine next.exchanges next.replies next.stream ∷ []) tx ∙ ap (λ (line : ReportLine). TxLine sent.exchange (wave_for origin.start.link command) ∷ line ∷ []) rx
@@ -83,7 +87,7 @@ pub sent-lines : (origin : Origin) (past : List Item) (round slot : ℕ) (comman
     → PlaysAt origin past air run → next ≡ air_after air command entry → entry ≡ entry_at origin.start.entries (exchanges_in past + 1) → air.exchanges < last_exchange
     → last_exchange_lines run.mode next ≡ trace_lines origin.mode origin.start.link (next_record origin.start round slot command past)
 sent-lines origin past round slot command air next run entry plays is entry_is few =
-    ap (λ m. last_exchange_lines m next) plays.mode ∙ lines-of-mode origin.mode origin past round slot command air next entry is plays.link plays.tags plays.exchanges entry_is few
+    ap (λ m. last_exchange_lines m next) plays.mode ∙ lines-of-mode origin.mode origin past round slot command air next entry is plays.link plays.several plays.tags plays.exchanges entry_is few
 
 -- the cursor gives the entry of the next exchange
 pub entry-next : (origin : Origin) (past : List Item) (air : AirValue) (run : RunValue) (entries : List (ℕ × Entry)) (exchange : ℕ) (entry : Entry) → PlaysAt origin past air run
@@ -114,5 +118,5 @@ pub sent-stream : (origin : Origin) (past : List Item) (round slot : ℕ) (comma
     → PlaysAt origin past air run → next ≡ air_after air command entry → entry ≡ entry_at origin.start.entries (exchanges_in past + 1)
     → next.stream ≡ heard_levels origin.start.link (next_record origin.start round slot command past).given
 sent-stream origin past round slot command air next run entry plays is entry_is =
-    ap (λ (a : AirValue). a.stream) is ∙ ap (λ l. heard_levels l (given_in command entry air.tags)) plays.link
-    ∙ ap (λ g. heard_levels origin.start.link g) (given-recorded origin past round slot command air entry plays.tags entry_is)
+    ap (λ (a : AirValue). a.stream) is ∙ ap (λ l. heard_levels l (given_in air.several command entry air.tags)) plays.link
+    ∙ ap (λ g. heard_levels origin.start.link g) (given-recorded origin past round slot command air entry plays.several plays.tags entry_is)

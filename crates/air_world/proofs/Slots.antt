@@ -2,18 +2,22 @@
 use Rattle.std.proofs.Common.{◌≡◌, ℕ, suc, ◌+◌, ◌≤◌, ◌<◌, ◌^◌, List, [], ◌∷◌, ◌++◌, length, map, Option, Some, None, Result, Ok, Err, refl, sym, ◌∙◌, ap, subst, arith, append_assoc, length-append}
 use Rattle.std.proofs.lemmas.List.{append-nil, map-append}
 use Rattle.std.specs.Result.{IfErr, OnOk}
+use Rattle.access_ops.specs.Operations.{dialogue_of}
+use Rattle.access_ops.specs.declared.OpList.{OpList}
+use Rattle.access_ops.specs.declared.op_next.OpResult.{OpResult}
 use Rattle.air_channel.specs.Air.{AirValue}
 use Rattle.air_channel.specs.Channel.{Given, got_of, heard_levels}
-use Rattle.air_channel.specs.Past.{Start, Record, Item, befell, exchanged, ended, next_record, past_behind_command, exchanges_in}
+use Rattle.air_channel.specs.Past.{Start, Record, Item, befell, exchanged, operated, ended, next_record, past_behind_command, exchanges_in}
 use Rattle.air_channel.specs.Received.{IsReceived}
-use Rattle.air_channel.specs.Reception.{Reception, no_stream, whole_reply, no_such_reply, reception_of, IsGivenFor}
+use Rattle.air_channel.specs.Reception.{reception_of, IsGivenFor}
+use Rattle.reply_grammar.specs.Reception.{Reception, no_stream, whole_reply, no_such_reply}
 use Rattle.air_channel.specs.declared.air.Got.TheVariants as gots
-use Rattle.air_world.proofs.Moments.{grows-answer}
+use Rattle.air_world.proofs.Growth.{answer-grows, listing-grows}
 use Rattle.air_world.proofs.Lines.{report_text-append}
 use Rattle.air_channel.specs.ReceptionLaws.{stream_reception}
 use Rattle.air_world.proofs.Writing.{cut-longer, cut-past}
 use Rattle.air_world.specs.Heard.{heard_reception, rn16_in, pair_in}
-use Rattle.air_world.specs.History.{past_behind_answer, slot_reception, past_behind_slot}
+use Rattle.air_world.specs.History.{past_behind_dialogue, past_behind_listing, ack_reception, past_behind_ack, past_behind_answer, slot_reception, past_behind_slot}
 use Rattle.air_world.specs.Listing.{Listed, reception_of_ack, listed_from, listed_by, listing_of}
 use Rattle.air_world.specs.Playing.{Origin, RunValue, PlaysAt, StandsAt, IsWritten, IsCutOff, HasRoom, pair_of, past_text, expectation_of}
 use Rattle.air_world.specs.Report.{past_lines, trace_lines, list_line}
@@ -143,6 +147,7 @@ few-from sent (whole_reply (replies.Error code)) = omega arith
 pub few-listed : (past : List Item) → length (map pair_of (listing_of past)) ≤ exchanges_in past
 few-listed [] = omega arith
 few-listed (befell event number ∷ past) = few-listed past
+few-listed (operated round slot index result ∷ past) = few-listed past
 few-listed (ended round end slots ∷ past) = few-listed past
 few-listed (exchanged sent ∷ past) =
     let here = few-from sent (reception_of_ack sent sent.command) in
@@ -158,31 +163,31 @@ count-fits origin past air run pair seen room =
     omega (arith, few, same, few-listed past, room)
 
 -- what follows a whole reply to a slot command
-pub whole-answer : (start : Start) (round slot : ℕ) (reply : Reply) (rn : ℕ) (past : List Item) → rn16_in reply ≡ Some rn
-    → past_behind_answer start round slot (whole_reply reply) past ≡ past_behind_command start round slot (commands.Ack rn) past
-whole-answer start round slot (replies.Rn16 own) rn past is = let same : own ≡ rn = cc in ap (λ n. past_behind_command start round slot (commands.Ack n) past) same
-whole-answer start round slot (replies.Epc pc epc) rn past is = absurd (cc)
-whole-answer start round slot (replies.Handle own) rn past is = absurd (cc)
-whole-answer start round slot (replies.Words words) rn past is = absurd (cc)
-whole-answer start round slot replies.Header rn past is = absurd (cc)
-whole-answer start round slot (replies.Error code) rn past is = absurd (cc)
+pub whole-answer : (start : Start) (operations : OpList) (round slot : ℕ) (reply : Reply) (rn : ℕ) (past : List Item) → rn16_in reply ≡ Some rn
+    → past_behind_answer start operations round slot (whole_reply reply) past ≡ past_behind_ack start operations round slot rn past
+whole-answer start operations round slot (replies.Rn16 own) rn past is = let same : own ≡ rn = cc in ap (λ n. past_behind_ack start operations round slot n past) same
+whole-answer start operations round slot (replies.Epc pc epc) rn past is = absurd (cc)
+whole-answer start operations round slot (replies.Handle own) rn past is = absurd (cc)
+whole-answer start operations round slot (replies.Words words) rn past is = absurd (cc)
+whole-answer start operations round slot replies.Header rn past is = absurd (cc)
+whole-answer start operations round slot (replies.Error code) rn past is = absurd (cc)
 
-pub other-answer : (start : Start) (round slot : ℕ) (reply : Reply) (past : List Item) → rn16_in reply ≡ None → past_behind_answer start round slot (whole_reply reply) past ≡ past
-other-answer start round slot (replies.Rn16 own) past is = absurd (cc)
-other-answer start round slot (replies.Epc pc epc) past is = refl
-other-answer start round slot (replies.Handle own) past is = refl
-other-answer start round slot (replies.Words words) past is = refl
-other-answer start round slot replies.Header past is = refl
-other-answer start round slot (replies.Error code) past is = refl
+pub other-answer : (start : Start) (operations : OpList) (round slot : ℕ) (reply : Reply) (past : List Item) → rn16_in reply ≡ None → past_behind_answer start operations round slot (whole_reply reply) past ≡ past
+other-answer start operations round slot (replies.Rn16 own) past is = absurd (cc)
+other-answer start operations round slot (replies.Epc pc epc) past is = refl
+other-answer start operations round slot (replies.Handle own) past is = refl
+other-answer start operations round slot (replies.Words words) past is = refl
+other-answer start operations round slot replies.Header past is = refl
+other-answer start operations round slot (replies.Error code) past is = refl
 
 -- the first exchange of a slot, cut off
-pub cut-slot : (origin : Origin) (round slot : ℕ) (command : Command) (past : List Item) (written : Option (List ℕ)) (faults : ℕ) (fault : PlayFault)
+pub cut-slot : (origin : Origin) (operations : OpList) (round slot : ℕ) (command : Command) (past : List Item) (written : Option (List ℕ)) (faults : ℕ) (fault : PlayFault)
     → IsCutOff origin (past_text origin past ++ report_text (trace_lines origin.mode origin.start.link (next_record origin.start round slot command past))) written faults fault
-    → IsCutOff origin (past_text origin (past_behind_slot origin.start round slot command past)) written faults fault
-cut-slot origin round slot command past written faults fault cut =
+    → IsCutOff origin (past_text origin (past_behind_slot origin.start operations round slot command past)) written faults fault
+cut-slot origin operations round slot command past written faults fault cut =
     let between : List Item = past_behind_command origin.start round slot command past in
-    cut-past 1 origin between (past_behind_slot origin.start round slot command past) written faults fault
-    (grows-answer origin.start round slot (slot_reception origin.start round slot command past) between)
+    cut-past origin between (past_behind_slot origin.start operations round slot command past) written faults fault
+    (answer-grows origin.start operations round slot (slot_reception origin.start round slot command past) between)
     (cut-exchanged origin (next_record origin.start round slot command past) past written faults fault cut)
 
 -- listing changes nothing else
@@ -191,6 +196,7 @@ plays-listed origin past air run after seen is plays = record {
   names = plays.names;
   mode = ap (λ (r : RunValue). r.mode) is ∙ plays.mode;
   link = plays.link;
+  several = plays.several;
   tags = plays.tags;
   legal = plays.legal;
   exchanges = plays.exchanges;
@@ -212,24 +218,78 @@ pub seen-unlisted : (sent : Record) (past : List Item) → listed_by sent ≡ []
 seen-unlisted sent past none = ap (λ (l : List Listed). seen_in (map pair_of l)) (sym (ap (λ (l : List Listed). listing_of past ++ l) none ∙ append-nil (listing_of past)))
 
 -- what stands behind the past of a slot
-pub slot-stands : (origin : Origin) (round slot : ℕ) (command : Command) (past longer : List Item) (air : AirValue) (run : RunValue) (written : Option (List ℕ)) (faults : ℕ)
-    → past_behind_slot origin.start round slot command past ≡ longer → StandsAt origin longer air run written faults
-    → StandsAt origin (past_behind_slot origin.start round slot command past) air run written faults
-slot-stands origin round slot command past longer air run written faults is stands = subst (λ (p : List Item). StandsAt origin p air run written faults) (sym is) stands
+pub slot-stands : (origin : Origin) (operations : OpList) (round slot : ℕ) (command : Command) (past longer : List Item) (air : AirValue) (run : RunValue) (written : Option (List ℕ)) (faults : ℕ)
+    → past_behind_slot origin.start operations round slot command past ≡ longer → StandsAt origin longer air run written faults
+    → StandsAt origin (past_behind_slot origin.start operations round slot command past) air run written faults
+slot-stands origin operations round slot command past longer air run written faults is stands = subst (λ (p : List Item). StandsAt origin p air run written faults) (sym is) stands
 
 -- ... and of a slot without an ACK
-pub slot-without : (start : Start) (round slot : ℕ) (command : Command) (past : List Item) (reception : Reception) → reception ≡ slot_reception start round slot command past
-    → past_behind_answer start round slot reception (past_behind_command start round slot command past) ≡ past_behind_command start round slot command past
-    → past_behind_slot start round slot command past ≡ past_behind_command start round slot command past
-slot-without start round slot command past reception is none =
-    ap (λ (r : Reception). past_behind_answer start round slot r (past_behind_command start round slot command past)) (sym is) ∙ none
+pub slot-without : (start : Start) (operations : OpList) (round slot : ℕ) (command : Command) (past : List Item) (reception : Reception) → reception ≡ slot_reception start round slot command past
+    → past_behind_answer start operations round slot reception (past_behind_command start round slot command past) ≡ past_behind_command start round slot command past
+    → past_behind_slot start operations round slot command past ≡ past_behind_command start round slot command past
+slot-without start operations round slot command past reception is none =
+    ap (λ (r : Reception). past_behind_answer start operations round slot r (past_behind_command start round slot command past)) (sym is) ∙ none
 
 -- ... and of a slot with one
-pub slot-with : (start : Start) (round slot : ℕ) (command : Command) (past : List Item) (reply : Reply) (rn : ℕ) → whole_reply reply ≡ slot_reception start round slot command past → rn16_in reply ≡ Some rn
-    → past_behind_slot start round slot command past ≡ past_behind_command start round slot (commands.Ack rn) (past_behind_command start round slot command past)
-slot-with start round slot command past reply rn is found =
-    ap (λ (r : Reception). past_behind_answer start round slot r (past_behind_command start round slot command past)) (sym is)
-    ∙ whole-answer start round slot reply rn (past_behind_command start round slot command past) found
+pub slot-with : (start : Start) (operations : OpList) (round slot : ℕ) (command : Command) (past : List Item) (reply : Reply) (rn : ℕ) → whole_reply reply ≡ slot_reception start round slot command past → rn16_in reply ≡ Some rn
+    → past_behind_slot start operations round slot command past ≡ past_behind_ack start operations round slot rn (past_behind_command start round slot command past)
+slot-with start operations round slot command past reply rn is found =
+    ap (λ (r : Reception). past_behind_answer start operations round slot r (past_behind_command start round slot command past)) (sym is)
+    ∙ whole-answer start operations round slot reply rn (past_behind_command start round slot command past) found
+
+-- the past behind an ACK that brought no EPC
+pub ack-without : (start : Start) (operations : OpList) (round slot rn : ℕ) (past : List Item) (reception : Reception) → reception ≡ ack_reception start round slot rn past
+    → past_behind_listing start operations round slot rn reception (past_behind_command start round slot (commands.Ack rn) past) ≡ past_behind_command start round slot (commands.Ack rn) past
+    → past_behind_ack start operations round slot rn past ≡ past_behind_command start round slot (commands.Ack rn) past
+ack-without start operations round slot rn past reception is none =
+    ap (λ (r : Reception). past_behind_listing start operations round slot rn r (past_behind_command start round slot (commands.Ack rn) past)) (sym is) ∙ none
+
+pub other-listing : (start : Start) (operations : OpList) (round slot rn : ℕ) (reply : Reply) (past : List Item) → pair_in reply ≡ None
+    → past_behind_listing start operations round slot rn (whole_reply reply) past ≡ past
+other-listing start operations round slot rn (replies.Rn16 own) past is = refl
+other-listing start operations round slot rn (replies.Epc pc epc) past is = absurd (cc)
+other-listing start operations round slot rn (replies.Handle own) past is = refl
+other-listing start operations round slot rn (replies.Words words) past is = refl
+other-listing start operations round slot rn replies.Header past is = refl
+other-listing start operations round slot rn (replies.Error code) past is = refl
+
+whole-listing : (start : Start) (operations : OpList) (round slot rn : ℕ) (reply : Reply) (pair : ℕ × List ℕ) (past : List Item) → pair_in reply ≡ Some pair
+    → past_behind_listing start operations round slot rn (whole_reply reply) past ≡ past_behind_dialogue start round slot 1 (dialogue_of operations pair.1 rn) past
+whole-listing start operations round slot rn (replies.Epc pc epc) pair past is =
+    let same : (pc, epc) ≡ pair = cc in ap (λ (p : ℕ × List ℕ). past_behind_dialogue start round slot 1 (dialogue_of operations p.1 rn) past) same
+whole-listing start operations round slot rn (replies.Rn16 own) pair past is = absurd (cc)
+whole-listing start operations round slot rn (replies.Handle own) pair past is = absurd (cc)
+whole-listing start operations round slot rn (replies.Words words) pair past is = absurd (cc)
+whole-listing start operations round slot rn replies.Header pair past is = absurd (cc)
+whole-listing start operations round slot rn (replies.Error code) pair past is = absurd (cc)
+
+-- ... and behind one that brought an EPC
+pub ack-with : (start : Start) (operations : OpList) (round slot rn : ℕ) (past : List Item) (reply : Reply) (pair : ℕ × List ℕ)
+    → whole_reply reply ≡ ack_reception start round slot rn past → pair_in reply ≡ Some pair
+    → past_behind_ack start operations round slot rn past
+    ≡ past_behind_dialogue start round slot 1 (dialogue_of operations pair.1 rn) (past_behind_command start round slot (commands.Ack rn) past)
+ack-with start operations round slot rn past reply pair is found =
+    ap (λ (r : Reception). past_behind_listing start operations round slot rn r (past_behind_command start round slot (commands.Ack rn) past)) (sym is)
+    ∙ whole-listing start operations round slot rn reply pair (past_behind_command start round slot (commands.Ack rn) past) found
+
+-- what stands behind an ACK and what follows it
+pub ack-stands : (origin : Origin) (operations : OpList) (round slot rn : ℕ) (past longer : List Item) (air : AirValue) (run : RunValue) (written : Option (List ℕ)) (faults : ℕ)
+    → past_behind_ack origin.start operations round slot rn past ≡ longer → StandsAt origin longer air run written faults
+    → StandsAt origin (past_behind_ack origin.start operations round slot rn past) air run written faults
+ack-stands origin operations round slot rn past longer air run written faults is stands = subst (λ (p : List Item). StandsAt origin p air run written faults) (sym is) stands
+
+-- an ACK that was cut off
+pub cut-ack : (origin : Origin) (operations : OpList) (round slot rn : ℕ) (past : List Item) (written : Option (List ℕ)) (faults : ℕ) (fault : PlayFault)
+    → IsCutOff origin (past_text origin (past_behind_command origin.start round slot (commands.Ack rn) past)) written faults fault
+    → IsCutOff origin (past_text origin (past_behind_ack origin.start operations round slot rn past)) written faults fault
+cut-ack origin operations round slot rn past written faults fault cut =
+    let between : List Item = past_behind_command origin.start round slot (commands.Ack rn) past in
+    cut-past origin between (past_behind_ack origin.start operations round slot rn past) written faults fault
+    (listing-grows origin.start operations round slot rn (ack_reception origin.start round slot rn past) between) cut
+
+-- less room is room
+pub some-room : (past : List Item) (more : ℕ) → HasRoom (1 + more) past → HasRoom 1 past
+some-room past more room = omega arith
 
 -- room for one exchange more
 pub room-behind : (start : Start) (round slot : ℕ) (command : Command) (past : List Item) (more : ℕ) → HasRoom (1 + more) past → HasRoom more (past_behind_command start round slot command past)

@@ -3,17 +3,22 @@ use Rattle.std.proofs.Common.{◌≡◌, ℕ, suc, ◌+◌, ◌*◌, ◌≤◌, 
 use Rattle.std.proofs.Math.Seq.{drop-cons}
 use Rattle.std.proofs.lemmas.List.{append-nil}
 use Rattle.std.proofs.lemmas.List.Elements.{All-get_or}
+use Rattle.std.proofs.Math.Nat.{mul-le-mul}
 use Rattle.std.specs.Prelude.{All}
 use Rattle.air_channel.specs.Air.{AirValue, AreLegalTags, air_after_event}
-use Rattle.air_channel.specs.Past.{Start, Record, Item, befell, tags_behind}
-use Rattle.air_channel.specs.Reception.{Reception, no_stream}
+use Rattle.air_channel.specs.Past.{Start, Record, Item, befell, exchanges_in, rounds_in, tags_behind}
+use Rattle.reply_grammar.specs.Reception.{Reception, no_stream}
 use Rattle.air_events.specs.declared.Event.{Event}
-use Rattle.air_world.proofs.Moments.{Grows, grows-command, grows-round, grows-more, grows-nothing, grows-at-most}
+use Rattle.air_world.proofs.Growth.{steps-grow, round-holds}
+use Rattle.air_world.proofs.HeadlineCounts.{round-exchanges}
+use Rattle.air_world.proofs.HeadlineLegal.{legal-step}
+use Rattle.air_world.proofs.Rounds.{KeepsLimit, rounds-slot}
 use Rattle.air_world.proofs.Tags.{tags-befell, length-tags}
 use Rattle.air_world.proofs.Writing.{cut-past}
 use Rattle.air_world.specs.History.{past_behind, past_behind_step, past_behind_round}
+use Rattle.air_world.specs.Headline.{most_operating}
 use Rattle.air_world.specs.Listing.{reception_of_ack, listed_from, listed_by}
-use Rattle.air_world.specs.Playing.{Origin, RunValue, PlaysAt, StandsAt, IsWritten, IsCutOff, moments_in, past_text, expectation_of}
+use Rattle.air_world.specs.Playing.{Origin, RunValue, PlaysAt, StandsAt, IsWritten, IsCutOff, most_in_round, past_text, expectation_of}
 use Rattle.air_world.specs.Report.{past_lines}
 use Rattle.air_world.specs.declared.mode.PlayFault.{PlayFault}
 use Rattle.command_grammar.specs.declared.commands.Command.{Command}
@@ -48,6 +53,7 @@ stands-befell origin past event number air next run written faults stands is leg
         names = stands.plays.names;
         mode = stands.plays.mode;
         link = ap (λ (a : AirValue). a.link) is ∙ stands.plays.link;
+        several = ap (λ (a : AirValue). a.several) is ∙ stands.plays.several;
         tags = moved;
         legal = legal;
         exchanges = ap (λ (a : AirValue). a.exchanges) is ∙ stands.plays.exchanges;
@@ -58,20 +64,38 @@ stands-befell origin past event number air next run written faults stands is leg
       text = subst (λ (t : List ℕ). IsWritten origin t written faults) (sym text) stands.text;
     }
 
--- a step makes a past longer
-pub grows-step : (tags : ℕ) (start : Start) (step : Step) (past : List Item) → IsStep tags step → Grows 140002 past (past_behind_step start step past)
-grows-step tags start (steps.Select command) past is = grows-at-most 1 140002 past (past_behind_step start (steps.Select command) past) (omega arith) (grows-command start 0 0 command past)
-grows-step tags start steps.Nak past is = grows-at-most 1 140002 past (past_behind_step start steps.Nak past) (omega arith) (grows-command start 0 0 commands.Nak past)
-grows-step tags start (steps.Event event number) past is = record { own = befell event number ∷ []; joined = refl; few = omega arith }
-grows-step tags start (steps.Round spec operations) past is =
-    grows-at-most (2 * suc spec.limit) 140002 past (past_behind_round start spec past) (omega (arith, is.0.legal.limit.1)) (grows-round start spec past)
+-- how many exchanges a step adds at most
+step-exchanges : KeepsLimit → (tags : ℕ) (start : Start) (step : Step) (past : List Item) → IsStep tags step
+    → exchanges_in (past_behind_step start step past) ≤ exchanges_in past + most_in_round
+step-exchanges keeps tags start (steps.Select command) past is = omega arith
+step-exchanges keeps tags start steps.Nak past is = omega arith
+step-exchanges keeps tags start (steps.Event event number) past is = omega arith
+step-exchanges keeps tags start (steps.Round spec operations) past is =
+    let legal = legal-step tags (steps.Round spec operations) is in
+    let each : 2 + most_operating operations ≤ 131 = omega (arith, legal.few) in
+    let most : (2 + most_operating operations) * spec.limit ≤ 131 * 70000 = mul-le-mul each legal.legal.limit.1 in
+    omega (arith, most, round-exchanges keeps start operations spec past legal.legal)
+
+-- ... and how many rounds
+step-rounds : KeepsLimit → (tags : ℕ) (start : Start) (step : Step) (past : List Item) → IsStep tags step → rounds_in (past_behind_step start step past) ≤ rounds_in past + 1
+step-rounds keeps tags start (steps.Select command) past is = omega arith
+step-rounds keeps tags start steps.Nak past is = omega arith
+step-rounds keeps tags start (steps.Event event number) past is = omega arith
+step-rounds keeps tags start (steps.Round spec operations) past is =
+    round-holds (λ outcomes now. rounds_in now ≡ rounds_in past) (λ now. rounds_in now ≤ rounds_in past + 1) start operations spec past keeps ((legal-step tags (steps.Round spec operations) is)).legal
+    (record {
+      slot = λ outcomes now command are sends same. rounds-slot start operations (rounds_in past + 1) (length outcomes + 1) command now ∙ same;
+      end = λ outcomes now end are sends same. omega (arith, same);
+    })
+    refl
 
 -- before a step of those whose end leaves a known past
 pub record StepsUnderway (origin : Origin) (first whole : List Item) (steps : List Step) (index : ℕ) (air : AirValue) (run : RunValue) (written : Option (List ℕ)) (faults : ℕ) : Type 0 where
   pub past : List Item
   pub stands : StandsAt origin past air run written faults
   pub rest : past_behind origin.start (drop index steps) past ≡ whole
-  pub few : moments_in past ≤ moments_in first + 140002 * index
+  pub few : exchanges_in past ≤ exchanges_in first + most_in_round * index
+  pub rounds : rounds_in past ≤ rounds_in first + index
 
 -- a step among others
 pub step-legal : (tags : ℕ) (list : List Step) (index : ℕ) (step : Step) → index < length list → step ≡ get_or list index step → All (IsStep tags) list → IsStep tags step
@@ -90,40 +114,18 @@ steps-rest : (start : Start) (list : List Step) (index : ℕ) (step : Step) (pas
     → past_behind start (drop (index + 1) list) (past_behind_step start step past) ≡ whole
 steps-rest start list index step past whole inside is rest = ap (λ (l : List Step). past_behind start l past) (sym (step-drop list index step inside is)) ∙ rest
 
-pub steps-go-on : (origin : Origin) (first whole : List Item) (tags : ℕ) (list : List Step) (index : ℕ) (step : Step) (air next : AirValue) (run then_run : RunValue) (was_written written : Option (List ℕ)) (was_faults faults : ℕ)
+pub steps-go-on : KeepsLimit → (origin : Origin) (first whole : List Item) (tags : ℕ) (list : List Step) (index : ℕ) (step : Step) (air next : AirValue) (run then_run : RunValue) (was_written written : Option (List ℕ)) (was_faults faults : ℕ)
     → (u : StepsUnderway origin first whole list index air run was_written was_faults) → index < length list → step ≡ get_or list index step → IsStep tags step
     → StandsAt origin (past_behind_step origin.start step u.past) next then_run written faults
     → StepsUnderway origin first whole list (index + 1) next then_run written faults
-steps-go-on origin first whole tags list index step air next run then_run was_written written was_faults faults u inside is legal stands =
-    let grown : Grows 140002 u.past (past_behind_step origin.start step u.past) = grows-step tags origin.start step u.past legal in
+steps-go-on keeps origin first whole tags list index step air next run then_run was_written written was_faults faults u inside is legal stands =
     record {
       past = past_behind_step origin.start step u.past;
       stands = stands;
       rest = steps-rest origin.start list index step u.past whole inside is u.rest;
-      few = omega (arith, grown.few, u.few);
+      few = omega (arith, step-exchanges keeps tags origin.start step u.past legal, u.few);
+      rounds = omega (arith, step-rounds keeps tags origin.start step u.past legal, u.rounds);
     }
-
--- how much a step and steps may add
-abbrev pub step_most : Step → ℕ
-step_most (steps.Select command) = 1
-step_most steps.Nak = 1
-step_most (steps.Event event number) = 0
-step_most (steps.Round spec operations) = 2 * suc spec.limit
-
-grows-any : (start : Start) (step : Step) (past : List Item) → Grows (step_most step) past (past_behind_step start step past)
-grows-any start (steps.Select command) past = grows-command start 0 0 command past
-grows-any start steps.Nak past = grows-command start 0 0 commands.Nak past
-grows-any start (steps.Event event number) past = record { own = befell event number ∷ []; joined = refl; few = omega arith }
-grows-any start (steps.Round spec operations) past = grows-round start spec past
-
-abbrev pub steps_most : List Step → ℕ
-steps_most [] = 0
-steps_most (step ∷ others) = step_most step + steps_most others
-
-pub grows-steps : (start : Start) (list : List Step) (past : List Item) → Grows (steps_most list) past (past_behind start list past)
-grows-steps start [] past = grows-nothing past
-grows-steps start (step ∷ others) past =
-    grows-more (step_most step) (steps_most others) past (past_behind_step start step past) (past_behind start others (past_behind_step start step past)) (grows-any start step past) (grows-steps start others (past_behind_step start step past))
 
 pub cut-steps : (origin : Origin) (first whole : List Item) (list : List Step) (index : ℕ) (step : Step) (air : AirValue) (run : RunValue) (was_written written : Option (List ℕ)) (was_faults faults : ℕ) (fault : PlayFault)
     → (u : StepsUnderway origin first whole list index air run was_written was_faults) → index < length list → step ≡ get_or list index step
@@ -132,4 +134,4 @@ cut-steps origin first whole list index step air run was_written written was_fau
     let between : List Item = past_behind_step origin.start step u.past in
     let others : List Step = drop (index + 1) list in
     subst (λ (p : List Item). IsCutOff origin (past_text origin p) written faults fault) (steps-rest origin.start list index step u.past whole inside is u.rest)
-    (cut-past (steps_most others) origin between (past_behind origin.start others between) written faults fault (grows-steps origin.start others between) cut)
+    (cut-past origin between (past_behind origin.start others between) written faults fault (steps-grow origin.start others between) cut)

@@ -5,7 +5,7 @@ use Rattle.std.specs.Result.{IfErr, IsErrAnd}
 use Rattle.air_channel.specs.Past.{Item}
 use Rattle.air_io.specs.Flow.{Adds, FaultsRose}
 use Rattle.air_io.specs.FlowLaws.{Adds-more}
-use Rattle.air_world.proofs.Moments.{Grows}
+use Rattle.air_world.proofs.Growth.{Grows}
 use Rattle.air_world.proofs.Lines.{TextBehind, text-joined}
 use Rattle.air_channel.specs.Air.{AirValue}
 use Rattle.air_world.specs.Playing.{Origin, IsWritten, IsCutOff, past_text, last_exchange_lines}
@@ -40,10 +40,10 @@ cut-behind origin text more whole written faults fault joined other done = recor
 }
 
 -- the same, of pasts
-pub cut-past : (most : ℕ) (origin : Origin) (past longer : List Item) (written : Option (List ℕ)) (faults : ℕ) (fault : PlayFault) → Grows most past longer
+pub cut-past : (origin : Origin) (past longer : List Item) (written : Option (List ℕ)) (faults : ℕ) (fault : PlayFault) → Grows past longer
     → IsCutOff origin (past_text origin past) written faults fault → IsCutOff origin (past_text origin longer) written faults fault
-cut-past most origin past longer written faults fault grows cut =
-    let behind : TextBehind origin past longer = text-joined most origin past longer grows in
+cut-past origin past longer written faults fault grows cut =
+    let behind : TextBehind origin past longer = text-joined origin past longer grows in
     cut-longer origin (past_text origin past) behind.text (past_text origin longer) written faults fault behind.joined cut
 
 -- what holds of the fault that an error became

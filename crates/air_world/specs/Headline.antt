@@ -5,13 +5,14 @@ use Rattle.std.specs.List.{AllByRecursion}
 use Rattle.access_ops.specs.declared.OpList.{OpList}
 use Rattle.air_channel.specs.Channel.{Given, whole}
 use Rattle.air_channel.specs.Exchange.{Replied, tag_after_events}
-use Rattle.air_channel.specs.Past.{Start, Record, Item, befell, exchanged, ended, tag_behind}
+use Rattle.air_channel.specs.Past.{Start, Record, Item, befell, exchanged, operated, ended, tag_behind}
 use Rattle.command_grammar.specs.declared.commands.Command.{Command}
 use Rattle.command_grammar.specs.declared.commands.Command.TheVariants as commands
 use Rattle.q_round.specs.SpecValue.{SpecValue, IsLegalSpec}
 use Rattle.q_round.specs.declared.round.RoundEnd.{RoundEnd}
 use Rattle.reply_grammar.specs.declared.expected.Reply.TheVariants.{Epc}
-use Rattle.report_lines.specs.ReportLine.{ReportLine, ListLine, RoundLine, TagLine}
+use Rattle.report_lines.specs.ReportLine.{ReportLine, ListLine, OpLine, RoundLine, TagLine}
+use Rattle.scenario.specs.Limits.{most_ops}
 use Rattle.scenario.specs.declared.values.Step.{Step}
 use Rattle.scenario.specs.declared.values.Step.TheVariants as steps
 use Rattle.tag_machine.specs.Answers.{Sent}
@@ -23,12 +24,17 @@ abbrev pub IsSelect : Command → Type 0
 IsSelect (commands.Select target action bank pointer mask) = Unit {0}
 IsSelect command = ⊥
 
--- what is used of the limits of a scenario: a Select step sends a Select, and the numbers of a round are in their ranges
+-- the numbers of a round are in their ranges, and it has no more operations than that
+pub record IsLegalRound (spec : SpecValue) (operations : OpList) : Type 0 where
+  pub legal : IsLegalSpec spec
+  pub few : length operations.ops ≤ most_ops
+
+-- what is used of the limits of a scenario: a Select step sends a Select, and the rounds are legal
 abbrev pub IsLegalStep : Step → Type 0
 IsLegalStep (steps.Select command) = IsSelect command
 IsLegalStep steps.Nak = Unit {0}
 IsLegalStep (steps.Event event number) = Unit {0}
-IsLegalStep (steps.Round spec operations) = IsLegalSpec spec
+IsLegalStep (steps.Round spec operations) = IsLegalRound spec operations
 
 -- ... of each step
 abbrev pub AreLegalSteps : List Step → Type 0
@@ -97,6 +103,19 @@ abbrev pub is_tag_line : ReportLine → Bool
 is_tag_line (TagLine number tag) = true
 is_tag_line line = false
 
+-- a line for the result of an operation
+abbrev pub is_op_line : ReportLine → Bool
+is_op_line (OpLine round slot index result) = true
+is_op_line line = false
+
+-- a line for each result in a past, in the order in which they came
+abbrev pub op_lines : List Item → List ReportLine
+op_lines [] = []
+op_lines (befell event number ∷ past) = op_lines past
+op_lines (exchanged sent ∷ past) = op_lines past
+op_lines (operated round slot index result ∷ past) = op_lines past ++ OpLine round slot index result ∷ []
+op_lines (ended number end slots ∷ past) = op_lines past
+
 -- a line for each tag, numbered from a number on, as it stands behind a past
 abbrev pub tag_lines_behind : ℕ → List TagValue → List Item → List ReportLine
 tag_lines_behind number [] past = []
@@ -119,6 +138,7 @@ slot_records round [] = []
 slot_records round (befell event number ∷ past) = slot_records round past
 slot_records round (exchanged sent ∷ past) =
     (if begins_slot_of round sent then sent ∷ slot_records round past else slot_records round past)
+slot_records round (operated number slot index result ∷ past) = slot_records round past
 slot_records round (ended number end slots ∷ past) = slot_records round past
 
 -- how many of the steps are rounds
@@ -148,10 +168,15 @@ pub record Headline (start : Start) (taken : List Step) (history : List Item) (l
   pub slot_limit : (before after : List Step) (spec : SpecValue) (operations : OpList) → taken ≡ before ++ steps.Round spec operations ∷ after
       → KeepsLimit history lines (rounds_of before + 1) spec.limit
 
--- how many exchanges steps have at most: one for a Select or NAK, and two for each slot that a round may have
+-- how many exchanges the operations of a round have at most with one tag: one for the handle and four for each
+abbrev pub most_operating : OpList → ℕ
+most_operating operations = 4 * length operations.ops + 1
+
+-- how many exchanges steps have at most: one for a Select or NAK, and for each slot that a round may have the slot command, the
+-- ACK and the operations
 abbrev pub most_exchanges : List Step → ℕ
 most_exchanges [] = 0
 most_exchanges (steps.Select command ∷ steps) = most_exchanges steps + 1
 most_exchanges (steps.Nak ∷ steps) = most_exchanges steps + 1
 most_exchanges (steps.Event event number ∷ steps) = most_exchanges steps
-most_exchanges (steps.Round spec operations ∷ steps) = most_exchanges steps + 2 * spec.limit
+most_exchanges (steps.Round spec operations ∷ steps) = most_exchanges steps + (2 + most_operating operations) * spec.limit

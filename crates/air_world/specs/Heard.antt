@@ -1,6 +1,6 @@
 -- Profile: what an interrogator heard, as what it makes of it.
 use Rattle.std.specs.Prelude.{ℕ, List, Option, Some, None}
-use Rattle.air_channel.specs.Reception.{Reception, no_stream, reception_from}
+use Rattle.reply_grammar.specs.Reception.{Reception, no_stream, reception_from}
 use Rattle.reply_grammar.specs.declared.expected.Reply.{Reply}
 use Rattle.reply_grammar.specs.declared.expected.Reply.TheVariants as replies
 use Rattle.reply_grammar.specs.declared.expected.Received.{Received}

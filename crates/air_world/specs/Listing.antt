@@ -1,7 +1,8 @@
 -- Profile: which tags a run lists.
 use Rattle.std.specs.Prelude.{ℕ, List, [], ◌∷◌, ◌++◌}
-use Rattle.air_channel.specs.Past.{Record, Item, befell, exchanged, ended}
-use Rattle.air_channel.specs.Reception.{Reception, no_stream, whole_reply, reception_of}
+use Rattle.air_channel.specs.Past.{Record, Item, befell, exchanged, operated, ended}
+use Rattle.air_channel.specs.Reception.{reception_of}
+use Rattle.reply_grammar.specs.Reception.{Reception, no_stream, whole_reply}
 use Rattle.command_grammar.specs.declared.commands.Command.{Command}
 use Rattle.command_grammar.specs.declared.commands.Command.TheVariants as commands
 use Rattle.reply_grammar.specs.declared.expected.Expect.TheVariants as expects
@@ -32,4 +33,5 @@ abbrev pub listing_of : List Item → List Listed
 listing_of [] = []
 listing_of (befell event number ∷ past) = listing_of past
 listing_of (exchanged sent ∷ past) = listing_of past ++ listed_by sent
+listing_of (operated round slot index result ∷ past) = listing_of past
 listing_of (ended round end slots ∷ past) = listing_of past

@@ -1,6 +1,6 @@
 -- Profile: a run that is under way. A contract says of each part of it what the past becomes, and how much of the report is
 -- written.
-use Rattle.std.specs.Prelude.{◌≡◌, ℕ, ◌+◌, ◌≤◌, ◌^◌, List, [], ◌∷◌, ◌++◌, length, map, Option, Some, None}
+use Rattle.std.specs.Prelude.{◌≡◌, ℕ, ◌+◌, ◌*◌, ◌≤◌, ◌^◌, List, [], ◌∷◌, ◌++◌, length, map, Option, Some, None}
 use Rattle.air_channel.specs.Air.{AirValue, AreLegalTags, NamesTags}
 use Rattle.air_channel.specs.Past.{Start, Item, exchanges_in, rounds_in, tags_behind}
 use Rattle.air_events.specs.Entries.{entry_at}
@@ -46,6 +46,7 @@ pub record PlaysAt (origin : Origin) (past : List Item) (air : AirValue) (run : 
   pub names : NamesItsTags origin.start
   pub mode : run.mode ≡ origin.mode
   pub link : air.link ≡ origin.start.link
+  pub several : air.several ≡ origin.start.several
   pub tags : air.tags ≡ tags_behind origin.start past
   pub legal : AreLegalTags air.tags
   pub exchanges : air.exchanges ≡ exchanges_in past
@@ -80,13 +81,17 @@ pub record StandsAt (origin : Origin) (past : List Item) (air : AirValue) (run :
   pub seen : run.seen ≡ seen_in (map pair_of (listing_of past))
   pub text : IsWritten origin (past_text origin past) written faults
 
--- how many exchanges and ends of rounds there were
-abbrev pub moments_in : List Item → ℕ
-moments_in past = exchanges_in past + rounds_in past
-
--- so many more fit before the numbers have no room
+-- so many more exchanges fit before their number has no room
 abbrev pub HasRoom : ℕ → List Item → Type 0
-HasRoom more past = moments_in past + more ≤ 2 ^ 31
+HasRoom more past = exchanges_in past + more ≤ 2 ^ 34
+
+-- how many exchanges a slot has at most: the slot command, the ACK, one command for the handle and four for each of 32 operations
+abbrev pub most_in_slot : ℕ
+most_in_slot = 131
+
+-- ... and a round, with 70,000 slots
+abbrev pub most_in_round : ℕ
+most_in_round = 9170000
 
 -- the air and the run are what some past made of them
 pub record IsUnderway (more : ℕ) (air : AirValue) (run : RunValue) : Type 0 where
@@ -97,11 +102,19 @@ pub record IsUnderway (more : ℕ) (air : AirValue) (run : RunValue) : Type 0 wh
   pub room : HasRoom more past
 
 -- ... and their lines are written
-pub record IsTold (more : ℕ) (air : AirValue) (run : RunValue) (written : Option (List ℕ)) (faults : ℕ) : Type 0 where
+pub record IsStanding (more : ℕ) (air : AirValue) (run : RunValue) (written : Option (List ℕ)) (faults : ℕ) : Type 0 where
   pub origin : Origin
   pub past : List Item
   pub stands : StandsAt origin past air run written faults
   pub room : HasRoom more past
+
+-- ... between two steps, and so many more steps fit
+pub record IsTold (steps : ℕ) (air : AirValue) (run : RunValue) (written : Option (List ℕ)) (faults : ℕ) : Type 0 where
+  pub origin : Origin
+  pub past : List Item
+  pub stands : StandsAt origin past air run written faults
+  pub room : HasRoom (most_in_round * steps) past
+  pub rounds : rounds_in past + steps ≤ 2 ^ 31
 
 -- 6.3.2.11 Interrogator commands and Tag replies: what an interrogator expects in reply to the commands of an inventory
 abbrev pub expectation_of : Command → Option Expect

@@ -1,14 +1,14 @@
 -- Profile: the report of a run, as lines in the order of what happens.
 use Rattle.std.specs.Prelude.{ℕ, ◌+◌, List, [], ◌∷◌, ◌++◌, length, map}
 use Rattle.air_channel.specs.Channel.{heard_levels, wave_for}
-use Rattle.air_channel.specs.Past.{Start, Record, Item, befell, exchanged, ended, tags_behind}
+use Rattle.air_channel.specs.Past.{Start, Record, Item, befell, exchanged, operated, ended, tags_behind}
 use Rattle.air_world.specs.History.{history_of}
 use Rattle.air_world.specs.Listing.{Listed, listed_by, listing_of}
 use Rattle.air_world.specs.ScenarioStart.{start_of}
 use Rattle.air_world.specs.declared.mode.Mode.{Mode}
 use Rattle.air_world.specs.declared.mode.Mode.TheVariants.{Plain, Trace}
 use Rattle.pie_line.specs.Link.{LinkValue, blf_of}
-use Rattle.report_lines.specs.ReportLine.{ReportLine, BlfLine, TxLine, RxLine, ListLine, RoundLine, SeenLine, TagLine, DoneLine, report_text}
+use Rattle.report_lines.specs.ReportLine.{ReportLine, BlfLine, TxLine, RxLine, ListLine, OpLine, RoundLine, SeenLine, TagLine, DoneLine, report_text}
 use Rattle.report_lines.specs.SeenCounts.{seen_in}
 use Rattle.scenario.specs.declared.values.Scenario.{Scenario}
 use Rattle.scenario.specs.declared.values.Step.{Step}
@@ -33,6 +33,7 @@ list_line listed = ListLine listed.round listed.slot listed.pc listed.epc
 abbrev pub item_lines : Mode → LinkValue → Item → List ReportLine
 item_lines mode link (befell event number) = []
 item_lines mode link (exchanged sent) = trace_lines mode link sent ++ map list_line (listed_by sent)
+item_lines mode link (operated round slot index result) = OpLine round slot index result ∷ []
 item_lines mode link (ended round end slots) = RoundLine round end slots ∷ []
 
 -- the lines of a past, which has the latest first

@@ -1,6 +1,7 @@
 -- Profile: what the run of a scenario begins with.
 use Rattle.std.specs.Prelude.{List, [], map}
 use Rattle.air_channel.specs.Past.{Start, Item}
+use Rattle.air_events.specs.declared.Several.TheVariants as severals
 use Rattle.scenario.specs.declared.values.Scenario.{Scenario}
 use Rattle.scenario_lines.specs.declared.tag.TagSpec.{TagSpec}
 use Rattle.tag_machine.specs.TagValue.{TagValue}
@@ -13,8 +14,14 @@ use Rattle.air_world.specs.History.{history_of}
 abbrev pub tag_of : TagSpec → TagValue
 tag_of tag = new_tag (banks_of tag.image) tag.locks tag.words
 
+-- version 1 of scenarios: where several tags reply and nothing is chosen, no reply is received
 abbrev pub start_of : Scenario → Start
-start_of scenario = record { link = scenario.link; tags = map tag_of scenario.tags; entries = scenario.entries }
+start_of scenario = record {
+  link = scenario.link;
+  tags = map tag_of scenario.tags;
+  entries = scenario.entries;
+  several = severals.Break;
+}
 
 -- the one history of a scenario
 abbrev pub history : Scenario → List Item
@@ -22,4 +29,4 @@ history scenario = history_of (start_of scenario) scenario.steps
 
 -- the air at the start: no exchange was made on it
 abbrev pub new_air : Start → AirValue
-new_air start = record { link = start.link; tags = start.tags; frame = []; stream = []; replies = 0; exchanges = 0 }
+new_air start = record { link = start.link; several = start.several; tags = start.tags; frame = []; stream = []; replies = 0; exchanges = 0 }

@@ -1,7 +1,7 @@
 //! What the history and the report of every run say.
-ghost use Rattle.std.specs.Prelude.{◌≡◌, ℕ, ◌*◌, ◌≤◌, List, ◌∷◌, ◌++◌, length, Some, None};
+ghost use Rattle.std.specs.Prelude.{◌≡◌, ℕ, ◌*◌, ◌≤◌, List, ◌∷◌, ◌++◌, length, filter, Some, None};
 ghost use Rattle.air_channel.specs.Past.{Start, Record, Item, exchanges_in, next_record};
-ghost use Rattle.air_world.specs.Headline.{AreLegalSteps, Headline, IsRecordOf, most_exchanges};
+ghost use Rattle.air_world.specs.Headline.{AreLegalSteps, Headline, IsRecordOf, is_op_line, op_lines, most_exchanges};
 ghost use Rattle.air_world.specs.History.{history_of};
 ghost use Rattle.air_world.specs.HistoryLaws.{GrowsByNext, next_item};
 ghost use Rattle.air_world.specs.Report.{report_of};
@@ -52,13 +52,21 @@ pub fn records_follow_from_the_past()
         sent ≡ next_record start sent.round sent.slot sent.command earlier }
 {}
 
-/// A run has at most one exchange for each Select or NAK and two for each slot that a round may have,
-/// and so at most 140,000 for each of its steps.
+/// The lines for results of operations in the report are those of the results in the history, each one
+/// once and in the order in which they came.
+pub fn operations_are_told()
+    ensures { (mode : Mode) (start : Start) (steps : List Step) →
+        filter is_op_line (report_of mode start steps) ≡ op_lines (history_of start steps) }
+{}
+
+/// A run has at most one exchange for each Select or NAK, and for each slot that a round may have the
+/// slot command, the ACK, one for the handle and four for each operation of the round. So it has at most
+/// 9,170,000 for each of its steps.
 pub fn exchanges_are_few()
     ensures most { (start : Start) (steps : List Step) → AreLegalSteps steps →
         exchanges_in (history_of start steps) ≤ most_exchanges steps }
     ensures few { (start : Start) (steps : List Step) → AreLegalSteps steps →
-        exchanges_in (history_of start steps) ≤ 140000 * length steps }
+        exchanges_in (history_of start steps) ≤ 9170000 * length steps }
 {
     round_laws();
 }

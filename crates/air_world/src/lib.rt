@@ -8,8 +8,8 @@ mod run;
 mod start;
 
 pub use laws::{
-    exchanges_are_few, headline, histories_grow_by_the_next_item, records_follow_from_the_past,
-    scenario_steps_are_legal,
+    exchanges_are_few, headline, histories_grow_by_the_next_item, operations_are_told,
+    records_follow_from_the_past, scenario_steps_are_legal,
 };
 pub use mode::{Mode, PlayFault};
 pub use playing::play;

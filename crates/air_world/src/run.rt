@@ -1,22 +1,24 @@
 //! A run that is under way.
-ghost use Rattle.std.specs.Prelude.{◌≡◌, ℕ, ◌≤◌, ◌<◌, ◌^◌, ◌++◌, List, [], ◌∷◌, Some, IfOk, IfErr, OnOk};
+ghost use Rattle.std.specs.Prelude.{◌≡◌, ℕ, ◌≤◌, ◌<◌, ◌^◌, ◌++◌, ◌||◌, length, List, [], ◌∷◌, Some, IfOk, IfErr, OnOk};
 ghost use Rattle.std.specs.String.{string_bytes};
 ghost use Rattle.air_channel.specs.Channel.{got_of, heard_levels};
 ghost use Rattle.air_channel.specs.Past.{Item, next_record, past_behind_command};
 ghost use Rattle.air_channel.specs.Reception.{reception_of};
 ghost use Rattle.air_channel.specs.Received.{IsReceived};
-ghost use Rattle.air_world.specs.History.{outcome_of, past_behind_round, past_behind_slot, slot_reception};
+ghost use Rattle.air_world.specs.History.{outcome_of, past_behind_ack, past_behind_round, past_behind_slot, slot_reception};
 ghost use Rattle.line_codes.specs.Codes.{table_of};
 ghost use Rattle.report_lines.specs.SeenCounts.{count_of, seen_in};
 ghost use Rattle.air_world.specs.Heard.{heard_reception, rn16_in, pair_in};
-ghost use Rattle.air_world.specs.Playing.{Origin, PlaysAt, StandsAt, IsTold, IsUnderway, IsWritten, IsCutOff, past_text, expectation_of, last_exchange_lines};
+ghost use Rattle.air_world.specs.Playing.{Origin, PlaysAt, StandsAt, IsStanding, IsTold, IsUnderway, IsWritten, IsCutOff, past_text, expectation_of, last_exchange_lines};
 ghost use Rattle.air_world.specs.Report.{trace_lines};
 ghost use Rattle.report_lines.specs.ReportLine.{ListLine, RoundLine, RxLine, TxLine, report_line_text, report_text};
 
+mod operating;
 mod report;
 mod steps;
 
 use crate::mode::{Mode, PlayFault};
+use access_ops::OpList;
 use air_channel::{Air, Got, receive};
 use air_io::{Sink, write_all};
 use bit_strings::{Bits, OutOfMemory};
@@ -142,20 +144,20 @@ impl<'a, L: Ledger> Run<'a, L> {
         steps_keep_tags_legal();
         match self.send(air, command, out)? {
             Got::Silence => Ok(None),
-            Got::Stream => Ok(Some(self.hear(air, expect))),
+            Got::Stream => Ok(Some(self.hear(air, expect, false))),
         }
     }
 
-    /// What is received of the stream that came last.
-    fn hear(&mut self, air: &Air, expect: &Expect) -> Received
+    /// What is received of the stream that came last, with the extended preamble or by the TRext of the link.
+    fn hear(&mut self, air: &Air, expect: &Expect, extended: bool) -> Received
         ensures same { self.new ≡ self.old }
-        ensures received { IsReceived (table_of air.now.link.code) air.now.link.trext expect.now air.now.stream result }
+        ensures received { IsReceived (table_of air.now.link.code) (extended || air.now.link.trext) expect.now air.now.stream result }
     {
         let link = air.link();
         receive(
             air.stream(),
             link.code(),
-            link.trext(),
+            extended || link.trext(),
             expect,
             &mut self.bits,
         )
@@ -166,13 +168,15 @@ impl<'a, L: Ledger> Run<'a, L> {
         &mut self,
         air: &mut Air,
         spec: &RoundSpec,
+        operations: &OpList,
         out: &mut O,
     ) -> Result<(), PlayFault>
-        requires { IsTold 140002 air.old self.old (O.written out.old) (O.faults out.old) }
+        requires told { IsTold 1 air.old self.old (O.written out.old) (O.faults out.old) }
+        requires few { length operations.now.ops ≤ 32 }
         ensures ok { (origin : Origin) (past : List Item) → StandsAt origin past air.old self.old (O.written out.old) (O.faults out.old)
-            → OnOk result (StandsAt origin (past_behind_round origin.start spec.now past) air.new self.new (O.written out.new) (O.faults out.new)) }
+            → OnOk result (StandsAt origin (past_behind_round origin.start operations.now spec.now past) air.new self.new (O.written out.new) (O.faults out.new)) }
         ensures err { (origin : Origin) (past : List Item) → StandsAt origin past air.old self.old (O.written out.old) (O.faults out.old)
-            → IfErr result (IsCutOff origin (past_text origin (past_behind_round origin.start spec.now past)) (O.written out.new) (O.faults out.new)) }
+            → IfErr result (IsCutOff origin (past_text origin (past_behind_round origin.start operations.now spec.now past)) (O.written out.new) (O.faults out.new)) }
     {
         round_laws();
         prove!(spec.limit() <= 70000);
@@ -180,7 +184,7 @@ impl<'a, L: Ledger> Run<'a, L> {
         let (mut round, mut command) = Round::start(spec, air.link());
         'slots: loop {
             let slot = round.slots_sent();
-            let outcome = self.play_slot(air, number, slot, &command, out)?;
+            let outcome = self.play_slot(air, number, slot, &command, operations, out)?;
             match round.next(outcome) {
                 Next::Send(next) => command = next,
                 Next::Quiet => return self.end_round(number, RoundEnd::Quiet, slot, out),
@@ -209,23 +213,26 @@ impl<'a, L: Ledger> Run<'a, L> {
         write_text(&self.line, out)
     }
 
-    /// Plays a slot, which begins with this slot command: after a whole RN16 the interrogator sends an ACK with it.
+    /// Plays a slot, which begins with this slot command: after a whole RN16 the interrogator sends an ACK with it,
+    /// and does the operations of the round with the tag that it lists.
     fn play_slot<O: Sink>(
         &mut self,
         air: &mut Air,
         round: u32,
         slot: u32,
         command: &Command,
+        operations: &OpList,
         out: &mut O,
     ) -> Result<Outcome, PlayFault>
-        requires underway { IsUnderway 2 air.old self.old }
+        requires standing { IsStanding 131 air.old self.old (O.written out.old) (O.faults out.old) }
+        requires few { length operations.now.ops ≤ 32 }
         requires expects { expectation_of command.now ≡ Some Expect.Rn16 }
         ensures ok { (origin : Origin) (past : List Item) → StandsAt origin past air.old self.old (O.written out.old) (O.faults out.old)
-            → IfOk result (λ _. StandsAt origin (past_behind_slot origin.start round slot command.now past) air.new self.new (O.written out.new) (O.faults out.new)) }
+            → IfOk result (λ _. StandsAt origin (past_behind_slot origin.start operations.now round slot command.now past) air.new self.new (O.written out.new) (O.faults out.new)) }
         ensures outcome { (origin : Origin) (past : List Item) → StandsAt origin past air.old self.old (O.written out.old) (O.faults out.old)
             → IfOk result (λ outcome. outcome ≡ outcome_of (slot_reception origin.start round slot command.now past)) }
         ensures err { (origin : Origin) (past : List Item) → StandsAt origin past air.old self.old (O.written out.old) (O.faults out.old)
-            → IfErr result (IsCutOff origin (past_text origin (past_behind_slot origin.start round slot command.now past)) (O.written out.new) (O.faults out.new)) }
+            → IfErr result (IsCutOff origin (past_text origin (past_behind_slot origin.start operations.now round slot command.now past)) (O.written out.new) (O.faults out.new)) }
     {
         match self.ask(air, command, &Expect::Rn16, out)? {
             None => Ok(Outcome::Silence),
@@ -234,26 +241,28 @@ impl<'a, L: Ledger> Run<'a, L> {
                 let Some(rn) = rn16_in(&reply) else {
                     return Ok(Outcome::Whole);
                 };
-                self.acknowledge(air, round, slot, rn, out)?;
+                self.acknowledge(air, round, slot, rn, operations, out)?;
                 Ok(Outcome::Whole)
             }
         }
     }
 
-    /// Sends an ACK, and lists the tag whose EPC comes whole.
+    /// Sends an ACK, lists the tag whose EPC comes whole, and does the operations of the round with it.
     fn acknowledge<O: Sink>(
         &mut self,
         air: &mut Air,
         round: u32,
         slot: u32,
         rn: u16,
+        operations: &OpList,
         out: &mut O,
     ) -> Result<(), PlayFault>
-        requires { IsUnderway 1 air.old self.old }
+        requires standing { IsStanding 130 air.old self.old (O.written out.old) (O.faults out.old) }
+        requires few { length operations.now.ops ≤ 32 }
         ensures ok { (origin : Origin) (past : List Item) → StandsAt origin past air.old self.old (O.written out.old) (O.faults out.old)
-            → OnOk result (StandsAt origin (past_behind_command origin.start round slot (Command.Ack rn) past) air.new self.new (O.written out.new) (O.faults out.new)) }
+            → OnOk result (StandsAt origin (past_behind_ack origin.start operations.now round slot rn past) air.new self.new (O.written out.new) (O.faults out.new)) }
         ensures err { (origin : Origin) (past : List Item) → StandsAt origin past air.old self.old (O.written out.old) (O.faults out.old)
-            → IfErr result (IsCutOff origin (past_text origin (past_behind_command origin.start round slot (Command.Ack rn) past)) (O.written out.new) (O.faults out.new)) }
+            → IfErr result (IsCutOff origin (past_text origin (past_behind_ack origin.start operations.now round slot rn past)) (O.written out.new) (O.faults out.new)) }
     {
         let ack = Command::Ack { rn };
         match self.ask(air, &ack, &Expect::Epc, out)? {
@@ -261,7 +270,10 @@ impl<'a, L: Ledger> Run<'a, L> {
             Some(Received::Refused(_)) => Ok(()),
             Some(Received::Whole(reply)) => match listed_in(reply) {
                 None => Ok(()),
-                Some((pc, epc)) => self.list(round, slot, pc, &epc, out),
+                Some((pc, epc)) => {
+                    self.list(round, slot, pc, &epc, out)?;
+                    self.operate(air, round, slot, operations, &epc, rn, out)
+                }
             },
         }
     }

@@ -11,7 +11,7 @@ use bit_strings::OutOfMemory;
 use scenario::{Scenario, TagSpec};
 use session_flags::DrawWords;
 use std::alloc::{AllocError, Global};
-use tag_machine::AnyTag;
+use tag_machine::{AnyTag, Several};
 use tag_memory::{ImageRefusal, Memory};
 
 /// The memory of a tag of a scenario, whose banks have sizes that a tag's banks may have.
@@ -57,5 +57,5 @@ pub fn set_up(alloc: Global, scenario: &Scenario) -> Result<Air, OutOfMemory>
 {
     let tags = new_tags(alloc, scenario.tags.as_slice())?;
     let population = Population::new(alloc, tags)?;
-    Air::new(alloc, population, scenario.link)
+    Air::new(alloc, population, scenario.link, Several::Break)
 }

@@ -203,8 +203,9 @@ fn push_half(text: &mut String, name: &str, covered: u16, rn: u16) -> Result<(),
     push_next_word(text, rn)
 }
 
-/// Writes the payload of a Lock as the next field, in hexadecimal digits.
-fn push_next_payload(text: &mut String, payload: &Payload) -> Result<(), OutOfMemory>
+/// Writes the payload of a Lock as the next field, in five upper-case hexadecimal digits. After an error
+/// the text may hold a part of it.
+pub fn push_next_payload(text: &mut String, payload: &Payload) -> Result<(), OutOfMemory>
     ensures { OnOk result (string_bytes text.new ≡ string_bytes text.old ++ space ∷ payload_digits payload.now) }
 {
     let number = payload.get();

@@ -7,6 +7,6 @@ mod refusals;
 #[cfg(test)]
 mod tests;
 
-pub use commands::push_command;
-pub use names::{bit_name, flag_name, side_name};
+pub use commands::{push_command, push_next_payload};
+pub use names::{bank_name, bit_name, flag_name, side_name};
 pub use refusals::push_command_refusal;

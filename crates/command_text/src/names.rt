@@ -70,7 +70,7 @@ pub(crate) fn mask_bank_name(bank: MaskBank) -> &'static str
 }
 
 /// The name of a bank.
-pub(crate) fn bank_name(bank: Bank) -> &'static str
+pub fn bank_name(bank: Bank) -> &'static str
     ensures { result.now ≡ bank_word bank }
 {
     match bank {

@@ -4,7 +4,7 @@ use Rattle.scenario.specs.Limits.{IsText}
 use Rattle.gen2run.specs.declared.forms.Form.{Form}
 use Rattle.gen2run.specs.declared.forms.Form.TheVariants.{Decode, Run, Names}
 use Rattle.gen2run.specs.DecodeLines.{Decodes, IsFaultText, IsGrammatical}
-use Rattle.gen2run.specs.Reported.{Reports, RefusesScenario, SaysHeadline}
+use Rattle.gen2run.specs.Reported.{Reports, RefusesScenario, SaysHeadline, SaysInventory}
 use Rattle.gen2run.specs.Named.{IsOfLines, AddsNames, RefusesCutLine}
 
 -- the grammar of the form's input allows the bytes
@@ -32,5 +32,11 @@ DefinesOf form bytes text = WritesOf form bytes text ⊎ RefusesOf form bytes te
 -- the headline of what the form has to write, where it has one
 abbrev pub HeadlineOf : Form → List ℕ → List ℕ → Type 0
 HeadlineOf Decode bytes text = Unit {0}
-HeadlineOf (Run mode) bytes text = SaysHeadline bytes text
+HeadlineOf (Run mode) bytes text = SaysHeadline mode bytes text
 HeadlineOf Names bytes text = Unit {0}
+
+-- what the rounds of what the form has to write prove of the tags, where it has rounds
+abbrev pub InventoryOf : Form → List ℕ → List ℕ → Type 0
+InventoryOf Decode bytes text = Unit {0}
+InventoryOf (Run mode) bytes text = SaysInventory mode bytes text
+InventoryOf Names bytes text = Unit {0}

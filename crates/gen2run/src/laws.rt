@@ -1,11 +1,16 @@
 //! What holds of the words and of the texts of each form.
 ghost use Rattle.std.specs.Prelude.{◌≡◌, ℕ, List};
+ghost use Rattle.air_world.specs.declared.mode.Mode.{Mode};
 ghost use Rattle.gen2run.specs.declared.forms.Form.{Form};
 ghost use Rattle.gen2run.specs.Form.{words_of};
 ghost use Rattle.gen2run.specs.Defined.{IsGrammaticalOf, WritesOf, RefusesOf, DefinesOf};
 
 use crate::decode::laws::decode_lines_have_one_text;
-use scenario::{scenario_texts_are_not_faulty, scenarios_are_told_apart, texts_have_one_fault};
+use crate::forms::Form;
+use scenario::{
+    scenario_texts_are_not_faulty, scenarios_are_told_apart, texts_are_scenarios_or_faulty,
+    texts_have_one_fault,
+};
 use sgtin_text::lines_have_names;
 
 /// A list of words is the spelling of one form at most.
@@ -31,4 +36,12 @@ pub fn inputs_have_one_text()
     texts_have_one_fault();
     lines_have_names();
     grammatical_inputs_are_not_refused();
+}
+
+/// Each list of bytes has a defined text under `run`, and one under `run trace`: the report of the scenario
+/// that it spells, or its fault line.
+pub fn run_inputs_have_a_text()
+    ensures { (mode : Mode) (bytes : List ℕ) → (text : List ℕ) × DefinesOf (Form.Run mode) bytes text }
+{
+    texts_are_scenarios_or_faulty();
 }

@@ -3,7 +3,7 @@ ghost use Rattle.std.specs.Prelude.{◌≡◌, ◌≤◌, ◌↔◌, ◌⊎◌, 
 ghost use Rattle.air_io.specs.Flow.{FaultsRose};
 ghost use Rattle.gen2run.specs.declared.forms.Form.{Form};
 ghost use Rattle.gen2run.specs.Form.{texts, words_of, HasForm};
-ghost use Rattle.gen2run.specs.Defined.{IsGrammaticalOf, WritesOf, RefusesOf, DefinesOf, HeadlineOf};
+ghost use Rattle.gen2run.specs.Defined.{IsGrammaticalOf, WritesOf, RefusesOf, DefinesOf, HeadlineOf, InventoryOf};
 ghost use Rattle.gen2run.specs.Outcome.{input_limit, WritesWhole, WritesFront, ReadsWithin, ReadsTooMuch, EndsSo, Tells};
 
 use crate::decode::lines::decode_input;
@@ -15,6 +15,7 @@ use crate::run::run_input;
 use crate::status::Status;
 use air_io::{ReadEnd, Sink, Source, read_to_end};
 use air_world::headline;
+use inventory::{complete_inventory, honest_rounds_count_tags};
 use std::alloc::Global;
 
 /// How many bytes of input are read at most.
@@ -42,6 +43,10 @@ pub fn gen2run<I: Source, O: Sink>(
     // no round has more slot commands than its limit.
     ensures headline { (form : Form) → texts words.now ≡ words_of form → result ≡ Status.Done
         → WritesWhole HeadlineOf form (I.left input.old) (I.left input.new) (O.written output.old) (O.written output.new) }
+    // Done, of a run: a round without operations, of whose exchanges the scenario says nothing, lists no tag twice. Where it ended
+    // quiet it lists exactly the tags that its Query matched; and what every flag of every tag is afterwards is known.
+    ensures inventory { (form : Form) → texts words.now ≡ words_of form → result ≡ Status.Done
+        → WritesWhole InventoryOf form (I.left input.old) (I.left input.new) (O.written output.old) (O.written output.new) }
     // BadInput: what was added is the one fault line of the bytes read.
     ensures bad_input { (form : Form) → texts words.now ≡ words_of form → result ≡ Status.BadInput
         → WritesWhole RefusesOf form (I.left input.old) (I.left input.new) (O.written output.old) (O.written output.new) }
@@ -69,8 +74,11 @@ pub fn gen2run<I: Source, O: Sink>(
         → ¬ FaultsRose (I.faults input.old) (I.faults input.new) → ¬ FaultsRose (O.faults output.old) (O.faults output.new)
         → (result ≡ Status.Done) ⊎ (result ≡ Status.OutOfMemory) }
 {
-    // By these laws a report says its headline, and an input that the grammar allows has no fault line.
+    // By these laws a report says its headline, honest rounds are complete, and an input that the grammar allows has no
+    // fault line.
     headline();
+    complete_inventory();
+    honest_rounds_count_tags();
     grammatical_inputs_are_not_refused();
     match form_of(words) {
         Some(form) => answer_input(alloc, form, input, output),

@@ -1,7 +1,8 @@
 -- What the place that some intervals lead to says of them.
-use Rattle.std.proofs.Common.{◌≡◌, ℕ, ◌<◌, Bool, Option, List, [], ◌∷◌, ◌++◌, length, refl, sym, ◌∙◌, ap, subst, inr, append_assoc}
+use Rattle.std.proofs.Common.{◌≡◌, ◌↔◌, ℕ, ◌+◌, ◌<◌, Bool, IsOk, Result, Ok, Err, Option, List, [], ◌∷◌, ◌++◌, length, refl, sym, ◌∙◌, ap, subst, inr, append_assoc}
 use Rattle.std.proofs.lemmas.List.{append-nil, get_or_append_left}
 use Rattle.std.proofs.Math.Seq.{get_or-append_seam}
+use Rattle.std.proofs.lemmas.Bool.{false≢true}
 use Rattle.std.specs.Option.{option_to_list}
 use Rattle.bit_strings.specs.Family.{Begins}
 use Rattle.pie_line.specs.declared.frame.FrameKind.{FrameKind}
@@ -11,9 +12,9 @@ use Rattle.pie_line.specs.declared.frame_state.FrameState.{FrameState}
 use Rattle.pie_line.specs.Pie.{IsFrame, Frames}
 use Rattle.pie_line.specs.FrameState.{Completes, Moves, Stops}
 use Rattle.pie_line.specs.Refusal.{refusal_at, IsFrameRefusedAt, RefusesFrame}
-use Rattle.pie_line.specs.Edges.{LeadsToState}
+use Rattle.pie_line.specs.Edges.{LeadsToState, EdgesStandFor}
 use Rattle.pie_line.proofs.Completions.{completion}
-use Rattle.bit_strings.specs.FamilyLaws.{bad-last, bad-more}
+use Rattle.bit_strings.specs.FamilyLaws.{bad-last, bad-more, begins-take}
 
 pub leads-moves : (place next : FrameState) (bit : Option Bool) (bits : List Bool) (xs : List ℕ) (x : ℕ) → LeadsToState place bits xs → Moves place x next bit →
     LeadsToState next (bits ++ option_to_list bit) (xs ++ x ∷ [])
@@ -74,3 +75,9 @@ leads-unfinished place bits xs count l counted goes_on =
 -- a frame that ends here is whole
 pub leads-ends : (place : FrameState) (bits : List Bool) (xs : List ℕ) (kind : FrameKind) → LeadsToState place bits xs → Completes place kind [] [] → IsFrame kind bits xs
 leads-ends place bits xs kind l c = rw (← append-nil bits, ← append-nil xs) (l.back kind [] [] c)
+
+-- a decoder still stands exactly where the intervals that it was given begin a frame
+pub standing-begins : (standing : Result FrameState PieRefusal) (count : ℕ) (bits : List Bool) (xs : List ℕ) →
+    EdgesStandFor (record { standing = standing; count = count }) bits xs → IsOk standing ↔ Begins Frames xs
+standing-begins (Ok place) count bits xs s = (λ ok. leads-begins place bits xs s.1, λ b. refl)
+standing-begins (Err refusal) count bits xs s = (λ ok. absurd (false≢true ok), λ b. absurd (s.1.bad.stops (begins-take Frames (s.0 + 1) xs b)))

@@ -1,9 +1,11 @@
 //! Laws of frames, over all lists of intervals.
-ghost use Rattle.std.specs.Prelude.{◌≡◌, ℕ, Bool, List};
+ghost use Rattle.std.specs.Prelude.{◌≡◌, ◌↔◌, ℕ, Bool, List, IsOk};
+ghost use Rattle.bit_strings.specs.Family.{Begins};
 ghost use Rattle.pie_line.specs.declared.frame.FrameKind.{FrameKind};
 ghost use Rattle.pie_line.specs.declared.frame.Lead.{Lead};
+ghost use Rattle.pie_line.specs.Edges.{EdgesValue, EdgesStandFor};
 ghost use Rattle.pie_line.specs.Link.{LinkValue, IsLegalLink};
-ghost use Rattle.pie_line.specs.Pie.{IsFrame, wave_of, kind_of};
+ghost use Rattle.pie_line.specs.Pie.{Frames, IsFrame, wave_of, kind_of};
 ghost use Rattle.pie_line.specs.FrameAnswer.{HasOneAnswer};
 
 /// Each list of intervals is exactly one of three: a frame, a list that begins no frame from one place
@@ -18,4 +20,11 @@ pub fn one_answer()
 pub fn written_frame()
     ensures { (link : LinkValue) (lead : Lead) (bits : List Bool) → IsLegalLink link →
         IsFrame (kind_of link lead) bits (wave_of link lead bits) }
+{}
+
+/// A decoder that takes one interval at a time still stands exactly where the intervals that it was given
+/// begin a frame. So it refuses at the interval with which they begin none, and not before.
+pub fn standing_decoders_begin_frames()
+    ensures { (edges : EdgesValue) (bits : List Bool) (intervals : List ℕ) → EdgesStandFor edges bits intervals →
+        (IsOk edges.standing ↔ Begins Frames intervals) }
 {}

@@ -33,7 +33,7 @@ frame-at : (spec : SpecValue) (outcomes : List Outcome) → is_over spec outcome
 frame-at spec outcomes on = record { goes_on = on; q = refl; qfp = refl; slots = refl; silent = refl }
 
 -- what is known at the turn behind one more outcome
-turn-at : (spec : SpecValue) (outcome : Outcome) (before : List Outcome) → is_over spec before ≡ false →
+pub turn-at : (spec : SpecValue) (outcome : Outcome) (before : List Outcome) → is_over spec before ≡ false →
     IsTurn (turn_of spec (outcome ∷ before)) spec.limit (length before + 1) (next_at spec outcome before)
 turn-at spec outcome before on =
     let next = next_at spec outcome before in
@@ -52,7 +52,7 @@ frame-sound spec outcome before (adjust Down) t goes on s known = rw t (down-sou
 frame-sound spec outcome before (adjust Same) t goes on s known = rw t (same-sound (next_at spec outcome before) s known.1)
 frame-sound spec outcome before rep t goes on s known = rw t (rw (← add-one (length (frame_of spec before))) (rep-sound (next_at spec outcome before) s known.1 known.2))
 
-sound : (spec : SpecValue) (outcomes : List Outcome) → IsLegalSpec spec → AreOutcomes spec outcomes → is_over spec outcomes ≡ false → IsSoundFrame (frame_at spec outcomes)
+pub sound : (spec : SpecValue) (outcomes : List Outcome) → IsLegalSpec spec → AreOutcomes spec outcomes → is_over spec outcomes ≡ false → IsSoundFrame (frame_at spec outcomes)
 sound spec [] legal are on = record { q = legal.q; qfp = omega (arith, legal.q); low = omega arith; high = omega arith; slots = some-slots spec.q }
 sound spec (outcome ∷ before) legal are on =
     frame-sound spec outcome before (turn_of spec (outcome ∷ before)) refl on are.0

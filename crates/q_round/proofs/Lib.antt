@@ -1,3 +1,4 @@
 pub mod Courses
+pub mod Facts
 pub mod Table
 pub mod Turns

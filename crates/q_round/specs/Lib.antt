@@ -1,3 +1,4 @@
+pub mod RoundFacts
 pub mod RoundLaws
 pub mod Rounds
 pub mod SlotLaws

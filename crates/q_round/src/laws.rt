@@ -6,6 +6,7 @@ ghost use Rattle.q_round.specs.declared.frame.Outcome.{Outcome};
 ghost use Rattle.q_round.specs.declared.round.Next.TheVariants.{Send, Quiet};
 ghost use Rattle.q_round.specs.SpecValue.{SpecValue, IsLegalSpec};
 ghost use Rattle.q_round.specs.Rounds.{AreOutcomes, is_over, slots_of, next_command, q_of, frame_of};
+ghost use Rattle.q_round.specs.RoundFacts.{RoundFacts};
 ghost use Rattle.q_round.specs.RoundLaws.{MovesQ, IsSilentFrame, IsLegalNext, IsEnd, SendsSlotCommand};
 
 /// No round gives more slot commands than its limit. Q is from 0 to 15; each QueryAdjust moves it by
@@ -41,4 +42,11 @@ pub fn round_laws()
         SendsSlotCommand spec.session (next_command spec link outcomes) }
     ensures next_end { (spec : SpecValue) (link : LinkValue) (outcomes : List Outcome) → is_over spec outcomes ≡ true →
         IsEnd (next_command spec link outcomes) }
+{}
+
+/// What an inventory goes by of a round: it begins with its Query and an empty frame; a QueryRep comes only where the frame has
+/// fewer than 2 ^ Q slots; a QueryAdjust begins a frame, moves Q by what it says, and nothing else moves Q, which is from 0 to 15;
+/// no Query comes behind an outcome; and the round ends quiet only behind a frame of 2 ^ Q silent slots.
+pub fn round_facts()
+    ensures { (spec : SpecValue) (link : LinkValue) → IsLegalSpec spec → RoundFacts spec link }
 {}

@@ -11,7 +11,7 @@ mod round_spec;
 pub use bit_strings::{Code, QValue, Session};
 pub use command_grammar::{Command, Sel, Side, UpDn};
 pub use frame::Outcome;
-pub use laws::round_laws;
+pub use laws::{round_facts, round_laws};
 pub use pie_line::Link;
 pub use round::{Next, Round, RoundEnd};
 pub use round_spec::RoundSpec;

@@ -1,3 +1,4 @@
+pub mod Reception
 pub mod Refusals
 pub mod PassingLaws
 pub mod ReplyLaws

@@ -1,9 +1,6 @@
 -- What a text has gained after several pieces.
-use Rattle.std.proofs.Common.{◌≡◌, ℕ, ◌+◌, List, [], ◌∷◌, ◌++◌, map, take, codes, Some, slice_get, sym, ap, ◌∙◌, append_assoc}
+use Rattle.std.proofs.Common.{◌≡◌, ℕ, List, [], ◌∷◌, ◌++◌, map, codes, sym, ap, ◌∙◌, append_assoc}
 use Rattle.std.specs.Fmt.{decimal}
-use Rattle.std.proofs.lemmas.Grind.{flat_map-append}
-use Rattle.std.proofs.lemmas.List.{append-nil, map-append, take_more}
-use Rattle.std.proofs.lemmas.Option.{get_or_from_slice_get, slice_get_within}
 use Rattle.lock_rules.specs.declared.locks.Locks.{Locks}
 use Rattle.session_flags.specs.declared.flags.Flags.{Flags}
 use Rattle.tag_memory.specs.Memory.{Banks}
@@ -14,8 +11,7 @@ use Rattle.text_fields.specs.Hexadecimal.{hex_words}
 use Rattle.text_fields.specs.Lines.{fields_behind, line_feed, line_with, space}
 use Rattle.text_fields.specs.LineLaws.{line_with-fields_behind}
 use Rattle.scenario_lines.specs.Spelling.{locks_text}
-use Rattle.report_lines.specs.ReportLine.{TagLine, TxLine, flags_word, report_line_text, report_text, state_word}
-use Rattle.report_lines.specs.SeenCounts.{Seen, seen_line}
+use Rattle.report_lines.specs.ReportLine.{TagLine, TxLine, flags_word, report_line_text, state_word}
 
 -- after a space and a field
 pub one_field : (start text field : List ℕ) → text ≡ start ++ space ∷ [] → text ++ field ≡ start ++ space ∷ field
@@ -37,21 +33,6 @@ sent_intervals start name front text exchange intervals first second third =
     let joined : text ++ line_feed ∷ [] ≡ start ++ ((codes "tx" ++ fields_behind (decimal exchange ∷ map decimal intervals)) ++ line_feed ∷ []) =
     rw (third, second, first) (simp append_assoc) in
     joined ∙ sym (ap (λ (line : List ℕ). start ++ line) line)
-
--- after the lines of some pairs, and that of the next one
-pub one_line_more : (start text more : List ℕ) (seen : List Seen) (at : ℕ) (one : Seen) → slice_get seen at ≡ Some one →
-    text ≡ start ++ report_text (map seen_line (take at seen)) → more ≡ text ++ report_line_text (seen_line one) →
-    more ≡ start ++ report_text (map seen_line (take (at + 1) seen))
-one_line_more start text more seen at one there first second =
-    let longer : take (at + 1) seen ≡ take at seen ++ one ∷ [] =
-    take_more seen at one (slice_get_within seen at one there) ∙ ap (λ (last : Seen). take at seen ++ last ∷ []) (get_or_from_slice_get seen at one one there) in
-    let lines : report_text (map seen_line (take (at + 1) seen)) ≡ report_text (map seen_line (take at seen)) ++ (report_line_text (seen_line one) ++ []) =
-    ap (λ (some : List Seen). report_text (map seen_line some)) longer
-    ∙ ap report_text (map-append seen_line (take at seen) (one ∷ []))
-    ∙ flat_map-append report_line_text (map seen_line (take at seen)) (seen_line one ∷ []) in
-    let joined : more ≡ start ++ (report_text (map seen_line (take at seen)) ++ (report_line_text (seen_line one) ++ [])) =
-    rw (second, first, append-nil (report_line_text (seen_line one))) (append_assoc start (report_text (map seen_line (take at seen))) (report_line_text (seen_line one))) in
-    joined ∙ sym (ap (λ (behind : List ℕ). start ++ behind) lines)
 
 -- after the fields of a tag, those of its memory, and the line feed
 pub tag_line : (start front text : List ℕ) (number : ℕ) (tag : TagValue) (state : StateName) (flags : Flags) (locks : Locks) (memory : Banks) →

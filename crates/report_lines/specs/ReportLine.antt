@@ -3,7 +3,9 @@ use Rattle.std.specs.Prelude.{ℕ, Bool, List, [], ◌∷◌, ◌++◌, map, cod
 use Rattle.std.specs.List.{flat_map}
 use Rattle.std.specs.Fmt.{decimal}
 use Rattle.text_fields.specs.Binary.{binary, binary_digit}
-use Rattle.text_fields.specs.Hexadecimal.{hex_word, hex_words}
+use Rattle.text_fields.specs.Hexadecimal.{hex_byte, hex_word, hex_words}
+use Rattle.access_ops.specs.declared.op_next.OpResult.{OpResult}
+use Rattle.access_ops.specs.declared.op_next.OpResult.TheVariants as results
 use Rattle.text_fields.specs.Lines.{line_feed, line_with}
 use Rattle.command_grammar.specs.declared.field_values.Side.{Side}
 use Rattle.command_grammar.specs.declared.field_values.Side.TheVariants.{A, B}
@@ -25,6 +27,8 @@ pub data ReportLine : Type 0 where
   RxLine : (exchange count : ℕ) → (levels : List Bool) → ReportLine
   -- a tag was listed: PC and EPC, with the round and the slot
   ListLine : (round slot pc : ℕ) → (epc : List ℕ) → ReportLine
+  -- an operation with a listed tag had its result: its number, counted from 1, with the round and the slot
+  OpLine : (round slot index : ℕ) → (result : OpResult) → ReportLine
   -- a round ended, which had so many slots
   RoundLine : (round : ℕ) → (end : RoundEnd) → (slots : ℕ) → ReportLine
   -- how often a PC and an EPC were listed
@@ -64,12 +68,22 @@ tag_fields number tag =
     ∷ hex_words tag.body.memory.reserved ∷ hex_words tag.body.memory.epc ∷ hex_words tag.body.memory.tid
     ∷ hex_words tag.body.memory.user ∷ []
 
+-- how an operation ended: the words of a Read behind it, where there are any, and an error code as two digits (Annex I)
+abbrev pub result_fields : OpResult → List (List ℕ)
+result_fields (results.Ok []) = codes "ok" ∷ []
+result_fields (results.Ok (word ∷ words)) = codes "ok" ∷ hex_words (word ∷ words) ∷ []
+result_fields (results.TagError code) = codes "error" ∷ hex_byte code ∷ []
+result_fields results.Silent = codes "silent" ∷ []
+result_fields results.Broken = codes "broken" ∷ []
+result_fields results.Denied = codes "denied" ∷ []
+
 -- the fields of a line
 abbrev pub report_fields : ReportLine → List (List ℕ)
 report_fields (BlfLine numerator denominator) = codes "blf" ∷ (decimal numerator ++ codes "/" ++ decimal denominator) ∷ []
 report_fields (TxLine exchange intervals) = codes "tx" ∷ decimal exchange ∷ map decimal intervals
 report_fields (RxLine exchange count levels) = codes "rx" ∷ decimal exchange ∷ decimal count ∷ binary levels ∷ []
 report_fields (ListLine round slot pc epc) = codes "list" ∷ decimal round ∷ decimal slot ∷ hex_word pc ∷ hex_words epc ∷ []
+report_fields (OpLine round slot index result) = codes "op" ∷ decimal round ∷ decimal slot ∷ decimal index ∷ result_fields result
 report_fields (RoundLine round end slots) = codes "round" ∷ decimal round ∷ end_word end ∷ decimal slots ∷ []
 report_fields (SeenLine count pc epc) = codes "seen" ∷ decimal count ∷ hex_word pc ∷ hex_words epc ∷ []
 report_fields (TagLine number tag) = tag_fields number tag

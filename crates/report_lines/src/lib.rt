@@ -3,6 +3,7 @@
 
 mod laws;
 mod lines;
+mod results;
 mod seen;
 mod tags;
 
@@ -11,5 +12,6 @@ pub use lines::{
     push_blf_line, push_done_line, push_list_line, push_round_line, push_rx_line, push_seen_line,
     push_tx_line,
 };
+pub use results::push_op_line;
 pub use seen::SeenCounts;
 pub use tags::push_tag_line;

@@ -1,10 +1,8 @@
 //! How often each tag was listed.
 ghost use Rattle.std.specs.Prelude.{◌≡◌, ◌<◌, ◌^◌, ◌+◌, ◌++◌, ℕ, List, [], ◌∷◌, length, map, ◌≤◌, ◌↔◌, OnErr, OnOk, IfOk, IfSome, IsNone, Some, slice_get};
 ghost use Rattle.std.specs.String.{string_bytes};
-ghost use Rattle.report_lines.specs.ReportLine.{report_text};
 ghost use Rattle.report_lines.specs.SeenCounts.{count_of, seen_in, seen_line, seen_more};
 
-use crate::lines::push_seen_line;
 use bit_strings::OutOfMemory;
 use indexmap::IndexMap;
 use reply_grammar::EpcWords;
@@ -96,18 +94,5 @@ impl SeenCounts {
     {
         let (listed, count) = self.counts.get_index(at)?;
         Some((*count, listed.pc, &listed.epc))
-    }
-
-    /// Writes the line of each pair, in order. After an error the text may hold a part of them.
-    pub fn push_lines(&self, text: &mut String) -> Result<(), OutOfMemory>
-        ensures { OnOk result (string_bytes text.new ≡ string_bytes text.old ++ report_text (map seen_line self.now)) }
-    {
-        for at in 0..self.len() {
-            let Some((count, pc, epc)) = self.get(at) else {
-                unreachable!();
-            };
-            push_seen_line(text, count, pc, epc)?;
-        }
-        Ok(())
     }
 }

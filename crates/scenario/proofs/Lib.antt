@@ -1,5 +1,6 @@
 pub mod PrintedLines
 pub mod Leading
+pub mod StepLines
 pub mod Settled
 pub mod Spoken
 pub mod Cursors
@@ -13,3 +14,5 @@ pub mod Places
 pub mod Reasons
 pub mod OneFault
 pub mod FirstLines
+pub mod Decisions
+pub mod SomeFault

@@ -1,8 +1,12 @@
 -- How far the lines behind a link are read.
-use Rattle.std.proofs.Common.{◌≡◌, ◌≢◌, ℕ, ◌+◌, ◌≤◌, List, [], ◌∷◌, ◌++◌, length, map, inl, inr, refl, sym, ◌∙◌, ap, subst, arith, append_assoc}
+use Rattle.std.proofs.Common.{◌≡◌, ◌≢◌, ℕ, ◌+◌, ◌≤◌, List, [], ◌∷◌, ◌++◌, length, map, None, Some, inl, inr, refl, sym, ◌∙◌, ap, subst, arith, append_assoc}
 use Rattle.std.proofs.lemmas.Bool.Decides.{eqb_tells}
+use Rattle.std.specs.List.{flat_map}
 use Rattle.std.proofs.lemmas.List.{length-append}
 use Rattle.text_fields.specs.Lines.{fields_of, lines_of}
+use Rattle.access_ops.specs.declared.Op.{Op}
+use Rattle.access_ops.specs.declared.OpList.{OpList}
+use Rattle.q_round.specs.SpecValue.{SpecValue}
 use Rattle.pie_line.specs.Link.{LinkValue}
 use Rattle.scenario_lines.specs.declared.line.Line.{Line}
 use Rattle.scenario_lines.specs.declared.line.Line.TheVariants as lines
@@ -11,7 +15,8 @@ use Rattle.scenario_lines.specs.Spelling.{line_text}
 use Rattle.scenario_lines.specs.LineFaults.{SpellsLine}
 use Rattle.scenario.specs.declared.fault.Fault.{Fault}
 use Rattle.scenario.specs.declared.fault.Fault.TheVariants.{Extra, End}
-use Rattle.scenario.specs.Standing.{DraftValue, Follows, Leads, Standing, after, ended, grown, new_draft, scenario_of, size, with_air, with_step, within}
+use Rattle.scenario.specs.ScenarioText.{operation_lines, step_lines}
+use Rattle.scenario.specs.Standing.{DraftValue, Follows, IsBareRound, Leads, Standing, after, ended, grown, new_draft, scenario_of, size, steps_of, with_air, with_last, with_only, with_op, with_round, with_step, within}
 use Rattle.scenario.specs.Faults.{IsFaultyAt, IsFaultyBefore}
 use Rattle.scenario.specs.Limits.{no_operations}
 use Rattle.scenario.specs.LineLaws.{LineLaws}
@@ -25,6 +30,8 @@ use Rattle.scenario.specs.declared.fault.ScenarioFault.{ScenarioFault}
 use Rattle.scenario.specs.declared.fault.ScenarioFault.TheVariants as scenario_faults
 use Rattle.scenario.specs.Rest.{AreLeft, FinishesScenario, IsExtra, IsFirstFaultBehind, IsRefusedBehind}
 use Rattle.scenario.proofs.Leading.{leads_one}
+use Rattle.scenario.proofs.StepLines.{one_step_more}
+use Rattle.scenario.proofs.Settled.{more_operations, only_first, op_more}
 use Rattle.scenario.proofs.Texts.{nothing_left, some_line, spells_text, text_spelled}
 
 -- the lines before what is left lead to the draft
@@ -46,8 +53,35 @@ size_air draft number happening =
       | inr other ↦ rw other.0 (omega arith)
     ]
 
-size_step : (draft : DraftValue) (step : Step) → size (with_step draft step) ≡ size draft + 1
-size_step draft step = omega (arith, length-append draft.steps (step ∷ []))
+size_step : (draft : DraftValue) (step : Step) → length (step_lines step) ≡ 1 → size (with_step draft step) ≡ size draft + 1
+size_step draft step one = omega (arith, one, one_step_more (steps_of draft) step)
+
+size_round : (draft : DraftValue) (spec : SpecValue) → size (with_round draft spec) ≡ size draft + 1
+size_round draft spec = omega (arith, one_step_more (steps_of draft) (steps.Round spec no_operations))
+
+-- the lines of the operations of the last round, with one line more
+operations_count : (draft : DraftValue) (operations : OpList) (line : Line) → draft.round ≢ None
+    → operation_lines operations ≡ operation_lines draft.operations ++ line ∷ []
+    → length (flat_map step_lines (with_last draft.steps draft.round operations)) ≡ length (flat_map step_lines (steps_of draft)) + 1
+operations_count draft operations line some more =
+    ap length (more_operations draft.steps draft.round draft.operations operations line some more)
+    ∙ length-append (flat_map step_lines (steps_of draft)) (line ∷ [])
+
+size_only : (draft : DraftValue) (epc : List ℕ) → IsBareRound draft → size (with_only draft epc) ≡ size draft + 1
+size_only draft epc bare =
+    omega (
+      arith,
+      operations_count draft (record { only = Some epc; ops = draft.operations.ops }) (lines.Only epc) bare.round
+          (only_first draft.operations epc bare.only bare.ops),
+    )
+
+size_op : (draft : DraftValue) (op : Op) → draft.round ≢ None → size (with_op draft op) ≡ size draft + 1
+size_op draft op some =
+    omega (
+      arith,
+      operations_count draft (record { only = draft.operations.only; ops = draft.operations.ops ++ op ∷ [] }) (lines.Op op) some
+          (op_more draft.operations op),
+    )
 
 map-push : (said : List Line) (next : Line) → map line_text (said ++ next ∷ []) ≡ map line_text said ++ line_text next ∷ []
 map-push [] next = refl
@@ -63,12 +97,14 @@ leads_size from to (lines.Tag tag ∷ said) leads =
 leads_size from to (lines.Air number happening ∷ said) leads =
     omega (arith, leads_size (with_air from number happening) to said leads.1, size_air from number happening)
 leads_size from to (lines.Select selection ∷ said) leads =
-    omega (arith, leads_size (grown from (lines.Select selection)) to said leads.1, size_step from (steps.Select (commands.Select selection.target selection.action selection.bank selection.pointer selection.mask)))
-leads_size from to (lines.Nak ∷ said) leads = omega (arith, leads_size (grown from lines.Nak) to said leads.1, size_step from steps.Nak)
+    omega (arith, leads_size (grown from (lines.Select selection)) to said leads.1, size_step from (steps.Select (commands.Select selection.target selection.action selection.bank selection.pointer selection.mask)) refl)
+leads_size from to (lines.Nak ∷ said) leads = omega (arith, leads_size (grown from lines.Nak) to said leads.1, size_step from steps.Nak refl)
 leads_size from to (lines.Event event tag ∷ said) leads =
-    omega (arith, leads_size (grown from (lines.Event event tag)) to said leads.1, size_step from (steps.Event event tag))
+    omega (arith, leads_size (grown from (lines.Event event tag)) to said leads.1, size_step from (steps.Event event tag) refl)
 leads_size from to (lines.Round spec ∷ said) leads =
-    omega (arith, leads_size (grown from (lines.Round spec)) to said leads.1, size_step from (steps.Round spec no_operations))
+    omega (arith, leads_size (with_round from spec) to said leads.1, size_round from spec)
+leads_size from to (lines.Only epc ∷ said) leads = omega (arith, leads_size (with_only from epc) to said leads.1, size_only from epc leads.0.stands)
+leads_size from to (lines.Op op ∷ said) leads = omega (arith, leads_size (with_op from op) to said leads.1, size_op from op leads.0.stands)
 leads_size from to (lines.End ∷ []) leads = cc
 leads_size from to (lines.End ∷ line ∷ said) leads = absurd leads.1.0.stands
 
@@ -186,6 +222,8 @@ ended_same draft draft' (lines.Select selection) same = cc
 ended_same draft draft' lines.Nak same = cc
 ended_same draft draft' (lines.Event event tag) same = cc
 ended_same draft draft' (lines.Round spec) same = cc
+ended_same draft draft' (lines.Only epc) same = cc
+ended_same draft draft' (lines.Op op) same = cc
 ended_same draft draft' lines.End same = cc
 
 -- the end is read

@@ -156,6 +156,8 @@ version_alone (lines.Select selection) stands = absurd stands
 version_alone lines.Nak stands = absurd stands
 version_alone (lines.Event event tag) stands = absurd stands
 version_alone (lines.Round spec) stands = absurd stands
+version_alone (lines.Only epc) stands = absurd stands
+version_alone (lines.Op op) stands = absurd stands
 version_alone lines.End stands = absurd stands
 
 -- where the text goes on, the line is not faulty

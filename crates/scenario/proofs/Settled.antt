@@ -1,10 +1,14 @@
 -- What lines that follow one another have settled: they are the lines of what stands, and this keeps the limits.
 use Rattle.std.proofs.Common.{◌≡◌, ◌≢◌, ℕ, zero, suc, ◌+◌, ◌<◌, ◌≤◌, List, [], ◌∷◌, ◌++◌, length, map, None, inl, inr, refl, sym, ◌∙◌, ap, subst, arith, append_assoc}
-use Rattle.std.specs.Prelude.{All, IfSome}
+use Rattle.std.specs.Prelude.{All, IfSome, Option, Some}
+use Rattle.std.specs.List.{flat_map}
 use Rattle.std.proofs.lemmas.Bool.Decides.{eqb_tells}
 use Rattle.std.proofs.lemmas.List.{length-append, append-nil}
 use Rattle.std.proofs.lemmas.List.Concat.{flat_map-append}
 use Rattle.std.proofs.lemmas.List.Elements.{All-append, All-nil, All-push, All-weaker}
+use Rattle.access_ops.specs.declared.Op.{Op}
+use Rattle.access_ops.specs.declared.OpList.{OpList}
+use Rattle.q_round.specs.SpecValue.{SpecValue}
 use Rattle.air_events.specs.declared.Event.{Event}
 use Rattle.air_events.specs.declared.Entry.{Entry}
 use Rattle.command_grammar.specs.declared.commands.Command.TheVariants as commands
@@ -15,18 +19,19 @@ use Rattle.scenario_lines.specs.declared.line.Happening.TheVariants as happening
 use Rattle.scenario_lines.specs.declared.line.Line.{Line}
 use Rattle.scenario_lines.specs.declared.line.Line.TheVariants as lines
 use Rattle.scenario_lines.specs.TagForm.{IsTag}
-use Rattle.scenario_lines.specs.LineForm.{IsChoice, IsEvent, IsExchange, IsHappening, IsPlace}
+use Rattle.scenario_lines.specs.LineForm.{IsChoice, IsEpc, IsEvent, IsExchange, IsHappening, IsOp, IsPlace, IsRound}
 use Rattle.scenario.specs.declared.values.Step.{Step}
 use Rattle.scenario.specs.declared.values.Step.TheVariants as steps
-use Rattle.scenario.specs.ScenarioText.{air_lines, entry_lines, scenario_lines, step_line}
-use Rattle.scenario.specs.Limits.{IsEntry, IsScenario, IsStep, Rises, most_air_lines, most_steps, most_tags, no_operations}
+use Rattle.scenario.specs.ScenarioText.{air_lines, entry_lines, only_lines, operation_lines, scenario_lines, step_lines}
+use Rattle.scenario.specs.Limits.{IsEntry, IsOpList, IsScenario, IsStep, Rises, most_air_lines, most_ops, most_steps, most_tags, no_operations}
 use Rattle.air_events.specs.Entries.{no_entry}
-use Rattle.scenario.specs.Standing.{ChoosesOnce, DraftValue, Follows, Leads, MayFollow, NamesTag, Standing, after, begun, ended, entries_of, last_entry, new_draft, scenario_of, start, turned, with_air, with_happening, with_said, with_step, within}
+use Rattle.scenario.specs.Standing.{ChoosesOnce, DraftValue, Follows, Leads, MayFollow, NamesTag, Standing, after, begun, ended, entries_of, last_entry, new_draft, scenario_of, start, turned, steps_of, with_air, with_happening, with_last, with_only, with_op, with_round, with_said, with_step, within}
 
 -- the lines of a draft, without the end
 abbrev pub draft_lines : DraftValue → List Line
 draft_lines draft =
-    lines.Version ∷ lines.Link draft.link ∷ map lines.Tag draft.tags ++ air_lines (entries_of draft) ++ map step_line draft.steps
+    lines.Version ∷ lines.Link draft.link ∷ map lines.Tag draft.tags ++ air_lines (entries_of draft)
+    ++ flat_map step_lines (steps_of draft)
 
 -- the lines of what stands
 abbrev pub standing_lines : Standing → List Line
@@ -52,9 +57,11 @@ pub record Keeps (draft : DraftValue) : Type 0 where
   pub rising : Rises 0 draft.closed
   pub below : All (IsBelow draft.exchange) draft.closed
   pub steps : All (IsStep (length draft.tags)) draft.steps
+  pub round : IfSome draft.round IsRound
+  pub operations : IsOpList draft.operations
   pub few_tags : length draft.tags ≤ most_tags
   pub few_airs : draft.airs ≤ most_air_lines
-  pub few_steps : length draft.steps ≤ most_steps
+  pub few_steps : length (steps_of draft) ≤ most_steps
   pub count : length (air_lines (entries_of draft)) ≡ draft.airs
   pub none : draft.airs ≡ 0 → entries_of draft ≡ []
 
@@ -165,6 +172,30 @@ happening_keeps tags exchange entry (happenings.Choice choice) number is names e
   something = inr (inr (λ none. cc));
 }
 
+no_operations_keep : IsOpList no_operations
+no_operations_keep = record { only = tt; ops = All-nil IsOp; few = omega arith }
+
+-- where there is no step, there is none before the last
+no_step_before : (before : List Step) (round : Option SpecValue) (operations : OpList) → with_last before round operations ≡ [] → before ≡ []
+no_step_before before None operations none = none
+no_step_before before (Some spec) operations none = absurd (not_empty before (steps.Round spec operations) none)
+
+-- all steps keep the limits
+last_keeps : (tags : ℕ) (before : List Step) (round : Option SpecValue) (operations : OpList) → All (IsStep tags) before → IfSome round IsRound
+    → IsOpList operations → All (IsStep tags) (with_last before round operations)
+last_keeps tags before None operations are is list = are
+last_keeps tags before (Some spec) operations are is list = All-push (IsStep tags) before (steps.Round spec operations) are (is, list)
+
+steps_keep : (draft : DraftValue) → Keeps draft → All (IsStep (length draft.tags)) (steps_of draft)
+steps_keep draft keeps = last_keeps (length draft.tags) draft.steps draft.round draft.operations keeps.steps keeps.round keeps.operations
+
+-- how many steps there are doesn't hang on the operations of the last one
+pub same_count : (before : List Step) (round : Option SpecValue) (operations operations' : OpList)
+    → length (with_last before round operations') ≡ length (with_last before round operations)
+same_count before None operations operations' = refl
+same_count before (Some spec) operations operations' =
+    length-append before (steps.Round spec operations' ∷ []) ∙ sym (length-append before (steps.Round spec operations ∷ []))
+
 new_draft_keeps : (link : LinkValue) → IsLegalLink link → Keeps (new_draft link)
 new_draft_keeps link legal = record {
   link = legal;
@@ -174,6 +205,8 @@ new_draft_keeps link legal = record {
   rising = tt;
   below = All-nil (IsBelow 0);
   steps = All-nil (IsStep 0);
+  round = tt;
+  operations = no_operations_keep;
   few_tags = omega arith;
   few_airs = omega arith;
   few_steps = omega arith;
@@ -181,7 +214,8 @@ new_draft_keeps link legal = record {
   none = λ zero. refl;
 }
 
-tag_keeps : (draft : DraftValue) (tag : TagSpec) → Keeps draft → IsTag tag → draft.airs ≡ 0 → draft.steps ≡ [] → length draft.tags < most_tags
+tag_keeps : (draft : DraftValue) (tag : TagSpec) → Keeps draft → IsTag tag → draft.airs ≡ 0 → steps_of draft ≡ []
+    → length draft.tags < most_tags
     → Keeps (record draft { tags = draft.tags ++ tag ∷ [] })
 tag_keeps draft tag keeps is no_airs no_steps room =
     let none = no_entries draft.closed draft.exchange draft.latest (keeps.none no_airs) in
@@ -193,7 +227,9 @@ tag_keeps draft tag keeps is no_airs no_steps room =
       last = last_none tags draft.exchange draft.latest none.1;
       rising = keeps.rising;
       below = keeps.below;
-      steps = rw no_steps (All-nil (IsStep tags));
+      steps = rw (no_step_before draft.steps draft.round draft.operations no_steps) (All-nil (IsStep tags));
+      round = keeps.round;
+      operations = keeps.operations;
       few_tags = omega (arith, length-append draft.tags (tag ∷ []));
       few_airs = keeps.few_airs;
       few_steps = keeps.few_steps;
@@ -209,14 +245,15 @@ air_shape : (tags airs airs' : List Line) (line : Line) → airs' ≡ airs ++ li
 air_shape tags airs airs' line more =
     simp append-nil (ap (λ (list : List Line). tags ++ list) more ∙ sym (append_assoc tags airs (line ∷ [])))
 
-tag_lines : (draft : DraftValue) (tag : TagSpec) → entries_of draft ≡ [] → draft.steps ≡ []
+tag_lines : (draft : DraftValue) (tag : TagSpec) → entries_of draft ≡ [] → steps_of draft ≡ []
     → draft_lines (record draft { tags = draft.tags ++ tag ∷ [] }) ≡ draft_lines draft ++ lines.Tag tag ∷ []
 tag_lines draft tag no_entries no_steps =
     rw (no_entries, no_steps)
     (ap (λ (list : List Line). lines.Version ∷ lines.Link draft.link ∷ list)
     (tag_shape (map lines.Tag draft.tags) (map lines.Tag (draft.tags ++ tag ∷ [])) (lines.Tag tag) (map-append lines.Tag draft.tags (tag ∷ []))))
 
-step_keeps : (draft : DraftValue) (step : Step) → Keeps draft → IsStep (length draft.tags) step → length draft.steps < most_steps → Keeps (with_step draft step)
+step_keeps : (draft : DraftValue) (step : Step) → Keeps draft → IsStep (length draft.tags) step → length (steps_of draft) < most_steps
+    → Keeps (with_step draft step)
 step_keeps draft step keeps is room = record {
   link = keeps.link;
   tags = keeps.tags;
@@ -224,23 +261,114 @@ step_keeps draft step keeps is room = record {
   last = keeps.last;
   rising = keeps.rising;
   below = keeps.below;
-  steps = All-push (IsStep (length draft.tags)) draft.steps step keeps.steps is;
+  steps = All-push (IsStep (length draft.tags)) (steps_of draft) step (steps_keep draft keeps) is;
+  round = tt;
+  operations = no_operations_keep;
   few_tags = keeps.few_tags;
   few_airs = keeps.few_airs;
-  few_steps = omega (arith, length-append draft.steps (step ∷ []));
+  few_steps = omega (arith, length-append (steps_of draft) (step ∷ []));
   count = keeps.count;
   none = keeps.none;
 }
 
-step_lines : (draft : DraftValue) (step : Step) → draft_lines (with_step draft step) ≡ draft_lines draft ++ step_line step ∷ []
-step_lines draft step =
-    let front = lines.Version ∷ lines.Link draft.link ∷ map lines.Tag draft.tags ++ air_lines (entries_of draft) in
-    ap (λ (list : List Line). front ++ list) (map-append step_line draft.steps (step ∷ []))
-    ∙ sym (append_assoc front (map step_line draft.steps) (step_line step ∷ []))
+round_keeps : (draft : DraftValue) (spec : SpecValue) → Keeps draft → IsRound spec → length (steps_of draft) < most_steps → Keeps (with_round draft spec)
+round_keeps draft spec keeps is room = record {
+  link = keeps.link;
+  tags = keeps.tags;
+  closed = keeps.closed;
+  last = keeps.last;
+  rising = keeps.rising;
+  below = keeps.below;
+  steps = steps_keep draft keeps;
+  round = is;
+  operations = no_operations_keep;
+  few_tags = keeps.few_tags;
+  few_airs = keeps.few_airs;
+  few_steps = omega (arith, length-append (steps_of draft) (steps.Round spec no_operations ∷ []));
+  count = keeps.count;
+  none = keeps.none;
+}
+
+-- the draft with other operations of the last round
+operations_keep : (draft : DraftValue) (operations : OpList) → Keeps draft → IsOpList operations → Keeps (record draft { operations = operations })
+operations_keep draft operations keeps are = record {
+  link = keeps.link;
+  tags = keeps.tags;
+  closed = keeps.closed;
+  last = keeps.last;
+  rising = keeps.rising;
+  below = keeps.below;
+  steps = keeps.steps;
+  round = keeps.round;
+  operations = are;
+  few_tags = keeps.few_tags;
+  few_airs = keeps.few_airs;
+  few_steps = rw (same_count draft.steps draft.round draft.operations operations) keeps.few_steps;
+  count = keeps.count;
+  none = keeps.none;
+}
+
+only_keeps : (draft : DraftValue) (epc : List ℕ) → Keeps draft → IsEpc epc → Keeps (with_only draft epc)
+only_keeps draft epc keeps is =
+    operations_keep draft (record { only = Some epc; ops = draft.operations.ops }) keeps
+    (record { only = is; ops = keeps.operations.ops; few = keeps.operations.few })
+
+op_keeps : (draft : DraftValue) (op : Op) → Keeps draft → IsOp op → length draft.operations.ops < most_ops → Keeps (with_op draft op)
+op_keeps draft op keeps is room =
+    operations_keep draft (record { only = draft.operations.only; ops = draft.operations.ops ++ op ∷ [] }) keeps
+    (record {
+      only = keeps.operations.only;
+      ops = All-push IsOp draft.operations.ops op keeps.operations.ops is;
+      few = omega (arith, length-append draft.operations.ops (op ∷ []));
+    })
+
+-- the lines of a draft before its steps
+abbrev front_lines : DraftValue → List Line
+front_lines draft = lines.Version ∷ lines.Link draft.link ∷ map lines.Tag draft.tags ++ air_lines (entries_of draft)
+
+-- one step more
+more_step : (draft : DraftValue) (step : Step)
+    → front_lines draft ++ flat_map step_lines (steps_of draft ++ step ∷ []) ≡ draft_lines draft ++ step_lines step
+more_step draft step =
+    ap (λ (list : List Line). front_lines draft ++ list)
+    (flat_map-append step_lines (steps_of draft) (step ∷ [])
+    ∙ ap (λ (list : List Line). flat_map step_lines (steps_of draft) ++ list) (append-nil (step_lines step)))
+    ∙ sym (append_assoc (front_lines draft) (flat_map step_lines (steps_of draft)) (step_lines step))
+
+-- one line more of the operations of the last round
+pub more_operations : (before : List Step) (round : Option SpecValue) (operations operations' : OpList) (line : Line) → round ≢ None
+    → operation_lines operations' ≡ operation_lines operations ++ line ∷ []
+    → flat_map step_lines (with_last before round operations') ≡ flat_map step_lines (with_last before round operations) ++ line ∷ []
+more_operations before None operations operations' line some more = absurd (some refl)
+more_operations before (Some spec) operations operations' line some more =
+    flat_map-append step_lines before (steps.Round spec operations' ∷ [])
+    ∙ ap (λ (list : List Line). flat_map step_lines before ++ lines.Round spec ∷ list)
+    (append-nil (operation_lines operations') ∙ more ∙ ap (λ (list : List Line). list ++ line ∷ []) (sym (append-nil (operation_lines operations))))
+    ∙ sym (append_assoc (flat_map step_lines before) (lines.Round spec ∷ operation_lines operations ++ []) (line ∷ []))
+    ∙ ap (λ (list : List Line). list ++ line ∷ []) (sym (flat_map-append step_lines before (steps.Round spec operations ∷ [])))
+
+more_operation_lines : (draft : DraftValue) (operations : OpList) (line : Line) → draft.round ≢ None
+    → operation_lines operations ≡ operation_lines draft.operations ++ line ∷ []
+    → front_lines draft ++ flat_map step_lines (with_last draft.steps draft.round operations) ≡ draft_lines draft ++ line ∷ []
+more_operation_lines draft operations line some more =
+    ap (λ (list : List Line). front_lines draft ++ list) (more_operations draft.steps draft.round draft.operations operations line some more)
+    ∙ sym (append_assoc (front_lines draft) (flat_map step_lines (steps_of draft)) (line ∷ []))
+
+-- the EPC is named first
+pub only_first : (operations : OpList) (epc : List ℕ) → operations.only ≡ None → operations.ops ≡ []
+    → operation_lines (record { only = Some epc; ops = operations.ops }) ≡ operation_lines operations ++ lines.Only epc ∷ []
+only_first operations epc no_name no_ops = rw (no_name, no_ops) refl
+
+-- operations follow one another
+pub op_more : (operations : OpList) (op : Op)
+    → operation_lines (record { only = operations.only; ops = operations.ops ++ op ∷ [] }) ≡ operation_lines operations ++ lines.Op op ∷ []
+op_more operations op =
+    ap (λ (list : List Line). only_lines operations.only ++ list) (map-append lines.Op operations.ops (op ∷ []))
+    ∙ sym (append_assoc (only_lines operations.only) (map lines.Op operations.ops) (lines.Op op ∷ []))
 
 -- the rules that an air line keeps where it may follow
 record AirFollows (draft : DraftValue) (number : ℕ) (happening : Happening) : Type 0 where
-  no_steps : draft.steps ≡ []
+  no_steps : steps_of draft ≡ []
   room : draft.airs < most_air_lines
   is_exchange : IsExchange number
   is : IsHappening happening
@@ -310,6 +438,8 @@ more_keeps draft happening keeps air =
       rising = keeps.rising;
       below = keeps.below;
       steps = keeps.steps;
+      round = keeps.round;
+      operations = keeps.operations;
       few_tags = keeps.few_tags;
       few_airs = omega (arith, air.room);
       few_steps = keeps.few_steps;
@@ -335,6 +465,8 @@ first_keeps draft number happening keeps above air =
       rising = entries.1;
       below = last_below draft.closed draft.exchange number draft.latest above keeps.below;
       steps = keeps.steps;
+      round = keeps.round;
+      operations = keeps.operations;
       few_tags = keeps.few_tags;
       few_airs = omega (arith, air.room);
       few_steps = keeps.few_steps;
@@ -344,8 +476,9 @@ first_keeps draft number happening keeps above air =
     }
 
 -- the lines of a draft without steps, with one air line more
-lines_with_air : (draft : DraftValue) (entries : List (ℕ × Entry)) (line : Line) → draft.steps ≡ [] → air_lines entries ≡ air_lines (entries_of draft) ++ line ∷ []
-    → lines.Version ∷ lines.Link draft.link ∷ map lines.Tag draft.tags ++ air_lines entries ++ map step_line draft.steps ≡ draft_lines draft ++ line ∷ []
+lines_with_air : (draft : DraftValue) (entries : List (ℕ × Entry)) (line : Line) → steps_of draft ≡ [] → air_lines entries ≡ air_lines (entries_of draft) ++ line ∷ []
+    → lines.Version ∷ lines.Link draft.link ∷ map lines.Tag draft.tags ++ air_lines entries ++ flat_map step_lines (steps_of draft)
+    ≡ draft_lines draft ++ line ∷ []
 lines_with_air draft entries line no_steps more =
     rw no_steps
     (ap (λ (list : List Line). lines.Version ∷ lines.Link draft.link ∷ list)
@@ -409,6 +542,8 @@ settles_one start (lines.Select selection) keeps follows = absurd follows.stands
 settles_one start lines.Nak keeps follows = absurd follows.stands
 settles_one start (lines.Event event tag) keeps follows = absurd follows.stands
 settles_one start (lines.Round spec) keeps follows = absurd follows.stands
+settles_one start (lines.Only epc) keeps follows = absurd follows.stands
+settles_one start (lines.Op op) keeps follows = absurd follows.stands
 settles_one start lines.End keeps follows = absurd follows.stands
 settles_one begun lines.Version keeps follows = absurd follows.stands
 settles_one begun (lines.Link link) keeps follows = (refl, new_draft_keeps link follows.is.coherent)
@@ -418,6 +553,8 @@ settles_one begun (lines.Select selection) keeps follows = absurd follows.stands
 settles_one begun lines.Nak keeps follows = absurd follows.stands
 settles_one begun (lines.Event event tag) keeps follows = absurd follows.stands
 settles_one begun (lines.Round spec) keeps follows = absurd follows.stands
+settles_one begun (lines.Only epc) keeps follows = absurd follows.stands
+settles_one begun (lines.Op op) keeps follows = absurd follows.stands
 settles_one begun lines.End keeps follows = absurd follows.stands
 settles_one (within draft) lines.Version keeps follows = absurd follows.stands
 settles_one (within draft) (lines.Link link) keeps follows = absurd follows.stands
@@ -428,13 +565,23 @@ settles_one (within draft) (lines.Tag tag) keeps follows = (
 settles_one (within draft) (lines.Air number happening) keeps follows = air_settles draft number happening keeps (air_follows draft number happening follows)
 settles_one (within draft) (lines.Select selection) keeps follows =
     let step = steps.Select (commands.Select selection.target selection.action selection.bank selection.pointer selection.mask) in
-    (step_lines draft step, step_keeps draft step keeps follows.is.form follows.room)
-settles_one (within draft) lines.Nak keeps follows = (step_lines draft steps.Nak, step_keeps draft steps.Nak keeps tt follows.room)
+    (more_step draft step, step_keeps draft step keeps follows.is.form follows.room)
+settles_one (within draft) lines.Nak keeps follows = (more_step draft steps.Nak, step_keeps draft steps.Nak keeps tt follows.room)
 settles_one (within draft) (lines.Event event tag) keeps follows =
-    (step_lines draft (steps.Event event tag), step_keeps draft (steps.Event event tag) keeps (follows.is.form, follows.agrees.names) follows.room)
+    (more_step draft (steps.Event event tag), step_keeps draft (steps.Event event tag) keeps (follows.is.form, follows.agrees.names) follows.room)
 settles_one (within draft) (lines.Round spec) keeps follows =
-    let step = steps.Round spec no_operations in
-    (step_lines draft step, step_keeps draft step keeps (follows.is.form, refl) follows.room)
+    (more_step draft (steps.Round spec no_operations), round_keeps draft spec keeps follows.is.form follows.room)
+settles_one (within draft) (lines.Only epc) keeps follows =
+    let operations : OpList = record { only = Some epc; ops = draft.operations.ops } in (
+      more_operation_lines draft operations (lines.Only epc) follows.stands.round
+          (only_first draft.operations epc follows.stands.only follows.stands.ops),
+      only_keeps draft epc keeps follows.is.form,
+    )
+settles_one (within draft) (lines.Op op) keeps follows =
+    let operations : OpList = record { only = draft.operations.only; ops = draft.operations.ops ++ op ∷ [] } in (
+      more_operation_lines draft operations (lines.Op op) follows.stands (op_more draft.operations op),
+      op_keeps draft op keeps follows.is.form follows.room,
+    )
 settles_one (within draft) lines.End keeps follows = (refl, keeps)
 settles_one (ended draft) line keeps follows = absurd follows.stands
 
@@ -458,7 +605,7 @@ draft_is_scenario draft keeps =
       tags = keeps.tags;
       entries = entries.0;
       rising = entries.1;
-      steps = keeps.steps;
+      steps = steps_keep draft keeps;
       few_tags = keeps.few_tags;
       few_air_lines = omega arith;
       few_steps = keeps.few_steps;

@@ -1,6 +1,7 @@
 -- The lines of a scenario that keeps the limits follow one another from the start to the end, and say it.
 use Rattle.std.proofs.Common.{◌≡◌, ◌≢◌, ℕ, zero, suc, ◌+◌, ◌<◌, ◌≤◌, ◌==◌, true, false, List, [], ◌∷◌, ◌++◌, length, map, Option, Some, None, inl, inr, refl, sym, ◌∙◌, ap, subst, arith, append_assoc, add-zero}
 use Rattle.std.specs.Prelude.{All, IfSome}
+use Rattle.std.specs.List.{flat_map}
 use Rattle.std.proofs.lemmas.Bool.{eq-eqb, ne_eqb}
 use Rattle.std.proofs.lemmas.List.{length-append, length-map, append-nil}
 use Rattle.std.proofs.lemmas.List.Elements.{All-head, All-tail}
@@ -15,14 +16,16 @@ use Rattle.scenario_lines.specs.declared.line.Happening.TheVariants as happening
 use Rattle.scenario_lines.specs.declared.line.Line.{Line}
 use Rattle.scenario_lines.specs.declared.line.Line.TheVariants as lines
 use Rattle.scenario_lines.specs.TagForm.{IsTag}
-use Rattle.scenario_lines.specs.LineForm.{IsChoice, IsEvent, IsExchange, IsLinkForm, IsPlace}
+use Rattle.scenario_lines.specs.LineForm.{IsChoice, IsEpc, IsEvent, IsExchange, IsLinkForm, IsOp, IsPlace, IsRound}
+use Rattle.access_ops.specs.declared.Op.{Op}
 use Rattle.access_ops.specs.declared.OpList.{OpList}
+use Rattle.q_round.specs.SpecValue.{SpecValue}
 use Rattle.scenario.specs.declared.values.Step.{Step}
 use Rattle.scenario.specs.declared.values.Step.TheVariants as steps
 use Rattle.scenario.specs.declared.values.Scenario.{Scenario}
-use Rattle.scenario.specs.ScenarioText.{air_lines, choice_lines, entry_lines, scenario_lines, step_line}
-use Rattle.scenario.specs.Limits.{IsEntry, IsScenario, IsStep, Rises, SaysSomething, most_air_lines, most_steps, most_tags}
-use Rattle.scenario.specs.Standing.{ChoosesOnce, DraftValue, Follows, IsSaid, Leads, Standing, after, begun, draft_of, entries_of, last_entry, start, with_said, with_step, within}
+use Rattle.scenario.specs.ScenarioText.{air_lines, choice_lines, entry_lines, only_lines, operation_lines, scenario_lines, step_lines}
+use Rattle.scenario.specs.Limits.{IsEntry, IsOpList, IsScenario, IsStep, Rises, SaysSomething, most_air_lines, most_ops, most_steps, most_tags}
+use Rattle.scenario.specs.Standing.{ChoosesOnce, DraftValue, Follows, IsSaid, Leads, Standing, after, begun, draft_of, ended, entries_of, last_entry, start, steps_of, with_said, with_step, within}
 use Rattle.scenario.proofs.Leading.{leads_on}
 
 -- a link that keeps its ranges has the form of a line's
@@ -36,7 +39,7 @@ legal_form link legal =
 
 -- a draft with these tags alone
 abbrev tags_draft : LinkValue → List TagSpec → DraftValue
-tags_draft link tags = draft_of link tags 0 [] 0 [] [] None []
+tags_draft link tags = draft_of link tags 0 [] 0 [] [] None [] None None []
 
 speak_tags : (link : LinkValue) (before todo : List TagSpec) → All IsTag todo → length before + length todo ≤ most_tags
     → Leads (within (tags_draft link before)) (map lines.Tag todo) (within (tags_draft link (before ++ todo)))
@@ -58,7 +61,8 @@ speak_tags link before (tag ∷ todo) are few =
 -- a draft to which so many lines on another exchange were added
 abbrev on_exchange : DraftValue → ℕ → List (Event × ℕ) → List ℕ → Option Choice → ℕ → DraftValue
 on_exchange draft number events missed choice added =
-    draft_of draft.link draft.tags (draft.airs + added) (entries_of draft) number events missed choice draft.steps
+    draft_of draft.link draft.tags (draft.airs + added) (entries_of draft) number events missed choice draft.steps draft.round draft.operations.only
+    draft.operations.ops
 
 same_exchange : (number : ℕ) → (number == number) ≡ true
 same_exchange number = eq-eqb number number refl
@@ -70,7 +74,8 @@ air_again : (draft : DraftValue) (number : ℕ) (events : List (Event × ℕ)) (
 air_again draft number events missed choice added happening =
     let count : draft.airs + added + 1 ≡ draft.airs + (added + 1) = omega arith in
     rw (same_exchange number)
-    (ap (λ (airs : ℕ). within (with_said (draft_of draft.link draft.tags airs (entries_of draft) number events missed choice draft.steps) happening)) count)
+    (ap (λ (airs : ℕ). within (with_said (draft_of draft.link draft.tags airs (entries_of draft) number events missed choice draft.steps draft.round draft.operations.only
+    draft.operations.ops) happening)) count)
 
 -- where lines lead, by another name
 leads_to : (from to to' : Standing) (said : List Line) → to ≡ to' → Leads from said to → Leads from said to'
@@ -84,7 +89,7 @@ air_then : (draft : DraftValue) (number : ℕ) (events : List (Event × ℕ)) (m
 air_then draft number events missed choice added happening said to follows leads =
     (follows, subst (λ (s : Standing). Leads s said to) (sym (air_again draft number events missed choice added happening)) leads)
 
-speak_events : (draft : DraftValue) (number : ℕ) (before todo : List (Event × ℕ)) (added : ℕ) → draft.steps ≡ [] → IsExchange number
+speak_events : (draft : DraftValue) (number : ℕ) (before todo : List (Event × ℕ)) (added : ℕ) → steps_of draft ≡ [] → IsExchange number
     → All (λ (event : Event × ℕ). IsEvent event.0 event.1 × (event.1 < length draft.tags)) todo → draft.airs + added + length todo ≤ most_air_lines
     → Leads (within (on_exchange draft number before [] None added)) (map (λ (event : Event × ℕ). lines.Air number (happenings.Event event.0 event.1)) todo)
     (within (on_exchange draft number (before ++ todo) [] None (added + length todo)))
@@ -105,7 +110,7 @@ speak_events draft number before (event ∷ todo) added no_steps is are few =
     rw (append_assoc before (event ∷ []) todo, count) refl in
     air_then draft number before [] None added (happenings.Event event.0 event.1) _ _ follows (leads_to _ _ _ _ same others)
 
-speak_misses : (draft : DraftValue) (number : ℕ) (events : List (Event × ℕ)) (before todo : List ℕ) (added : ℕ) → draft.steps ≡ [] → IsExchange number
+speak_misses : (draft : DraftValue) (number : ℕ) (events : List (Event × ℕ)) (before todo : List ℕ) (added : ℕ) → steps_of draft ≡ [] → IsExchange number
     → All (λ tag. IsPlace tag × (tag < length draft.tags)) todo → draft.airs + added + length todo ≤ most_air_lines
     → Leads (within (on_exchange draft number events before None added)) (map (λ tag. lines.Air number (happenings.Miss tag)) todo)
     (within (on_exchange draft number events (before ++ todo) None (added + length todo)))
@@ -126,7 +131,7 @@ speak_misses draft number events before (tag ∷ todo) added no_steps is are few
     rw (append_assoc before (tag ∷ []) todo, count) refl in
     air_then draft number events before None added (happenings.Miss tag) _ _ follows (leads_to _ _ _ _ same others)
 
-speak_choice : (draft : DraftValue) (number : ℕ) (events : List (Event × ℕ)) (missed : List ℕ) (choice : Option Choice) (added : ℕ) → draft.steps ≡ []
+speak_choice : (draft : DraftValue) (number : ℕ) (events : List (Event × ℕ)) (missed : List ℕ) (choice : Option Choice) (added : ℕ) → steps_of draft ≡ []
     → IsExchange number → IfSome choice IsChoice → draft.airs + added + length (choice_lines number choice) ≤ most_air_lines
     → Leads (within (on_exchange draft number events missed None added)) (choice_lines number choice)
     (within (on_exchange draft number events missed choice (added + length (choice_lines number choice))))
@@ -141,7 +146,7 @@ speak_choice draft number events missed (Some choice) added no_steps is chosen f
     air_then draft number events missed None added (happenings.Choice choice) [] _ follows refl
 
 -- what is said of one exchange
-speak_on_exchange : (draft : DraftValue) (entry : ℕ × Entry) → draft.steps ≡ [] → IsEntry (length draft.tags) entry
+speak_on_exchange : (draft : DraftValue) (entry : ℕ × Entry) → steps_of draft ≡ [] → IsEntry (length draft.tags) entry
     → draft.airs + length (entry_lines entry) ≤ most_air_lines
     → Leads (within (on_exchange draft entry.0 [] [] None 0)) (entry_lines entry)
     (within (on_exchange draft entry.0 entry.1.events entry.1.missed entry.1.choice (length (entry_lines entry))))
@@ -182,7 +187,8 @@ air_turns draft number happening said to above leads =
     } in
     let counted : draft.airs + 1 ≡ draft.airs + (0 + 1) = omega arith in
     let same : after (within draft) (lines.Air number happening) ≡ after (within (on_exchange draft number [] [] None 0)) (lines.Air number happening) =
-    rw other (ap (λ (airs : ℕ). within (with_said (draft_of draft.link draft.tags airs (entries_of draft) number [] [] None draft.steps) happening)) counted)
+    rw other (ap (λ (airs : ℕ). within (with_said (draft_of draft.link draft.tags airs (entries_of draft) number [] [] None draft.steps draft.round draft.operations.only
+    draft.operations.ops) happening)) counted)
     ∙ sym (air_again draft number [] [] None 0 happening) in
     (follows, subst (λ (s : Standing). Leads s said to) (sym same) leads.1)
 
@@ -198,7 +204,7 @@ first_line number [] [] None (inl some) = absurd (some refl)
 first_line number [] [] None (inr (inl some)) = absurd (some refl)
 first_line number [] [] None (inr (inr some)) = absurd (some refl)
 
-speak_entry : (draft : DraftValue) (entry : ℕ × Entry) → draft.steps ≡ [] → IsEntry (length draft.tags) entry → draft.exchange < entry.0
+speak_entry : (draft : DraftValue) (entry : ℕ × Entry) → steps_of draft ≡ [] → IsEntry (length draft.tags) entry → draft.exchange < entry.0
     → draft.airs + length (entry_lines entry) ≤ most_air_lines
     → Leads (within draft) (entry_lines entry)
     (within (on_exchange draft entry.0 entry.1.events entry.1.missed entry.1.choice (length (entry_lines entry))))
@@ -220,10 +226,10 @@ record SpokenEntries (draft : DraftValue) (todo : List (ℕ × Entry)) : Type 0 
   leads : Leads (within draft) (air_lines todo) (within to)
   link : to.link ≡ draft.link
   tags : to.tags ≡ draft.tags
-  no_steps : to.steps ≡ []
+  no_steps : steps_of to ≡ []
   entries : entries_of to ≡ entries_of draft ++ todo
 
-speak_entries : (draft : DraftValue) (todo : List (ℕ × Entry)) → draft.steps ≡ [] → All (IsEntry (length draft.tags)) todo → Rises draft.exchange todo
+speak_entries : (draft : DraftValue) (todo : List (ℕ × Entry)) → steps_of draft ≡ [] → All (IsEntry (length draft.tags)) todo → Rises draft.exchange todo
     → draft.airs + length (air_lines todo) ≤ most_air_lines → SpokenEntries draft todo
 speak_entries draft [] no_steps are rising few = record {
   to = draft;
@@ -251,42 +257,142 @@ speak_entries draft (entry ∷ todo) no_steps are rising few =
       entries = others.entries ∙ ap (λ (list : List (ℕ × Entry)). list ++ todo) added ∙ append_assoc (entries_of draft) (entry ∷ []) todo;
     }
 
--- one step
-step_follows : (draft : DraftValue) (step : Step) → IsStep (length draft.tags) step → length draft.steps < most_steps
-    → Follows (within draft) (step_line step) × (after (within draft) (step_line step) ≡ within (with_step draft step))
-step_follows draft (steps.Select (commands.Select target action bank pointer mask)) is room =
-    (record { is = record { form = is; coherent = tt }; stands = tt; room = room; agrees = record { names = tt; order = tt; once = tt } }, refl)
-step_follows draft (steps.Select (commands.QueryRep session)) is room = absurd is
-step_follows draft (steps.Select (commands.Ack rn)) is room = absurd is
-step_follows draft (steps.Select (commands.Query dr code trext sel session target q)) is room = absurd is
-step_follows draft (steps.Select (commands.QueryAdjust session updn)) is room = absurd is
-step_follows draft (steps.Select commands.Nak) is room = absurd is
-step_follows draft (steps.Select (commands.ReqRn rn)) is room = absurd is
-step_follows draft (steps.Select (commands.Read bank pointer count rn)) is room = absurd is
-step_follows draft (steps.Select (commands.Write bank pointer covered rn)) is room = absurd is
-step_follows draft (steps.Select (commands.Kill covered rn)) is room = absurd is
-step_follows draft (steps.Select (commands.Lock payload rn)) is room = absurd is
-step_follows draft (steps.Select (commands.Access covered rn)) is room = absurd is
-step_follows draft (steps.Select (commands.BlockWrite bank pointer words rn)) is room = absurd is
-step_follows draft (steps.Select (commands.BlockErase bank pointer count rn)) is room = absurd is
-step_follows draft steps.Nak is room =
-    (record { is = record { form = tt; coherent = tt }; stands = tt; room = room; agrees = record { names = tt; order = tt; once = tt } }, refl)
-step_follows draft (steps.Event event tag) is room =
-    (record { is = record { form = is.0; coherent = tt }; stands = tt; room = room; agrees = record { names = is.1; order = tt; once = tt } }, refl)
-step_follows draft (steps.Round spec operations) is room = (
-  record { is = record { form = is.0; coherent = tt }; stands = tt; room = room; agrees = record { names = tt; order = tt; once = tt } },
-  ap (λ (list : OpList). within (with_step draft (steps.Round spec list))) (sym is.1),
-)
+-- a draft to which these steps were added
+record SpokenSteps (draft : DraftValue) (todo : List Step) : Type 0 where
+  to : DraftValue
+  leads : Leads (within draft) (flat_map step_lines todo) (within to)
+  link : to.link ≡ draft.link
+  tags : to.tags ≡ draft.tags
+  entries : entries_of to ≡ entries_of draft
+  steps : steps_of to ≡ steps_of draft ++ todo
 
-speak_steps : (draft : DraftValue) (todo : List Step) → All (IsStep (length draft.tags)) todo → length draft.steps + length todo ≤ most_steps
-    → Leads (within draft) (map step_line todo) (within (record draft { steps = draft.steps ++ todo }))
-speak_steps draft [] are few = ap (λ (list : List Step). within (record draft { steps = list })) (sym (append-nil draft.steps))
+-- a draft whose last step is a round, of whose operations so much is said
+abbrev on_round : DraftValue → SpecValue → Option (List ℕ) → List Op → DraftValue
+on_round draft spec only ops =
+    draft_of draft.link draft.tags draft.airs draft.closed draft.exchange draft.latest.events draft.latest.missed draft.latest.choice (steps_of draft)
+    (Some spec) only ops
+
+speak_only : (draft : DraftValue) (spec : SpecValue) (only : Option (List ℕ)) → IfSome only IsEpc
+    → Leads (within (on_round draft spec None [])) (only_lines only) (within (on_round draft spec only []))
+speak_only draft spec None is = refl
+speak_only draft spec (Some epc) is =
+    let follows : Follows (within (on_round draft spec None [])) (lines.Only epc) = record {
+      is = record { form = is; coherent = tt };
+      stands = record { round = λ none. cc; only = refl; ops = refl };
+      room = tt;
+      agrees = record { names = tt; order = tt; once = tt };
+    } in
+    (follows, refl)
+
+speak_ops : (draft : DraftValue) (spec : SpecValue) (only : Option (List ℕ)) (before todo : List Op) → All IsOp todo
+    → length before + length todo ≤ most_ops
+    → Leads (within (on_round draft spec only before)) (map lines.Op todo) (within (on_round draft spec only (before ++ todo)))
+speak_ops draft spec only before [] are few = rw append-nil refl
+speak_ops draft spec only before (op ∷ todo) are few =
+    let follows : Follows (within (on_round draft spec only before)) (lines.Op op) = record {
+      is = record { form = All-head IsOp op todo are; coherent = tt };
+      stands = λ none. cc;
+      room = omega (arith, few);
+      agrees = record { names = tt; order = tt; once = tt };
+    } in
+    let others = speak_ops draft spec only (before ++ op ∷ []) todo (All-tail IsOp op todo are) (omega (arith, few, length-append before (op ∷ []))) in (
+      follows,
+      subst (λ (ops : List Op). Leads (within (on_round draft spec only (before ++ op ∷ []))) (map lines.Op todo) (within (on_round draft spec only ops)))
+          (append_assoc before (op ∷ []) todo) others,
+    )
+
+-- a round and its operations
+speak_round : (draft : DraftValue) (spec : SpecValue) (operations : OpList) → IsRound spec → IsOpList operations → length (steps_of draft) < most_steps
+    → SpokenSteps draft (steps.Round spec operations ∷ [])
+speak_round draft spec operations is are room =
+    let only = operations.only in
+    let ops = operations.ops in
+    let to = on_round draft spec only ops in
+    let follows : Follows (within draft) (lines.Round spec) =
+    record { is = record { form = is; coherent = tt }; stands = tt; room = room; agrees = record { names = tt; order = tt; once = tt } } in
+    let body = leads_on (within (on_round draft spec None [])) (within (on_round draft spec only [])) (within to) (only_lines only) (map lines.Op ops)
+    (speak_only draft spec only are.only) (speak_ops draft spec only [] ops are.ops (omega (arith, are.few))) in
+    let leads : Leads (within draft) (lines.Round spec ∷ operation_lines operations) (within to) = (follows, body) in
+    record {
+      to = to;
+      leads = subst (λ (said : List Line). Leads (within draft) said (within to)) (sym (append-nil (lines.Round spec ∷ operation_lines operations))) leads;
+      link = refl;
+      tags = refl;
+      entries = refl;
+      steps = refl;
+    }
+
+-- a step that is no round
+speak_plain : (draft : DraftValue) (step : Step) (line : Line) → step_lines step ≡ line ∷ [] → Follows (within draft) line
+    → after (within draft) line ≡ within (with_step draft step) → SpokenSteps draft (step ∷ [])
+speak_plain draft step line one follows leads = record {
+  to = with_step draft step;
+  leads = subst (λ (said : List Line). Leads (within draft) said (within (with_step draft step))) (sym (append-nil (step_lines step) ∙ one))
+      (follows, leads);
+  link = refl;
+  tags = refl;
+  entries = refl;
+  steps = refl;
+}
+
+-- one step
+speak_step : (draft : DraftValue) (step : Step) → IsStep (length draft.tags) step → length (steps_of draft) < most_steps → SpokenSteps draft (step ∷ [])
+speak_step draft (steps.Select (commands.Select target action bank pointer mask)) is room =
+    speak_plain draft _ _ refl
+    (record { is = record { form = is; coherent = tt }; stands = tt; room = room; agrees = record { names = tt; order = tt; once = tt } }) refl
+speak_step draft (steps.Select (commands.QueryRep session)) is room = absurd is
+speak_step draft (steps.Select (commands.Ack rn)) is room = absurd is
+speak_step draft (steps.Select (commands.Query dr code trext sel session target q)) is room = absurd is
+speak_step draft (steps.Select (commands.QueryAdjust session updn)) is room = absurd is
+speak_step draft (steps.Select commands.Nak) is room = absurd is
+speak_step draft (steps.Select (commands.ReqRn rn)) is room = absurd is
+speak_step draft (steps.Select (commands.Read bank pointer count rn)) is room = absurd is
+speak_step draft (steps.Select (commands.Write bank pointer covered rn)) is room = absurd is
+speak_step draft (steps.Select (commands.Kill covered rn)) is room = absurd is
+speak_step draft (steps.Select (commands.Lock payload rn)) is room = absurd is
+speak_step draft (steps.Select (commands.Access covered rn)) is room = absurd is
+speak_step draft (steps.Select (commands.BlockWrite bank pointer words rn)) is room = absurd is
+speak_step draft (steps.Select (commands.BlockErase bank pointer count rn)) is room = absurd is
+speak_step draft steps.Nak is room =
+    speak_plain draft steps.Nak lines.Nak refl
+    (record { is = record { form = tt; coherent = tt }; stands = tt; room = room; agrees = record { names = tt; order = tt; once = tt } }) refl
+speak_step draft (steps.Event event tag) is room =
+    speak_plain draft (steps.Event event tag) (lines.Event event tag) refl
+    (record { is = record { form = is.0; coherent = tt }; stands = tt; room = room; agrees = record { names = is.1; order = tt; once = tt } }) refl
+speak_step draft (steps.Round spec operations) is room = speak_round draft spec operations is.0 is.1 room
+
+speak_steps : (draft : DraftValue) (todo : List Step) → All (IsStep (length draft.tags)) todo → length (steps_of draft) + length todo ≤ most_steps
+    → SpokenSteps draft todo
+speak_steps draft [] are few = record {
+  to = draft;
+  leads = refl;
+  link = refl;
+  tags = refl;
+  entries = refl;
+  steps = sym (append-nil (steps_of draft));
+}
 speak_steps draft (step ∷ todo) are few =
     let IsIt : Step → Type 0 = IsStep (length draft.tags) in
-    let one = step_follows draft step (All-head IsIt step todo are) (omega arith) in
-    let others = speak_steps (with_step draft step) todo (All-tail IsIt step todo are) (omega (arith, length-append draft.steps (step ∷ []))) in
-    let same = ap (λ (list : List Step). within (record draft { steps = list })) (append_assoc draft.steps (step ∷ []) todo) in
-    (one.0, subst (λ (s : Standing). Leads s (map step_line todo) (within (record draft { steps = draft.steps ++ step ∷ todo }))) (sym one.1) (leads_to _ _ _ _ same others))
+    let one = speak_step draft step (All-head IsIt step todo are) (omega (arith, few)) in
+    let tail : All (IsStep (length one.to.tags)) todo = rw one.tags (All-tail IsIt step todo are) in
+    let count = ap length one.steps ∙ length-append (steps_of draft) (step ∷ []) in
+    let others = speak_steps one.to todo tail (omega (arith, few, count)) in
+    let first : Leads (within draft) (step_lines step) (within one.to) =
+    subst (λ (said : List Line). Leads (within draft) said (within one.to)) (append-nil (step_lines step)) one.leads in
+    record {
+      to = others.to;
+      leads = leads_on (within draft) (within one.to) (within others.to) (step_lines step) (flat_map step_lines todo) first others.leads;
+      link = others.link ∙ one.link;
+      tags = others.tags ∙ one.tags;
+      entries = others.entries ∙ one.entries;
+      steps = others.steps ∙ ap (λ (list : List Step). list ++ todo) one.steps ∙ append_assoc (steps_of draft) (step ∷ []) todo;
+    }
+
+same_scenario : (link link' : LinkValue) (tags tags' : List TagSpec) (entries entries' : List (ℕ × Entry)) (steps steps' : List Step) → link ≡ link'
+    → tags ≡ tags' → entries ≡ entries' → steps ≡ steps'
+    → ◌≡◌ {A = Scenario} (record { link = link; tags = tags; entries = entries; steps = steps })
+    (record { link = link'; tags = tags'; entries = entries'; steps = steps' })
+same_scenario link link' tags tags' entries entries' steps steps' e f g h = rw (e, f, g, h) refl
 
 -- each scenario within the limits is said by its lines
 pub scenario_is_said : (scenario : Scenario) → IsScenario scenario → IsSaid scenario (scenario_lines scenario)
@@ -302,15 +408,20 @@ scenario_is_said scenario is =
     let second = speak_entries (tags_draft link tags) scenario.entries refl is.entries is.rising (omega (arith, is.few_air_lines)) in
     let kept : All (IsStep (length second.to.tags)) scenario.steps = rw second.tags is.steps in
     let third = speak_steps second.to scenario.steps kept (omega (arith, is.few_steps, ap length second.no_steps)) in
-    let draft = record second.to { steps = second.to.steps ++ scenario.steps } in
-    let last : Follows (within draft) lines.End =
+    let last : Follows (within third.to) lines.End =
     record { is = record { form = tt; coherent = tt }; stands = tt; room = tt; agrees = record { names = tt; order = tt; once = tt } } in
-    let body = leads_on _ _ _ (lines.Version ∷ lines.Link link ∷ map lines.Tag tags) (air_lines scenario.entries)
-    (leads_on _ _ _ (lines.Version ∷ lines.Link link ∷ []) (map lines.Tag tags) head first) second.leads in
-    let all = leads_on _ _ _ (lines.Version ∷ lines.Link link ∷ map lines.Tag tags ++ air_lines scenario.entries) (map step_line scenario.steps) body third in
+    let body = leads_on start (within (tags_draft link tags)) (within second.to) (lines.Version ∷ lines.Link link ∷ map lines.Tag tags)
+    (air_lines scenario.entries)
+    (leads_on start (within (tags_draft link [])) (within (tags_draft link tags)) (lines.Version ∷ lines.Link link ∷ []) (map lines.Tag tags) head first)
+    second.leads in
+    let all = leads_on start (within second.to) (within third.to) (lines.Version ∷ lines.Link link ∷ map lines.Tag tags ++ air_lines scenario.entries)
+    (flat_map step_lines scenario.steps) body third.leads in
     record {
-      draft = draft;
-      leads = leads_on _ _ _ (lines.Version ∷ lines.Link link ∷ map lines.Tag tags ++ air_lines scenario.entries ++ map step_line scenario.steps)
-          (lines.End ∷ []) all (last, refl);
-      says = rw (second.link, second.tags, second.no_steps, second.entries) refl;
+      draft = third.to;
+      leads = leads_on start (within third.to) (ended third.to)
+          (lines.Version ∷ lines.Link link ∷ map lines.Tag tags ++ air_lines scenario.entries ++ flat_map step_lines scenario.steps) (lines.End ∷ []) all
+          (last, refl);
+      says = same_scenario third.to.link link third.to.tags tags (entries_of third.to) scenario.entries (steps_of third.to) scenario.steps
+          (third.link ∙ second.link) (third.tags ∙ second.tags) (third.entries ∙ second.entries)
+          (third.steps ∙ ap (λ (list : List Step). list ++ scenario.steps) second.no_steps);
     }

@@ -4,7 +4,7 @@ use Rattle.scenario_lines.specs.declared.first_fields.Word.{Word}
 use Rattle.scenario_lines.specs.declared.first_fields.Word.TheVariants as words
 use Rattle.scenario_lines.specs.declared.line.Line.{Line}
 use Rattle.scenario_lines.specs.declared.line.Line.TheVariants as lines
-use Rattle.scenario_lines.specs.Names.{air_kind, event_kind}
+use Rattle.scenario_lines.specs.Names.{air_kind, event_kind, op_kind}
 use Rattle.scenario_lines.specs.Spelling.{other_fields, word_of_line}
 use Rattle.scenario_lines.specs.LineFaults.{BeginsWith, HasKnownKind, SpellsLine}
 use Rattle.scenario.specs.declared.fault.Fault.{Fault}
@@ -21,6 +21,8 @@ known_kind (lines.Select selection) = tt
 known_kind lines.Nak = tt
 known_kind (lines.Event event tag) = (event_kind event, refl)
 known_kind (lines.Round spec) = tt
+known_kind (lines.Only epc) = tt
+known_kind (lines.Op op) = (op_kind op, refl)
 known_kind lines.End = tt
 
 -- the fields of a line begin with its word
@@ -40,6 +42,8 @@ after_end draft (lines.Select selection) is = cc
 after_end draft lines.Nak is = cc
 after_end draft (lines.Event event tag) is = cc
 after_end draft (lines.Round spec) is = cc
+after_end draft (lines.Only epc) is = cc
+after_end draft (lines.Op op) is = cc
 after_end draft lines.End is = refl
 
 -- each other line lets it grow
@@ -52,6 +56,8 @@ after_grown draft (lines.Select selection) other = refl
 after_grown draft lines.Nak other = refl
 after_grown draft (lines.Event event tag) other = refl
 after_grown draft (lines.Round spec) other = refl
+after_grown draft (lines.Only epc) other = refl
+after_grown draft (lines.Op op) other = refl
 after_grown draft lines.End other = absurd (other refl)
 
 -- a line that agrees with the lines before it doesn't disagree with them

@@ -5,13 +5,13 @@ use Rattle.access_ops.specs.declared.OpList.{OpList}
 use Rattle.command_grammar.specs.declared.commands.Command.TheVariants as commands
 use Rattle.pie_line.specs.Link.{IsLegalLink}
 use Rattle.scenario_lines.specs.TagForm.{IsTag}
-use Rattle.scenario_lines.specs.LineForm.{IsEvent, IsPlace, IsChoice, IsExchange, IsRound, IsSelection}
+use Rattle.scenario_lines.specs.LineForm.{IsEvent, IsPlace, IsChoice, IsExchange, IsRound, IsSelection, IsEpc, IsOp}
 use Rattle.scenario.specs.declared.values.Step.{Step}
 use Rattle.scenario.specs.declared.values.Step.TheVariants as steps
 use Rattle.scenario.specs.declared.values.Scenario.{Scenario}
 use Rattle.scenario.specs.ScenarioText.{air_lines, scenario_text}
 
--- the limits on the numbers of tags, air lines and steps
+-- the limits on the numbers of tags, air lines and steps, and of the operations of one round
 abbrev pub most_tags : ℕ
 most_tags = 256
 
@@ -20,6 +20,9 @@ most_air_lines = 4096
 
 abbrev pub most_steps : ℕ
 most_steps = 1024
+
+abbrev pub most_ops : ℕ
+most_ops = 32
 
 -- no operation and no EPC that is named
 abbrev pub no_operations : OpList
@@ -42,6 +45,12 @@ abbrev pub Rises : ℕ → List (ℕ × Entry) → Type 0
 Rises before [] = Unit {0}
 Rises before (entry ∷ entries) = (before < entry.0) × Rises entry.0 entries
 
+-- the operations of a round, and the one EPC that they are for, where one is named
+pub record IsOpList (operations : OpList) : Type 0 where
+  pub only : IfSome operations.only IsEpc
+  pub ops : All IsOp operations.ops
+  pub few : length operations.ops ≤ most_ops
+
 -- a step, where there are so many tags
 abbrev pub IsStep : ℕ → Step → Type 0
 IsStep tags (steps.Select (commands.Select target action bank pointer mask)) =
@@ -49,7 +58,7 @@ IsStep tags (steps.Select (commands.Select target action bank pointer mask)) =
 IsStep tags (steps.Select command) = ⊥
 IsStep tags steps.Nak = Unit {0}
 IsStep tags (steps.Event event tag) = IsEvent event tag × (tag < tags)
-IsStep tags (steps.Round spec operations) = IsRound spec × (operations ≡ no_operations)
+IsStep tags (steps.Round spec operations) = IsRound spec × IsOpList operations
 
 -- the scenario keeps the limits, and so has a text
 pub record IsScenario (scenario : Scenario) : Type 0 where

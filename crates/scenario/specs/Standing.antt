@@ -1,5 +1,9 @@
 -- Profile: what the lines of a scenario have settled, and which line may follow.
-use Rattle.std.specs.Prelude.{◌≡◌, ℕ, zero, suc, ◌+◌, ◌<◌, ◌≤◌, ◌==◌, List, [], ◌∷◌, ◌++◌, length, Option, Some, None, if◌then◌else◌}
+use Rattle.std.specs.Prelude.{◌≡◌, ◌≢◌, ℕ, zero, suc, ◌+◌, ◌*◌, ◌<◌, ◌≤◌, ◌==◌, List, [], ◌∷◌, ◌++◌, length, Option, Some, None, if◌then◌else◌}
+use Rattle.std.specs.List.{flat_map}
+use Rattle.access_ops.specs.declared.Op.{Op}
+use Rattle.access_ops.specs.declared.OpList.{OpList}
+use Rattle.q_round.specs.SpecValue.{SpecValue}
 use Rattle.air_events.specs.declared.Event.{Event}
 use Rattle.air_events.specs.declared.Choice.{Choice}
 use Rattle.air_events.specs.declared.Entry.{Entry}
@@ -18,7 +22,8 @@ use Rattle.scenario_lines.specs.LineForm.{IsLine}
 use Rattle.scenario.specs.declared.values.Step.{Step}
 use Rattle.scenario.specs.declared.values.Scenario.{Scenario}
 use Rattle.scenario.specs.declared.values.Step.TheVariants as steps
-use Rattle.scenario.specs.Limits.{most_tags, most_air_lines, most_steps, no_operations}
+use Rattle.scenario.specs.ScenarioText.{step_lines}
+use Rattle.scenario.specs.Limits.{most_tags, most_air_lines, most_ops, most_steps, no_operations}
 
 -- What the lines behind the version have said so far. The exchange of the last air line stands apart, since more may be
 -- said of it; its number is 0 where there is no air line.
@@ -32,11 +37,16 @@ pub record DraftValue : Type 0 where
   -- the number of the last exchange, and what is said of it
   pub exchange : ℕ
   pub latest : Entry
+  -- the steps, without the last one where that is a round
   pub steps : List Step
+  -- the parameters of the last step, where that is a round, and what is said of its operations
+  pub round : Option SpecValue
+  pub operations : OpList
 
 -- a draft of these parts
-abbrev pub draft_of : LinkValue → List TagSpec → ℕ → List (ℕ × Entry) → ℕ → List (Event × ℕ) → List ℕ → Option Choice → List Step → DraftValue
-draft_of link tags airs closed exchange events missed choice steps = record {
+abbrev pub draft_of : LinkValue → List TagSpec → ℕ → List (ℕ × Entry) → ℕ → List (Event × ℕ) → List ℕ → Option Choice → List Step → Option SpecValue
+    → Option (List ℕ) → List Op → DraftValue
+draft_of link tags airs closed exchange events missed choice steps round only ops = record {
   link = link;
   tags = tags;
   airs = airs;
@@ -44,6 +54,8 @@ draft_of link tags airs closed exchange events missed choice steps = record {
   exchange = exchange;
   latest = record { events = events; missed = missed; choice = choice };
   steps = steps;
+  round = round;
+  operations = record { only = only; ops = ops };
 }
 
 -- where a scenario stands after some of its lines
@@ -58,7 +70,17 @@ pub data Standing : Type 0 where
   ended : DraftValue → Standing
 
 abbrev pub new_draft : LinkValue → DraftValue
-new_draft link = record { link = link; tags = []; airs = 0; closed = []; exchange = 0; latest = no_entry; steps = [] }
+new_draft link = record {
+  link = link;
+  tags = [];
+  airs = 0;
+  closed = [];
+  exchange = 0;
+  latest = no_entry;
+  steps = [];
+  round = None;
+  operations = no_operations;
+}
 
 -- what is said of one exchange, with one thing more
 abbrev pub with_happening : Entry → Happening → Entry
@@ -75,9 +97,18 @@ last_entry (suc before) latest = (suc before, latest) ∷ []
 abbrev pub entries_of : DraftValue → List (ℕ × Entry)
 entries_of draft = draft.closed ++ last_entry draft.exchange draft.latest
 
+-- steps with a last one behind them, where that is a round
+abbrev pub with_last : List Step → Option SpecValue → OpList → List Step
+with_last before None operations = before
+with_last before (Some spec) operations = before ++ steps.Round spec operations ∷ []
+
+-- all steps
+abbrev pub steps_of : DraftValue → List Step
+steps_of draft = with_last draft.steps draft.round draft.operations
+
 -- how many lines say a draft, behind the version and the link
 abbrev pub size : DraftValue → ℕ
-size draft = length draft.tags + draft.airs + length draft.steps
+size draft = length draft.tags + draft.airs + length (flat_map step_lines (steps_of draft))
 
 -- nothing in a draft is more than the limits allow
 pub record IsSmall (draft : DraftValue) : Type 0 where
@@ -86,22 +117,33 @@ pub record IsSmall (draft : DraftValue) : Type 0 where
   pub entries : length (entries_of draft) ≤ draft.airs
   pub events : length draft.latest.events ≤ draft.airs
   pub missed : length draft.latest.missed ≤ draft.airs
-  pub steps : length draft.steps ≤ most_steps
+  pub steps : length (steps_of draft) ≤ most_steps
+  pub ops : length draft.operations.ops ≤ most_ops
+  -- a round has its own line, that of its EPC and those of its operations
+  pub step_lines : length (flat_map step_lines draft.steps) ≤ (2 + most_ops) * length draft.steps
 
 -- the scenario that is said
 abbrev pub scenario_of : DraftValue → Scenario
-scenario_of draft = record { link = draft.link; tags = draft.tags; entries = entries_of draft; steps = draft.steps }
+scenario_of draft = record { link = draft.link; tags = draft.tags; entries = entries_of draft; steps = steps_of draft }
+
+-- nothing is said yet of the operations of the last step, which is a round
+pub record IsBareRound (draft : DraftValue) : Type 0 where
+  pub round : draft.round ≢ None
+  pub only : draft.operations.only ≡ None
+  pub ops : draft.operations.ops ≡ []
 
 -- a line whose word is this may follow
 abbrev pub MayStand : Standing → Word → Type 0
 MayStand start words.Version = Unit {0}
 MayStand begun words.Link = Unit {0}
-MayStand (within draft) words.Tag = (draft.airs ≡ 0) × (draft.steps ≡ [])
-MayStand (within draft) words.Air = draft.steps ≡ []
+MayStand (within draft) words.Tag = (draft.airs ≡ 0) × (steps_of draft ≡ [])
+MayStand (within draft) words.Air = steps_of draft ≡ []
 MayStand (within draft) words.Select = Unit {0}
 MayStand (within draft) words.Nak = Unit {0}
 MayStand (within draft) words.Event = Unit {0}
 MayStand (within draft) words.Round = Unit {0}
+MayStand (within draft) words.Only = IsBareRound draft
+MayStand (within draft) words.Op = draft.round ≢ None
 MayStand (within draft) words.End = Unit {0}
 MayStand standing word = ⊥
 
@@ -109,10 +151,11 @@ MayStand standing word = ⊥
 abbrev pub HasRoom : Standing → Word → Type 0
 HasRoom (within draft) words.Tag = length draft.tags < most_tags
 HasRoom (within draft) words.Air = draft.airs < most_air_lines
-HasRoom (within draft) words.Select = length draft.steps < most_steps
-HasRoom (within draft) words.Nak = length draft.steps < most_steps
-HasRoom (within draft) words.Event = length draft.steps < most_steps
-HasRoom (within draft) words.Round = length draft.steps < most_steps
+HasRoom (within draft) words.Select = length (steps_of draft) < most_steps
+HasRoom (within draft) words.Nak = length (steps_of draft) < most_steps
+HasRoom (within draft) words.Event = length (steps_of draft) < most_steps
+HasRoom (within draft) words.Round = length (steps_of draft) < most_steps
+HasRoom (within draft) words.Op = length draft.operations.ops < most_ops
 HasRoom standing word = Unit {0}
 
 -- the tag that the line names is one of so many
@@ -169,9 +212,23 @@ with_air draft exchange happening =
     let counted = record draft { airs = draft.airs + 1 } in
     (if exchange == draft.exchange then with_said counted happening else with_said (turned counted exchange) happening)
 
--- the draft after a step
+-- the draft after a step that is no round
 abbrev pub with_step : DraftValue → Step → DraftValue
-with_step draft step = record draft { steps = draft.steps ++ step ∷ [] }
+with_step draft step = record draft { steps = steps_of draft ++ step ∷ []; round = None; operations = no_operations }
+
+-- the draft after a round, of whose operations nothing is said yet
+abbrev pub with_round : DraftValue → SpecValue → DraftValue
+with_round draft spec = record draft { steps = steps_of draft; round = Some spec; operations = no_operations }
+
+-- the draft in which the operations of the last round are for this EPC alone
+abbrev pub with_only : DraftValue → List ℕ → DraftValue
+with_only draft epc =
+    record draft { operations = record { only = Some epc; ops = draft.operations.ops } }
+
+-- the draft in which the last round has one operation more
+abbrev pub with_op : DraftValue → Op → DraftValue
+with_op draft op =
+    record draft { operations = record { only = draft.operations.only; ops = draft.operations.ops ++ op ∷ [] } }
 
 -- the draft after a line that may follow
 abbrev pub grown : DraftValue → Line → DraftValue
@@ -181,7 +238,9 @@ grown draft (lines.Select selection) =
     with_step draft (steps.Select (commands.Select selection.target selection.action selection.bank selection.pointer selection.mask))
 grown draft lines.Nak = with_step draft steps.Nak
 grown draft (lines.Event event tag) = with_step draft (steps.Event event tag)
-grown draft (lines.Round spec) = with_step draft (steps.Round spec no_operations)
+grown draft (lines.Round spec) = with_round draft spec
+grown draft (lines.Only epc) = with_only draft epc
+grown draft (lines.Op op) = with_op draft op
 grown draft line = draft
 
 -- where the scenario stands after a line that may follow

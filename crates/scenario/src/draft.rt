@@ -1,20 +1,24 @@
 //! A scenario, line by line.
 ghost use Rattle.std.specs.Prelude.{◌≡◌, ◌<◌, ◌≤◌, ◌+◌, ◌^◌, ◌↔◌, ◌++◌, [], ◌∷◌, length, IsTrue, IfOk, IfErr, OnOk, OnErr};
+ghost use Rattle.std.specs.List.{flat_map};
 ghost use Rattle.text_fields.specs.Lines.{fields_of};
-ghost use Rattle.scenario.specs.Standing.{Agrees, ChoosesOnce, Follows, HasRoom, KeepsOrder, MayFollow, MayStand, NamesTag, after, entries_of, grown, last_entry, new_draft, scenario_of, size, turned, with_air, with_happening, with_step, within};
+ghost use Rattle.scenario.specs.ScenarioText.{step_lines};
+ghost use Rattle.scenario.specs.Standing.{Agrees, ChoosesOnce, Follows, HasRoom, IsBareRound, KeepsOrder, MayFollow, MayStand, NamesTag, after, entries_of, grown, last_entry, new_draft, scenario_of, size, steps_of, turned, with_air, with_happening, with_last, with_only, with_op, with_round, with_step, within};
 ghost use Rattle.scenario.specs.Faults.{DisagreesBy, fault_of_line};
 ghost use Rattle.scenario_lines.specs.declared.line.Line.{Line};
 ghost use Rattle.scenario_lines.specs.LineFaults.{SpellsLine};
 ghost use Rattle.scenario_lines.specs.Spelling.{word_of_line};
-ghost use Rattle.scenario.specs.Limits.{most_air_lines, most_steps, most_tags, no_operations};
+ghost use Rattle.scenario.specs.Limits.{most_air_lines, most_ops, most_steps, most_tags, no_operations};
 ghost use Rattle.scenario.specs.Taking.{LeadsTo, Takes};
 
 use crate::Fault;
 use crate::values::{Scenario, Step};
-use access_ops::OpList;
+use access_ops::{Op, OpList};
 use air_events::{Choice, Entry, Event};
 use bit_strings::{List, OutOfMemory};
 use pie_line::Link;
+use q_round::RoundSpec;
+use reply_grammar::EpcWords;
 use scenario_lines::{Happening, Line, LineFault, TagSpec, TagText, Word, read_line, word_of};
 use std::alloc::Global;
 use std::marker::Model;
@@ -28,6 +32,9 @@ const MOST_AIR_LINES: u32 = 4096;
 
 /// How many steps a scenario may have.
 const MOST_STEPS: usize = 1024;
+
+/// How many operations a round may have.
+const MOST_OPS: usize = 32;
 
 /// What the lines of a scenario have said so far, from the link on.
 #[derive(Drop)]
@@ -44,17 +51,28 @@ pub(crate) struct Draft {
     events: Vec<(Event, u32)>,
     missed: Vec<u32>,
     choice: Option<Choice>,
+    /// The steps, without the last one where that is a round.
     steps: Vec<Step>,
+    /// The parameters of the last step, where that is a round.
+    round: Option<RoundSpec>,
+    /// What is said of its operations.
+    only: Option<EpcWords>,
+    ops: Vec<Op>,
+    /// How many lines say the steps before that round.
+    line_count: u32,
 }
 
 impl Model for Draft {
+    ghost use Rattle.std.specs.Prelude.{◌≡◌, length};
+    ghost use Rattle.std.specs.List.{flat_map};
+    ghost use Rattle.scenario.specs.ScenarioText.{step_lines};
     ghost use Rattle.scenario.specs.Standing.{DraftValue, IsSmall, draft_of};
 
     ghost Value = { DraftValue };
 
-    ghost view = { λ a. draft_of a.link a.tags.items a.airs a.closed.items a.exchange a.events.items a.missed.items a.choice a.steps.items };
+    ghost view = { λ a. draft_of a.link a.tags.items a.airs a.closed.items a.exchange a.events.items a.missed.items a.choice a.steps.items a.round a.only a.ops.items };
 
-    ghost invariant = { λ a. IsSmall (draft_of a.link a.tags.items a.airs a.closed.items a.exchange a.events.items a.missed.items a.choice a.steps.items) };
+    ghost invariant = { λ a. (a.line_count ≡ length (flat_map step_lines a.steps.items)) × IsSmall (draft_of a.link a.tags.items a.airs a.closed.items a.exchange a.events.items a.missed.items a.choice a.steps.items a.round a.only a.ops.items) };
 }
 
 /// What a line did to a draft.
@@ -99,16 +117,47 @@ impl Draft {
             missed: Vec::new(alloc),
             choice: None,
             steps: Vec::new(alloc),
+            round: None,
+            only: None,
+            ops: Vec::new(alloc),
+            line_count: 0,
         }
     }
 
+    /// How many lines say the last step, where that is a round: its own, that of the EPC which the
+    /// operations are for, and theirs.
+    fn round_lines(&self) -> u32
+        ensures lines { size self.now ≡ length self.now.tags + self.now.airs + length (flat_map step_lines self.now.steps) + result }
+        ensures small { result ≤ 2 + most_ops }
+    {
+        if self.round.is_none() {
+            return 0;
+        }
+        1 + u32::from(self.only.is_some()) + self.ops.len() as u32
+    }
+
+    /// How many steps there are.
+    fn step_count(&self) -> usize
+        ensures count { result ≡ length (steps_of self.now) }
+        ensures small { result ≤ 1024 }
+    {
+        self.steps.len() + usize::from(self.round.is_some())
+    }
+
     /// The number of the next line, counted from 1: behind the version and the link stands one line for
-    /// each tag, air line and step.
+    /// each tag, air line, step and operation, and each EPC that operations are for.
     pub(crate) fn next_line(&self) -> u32
         ensures number { result ≡ 3 + size self.now }
-        ensures small { result ≤ 5379 }
+        ensures small { result ≤ 39205 }
     {
-        3 + self.tags.len() as u32 + self.airs + self.steps.len() as u32
+        3 + self.tags.len() as u32 + self.airs + self.line_count + self.round_lines()
+    }
+
+    /// Whether the last step is a round of whose operations nothing is said yet.
+    fn is_bare_round(&self) -> bool
+        ensures { IsTrue result ↔ IsBareRound self.now }
+    {
+        self.round.is_some() && self.only.is_none() && self.ops.is_empty()
     }
 
     /// Whether a line that begins with this word may follow.
@@ -117,8 +166,10 @@ impl Draft {
     {
         match word {
             Word::Version | Word::Link => false,
-            Word::Tag => self.airs == 0 && self.steps.is_empty(),
-            Word::Air => self.steps.is_empty(),
+            Word::Tag => self.airs == 0 && self.step_count() == 0,
+            Word::Air => self.step_count() == 0,
+            Word::Only => self.is_bare_round(),
+            Word::Op => self.round.is_some(),
             Word::Select | Word::Nak | Word::Event | Word::Round | Word::End => true,
         }
     }
@@ -130,8 +181,9 @@ impl Draft {
         match word {
             Word::Tag => self.tags.len() < MOST_TAGS,
             Word::Air => self.airs < MOST_AIR_LINES,
-            Word::Select | Word::Nak | Word::Event | Word::Round => self.steps.len() < MOST_STEPS,
-            Word::Version | Word::Link | Word::End => true,
+            Word::Select | Word::Nak | Word::Event | Word::Round => self.step_count() < MOST_STEPS,
+            Word::Op => self.ops.len() < MOST_OPS,
+            Word::Version | Word::Link | Word::Only | Word::End => true,
         }
     }
 
@@ -260,12 +312,55 @@ impl Draft {
         self.say(happening)
     }
 
-    /// Adds a step.
-    fn add_step(&mut self, step: Step) -> Result<(), OutOfMemory>
-        requires { length self.old.steps < most_steps }
+    /// Puts the last step behind the others, where it is a round: no more is said of its operations.
+    fn end_round(&mut self, alloc: Global) -> Result<(), OutOfMemory>
+        ensures { OnOk result (self.new ≡ record self.old { steps = steps_of self.old; round = None; operations = no_operations }) }
+    {
+        let lines = self.round_lines();
+        let round = self.round.take();
+        let only = self.only.take();
+        let ops = mem::replace(&mut self.ops, Vec::new(alloc));
+        close_round(&mut self.steps, round, only, ops)?;
+        self.line_count += lines;
+        Ok(())
+    }
+
+    /// Adds a step that is said by one line, and is no round.
+    #[tactic(auto, using(crate::proofs::StepLines::one_line_more))]
+    fn add_step(&mut self, alloc: Global, step: Step) -> Result<(), OutOfMemory>
+        requires room { length (steps_of self.old) < most_steps }
+        requires line { length (step_lines step) ≡ 1 }
         ensures { OnOk result (self.new ≡ with_step self.old step) }
     {
+        self.end_round(alloc)?;
         self.steps.push(step)?;
+        self.line_count += 1;
+        Ok(())
+    }
+
+    /// Adds a round, of whose operations nothing is said yet.
+    fn add_round(&mut self, alloc: Global, spec: RoundSpec) -> Result<(), OutOfMemory>
+        requires { length (steps_of self.old) < most_steps }
+        ensures { OnOk result (self.new ≡ with_round self.old spec) }
+    {
+        self.end_round(alloc)?;
+        self.round = Some(spec);
+        Ok(())
+    }
+
+    /// Names the one EPC that the operations of the last round are for.
+    fn add_only(&mut self, epc: EpcWords)
+        ensures { self.new ≡ with_only self.old epc }
+    {
+        self.only = Some(epc);
+    }
+
+    /// Adds an operation to the last round.
+    fn add_op(&mut self, op: Op) -> Result<(), OutOfMemory>
+        requires { length self.old.operations.ops < most_ops }
+        ensures { OnOk result (self.new ≡ with_op self.old op) }
+    {
+        self.ops.push(op)?;
         Ok(())
     }
 
@@ -290,10 +385,17 @@ impl Draft {
                 exchange,
                 happening,
             } => self.add_air(alloc, exchange, happening),
-            Line::Select(selection) => self.add_step(Step::Select(selection.into_command())),
-            Line::Nak => self.add_step(Step::Nak),
-            Line::Event { event, tag } => self.add_step(Step::Event(event, tag)),
-            Line::Round(spec) => self.add_step(Step::Round(spec, no_operations(alloc))),
+            Line::Select(selection) => {
+                self.add_step(alloc, Step::Select(selection.into_command()))
+            }
+            Line::Nak => self.add_step(alloc, Step::Nak),
+            Line::Event { event, tag } => self.add_step(alloc, Step::Event(event, tag)),
+            Line::Round(spec) => self.add_round(alloc, spec),
+            Line::Only(epc) => {
+                self.add_only(epc);
+                Ok(())
+            }
+            Line::Op(op) => self.add_op(op),
             Line::Version | Line::Link(_) | Line::End => Ok(()),
         }
     }
@@ -341,9 +443,14 @@ impl Draft {
             events,
             missed,
             choice,
-            steps,
+            mut steps,
+            round,
+            only,
+            ops,
+            line_count: _,
         } = self;
         close(&mut closed, exchange, events, missed, choice)?;
+        close_round(&mut steps, round, only, ops)?;
         Ok(Scenario {
             link,
             tags: List::new(tags),
@@ -378,12 +485,23 @@ fn close(
     Ok(())
 }
 
-/// No operation, and no EPC that is named.
-fn no_operations(alloc: Global) -> OpList
-    ensures { result ≡ no_operations }
+/// Adds the last step, where that is a round, to those before it.
+fn close_round(
+    steps: &mut Vec<Step>,
+    round: Option<RoundSpec>,
+    only: Option<EpcWords>,
+    ops: Vec<Op>,
+) -> Result<(), OutOfMemory>
+    requires { length ops.items < 2 ^ 32 }
+    ensures ok { OnOk result (steps.new.items ≡ with_last steps.old.items round (record { only = only; ops = ops.items })) }
+    ensures err { OnErr result (steps.new.items ≡ steps.old.items) }
 {
-    OpList {
-        only: None,
-        ops: List::new(Vec::new(alloc)),
+    if let Some(spec) = round {
+        let operations = OpList {
+            only,
+            ops: List::new(ops),
+        };
+        steps.push(Step::Round(spec, operations))?;
     }
+    Ok(())
 }

@@ -13,7 +13,7 @@ pub enum Fault {
     Version,
     /// The first field may not stand here, or a kind is there and is none of its kinds.
     Word,
-    /// It is one tag, air line or step too many.
+    /// It is one tag, air line, step or operation too many.
     Limit,
     /// The number of fields is wrong, or a field is empty.
     Shape,

@@ -1,18 +1,19 @@
 //! What holds of the lines and the texts of scenarios. Each function here states one law by its contract,
 //! and does nothing but call the laws that it follows from.
-ghost use Rattle.std.specs.Prelude.{◌≡◌, ℕ, ◌<◌, List};
+ghost use Rattle.std.specs.Prelude.{◌≡◌, ◌⊎◌, ℕ, ◌<◌, List};
 ghost use Rattle.scenario_lines.specs.declared.line.Line.{Line};
 ghost use Rattle.scenario.specs.declared.values.Scenario.{Scenario};
 ghost use Rattle.scenario.specs.declared.fault.Fault.{Fault};
 ghost use Rattle.scenario.specs.ScenarioText.{scenario_lines, scenario_text};
-ghost use Rattle.scenario.specs.Limits.{IsScenario};
+ghost use Rattle.scenario.specs.Limits.{IsScenario, IsText};
 ghost use Rattle.scenario.specs.LineLaws.{LineLaws};
 ghost use Rattle.scenario.specs.Faults.{IsFirstFault};
 ghost use Rattle.scenario.specs.Beginnings.{BeginsScenario, FirstLinesBegin};
 ghost use Rattle.scenario.specs.Standing.{DraftValue, IsSaid, Leads, ended, Standing, scenario_of, start};
 
 use scenario_lines::{
-    lines_are_field_texts, lines_are_told_apart, lines_begin_with_one_word, lines_have_one_fault,
+    lines_are_field_texts, lines_are_told_apart, lines_begin_or_are_faulty,
+    lines_begin_with_one_word, lines_have_one_fault, lines_say_something_or_are_faulty,
     spelled_lines_are_not_faulty,
 };
 
@@ -25,6 +26,8 @@ pub(crate) fn line_laws()
     lines_begin_with_one_word();
     spelled_lines_are_not_faulty();
     lines_have_one_fault();
+    lines_begin_or_are_faulty();
+    lines_say_something_or_are_faulty();
 }
 
 /// Lines that follow one another from the start to the end are the lines of a scenario that keeps the
@@ -67,6 +70,13 @@ pub fn scenario_texts_are_not_faulty()
 pub fn texts_have_one_fault()
     ensures { (bytes : List ℕ) (one other : ℕ) (fault reason : Fault) → IsFirstFault bytes one fault → IsFirstFault bytes other reason
         → (one ≡ other) × (fault ≡ reason) }
+{
+    line_laws();
+}
+
+/// Each list of bytes is the text of a scenario, or has a first faulty line with a first reason.
+pub fn texts_are_scenarios_or_faulty()
+    ensures { (bytes : List ℕ) → IsText bytes ⊎ ((number : ℕ) × (fault : Fault) × IsFirstFault bytes number fault) }
 {
     line_laws();
 }

@@ -8,16 +8,17 @@ ghost use Rattle.scenario_lines.specs.declared.line.Line.TheVariants as lines;
 ghost use Rattle.scenario_lines.specs.Spelling.{line_text};
 ghost use Rattle.scenario.specs.declared.values.Step.TheVariants as steps;
 ghost use Rattle.scenario.specs.Limits.{IsEntry, IsScenario, IsStep};
-ghost use Rattle.scenario.specs.ScenarioText.{air_lines, choice_lines, entry_lines, scenario_text, step_line};
+ghost use Rattle.scenario.specs.ScenarioText.{air_lines, choice_lines, entry_lines, only_lines, scenario_text, step_lines};
 
-use crate::{Choice, Entry, Event, Scenario, Step, TagSpec};
+use crate::{Choice, Entry, Event, Op, OpList, RoundSpec, Scenario, Step, TagSpec};
 use air_io::Bytes;
 use bit_strings::OutOfMemory;
 use command_grammar::Command;
 use command_text::push_command;
+use reply_grammar::EpcWords;
 use scenario_lines::{
-    Happening, push_air, push_end, push_event, push_link, push_nak, push_round, push_tag,
-    push_version,
+    Happening, push_air, push_end, push_event, push_link, push_nak, push_only, push_op, push_round,
+    push_tag, push_version,
 };
 use std::alloc::Global;
 
@@ -93,29 +94,63 @@ fn push_entries(text: &mut String, entries: &[(u64, Entry)]) -> Result<(), OutOf
 /// Writes the line of a Select step.
 fn push_select(text: &mut String, command: &Command) -> Result<(), OutOfMemory>
     requires { (tags : ℕ) × IsStep tags (steps.Select command.now) }
-    ensures { OnOk result (string_bytes text.new ≡ string_bytes text.old ++ (line_text (step_line (steps.Select command.now)) ++ line_feed ∷ [])) }
+    ensures { OnOk result (string_bytes text.new ≡ string_bytes text.old ++ text_with (map line_text (step_lines (steps.Select command.now)))) }
 {
     push_command(text, command)?;
     text.push('\n')
 }
 
-/// Writes the line of a step.
+/// Writes the lines of operations.
+fn push_ops(text: &mut String, ops: &[Op]) -> Result<(), OutOfMemory>
+    ensures { OnOk result (string_bytes text.new ≡ string_bytes text.old ++ text_with (map line_text (map lines.Op ops.now))) }
+{
+    for op in ops {
+        push_op(text, op)?;
+    }
+    Ok(())
+}
+
+/// Writes the line of the one EPC that operations are for, where one is named.
+fn push_named(text: &mut String, only: &Option<EpcWords>) -> Result<(), OutOfMemory>
+    ensures { OnOk result (string_bytes text.new ≡ string_bytes text.old ++ text_with (map line_text (only_lines only.now))) }
+{
+    match only {
+        Some(epc) => push_only(text, epc),
+        None => Ok(()),
+    }
+}
+
+/// Writes the line of a round and those of its operations.
+fn push_operated(
+    text: &mut String,
+    spec: &RoundSpec,
+    operations: &OpList,
+) -> Result<(), OutOfMemory>
+    ensures { OnOk result (string_bytes text.new ≡ string_bytes text.old
+        ++ text_with (map line_text (step_lines (steps.Round spec.now operations.now)))) }
+{
+    push_round(text, spec)?;
+    push_named(text, &operations.only)?;
+    push_ops(text, operations.ops.as_slice())
+}
+
+/// Writes the lines of a step.
 fn push_step(text: &mut String, step: &Step) -> Result<(), OutOfMemory>
     requires { (tags : ℕ) × IsStep tags step.now }
-    ensures { OnOk result (string_bytes text.new ≡ string_bytes text.old ++ (line_text (step_line step.now) ++ line_feed ∷ [])) }
+    ensures { OnOk result (string_bytes text.new ≡ string_bytes text.old ++ text_with (map line_text (step_lines step.now))) }
 {
     match step {
         Step::Select(command) => push_select(text, command),
         Step::Nak => push_nak(text),
         Step::Event(event, tag) => push_event(text, *event, *tag),
-        Step::Round(spec, _) => push_round(text, spec),
+        Step::Round(spec, operations) => push_operated(text, spec, operations),
     }
 }
 
 /// Writes the lines of the steps.
 fn push_steps(text: &mut String, steps: &[Step]) -> Result<(), OutOfMemory>
     requires { (tags : ℕ) × All (IsStep tags) steps.now }
-    ensures { OnOk result (string_bytes text.new ≡ string_bytes text.old ++ text_with (map line_text (map step_line steps.now))) }
+    ensures { OnOk result (string_bytes text.new ≡ string_bytes text.old ++ text_with (map line_text (flat_map step_lines steps.now))) }
 {
     for step in steps {
         push_step(text, step)?;

@@ -25,7 +25,7 @@ nothing_more [] are = refl
 nothing_more (field ∷ fields) are = let number = are.number in absurd (omega arith)
 
 -- a field can't be wanting where one is there
-have_1 : (fields : List (List ℕ)) → AreFilled 1 fields → ((a : List ℕ) → fields ≡ a ∷ [] → Filled a → ⊥) → ⊥
+pub have_1 : (fields : List (List ℕ)) → AreFilled 1 fields → ((a : List ℕ) → fields ≡ a ∷ [] → Filled a → ⊥) → ⊥
 have_1 [] are wanting = let number = are.number in absurd (omega arith)
 have_1 (field ∷ fields) are wanting =
     let parts = one_less 0 field fields are in
@@ -39,7 +39,7 @@ have_2 (field ∷ fields) are wanting =
     have_1 fields parts.1 (λ b are_these hb.
     wanting field b (ap (λ (rest : List (List ℕ)). field ∷ rest) are_these) parts.0 hb)
 
-have_3 : (fields : List (List ℕ)) → AreFilled 3 fields
+pub have_3 : (fields : List (List ℕ)) → AreFilled 3 fields
     → ((a b c : List ℕ) → fields ≡ a ∷ b ∷ c ∷ [] → Filled a → Filled b → Filled c → ⊥) → ⊥
 have_3 [] are wanting = let number = are.number in absurd (omega arith)
 have_3 (field ∷ fields) are wanting =

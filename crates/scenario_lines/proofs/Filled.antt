@@ -1,15 +1,18 @@
 -- The pieces of a line are not empty, and may stand as fields.
-use Rattle.std.proofs.Common.{◌≢◌, ◌<◌, ◌^◌, ◌/◌, ◌%◌, ℕ, Bool, true, false, List, [], ◌∷◌, ◌++◌, arith, refl}
+use Rattle.std.proofs.Common.{◌≢◌, ◌<◌, ◌^◌, ◌/◌, ◌%◌, ℕ, Bool, true, false, List, [], ◌∷◌, ◌++◌, arith, refl, inl, inr, le-ltb, lt-ltb}
+use Rattle.std.proofs.lemmas.Bool.{cases_lt}
 use Rattle.std.specs.Fmt.{decimal}
 use Rattle.std.proofs.lemmas.List.Elements.{All-append, All-cons, All-nil}
 use Rattle.bit_strings.specs.declared.code.Code.{Code}
 use Rattle.bit_strings.specs.declared.code.Code.TheVariants as line_codes
 use Rattle.text_fields.specs.Lines.{IsFieldText, line_feed, space}
 use Rattle.text_fields.specs.Binary.{binary, binary_digit}
-use Rattle.text_fields.specs.Hexadecimal.{hex_word, hex_words}
+use Rattle.text_fields.specs.Hexadecimal.{hex_digit, hex_word, hex_words}
 use Rattle.text_fields.specs.CodeNames.{code_word}
 use Rattle.text_fields.specs.FieldTextLaws.{IsFieldText-binary, IsFieldText-decimal, IsFieldText-hex_word, IsFieldText-hex_words}
-use Rattle.command_text.specs.CommandText.{flag_word, mask_bank_word, side_word}
+use Rattle.command_text.specs.CommandText.{bank_word, flag_word, mask_bank_word, payload_digits, side_word}
+use Rattle.command_grammar.specs.declared.field_values.Bank.{Bank}
+use Rattle.command_grammar.specs.declared.field_values.Bank.TheVariants as all_banks
 use Rattle.command_grammar.specs.declared.field_values.FlagName.{FlagName}
 use Rattle.command_grammar.specs.declared.field_values.FlagName.TheVariants as flags
 use Rattle.command_grammar.specs.declared.field_values.MaskBank.{MaskBank}
@@ -23,9 +26,11 @@ use Rattle.scenario_lines.specs.declared.first_fields.Word.{Word}
 use Rattle.scenario_lines.specs.declared.first_fields.Word.TheVariants as words
 use Rattle.scenario_lines.specs.declared.first_fields.EventKind.{EventKind}
 use Rattle.scenario_lines.specs.declared.first_fields.EventKind.TheVariants as events
+use Rattle.scenario_lines.specs.declared.first_fields.OpKind.{OpKind}
+use Rattle.scenario_lines.specs.declared.first_fields.OpKind.TheVariants as op_kinds
 use Rattle.scenario_lines.specs.declared.first_fields.AirKind.{AirKind}
 use Rattle.scenario_lines.specs.declared.first_fields.AirKind.TheVariants as airs
-use Rattle.scenario_lines.specs.Names.{air_word, event_word, sel_text, word_text}
+use Rattle.scenario_lines.specs.Names.{air_word, event_word, op_word, sel_text, word_text}
 use Rattle.scenario_lines.specs.Spelling.{flag_text, locks_text, pair_text, password_text}
 
 -- one visible byte
@@ -93,6 +98,8 @@ word_text_is words.Select = search (arith, before, IsFieldText-one) depth 12
 word_text_is words.Nak = search (arith, before, IsFieldText-one) depth 12
 word_text_is words.Event = search (arith, before, IsFieldText-one) depth 12
 word_text_is words.Round = search (arith, before, IsFieldText-one) depth 12
+word_text_is words.Only = search (arith, before, IsFieldText-one) depth 12
+word_text_is words.Op = search (arith, before, IsFieldText-one) depth 12
 word_text_is words.End = search (arith, before, IsFieldText-one) depth 12
 
 pub event_word_is : (kind : EventKind) → IsFieldText (event_word kind)
@@ -100,6 +107,21 @@ event_word_is events.Timeout = search (arith, before, IsFieldText-one) depth 12
 event_word_is events.Off = search (arith, before, IsFieldText-one) depth 12
 event_word_is events.On = search (arith, before, IsFieldText-one) depth 12
 event_word_is events.Expire = search (arith, before, IsFieldText-one) depth 12
+
+pub op_word_is : (kind : OpKind) → IsFieldText (op_word kind)
+op_word_is op_kinds.Read = search (arith, before, IsFieldText-one) depth 12
+op_word_is op_kinds.Write = search (arith, before, IsFieldText-one) depth 12
+op_word_is op_kinds.BlockWrite = search (arith, before, IsFieldText-one) depth 24
+op_word_is op_kinds.BlockErase = search (arith, before, IsFieldText-one) depth 24
+op_word_is op_kinds.Lock = search (arith, before, IsFieldText-one) depth 12
+op_word_is op_kinds.Access = search (arith, before, IsFieldText-one) depth 16
+op_word_is op_kinds.Kill = search (arith, before, IsFieldText-one) depth 12
+
+pub any_bank_is : (bank : Bank) → IsFieldText (bank_word bank)
+any_bank_is all_banks.Reserved = search (arith, before, IsFieldText-one) depth 12
+any_bank_is all_banks.Epc = search (arith, before, IsFieldText-one) depth 12
+any_bank_is all_banks.Tid = search (arith, before, IsFieldText-one) depth 12
+any_bank_is all_banks.User = search (arith, before, IsFieldText-one) depth 12
 
 pub air_word_is : (kind : AirKind) → IsFieldText (air_word kind)
 air_word_is (airs.Event kind) = event_word_is kind
@@ -111,6 +133,19 @@ air_word_is airs.Break = search (arith, before, IsFieldText-one) depth 12
 pub password_is : (password : ℕ) → IsFieldText (password_text password)
 password_is password =
     joined (hex_word (password / 2 ^ 16)) (hex_word (password % 2 ^ 16)) (IsFieldText-hex_word (password / 2 ^ 16)) (IsFieldText-hex_word (password % 2 ^ 16))
+
+hex_visible : (n : ℕ) → space < hex_digit n
+hex_visible n = elim (cases_lt n 10) [
+  | inl less ↦ rw (lt-ltb n 10 less) (omega arith)
+  | inr more ↦ rw (le-ltb n 10 more) (omega arith)
+]
+
+pub payload_is : (payload : ℕ) → IsFieldText (payload_digits payload)
+payload_is payload =
+    before (hex_digit (payload / 65536)) (hex_word (payload % 65536)) (hex_visible (payload / 65536)) (IsFieldText-hex_word (payload % 65536))
+
+pub one_word_is : (word : ℕ) → IsFieldText (hex_word word)
+one_word_is word = IsFieldText-hex_word word
 
 digit_visible : (bit : Bool) → space < binary_digit bit
 digit_visible false = omega arith

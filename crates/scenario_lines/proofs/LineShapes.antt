@@ -8,12 +8,13 @@ use Rattle.scenario_lines.specs.declared.line.Line.{Line}
 use Rattle.scenario_lines.specs.declared.line.Line.TheVariants as lines
 use Rattle.scenario_lines.specs.declared.first_fields.Word.{Word}
 use Rattle.scenario_lines.specs.declared.first_fields.Word.TheVariants as words
-use Rattle.scenario_lines.specs.Names.{air_kind, air_word, event_kind, word_text}
+use Rattle.scenario_lines.specs.Names.{air_kind, air_word, event_kind, op_kind, word_text}
 use Rattle.scenario_lines.specs.LineForm.{HasForm, IsLine}
 use Rattle.scenario_lines.specs.LineFaults.{BeginsWith, HasKnownKind, HasShape}
 use Rattle.scenario_lines.specs.Spelling.{happening_fields, line_fields, other_fields, word_of_line}
 use Rattle.scenario_lines.proofs.Counted.{Filled}
 use Rattle.scenario_lines.proofs.AirFields.{event_filled, happening_filled}
+use Rattle.scenario_lines.proofs.OpFields.{op_filled}
 use Rattle.scenario_lines.proofs.LineTexts.{other_texts}
 use Rattle.scenario_lines.proofs.ToldLines.{same_fields}
 use Rattle.scenario_lines.proofs.ToldNames.{word_told}
@@ -32,6 +33,8 @@ known_kind (lines.Select selection) = tt
 known_kind lines.Nak = tt
 known_kind (lines.Event event tag) = (event_kind event, refl)
 known_kind (lines.Round spec) = tt
+known_kind (lines.Only epc) = tt
+known_kind (lines.Op op) = (op_kind op, refl)
 known_kind lines.End = tt
 
 pub begins : (line : Line) → IsLine line → BeginsWith (line_fields line) (word_of_line line)
@@ -44,6 +47,8 @@ shaped_known words.Event (kind ∷ others) shape = (shape.0, shape.1)
 shaped_known words.Air [] shape = absurd shape
 shaped_known words.Air (exchange ∷ []) shape = absurd shape
 shaped_known words.Event [] shape = absurd shape
+shaped_known words.Op (kind ∷ others) shape = (shape.0, shape.1)
+shaped_known words.Op [] shape = absurd shape
 shaped_known word others shape = tt
 
 filled : (line : Line) → HasForm line → All Filled (other_fields line)
@@ -61,4 +66,6 @@ line_shape (lines.Select selection) form = record { number = refl; filled = fill
 line_shape lines.Nak form = record { number = refl; filled = filled lines.Nak form }
 line_shape (lines.Event event tag) form = (event_kind event, refl, event_filled event tag form)
 line_shape (lines.Round spec) form = record { number = refl; filled = filled (lines.Round spec) form }
+line_shape (lines.Only epc) form = record { number = refl; filled = filled (lines.Only epc) form }
+line_shape (lines.Op op) form = (op_kind op, refl, op_filled op form)
 line_shape lines.End form = record { number = refl; filled = filled lines.End form }

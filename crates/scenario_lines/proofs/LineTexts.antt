@@ -2,6 +2,8 @@
 use Rattle.std.proofs.Common.{ℕ, true, List, [], ◌∷◌, arith}
 use Rattle.std.specs.Prelude.{All, codes}
 use Rattle.std.proofs.lemmas.List.Elements.{All-cons, All-nil}
+use Rattle.access_ops.specs.declared.Op.{Op}
+use Rattle.access_ops.specs.declared.Op.TheVariants as ops
 use Rattle.air_events.specs.declared.Event.{Event}
 use Rattle.air_events.specs.declared.Event.TheVariants as events
 use Rattle.air_events.specs.declared.Choice.TheVariants as choices
@@ -14,10 +16,10 @@ use Rattle.scenario_lines.specs.declared.line.Happening.{Happening}
 use Rattle.scenario_lines.specs.declared.line.Happening.TheVariants as happenings
 use Rattle.scenario_lines.specs.declared.line.Line.{Line}
 use Rattle.scenario_lines.specs.declared.line.Line.TheVariants as lines
-use Rattle.scenario_lines.specs.Names.{air_kind, event_kind}
-use Rattle.scenario_lines.specs.LineForm.{HasForm, IsEvent, IsHappening, IsLine, IsLinkForm, IsRound, IsSelection}
-use Rattle.scenario_lines.specs.Spelling.{event_fields, happening_fields, line_fields, link_fields, other_fields, round_fields, select_fields, tag_fields, word_of_line}
-use Rattle.scenario_lines.proofs.Filled.{air_word_is, bank_text_is, code_text_is, event_word_is, flag_text_is, flag_word_is, locks_is, mask_is, number_text, password_is, sel_text_is, side_text_is, word_text_is, words_is}
+use Rattle.scenario_lines.specs.Names.{air_kind, event_kind, op_kind}
+use Rattle.scenario_lines.specs.LineForm.{HasForm, IsEvent, IsHappening, IsLine, IsLinkForm, IsOp, IsRound, IsSelection}
+use Rattle.scenario_lines.specs.Spelling.{event_fields, happening_fields, line_fields, link_fields, op_fields, other_fields, round_fields, select_fields, tag_fields, word_of_line}
+use Rattle.scenario_lines.proofs.Filled.{air_word_is, any_bank_is, bank_text_is, code_text_is, event_word_is, flag_text_is, flag_word_is, locks_is, mask_is, number_text, one_word_is, op_word_is, password_is, payload_is, sel_text_is, side_text_is, word_text_is, words_is}
 
 pub record Texts (fields : List (List ℕ)) : Type 0 where
   pub are : All IsFieldText fields
@@ -65,6 +67,19 @@ round_texts spec is =
     (with _ _ (number_text spec.q (omega (arith, is.legal.q))) (with _ _ (number_text spec.c (omega (arith, is.legal.step)))
     (only _ (number_text spec.limit (omega (arith, is.legal.limit))))))))
 
+op_texts : (op : Op) → IsOp op → Texts (op_fields op)
+op_texts (ops.Read bank pointer count) is =
+    with _ _ (any_bank_is bank) (with _ _ (number_text pointer (omega (arith, is.0))) (only _ (number_text count (omega (arith, is.1)))))
+op_texts (ops.Write bank pointer word) is =
+    with _ _ (any_bank_is bank) (with _ _ (number_text pointer (omega (arith, is.0))) (only _ (one_word_is word)))
+op_texts (ops.BlockWrite bank pointer words) is =
+    with _ _ (any_bank_is bank) (with _ _ (number_text pointer (omega (arith, is.0))) (only _ (words_is words)))
+op_texts (ops.BlockErase bank pointer count) is =
+    with _ _ (any_bank_is bank) (with _ _ (number_text pointer (omega (arith, is.0))) (only _ (number_text count (omega (arith, is.2)))))
+op_texts (ops.Lock payload) is = only _ (payload_is payload)
+op_texts (ops.Access password) is = only _ (password_is password)
+op_texts (ops.Kill password) is = only _ (password_is password)
+
 pub other_texts : (line : Line) → HasForm line → Texts (other_fields line)
 other_texts lines.Version form = only (codes "1") (flag_text_is true)
 other_texts (lines.Link link) form = link_texts link form
@@ -75,6 +90,8 @@ other_texts (lines.Select selection) form = select_texts selection form
 other_texts lines.Nak form = no_more
 other_texts (lines.Event event tag) form = with _ _ (event_word_is (event_kind event)) (event_texts event tag form)
 other_texts (lines.Round spec) form = round_texts spec form
+other_texts (lines.Only epc) form = only _ (words_is epc)
+other_texts (lines.Op op) form = with _ _ (op_word_is (op_kind op)) (op_texts op form)
 other_texts lines.End form = no_more
 
 pub line_texts : (line : Line) → IsLine line → All IsFieldText (line_fields line)

@@ -1,11 +1,13 @@
 -- A list of fields spells at most one line.
 use Rattle.std.proofs.Common.{◌≡◌, ◌≤◌, ℕ, List, [], ◌∷◌, ap, arith, refl, sym, ◌∙◌}
 use Rattle.std.specs.Fmt.{decimal}
-use Rattle.text_fields.specs.ToldApart.{binary_told, decimal_told, hex_words_told}
+use Rattle.text_fields.specs.ToldApart.{binary_told, decimal_told, hex_word_told, hex_words_told}
 use Rattle.text_fields.specs.Binary.{binary}
-use Rattle.text_fields.specs.Hexadecimal.{hex_words}
+use Rattle.text_fields.specs.Hexadecimal.{hex_word, hex_words}
 use Rattle.text_fields.specs.CodeNames.{code_word}
-use Rattle.command_text.specs.CommandText.{flag_word, mask_bank_word, side_word}
+use Rattle.command_text.specs.CommandText.{bank_word, flag_word, mask_bank_word, payload_digits, side_word}
+use Rattle.access_ops.specs.declared.Op.{Op}
+use Rattle.access_ops.specs.declared.Op.TheVariants as ops
 use Rattle.air_events.specs.declared.Event.{Event}
 use Rattle.air_events.specs.declared.Event.TheVariants as events
 use Rattle.air_events.specs.declared.Choice.TheVariants as choices
@@ -17,18 +19,21 @@ use Rattle.scenario_lines.specs.declared.line.Happening.{Happening}
 use Rattle.scenario_lines.specs.declared.line.Happening.TheVariants as happenings
 use Rattle.scenario_lines.specs.declared.line.Line.{Line}
 use Rattle.scenario_lines.specs.declared.line.Line.TheVariants as lines
-use Rattle.scenario_lines.specs.Names.{air_kind, air_word, event_kind, event_word, sel_text, word_text}
+use Rattle.scenario_lines.specs.Names.{air_kind, air_word, event_kind, event_word, op_kind, op_word, sel_text, word_text}
 use Rattle.scenario_lines.specs.TagForm.{IsTagForm}
-use Rattle.scenario_lines.specs.LineForm.{HasForm, IsEvent, IsHappening, IsLinkForm, IsRound, IsSelection}
+use Rattle.scenario_lines.specs.LineForm.{HasForm, IsEvent, IsHappening, IsLinkForm, IsOp, IsRound, IsSelection}
 use Rattle.scenario_lines.specs.LineFaults.{SpellsLine}
-use Rattle.scenario_lines.specs.Spelling.{event_fields, flag_text, happening_fields, line_fields, link_fields, locks_text, other_fields, password_text, round_fields, select_fields, tag_fields, word_of_line}
+use Rattle.scenario_lines.specs.Spelling.{event_fields, flag_text, happening_fields, line_fields, link_fields, locks_text, op_fields, other_fields, password_text, round_fields, select_fields, tag_fields, word_of_line}
 use Rattle.scenario_lines.proofs.TagFields.{same_7, same_tag}
-use Rattle.scenario_lines.proofs.ToldNames.{air_word_told, bank_told, code_told, event_word_told, flag_told, sel_told, side_told, word_told}
-use Rattle.scenario_lines.proofs.ToldFields.{flag_text_told, locks_told, password_told}
+use Rattle.scenario_lines.proofs.ToldNames.{air_word_told, any_bank_told, bank_told, code_told, event_word_told, flag_told, op_word_told, sel_told, side_told, word_told}
+use Rattle.scenario_lines.proofs.ToldFields.{flag_text_told, locks_told, password_told, payload_told}
 
 -- the first of two equal lists of fields, and those behind it
 pub same_fields : (a b : List ℕ) (behind behind' : List (List ℕ)) → a ∷ behind ≡ b ∷ behind' → (a ≡ b) × (behind ≡ behind')
 same_fields a b behind behind' same = (cc, cc)
+
+same_3 : (a b c a' b' c' : List ℕ) → a ∷ b ∷ c ∷ [] ≡ a' ∷ b' ∷ c' ∷ [] → (a ≡ a') × (b ≡ b') × (c ≡ c')
+same_3 a b c a' b' c' same = (cc, cc, cc)
 
 same_5 : (a b c d e a' b' c' d' e' : List ℕ) → a ∷ b ∷ c ∷ d ∷ e ∷ [] ≡ a' ∷ b' ∷ c' ∷ d' ∷ e' ∷ []
     → (a ≡ a') × (b ≡ b') × (c ≡ c') × (d ≡ d') × (e ≡ e')
@@ -149,6 +154,39 @@ round_told one other is is' same =
     }) other = rw (sel, session, target, q, c, limit) refl in
     whole
 
+pub op_told : (one other : Op) → IsOp one → IsOp other → op_kind one ≡ op_kind other → op_fields one ≡ op_fields other → one ≡ other
+op_told (ops.Read bank pointer count) (ops.Read bank' pointer' count') is is' kind same =
+    let fields = same_3 (bank_word bank) (decimal pointer) (decimal count) (bank_word bank') (decimal pointer') (decimal count') same in
+    let banks = any_bank_told bank bank' fields.0 in
+    let pointers = decimal_told pointer pointer' (omega (arith, is.0)) (omega (arith, is'.0)) fields.1 in
+    let counts = decimal_told count count' (omega (arith, is.1)) (omega (arith, is'.1)) fields.2 in
+    cc
+op_told (ops.Write bank pointer word) (ops.Write bank' pointer' word') is is' kind same =
+    let fields = same_3 (bank_word bank) (decimal pointer) (hex_word word) (bank_word bank') (decimal pointer') (hex_word word') same in
+    let banks = any_bank_told bank bank' fields.0 in
+    let pointers = decimal_told pointer pointer' (omega (arith, is.0)) (omega (arith, is'.0)) fields.1 in
+    let words_same = hex_word_told word word' is.1 is'.1 fields.2 in
+    cc
+op_told (ops.BlockWrite bank pointer block) (ops.BlockWrite bank' pointer' block') is is' kind same =
+    let fields = same_3 (bank_word bank) (decimal pointer) (hex_words block) (bank_word bank') (decimal pointer') (hex_words block') same in
+    let banks = any_bank_told bank bank' fields.0 in
+    let pointers = decimal_told pointer pointer' (omega (arith, is.0)) (omega (arith, is'.0)) fields.1 in
+    let blocks = hex_words_told block block' is.1.small is'.1.small fields.2 in
+    cc
+op_told (ops.BlockErase bank pointer count) (ops.BlockErase bank' pointer' count') is is' kind same =
+    let fields = same_3 (bank_word bank) (decimal pointer) (decimal count) (bank_word bank') (decimal pointer') (decimal count') same in
+    let banks = any_bank_told bank bank' fields.0 in
+    let pointers = decimal_told pointer pointer' (omega (arith, is.0)) (omega (arith, is'.0)) fields.1 in
+    let counts = decimal_told count count' (omega (arith, is.2)) (omega (arith, is'.2)) fields.2 in
+    cc
+op_told (ops.Lock payload) (ops.Lock payload') is is' kind same =
+    ap ops.Lock (payload_told payload payload' is is' (same_fields (payload_digits payload) (payload_digits payload') [] [] same).0)
+op_told (ops.Access password) (ops.Access password') is is' kind same =
+    ap ops.Access (password_told password password' is is' (same_fields (password_text password) (password_text password') [] [] same).0)
+op_told (ops.Kill password) (ops.Kill password') is is' kind same =
+    ap ops.Kill (password_told password password' is is' (same_fields (password_text password) (password_text password') [] [] same).0)
+op_told one other is is' kind same = cc
+
 -- the fields behind one word spell at most one line
 behind_told : (one other : Line) → HasForm one → HasForm other → word_of_line one ≡ word_of_line other → other_fields one ≡ other_fields other → one ≡ other
 behind_told lines.Version lines.Version form form' word same = refl
@@ -171,6 +209,11 @@ behind_told (lines.Event event tag) (lines.Event event' tag') form form' word sa
     let tags_same = both.1 in
     cc
 behind_told (lines.Round spec) (lines.Round spec') form form' word same = ap lines.Round (round_told spec spec' form form' same)
+behind_told (lines.Only epc) (lines.Only epc') form form' word same =
+    ap lines.Only (hex_words_told epc epc' form.small form'.small (same_fields (hex_words epc) (hex_words epc') [] [] same).0)
+behind_told (lines.Op op) (lines.Op op') form form' word same =
+    let fields = same_fields (op_word (op_kind op)) (op_word (op_kind op')) (op_fields op) (op_fields op') same in
+    ap lines.Op (op_told op op' form form' (op_word_told (op_kind op) (op_kind op') fields.0) fields.1)
 behind_told lines.End lines.End form form' word same = refl
 behind_told one other form form' word same = cc
 

@@ -4,7 +4,9 @@ use Rattle.bit_strings.specs.declared.code.Code.{Code}
 use Rattle.bit_strings.specs.declared.code.Code.TheVariants as line_codes
 use Rattle.text_fields.specs.Binary.{binary_digit}
 use Rattle.text_fields.specs.CodeNames.{code_word}
-use Rattle.command_text.specs.CommandText.{flag_word, mask_bank_word, side_word}
+use Rattle.command_text.specs.CommandText.{bank_word, flag_word, mask_bank_word, side_word}
+use Rattle.command_grammar.specs.declared.field_values.Bank.{Bank}
+use Rattle.command_grammar.specs.declared.field_values.Bank.TheVariants as all_banks
 use Rattle.command_grammar.specs.declared.field_values.FlagName.{FlagName}
 use Rattle.command_grammar.specs.declared.field_values.FlagName.TheVariants as flags
 use Rattle.command_grammar.specs.declared.field_values.MaskBank.{MaskBank}
@@ -17,9 +19,11 @@ use Rattle.scenario_lines.specs.declared.first_fields.Word.{Word}
 use Rattle.scenario_lines.specs.declared.first_fields.Word.TheVariants as words
 use Rattle.scenario_lines.specs.declared.first_fields.EventKind.{EventKind}
 use Rattle.scenario_lines.specs.declared.first_fields.EventKind.TheVariants as events
+use Rattle.scenario_lines.specs.declared.first_fields.OpKind.{OpKind}
+use Rattle.scenario_lines.specs.declared.first_fields.OpKind.TheVariants as op_kinds
 use Rattle.scenario_lines.specs.declared.first_fields.AirKind.{AirKind}
 use Rattle.scenario_lines.specs.declared.first_fields.AirKind.TheVariants as airs
-use Rattle.scenario_lines.specs.Names.{air_word, event_word, sel_text, word_text}
+use Rattle.scenario_lines.specs.Names.{air_word, event_word, op_word, sel_text, word_text}
 
 -- the letter at a place of two equal texts
 letter : (place : ℕ) (one other : List ℕ) → one ≡ other → get_or one place 0 ≡ get_or other place 0
@@ -34,6 +38,8 @@ word_told words.Select words.Select same = refl
 word_told words.Nak words.Nak same = refl
 word_told words.Event words.Event same = refl
 word_told words.Round words.Round same = refl
+word_told words.Only words.Only same = refl
+word_told words.Op words.Op same = refl
 word_told words.End words.End same = refl
 word_told one other same = absurd (omega (arith, letter 0 _ _ same, letter 1 _ _ same))
 
@@ -56,6 +62,16 @@ air_word_told airs.Break airs.Break same = refl
 air_word_told one (airs.Event events.Off) same = absurd (omega (arith, letter 0 _ _ same, letter 1 _ _ same))
 air_word_told one other same = absurd (omega (arith, letter 0 _ _ same, letter 1 _ _ same))
 
+pub op_word_told : (one other : OpKind) → op_word one ≡ op_word other → one ≡ other
+op_word_told op_kinds.Read op_kinds.Read same = refl
+op_word_told op_kinds.Write op_kinds.Write same = refl
+op_word_told op_kinds.BlockWrite op_kinds.BlockWrite same = refl
+op_word_told op_kinds.BlockErase op_kinds.BlockErase same = refl
+op_word_told op_kinds.Lock op_kinds.Lock same = refl
+op_word_told op_kinds.Access op_kinds.Access same = refl
+op_word_told op_kinds.Kill op_kinds.Kill same = refl
+op_word_told one other same = absurd (omega (arith, letter 0 _ _ same, letter 5 _ _ same))
+
 pub code_told : (one other : Code) → code_word one ≡ code_word other → one ≡ other
 code_told line_codes.Fm0 line_codes.Fm0 same = refl
 code_told line_codes.M2 line_codes.M2 same = refl
@@ -76,6 +92,13 @@ bank_told banks.Epc banks.Epc same = refl
 bank_told banks.Tid banks.Tid same = refl
 bank_told banks.User banks.User same = refl
 bank_told one other same = absurd (omega (arith, letter 0 _ _ same))
+
+pub any_bank_told : (one other : Bank) → bank_word one ≡ bank_word other → one ≡ other
+any_bank_told all_banks.Reserved all_banks.Reserved same = refl
+any_bank_told all_banks.Epc all_banks.Epc same = refl
+any_bank_told all_banks.Tid all_banks.Tid same = refl
+any_bank_told all_banks.User all_banks.User same = refl
+any_bank_told one other same = absurd (omega (arith, letter 0 _ _ same))
 
 pub side_told : (one other : Side) → side_word one ≡ side_word other → one ≡ other
 side_told sides.A sides.A same = refl

@@ -9,11 +9,12 @@ use Rattle.scenario_lines.specs.declared.tag.TagSpec.{TagSpec}
 use Rattle.scenario_lines.specs.declared.first_fields.Word.{Word}
 use Rattle.scenario_lines.specs.declared.first_fields.Word.TheVariants as words
 use Rattle.scenario_lines.specs.declared.first_fields.EventKind.{EventKind}
+use Rattle.scenario_lines.specs.declared.first_fields.OpKind.{OpKind}
 use Rattle.scenario_lines.specs.declared.first_fields.AirKind.{AirKind}
 use Rattle.scenario_lines.specs.declared.line.Line.{Line}
 use Rattle.scenario_lines.specs.declared.fault.LineFault.{LineFault}
 use Rattle.scenario_lines.specs.declared.fault.LineFault.TheVariants.{Word as WordFault, Shape, Number, Tari, RtCal, TrCal, Pw, Pc}
-use Rattle.scenario_lines.specs.Names.{word_text, event_word, event_field_count, air_word, air_field_count}
+use Rattle.scenario_lines.specs.Names.{word_text, event_word, event_field_count, op_word, op_field_count, air_word, air_field_count}
 use Rattle.scenario_lines.specs.TagForm.{IsTagForm}
 use Rattle.scenario_lines.specs.LineForm.{IsLinkForm, HasForm, IsLine}
 use Rattle.scenario_lines.specs.Spelling.{link_fields, tag_fields, word_of_line, other_fields, line_fields}
@@ -22,6 +23,7 @@ use Rattle.scenario_lines.specs.Spelling.{link_fields, tag_fields, word_of_line,
 abbrev pub HasKnownKind : Word → List (List ℕ) → Type 0
 HasKnownKind words.Air (exchange ∷ kind ∷ others) = (known : AirKind) × (kind ≡ air_word known)
 HasKnownKind words.Event (kind ∷ others) = (known : EventKind) × (kind ≡ event_word known)
+HasKnownKind words.Op (kind ∷ others) = (known : OpKind) × (kind ≡ op_word known)
 HasKnownKind word others = Unit {0}
 
 -- the line begins with this word, and with a kind of it where a kind is there
@@ -48,6 +50,9 @@ HasShape words.Nak others = AreFilled 0 others
 HasShape words.Event (kind ∷ others) = (known : EventKind) × (kind ≡ event_word known) × AreFilled (event_field_count known) others
 HasShape words.Event others = ⊥
 HasShape words.Round others = AreFilled 6 others
+HasShape words.Only others = AreFilled 1 others
+HasShape words.Op (kind ∷ others) = (known : OpKind) × (kind ≡ op_word known) × AreFilled (op_field_count known) others
+HasShape words.Op others = ⊥
 HasShape words.End others = AreFilled 0 others
 
 -- the fields spell a link whose numbers are in the ranges of their fields, and the link is refused so

@@ -1,5 +1,7 @@
 -- Profile: what a line of a scenario may say.
-use Rattle.std.specs.Prelude.{◌≡◌, ◌≢◌, ℕ, ◌≤◌, true, length}
+use Rattle.std.specs.Prelude.{◌≡◌, ◌≢◌, ℕ, ◌<◌, ◌≤◌, ◌^◌, true, List, length}
+use Rattle.access_ops.specs.declared.Op.{Op}
+use Rattle.access_ops.specs.declared.Op.TheVariants as ops
 use Rattle.command_grammar.specs.declared.field_values.FlagName.TheVariants.{S0}
 use Rattle.command_grammar.specs.declared.field_values.Sel.TheVariants.{All01}
 use Rattle.air_events.specs.declared.Event.{Event}
@@ -9,7 +11,7 @@ use Rattle.air_events.specs.declared.Choice.TheVariants.{Pick, Silent, Break}
 use Rattle.tag_memory.specs.Image.{pc_fits}
 use Rattle.pie_line.specs.Link.{LinkValue, IsLegalLink}
 use Rattle.q_round.specs.SpecValue.{SpecValue, IsLegalSpec}
-use Rattle.scenario_lines.specs.TagForm.{IsTagForm}
+use Rattle.scenario_lines.specs.TagForm.{IsTagForm, IsWordList}
 use Rattle.scenario_lines.specs.declared.line.Happening.{Happening}
 use Rattle.scenario_lines.specs.declared.line.Happening.TheVariants as happenings
 use Rattle.scenario_lines.specs.declared.line.Selection.{Selection}
@@ -65,6 +67,24 @@ pub record IsSelection (selection : Selection) : Type 0 where
   pub pointer : selection.pointer ≤ 268435455
   pub mask : length selection.mask ≤ 255
 
+-- the words of an EPC, which the five bits of a PC count (6.3.2.1.2.2)
+abbrev pub IsEpc : List ℕ → Type 0
+IsEpc words = IsWordList 0 31 words
+
+-- the number of a word in a bank, which an EBV of four blocks holds (6.3.2.11.3.2)
+abbrev pub IsPointer : ℕ → Type 0
+IsPointer pointer = pointer ≤ 268435455
+
+-- what an operation names is in the ranges of its command's fields (6.3.2.11.3)
+abbrev pub IsOp : Op → Type 0
+IsOp (ops.Read bank pointer count) = IsPointer pointer × (count ≤ 255)
+IsOp (ops.Write bank pointer word) = IsPointer pointer × (word < 2 ^ 16)
+IsOp (ops.BlockWrite bank pointer words) = IsPointer pointer × IsWordList 1 255 words
+IsOp (ops.BlockErase bank pointer count) = IsPointer pointer × (1 ≤ count) × (count ≤ 255)
+IsOp (ops.Lock payload) = payload ≤ 1048575
+IsOp (ops.Access password) = password < 2 ^ 32
+IsOp (ops.Kill password) = password < 2 ^ 32
+
 -- each field of the line is of its form and in its range
 abbrev pub HasForm : Line → Type 0
 HasForm lines.Version = Unit {0}
@@ -75,6 +95,8 @@ HasForm (lines.Select selection) = IsSelection selection
 HasForm lines.Nak = Unit {0}
 HasForm (lines.Event event tag) = IsEvent event tag
 HasForm (lines.Round spec) = IsRound spec
+HasForm (lines.Only words) = IsEpc words
+HasForm (lines.Op op) = IsOp op
 HasForm lines.End = Unit {0}
 
 -- the fields of the line agree with one another

@@ -2,6 +2,8 @@
 use Rattle.std.specs.Prelude.{ℕ, List, [], codes}
 use Rattle.command_grammar.specs.declared.field_values.Sel.{Sel}
 use Rattle.command_grammar.specs.declared.field_values.Sel.TheVariants as sels
+use Rattle.access_ops.specs.declared.Op.{Op}
+use Rattle.access_ops.specs.declared.Op.TheVariants as ops
 use Rattle.air_events.specs.declared.Event.{Event}
 use Rattle.air_events.specs.declared.Event.TheVariants as events
 use Rattle.air_events.specs.declared.Choice.TheVariants as choices
@@ -9,6 +11,8 @@ use Rattle.scenario_lines.specs.declared.first_fields.Word.{Word}
 use Rattle.scenario_lines.specs.declared.first_fields.Word.TheVariants as words
 use Rattle.scenario_lines.specs.declared.first_fields.EventKind.{EventKind}
 use Rattle.scenario_lines.specs.declared.first_fields.EventKind.TheVariants.{Timeout, Off, On, Expire}
+use Rattle.scenario_lines.specs.declared.first_fields.OpKind.{OpKind}
+use Rattle.scenario_lines.specs.declared.first_fields.OpKind.TheVariants as op_kinds
 use Rattle.scenario_lines.specs.declared.first_fields.AirKind.{AirKind}
 use Rattle.scenario_lines.specs.declared.first_fields.AirKind.TheVariants as airs
 use Rattle.scenario_lines.specs.declared.line.Happening.{Happening}
@@ -24,6 +28,8 @@ word_text words.Select = codes "select"
 word_text words.Nak = codes "nak"
 word_text words.Event = codes "event"
 word_text words.Round = codes "round"
+word_text words.Only = codes "only"
+word_text words.Op = codes "op"
 word_text words.End = codes "end"
 
 -- the kind of an event
@@ -32,6 +38,16 @@ event_word Timeout = codes "timeout"
 event_word Off = codes "off"
 event_word On = codes "on"
 event_word Expire = codes "expire"
+
+-- the kind of an operation
+abbrev pub op_word : OpKind → List ℕ
+op_word op_kinds.Read = codes "read"
+op_word op_kinds.Write = codes "write"
+op_word op_kinds.BlockWrite = codes "blockwrite"
+op_word op_kinds.BlockErase = codes "blockerase"
+op_word op_kinds.Lock = codes "lock"
+op_word op_kinds.Access = codes "access"
+op_word op_kinds.Kill = codes "kill"
 
 -- the kind of an air line
 abbrev pub air_word : AirKind → List ℕ
@@ -48,6 +64,16 @@ event_field_count Off = 1
 event_field_count On = 1
 event_field_count Expire = 2
 
+-- how many fields stand behind the kind of an operation
+abbrev pub op_field_count : OpKind → ℕ
+op_field_count op_kinds.Read = 3
+op_field_count op_kinds.Write = 3
+op_field_count op_kinds.BlockWrite = 3
+op_field_count op_kinds.BlockErase = 3
+op_field_count op_kinds.Lock = 1
+op_field_count op_kinds.Access = 1
+op_field_count op_kinds.Kill = 1
+
 -- how many fields stand behind the kind of an air line
 abbrev pub air_field_count : AirKind → ℕ
 air_field_count (airs.Event kind) = event_field_count kind
@@ -62,6 +88,16 @@ event_kind events.Timeout = Timeout
 event_kind events.Off = Off
 event_kind events.On = On
 event_kind (events.Expire flag) = Expire
+
+-- which kind an operation is of
+abbrev pub op_kind : Op → OpKind
+op_kind (ops.Read bank pointer count) = op_kinds.Read
+op_kind (ops.Write bank pointer word) = op_kinds.Write
+op_kind (ops.BlockWrite bank pointer words) = op_kinds.BlockWrite
+op_kind (ops.BlockErase bank pointer count) = op_kinds.BlockErase
+op_kind (ops.Lock payload) = op_kinds.Lock
+op_kind (ops.Access password) = op_kinds.Access
+op_kind (ops.Kill password) = op_kinds.Kill
 
 -- which kind of air line says this
 abbrev pub air_kind : Happening → AirKind

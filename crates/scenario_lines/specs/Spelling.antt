@@ -5,7 +5,9 @@ use Rattle.text_fields.specs.Lines.{line_with}
 use Rattle.text_fields.specs.Binary.{binary, binary_digit}
 use Rattle.text_fields.specs.Hexadecimal.{hex_word, hex_words}
 use Rattle.text_fields.specs.CodeNames.{code_word}
-use Rattle.command_text.specs.CommandText.{flag_word, mask_bank_word, side_word}
+use Rattle.command_text.specs.CommandText.{bank_word, flag_word, mask_bank_word, payload_digits, side_word}
+use Rattle.access_ops.specs.declared.Op.{Op}
+use Rattle.access_ops.specs.declared.Op.TheVariants as ops
 use Rattle.air_events.specs.declared.Event.{Event}
 use Rattle.air_events.specs.declared.Event.TheVariants as events
 use Rattle.air_events.specs.declared.Choice.TheVariants as choices
@@ -21,7 +23,7 @@ use Rattle.scenario_lines.specs.declared.line.Happening.TheVariants as happening
 use Rattle.scenario_lines.specs.declared.line.Selection.{Selection}
 use Rattle.scenario_lines.specs.declared.line.Line.{Line}
 use Rattle.scenario_lines.specs.declared.line.Line.TheVariants as lines
-use Rattle.scenario_lines.specs.Names.{word_text, event_word, event_kind, air_word, air_kind, sel_text}
+use Rattle.scenario_lines.specs.Names.{word_text, event_word, event_kind, air_word, air_kind, op_word, op_kind, sel_text}
 
 -- a flag, as one binary digit
 abbrev pub flag_text : Bool → List ℕ
@@ -72,6 +74,16 @@ abbrev pub round_fields : SpecValue → List (List ℕ)
 round_fields spec =
     sel_text spec.sel ∷ decimal spec.session ∷ side_word spec.target ∷ decimal spec.q ∷ decimal spec.c ∷ decimal spec.limit ∷ []
 
+-- the fields behind the kind of an operation: bank, place and words as the command has them, and a password as its two words
+abbrev pub op_fields : Op → List (List ℕ)
+op_fields (ops.Read bank pointer count) = bank_word bank ∷ decimal pointer ∷ decimal count ∷ []
+op_fields (ops.Write bank pointer word) = bank_word bank ∷ decimal pointer ∷ hex_word word ∷ []
+op_fields (ops.BlockWrite bank pointer words) = bank_word bank ∷ decimal pointer ∷ hex_words words ∷ []
+op_fields (ops.BlockErase bank pointer count) = bank_word bank ∷ decimal pointer ∷ decimal count ∷ []
+op_fields (ops.Lock payload) = payload_digits payload ∷ []
+op_fields (ops.Access password) = password_text password ∷ []
+op_fields (ops.Kill password) = password_text password ∷ []
+
 -- the first field of a line
 abbrev pub word_of_line : Line → Word
 word_of_line lines.Version = words.Version
@@ -82,6 +94,8 @@ word_of_line (lines.Select selection) = words.Select
 word_of_line lines.Nak = words.Nak
 word_of_line (lines.Event event tag) = words.Event
 word_of_line (lines.Round spec) = words.Round
+word_of_line (lines.Only epc) = words.Only
+word_of_line (lines.Op op) = words.Op
 word_of_line lines.End = words.End
 
 -- the fields behind the first
@@ -94,6 +108,8 @@ other_fields (lines.Select selection) = select_fields selection
 other_fields lines.Nak = []
 other_fields (lines.Event event tag) = event_word (event_kind event) ∷ event_fields event tag
 other_fields (lines.Round spec) = round_fields spec
+other_fields (lines.Only epc) = hex_words epc ∷ []
+other_fields (lines.Op op) = op_word (op_kind op) ∷ op_fields op
 other_fields lines.End = []
 
 -- all fields of a line

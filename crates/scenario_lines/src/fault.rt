@@ -3,8 +3,8 @@
 /// The reasons for which a line says nothing, in the order in which they are looked for.
 #[derive(Clone, Copy, Debug, PartialEq, Eq)]
 pub enum LineFault {
-    /// The first field is no word of a scenario, or the kind of an air or event line is there and is
-    /// none of its kinds.
+    /// The first field is no word of a scenario, or the kind of an air, event or op line is there
+    /// and is none of its kinds.
     Word,
     /// The number of fields is wrong, or a field is empty.
     Shape,

@@ -1,4 +1,5 @@
-//! The words of a scenario: the first fields of its lines, and the kinds of its air and event lines.
+//! The words of a scenario: the first fields of its lines, and the kinds of its air, event and operation
+//! lines.
 
 /// The first field of a line, which says what the line is about.
 #[derive(Clone, Copy, Debug, PartialEq, Eq)]
@@ -19,6 +20,10 @@ pub enum Word {
     Event,
     /// `round`: a step in which a round is run.
     Round,
+    /// `only`: the one EPC that the operations of a round are for.
+    Only,
+    /// `op`: an operation of a round.
+    Op,
     /// `end`: the end of the scenario.
     End,
 }
@@ -34,6 +39,25 @@ pub enum EventKind {
     On,
     /// `expire`: the persistence of a flag ends.
     Expire,
+}
+
+/// The kind of an operation.
+#[derive(Clone, Copy, Debug, PartialEq, Eq)]
+pub enum OpKind {
+    /// `read`: words of a bank are read.
+    Read,
+    /// `write`: one word is written.
+    Write,
+    /// `blockwrite`: several words are written at once.
+    BlockWrite,
+    /// `blockerase`: several words are erased at once.
+    BlockErase,
+    /// `lock`: the lock bits of fields are changed.
+    Lock,
+    /// `access`: the access password is shown.
+    Access,
+    /// `kill`: the tag is killed.
+    Kill,
 }
 
 /// The kind of an air line.

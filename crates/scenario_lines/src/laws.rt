@@ -1,6 +1,6 @@
 //! What holds of the spellings themselves. Each function here states one law by its contract, and does
 //! nothing.
-ghost use Rattle.std.specs.Prelude.{◌≡◌, ℕ, true, List, All};
+ghost use Rattle.std.specs.Prelude.{◌≡◌, ◌⊎◌, ℕ, true, List, All};
 ghost use Rattle.text_fields.specs.Lines.{IsFieldText};
 ghost use Rattle.tag_memory.specs.Image.{banks_of, pc_fits, sizes_fit};
 ghost use Rattle.tag_memory.specs.Memory.{IsLegalMemory};
@@ -43,6 +43,16 @@ pub fn spelled_lines_are_not_faulty()
 /// Fields are faulty for at most one reason.
 pub fn lines_have_one_fault()
     ensures { (fields : List (List ℕ)) (one other : LineFault) → IsFaultyLine fields one → IsFaultyLine fields other → one ≡ other }
+{}
+
+/// Fields begin with a word, or are faulty since they begin with none.
+pub fn lines_begin_or_are_faulty()
+    ensures { (fields : List (List ℕ)) → ((word : Word) × BeginsWith fields word) ⊎ IsFaultyLine fields LineFault.Word }
+{}
+
+/// Fields spell a line, or are faulty for some reason.
+pub fn lines_say_something_or_are_faulty()
+    ensures { (fields : List (List ℕ)) → ((line : Line) × SpellsLine fields line) ⊎ ((fault : LineFault) × IsFaultyLine fields fault) }
 {}
 
 /// A memory can be made of the image of each tag line (6.3.2.1 Tag memory), and its banks have the sizes

@@ -11,16 +11,16 @@ mod reading;
 mod tag;
 
 pub use fault::LineFault;
-pub use first_fields::{AirKind, EventKind, Word};
+pub use first_fields::{AirKind, EventKind, OpKind, Word};
 pub use laws::{
-    lines_are_field_texts, lines_are_told_apart, lines_begin_with_one_word,
-    lines_begin_with_their_word, lines_have_one_fault, spelled_lines_are_not_faulty,
-    tag_lines_fit_memories,
+    lines_are_field_texts, lines_are_told_apart, lines_begin_or_are_faulty,
+    lines_begin_with_one_word, lines_begin_with_their_word, lines_have_one_fault,
+    lines_say_something_or_are_faulty, spelled_lines_are_not_faulty, tag_lines_fit_memories,
 };
 pub use line::{Happening, Line, Selection};
 pub use printing::{
-    push_air, push_end, push_event, push_link, push_locks, push_nak, push_round, push_tag,
-    push_version,
+    push_air, push_end, push_event, push_link, push_locks, push_nak, push_only, push_op,
+    push_round, push_tag, push_version,
 };
 pub use reading::{read_line, word_of};
 pub use tag::{TagSpec, TagText};

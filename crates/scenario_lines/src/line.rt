@@ -2,11 +2,13 @@
 ghost use Rattle.std.specs.Prelude.{◌≡◌};
 
 use crate::tag::TagText;
+use access_ops::Op;
 use air_events::{Choice, Event};
 use bit_strings::{Action, Pointer};
 use command_grammar::{Command, FlagName, Mask, MaskBank};
 use pie_line::Link;
 use q_round::RoundSpec;
+use reply_grammar::EpcWords;
 
 /// What an air line says of its exchange.
 #[derive(Clone, Copy, Debug, PartialEq, Eq)]
@@ -90,6 +92,10 @@ pub enum Line<'a> {
     },
     /// `round SEL SESSION TARGET Q C LIMIT`
     Round(RoundSpec),
+    /// `only EPC`
+    Only(EpcWords),
+    /// `op KIND FIELDS`
+    Op(Op),
     /// `end`
     End,
 }

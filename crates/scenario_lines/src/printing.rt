@@ -7,6 +7,7 @@ ghost use Rattle.scenario_lines.specs.declared.line.Line.TheVariants as lines;
 
 mod air;
 mod link;
+mod op;
 mod round;
 mod tag;
 #[cfg(test)]
@@ -15,6 +16,7 @@ mod tests;
 pub use air::{push_air, push_event};
 use bit_strings::OutOfMemory;
 pub use link::push_link;
+pub use op::{push_only, push_op};
 pub use round::push_round;
 pub use tag::{push_locks, push_tag};
 

@@ -12,15 +12,18 @@ mod event;
 mod link;
 mod names;
 mod numbers;
+mod op;
 mod round;
 mod select;
 mod tag;
+mod words;
 
 use crate::{Line, LineFault, Word};
 use air::read_air;
 use event::read_event;
 use link::read_link;
-use names::{air_kind_named, event_kind_named, word_named};
+use names::{air_kind_named, event_kind_named, op_kind_named, word_named};
+use op::{read_only, read_op};
 use round::read_round;
 use select::read_select;
 use tag::read_tag;
@@ -49,6 +52,16 @@ fn has_event_kind(mut others: Fields) -> bool
     }
 }
 
+/// Whether the kind of an operation, where it is there, is one of its kinds.
+fn has_op_kind(mut others: Fields) -> bool
+    ensures { IsTrue result ↔ HasKnownKind Word.Op others.entry }
+{
+    match others.next() {
+        Some(kind) => op_kind_named(kind).is_some(),
+        None => true,
+    }
+}
+
 /// Whether a kind that stands behind the first field is one of its kinds.
 fn has_known_kind(word: Word, others: Fields) -> bool
     ensures { IsTrue result ↔ HasKnownKind word others.entry }
@@ -56,12 +69,13 @@ fn has_known_kind(word: Word, others: Fields) -> bool
     match word {
         Word::Air => has_air_kind(others),
         Word::Event => has_event_kind(others),
+        Word::Op => has_op_kind(others),
         _ => true,
     }
 }
 
 /// The word that a line begins with. None exactly where the first field is no word of a scenario, or
-/// the kind of an air or event line is there and is none of its kinds.
+/// the kind of an air, event or op line is there and is none of its kinds.
 pub fn word_of(line: &[u8]) -> Option<Word>
     ensures value { IfSome result (BeginsWith (fields_of line.now)) }
     ensures only { (word : Word) → BeginsWith (fields_of line.now) word → result ≡ Some word }
@@ -131,6 +145,8 @@ fn read_behind<'a>(word: Word, others: Fields<'a>) -> Result<Line<'a>, LineFault
             Ok(Line::Event { event, tag })
         }
         Word::Round => Ok(Line::Round(read_round(others)?)),
+        Word::Only => Ok(Line::Only(read_only(others)?)),
+        Word::Op => Ok(Line::Op(read_op(others)?)),
         Word::End => {
             read_bare(others)?;
             Ok(Line::End)

@@ -15,7 +15,7 @@ mod states;
 mod steps;
 mod tag;
 
-pub use air_events::{Choice, Entry, Event};
+pub use air_events::{Choice, Entry, Event, Several};
 pub use any_tag::{Answered, AnyTag, Heard};
 pub use laws::{
     absent_tags_stay, answers_are_expected, answers_are_replies, draw_laws, query_rep_laws,

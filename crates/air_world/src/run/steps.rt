@@ -1,5 +1,5 @@
 //! The steps of a run.
-ghost use Rattle.std.specs.Prelude.{◌≡◌, ◌*◌, ℕ, List, None, IfErr, OnOk, All, length};
+ghost use Rattle.std.specs.Prelude.{◌≡◌, ℕ, List, None, IfErr, OnOk, All, length};
 ghost use Rattle.air_channel.specs.Past.{Item, past_behind_command};
 ghost use Rattle.air_world.specs.History.{past_behind, past_behind_step};
 ghost use Rattle.air_world.specs.Playing.{Origin, StandsAt, IsTold, IsCutOff, past_text, expectation_of};
@@ -10,6 +10,7 @@ use crate::run::Run;
 use air_channel::Air;
 use air_io::Sink;
 use command_grammar::Command;
+use q_round::round_laws;
 use scenario::Step;
 use std::sync::ledger::Ledger;
 
@@ -21,13 +22,14 @@ impl<'a, L: Ledger> Run<'a, L> {
         steps: &[Step],
         out: &mut O,
     ) -> Result<(), PlayFault>
-        requires told { IsTold (140002 * length steps.now) air.old self.old (O.written out.old) (O.faults out.old) }
+        requires told { IsTold (length steps.now) air.old self.old (O.written out.old) (O.faults out.old) }
         requires steps { All (IsStep (length air.old.tags)) steps.now }
         ensures ok { (origin : Origin) (past : List Item) → StandsAt origin past air.old self.old (O.written out.old) (O.faults out.old)
             → OnOk result (StandsAt origin (past_behind origin.start steps.now past) air.new self.new (O.written out.new) (O.faults out.new)) }
         ensures err { (origin : Origin) (past : List Item) → StandsAt origin past air.old self.old (O.written out.old) (O.faults out.old)
             → IfErr result (IsCutOff origin (past_text origin (past_behind origin.start steps.now past)) (O.written out.new) (O.faults out.new)) }
     {
+        round_laws();
         for step in steps {
             self.play_step(air, step, out)?;
         }
@@ -41,7 +43,7 @@ impl<'a, L: Ledger> Run<'a, L> {
         step: &Step,
         out: &mut O,
     ) -> Result<(), PlayFault>
-        requires told { IsTold 140002 air.old self.old (O.written out.old) (O.faults out.old) }
+        requires told { IsTold 1 air.old self.old (O.written out.old) (O.faults out.old) }
         requires step { IsStep (length air.old.tags) step.now }
         ensures ok { (origin : Origin) (past : List Item) → StandsAt origin past air.old self.old (O.written out.old) (O.faults out.old)
             → OnOk result (StandsAt origin (past_behind_step origin.start step.now past) air.new self.new (O.written out.new) (O.faults out.new)) }
@@ -55,7 +57,7 @@ impl<'a, L: Ledger> Run<'a, L> {
                 air.event(*event, *tag);
                 Ok(())
             }
-            Step::Round(spec, _) => self.play_round(air, spec, out),
+            Step::Round(spec, operations) => self.play_round(air, spec, operations, out),
         }
     }
 
@@ -66,7 +68,7 @@ impl<'a, L: Ledger> Run<'a, L> {
         command: &Command,
         out: &mut O,
     ) -> Result<(), PlayFault>
-        requires told { IsTold 140002 air.old self.old (O.written out.old) (O.faults out.old) }
+        requires told { IsTold 1 air.old self.old (O.written out.old) (O.faults out.old) }
         requires unanswered { expectation_of command.now ≡ None }
         ensures ok { (origin : Origin) (past : List Item) → StandsAt origin past air.old self.old (O.written out.old) (O.faults out.old)
             → OnOk result (StandsAt origin (past_behind_command origin.start 0 0 command.now past) air.new self.new (O.written out.new) (O.faults out.new)) }

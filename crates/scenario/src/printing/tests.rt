@@ -30,8 +30,20 @@ select s0 0 epc 0 -
 nak
 event expire s3 1
 round nsl 3 b 15 100 70000
+op read epc 2 0
+op write res 268435455 A5C3
+op blockwrite user 7 00010002FFFF
+op blockerase tid 0 255
+op lock 0C030
+op access 0123ABCD
+op kill FFFF0000
 event off 0
 round sl 1 a 6 500 1
+only 3074257BF7194E4000001A85
+round sl 1 b 6 500 1
+only -
+op lock FFFFF
+op lock 00000
 end
 ";
 

@@ -6,7 +6,7 @@ use std::process::Abort;
 use std::test::Fail;
 
 /// A scenario with a line of each kind, one line a row.
-const LINES: [&str; 11] = [
+const LINES: [&str; 13] = [
     "gen2 1\n",
     "link 12500 31250 50000 6250 1 fm0 0\n",
     "tag 00000000 00000000 0000000000 08001234 E2000001 - A1B2\n",
@@ -17,6 +17,8 @@ const LINES: [&str; 11] = [
     "select s0 4 epc 0 -\n",
     "event on 0\n",
     "round all 0 a 0 300 5\n",
+    "only 1234\n",
+    "op read epc 2 1\n",
     "end\n",
 ];
 
@@ -403,11 +405,11 @@ fn events_and_ends(rt: HostRuntime) -> Result<(), Fail> {
         (9, "event on 1\n", Some((9, Fault::Tag))),
         (9, "event expire s0 0\n", Some((9, Fault::Number))),
         (9, "event expire s1 0\n", None),
-        (11, "", Some((11, Fault::End))),
-        (11, "end", Some((11, Fault::End))),
-        (11, "end x\n", Some((11, Fault::Shape))),
-        (11, "end\n\n", Some((12, Fault::Extra))),
-        (11, "end\nend", Some((12, Fault::Extra))),
+        (13, "", Some((13, Fault::End))),
+        (13, "end", Some((13, Fault::End))),
+        (13, "end x\n", Some((13, Fault::Shape))),
+        (13, "end\n\n", Some((14, Fault::Extra))),
+        (13, "end\nend", Some((14, Fault::Extra))),
     ];
     for (number, text, wanted) in cases {
         expect(&rt, number, text, wanted)?;
@@ -435,6 +437,127 @@ fn rounds(rt: HostRuntime) -> Result<(), Fail> {
     ];
     for (number, text, wanted) in cases {
         expect(&rt, number, text, wanted)?;
+    }
+    Ok(())
+}
+
+#[test]
+fn only_lines(rt: HostRuntime) -> Result<(), Fail> {
+    let cases = [
+        (11, "", None),
+        (11, "only\n", Some((11, Fault::Shape))),
+        (11, "only \n", Some((11, Fault::Shape))),
+        (11, "only 1234 5678\n", Some((11, Fault::Shape))),
+        (11, "only -\n", None),
+        (11, "only 12345678\n", None),
+        (11, "only 123\n", Some((11, Fault::Number))),
+        (11, "only 12ab\n", Some((11, Fault::Number))),
+        // It stands directly behind a round, and so there is at most one.
+        (10, "nak\n", Some((11, Fault::Word))),
+        (11, "nak\n", Some((12, Fault::Word))),
+        (12, "only 1234\n", Some((12, Fault::Word))),
+        (12, "op lock 00000\nonly -\n", Some((13, Fault::Word))),
+        (12, "event on 0\nonly -\n", Some((13, Fault::Word))),
+        (12, "round sl 1 a 6 500 1\nonly -\n", None),
+    ];
+    for (number, text, wanted) in cases {
+        expect(&rt, number, text, wanted)?;
+    }
+    Ok(())
+}
+
+#[test]
+fn op_lines(rt: HostRuntime) -> Result<(), Fail> {
+    let cases = [
+        ("", None),
+        ("op\n", Some((12, Fault::Shape))),
+        ("op \n", Some((12, Fault::Word))),
+        ("op fly 0\n", Some((12, Fault::Word))),
+        ("op Read epc 0 1\n", Some((12, Fault::Word))),
+        ("op read epc 2\n", Some((12, Fault::Shape))),
+        ("op read epc 2 1 0\n", Some((12, Fault::Shape))),
+        ("op read  2 1\n", Some((12, Fault::Shape))),
+        ("op read EPC 2 1\n", Some((12, Fault::Number))),
+        ("op read epc 268435455 0\n", None),
+        ("op read epc 268435456 0\n", Some((12, Fault::Number))),
+        ("op read res 00 255\n", Some((12, Fault::Number))),
+        ("op read res 0 256\n", Some((12, Fault::Number))),
+        ("op write user 0 FFFF\n", None),
+        ("op write user 0 -\n", Some((12, Fault::Number))),
+        ("op write user 0 12345678\n", Some((12, Fault::Number))),
+        ("op blockwrite tid 7 0123ABCD\n", None),
+        ("op blockwrite tid 7 -\n", Some((12, Fault::Number))),
+        ("op blockerase res 1 255\n", None),
+        ("op blockerase res 1 0\n", Some((12, Fault::Number))),
+        ("op blockerase res 1 256\n", Some((12, Fault::Number))),
+        ("op lock FFFFF\nop lock 0C030\n", None),
+        ("op lock 0000\n", Some((12, Fault::Number))),
+        ("op lock 0c030\n", Some((12, Fault::Number))),
+        ("op access\n", Some((12, Fault::Shape))),
+        ("op access 0123ABCD\nop kill FFFFFFFF\n", None),
+        ("op access 0123ABC\n", Some((12, Fault::Number))),
+        ("op kill 0000000a\n", Some((12, Fault::Number))),
+        ("event on 0\nop kill 00000000\n", Some((13, Fault::Word))),
+    ];
+    for (text, wanted) in cases {
+        expect(&rt, 12, text, wanted)?;
+    }
+    Ok(())
+}
+
+#[test]
+fn operations_of_a_round(rt: HostRuntime) -> Result<(), Fail> {
+    let round = "round all 0 a 0 300 5\n";
+    let op = "op kill 00000000\n";
+    // A round has at most 32 operations, and the next one as many again.
+    let cases = [
+        (round, (op, 32), "", None),
+        (round, (op, 33), "", Some((36, Fault::Limit))),
+        (round, (op, 32), "op kill x y\n", Some((36, Fault::Limit))),
+        (round, (op, 32), "op fly\n", Some((36, Fault::Word))),
+        (
+            round,
+            (op, 32),
+            "round all 0 a 0 300 5\nop kill 00000000\n",
+            None,
+        ),
+        (
+            "round all 0 a 0 300 5\nonly -\n",
+            (op, 32),
+            "nak x\n",
+            Some((37, Fault::Shape)),
+        ),
+        // Each round with its operations is one step.
+        (
+            "",
+            ("round all 0 a 0 300 5\nop kill 00000000\n", 1024),
+            "",
+            None,
+        ),
+        (
+            "",
+            ("round all 0 a 0 300 5\nop kill 00000000\n", 1024),
+            "nak\n",
+            Some((2051, Fault::Limit)),
+        ),
+    ];
+    for (before, many, behind, wanted) in cases {
+        expect_many(&rt, before, many, behind, wanted)?;
+    }
+    // The words of an EPC, and those that are written at once.
+    for (front, words, wanted) in [
+        ("only ", 31, None),
+        ("only ", 32, Some((4, Fault::Number))),
+        ("op blockwrite user 0 ", 255, None),
+        ("op blockwrite user 0 ", 256, Some((4, Fault::Number))),
+    ] {
+        let mut line = String::new(rt.alloc());
+        line.push_str(front)?;
+        for _ in 0..words {
+            line.push_str("A5C3")?;
+        }
+        line.push_str("\n")?;
+        expect_many(&rt, round, (line.as_str(), 1), "", wanted)?;
     }
     Ok(())
 }
@@ -473,7 +596,7 @@ fn limits_and_cuts(rt: HostRuntime) -> Result<(), Fail> {
     let mut line = 1;
     for (at, byte) in text.iter().enumerate() {
         assert_eq!(rt; answer_to(&rt, &text[..at]), Some((line, Fault::End)));
-        if *byte == b'\n' && line < 11 {
+        if *byte == b'\n' && line < 13 {
             line += 1;
         }
     }

@@ -14,7 +14,7 @@ use tag_memory::BankImage;
 use text_fields::{push_next_words, push_word};
 
 /// Writes a password as the next field, in two words.
-fn next_password(text: &mut String, password: u32) -> Result<(), OutOfMemory>
+pub(crate) fn next_password(text: &mut String, password: u32) -> Result<(), OutOfMemory>
     ensures { OnOk result (string_bytes text.new ≡ string_bytes text.old ++ space ∷ password_text password) }
 {
     text.push(' ')?;

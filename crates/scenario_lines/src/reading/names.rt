@@ -1,10 +1,10 @@
 //! The names in a line, read.
 ghost use Rattle.std.specs.Prelude.{◌≡◌, ◌≢◌, IfSome};
-ghost use Rattle.command_text.specs.CommandText.{flag_word, mask_bank_word, side_word};
-ghost use Rattle.scenario_lines.specs.Names.{air_word, event_word, sel_text, word_text};
+ghost use Rattle.command_text.specs.CommandText.{bank_word, flag_word, mask_bank_word, side_word};
+ghost use Rattle.scenario_lines.specs.Names.{air_word, event_word, op_word, sel_text, word_text};
 
-use crate::{AirKind, EventKind, Word};
-use command_grammar::{FlagName, MaskBank, Sel, Side};
+use crate::{AirKind, EventKind, OpKind, Word};
+use command_grammar::{Bank, FlagName, MaskBank, Sel, Side};
 
 /// The word that a first field is.
 pub(crate) fn word_named(field: &[u8]) -> Option<Word>
@@ -20,6 +20,8 @@ pub(crate) fn word_named(field: &[u8]) -> Option<Word>
         b"nak" => Some(Word::Nak),
         b"event" => Some(Word::Event),
         b"round" => Some(Word::Round),
+        b"only" => Some(Word::Only),
+        b"op" => Some(Word::Op),
         b"end" => Some(Word::End),
         _ => None,
     }
@@ -50,6 +52,23 @@ pub(crate) fn air_kind_named(field: &[u8]) -> Option<AirKind>
         b"silent" => Some(AirKind::Silent),
         b"break" => Some(AirKind::Break),
         _ => Some(AirKind::Event(event_kind_named(field)?)),
+    }
+}
+
+/// The kind of an operation of this name.
+pub(crate) fn op_kind_named(field: &[u8]) -> Option<OpKind>
+    ensures value { IfSome result (λ kind. field.now ≡ op_word kind) }
+    ensures only { (kind : OpKind) → field.now ≡ op_word kind → result ≡ Some kind }
+{
+    match field {
+        b"read" => Some(OpKind::Read),
+        b"write" => Some(OpKind::Write),
+        b"blockwrite" => Some(OpKind::BlockWrite),
+        b"blockerase" => Some(OpKind::BlockErase),
+        b"lock" => Some(OpKind::Lock),
+        b"access" => Some(OpKind::Access),
+        b"kill" => Some(OpKind::Kill),
+        _ => None,
     }
 }
 
@@ -88,6 +107,20 @@ pub(crate) fn mask_bank_named(field: &[u8]) -> Option<MaskBank>
         b"epc" => Some(MaskBank::Epc),
         b"tid" => Some(MaskBank::Tid),
         b"user" => Some(MaskBank::User),
+        _ => None,
+    }
+}
+
+/// The bank of this name.
+pub(crate) fn bank_named(field: &[u8]) -> Option<Bank>
+    ensures value { IfSome result (λ bank. field.now ≡ bank_word bank) }
+    ensures only { (bank : Bank) → field.now ≡ bank_word bank → result ≡ Some bank }
+{
+    match field {
+        b"res" => Some(Bank::Reserved),
+        b"epc" => Some(Bank::Epc),
+        b"tid" => Some(Bank::Tid),
+        b"user" => Some(Bank::User),
         _ => None,
     }
 }

@@ -3,12 +3,13 @@ ghost use Rattle.std.specs.Prelude.{◌≡◌, ◌≢◌, ◌≤◌, ◌<◌, �
 ghost use Rattle.std.specs.Fmt.{decimal};
 ghost use Rattle.text_fields.specs.Binary.{binary, binary_digit};
 ghost use Rattle.text_fields.specs.Hexadecimal.{hex_words};
+ghost use Rattle.command_text.specs.CommandText.{payload_digits};
 ghost use Rattle.lock_rules.specs.declared.locks.Pair.{Pair};
 ghost use Rattle.lock_rules.specs.declared.locks.Locks.{Locks};
 ghost use Rattle.scenario_lines.specs.TagForm.{IsWordList};
 ghost use Rattle.scenario_lines.specs.Spelling.{locks_text, pair_text, password_text};
 
-use bit_strings::{Action, Pointer, QValue, Session};
+use bit_strings::{Action, Count1, Payload, Pointer, QValue, Session};
 use command_grammar::Mask;
 use lock_rules::{Locks, Pair};
 use text_fields::{Words, list_digits, number, word};
@@ -52,6 +53,30 @@ pub(crate) fn pointer_of(field: &[u8]) -> Option<Pointer>
     ensures only { (n : ℕ) → n ≤ 268435455 → field.now ≡ decimal n → IsSomeAnd result (λ pointer. pointer ≡ n) }
 {
     Pointer::new(number(field, 268_435_455)?)
+}
+
+/// The number of 1 to 255 words that a field spells.
+pub(crate) fn count_of(field: &[u8]) -> Option<Count1>
+    ensures value { IfSome result (λ count. (field.now ≡ decimal count) × (1 ≤ count) × (count ≤ 255)) }
+    ensures only { (n : ℕ) → 1 ≤ n → n ≤ 255 → field.now ≡ decimal n → IsSomeAnd result (λ count. count ≡ n) }
+{
+    Count1::new(number(field, 255)? as u8)
+}
+
+/// The payload of a Lock that a field spells in five digits. The first digit is that of the word which
+/// the first four spell.
+pub(crate) fn payload_of(field: &[u8]) -> Option<Payload>
+    ensures value { IfSome result (λ payload. (field.now ≡ payload_digits payload) × (payload ≤ 1048575)) }
+    ensures only { (n : ℕ) → n ≤ 1048575 → field.now ≡ payload_digits n → IsSomeAnd result (λ payload. payload ≡ n) }
+{
+    if field.len() != 5 {
+        return None;
+    }
+    let (upper, _) = field.split_at(4);
+    let (_, lower) = field.split_at(1);
+    let first = u32::from(word(upper)?) / 4096;
+    let others = u32::from(word(lower)?);
+    Payload::new(first * 65536 + others)
 }
 
 /// The password that a field spells in its two words.

@@ -1,3 +1,4 @@
+use Rattle.air_channel.specs.AwaitedLaws.{awaited_reception, silent_awaited, plain_reception}
 use Rattle.air_channel.specs.ReceptionLaws.{whole_heard, broken_heard, stream_reception, silent_reception, heard_nothing, heard_least, heard_most}
 use Rattle.air_channel.proofs.laws.reception_law.Goals as goal
 
@@ -7,6 +8,9 @@ returns c = record {
   broken = broken_heard;
   stream = stream_reception;
   silent = silent_reception;
+  with = awaited_reception;
+  silent_with = silent_awaited;
+  by_link = plain_reception;
   nothing = heard_nothing;
   least = heard_least;
   most = heard_most;

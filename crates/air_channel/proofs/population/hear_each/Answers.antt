@@ -1,5 +1,7 @@
-use Rattle.air_channel.proofs.Populations.{few_replies, heard_none, heard_next, heard_tags, heard_replies, heard_steps}
-use Rattle.std.proofs.Common.{◌<◌, ◌≤◌, length, refl, arith}
+use Rattle.air_channel.proofs.Populations.{few_replies, heard_none, heard_next, heard_tags, heard_replies, heard_steps, length-heard}
+use Rattle.std.proofs.Common.{◌≡◌, ◌<◌, ◌≤◌, ◌∙◌, ap, length, refl, arith}
+use Rattle.air_channel.specs.Exchange.{tags_after}
+use Rattle.air_channel.specs.Hearing.{hearing_from}
 use Rattle.air_channel.proofs.population.hear_each.Goals as goal
 
 pub hear-requires : goal.hear-requires
@@ -18,8 +20,11 @@ loop-number-preserved g c =
 pub returns : goal.returns
 returns g c =
     let past : length c.loop-number.seats ≤ c.loop-number.number = omega arith in
+    let tags : c.loop-number.seats ≡ tags_after (hearing_from 0 c.args.command.now c.args.entry.now c.args.seats.now) =
+    heard_tags _ _ _ _ _ c.loop-number.number c.loop-number.seats c.loop-number.replies c.loop-number.steps c.loop-number.invariant past in
     record {
-      tags = heard_tags _ _ _ _ _ c.loop-number.number c.loop-number.seats c.loop-number.replies c.loop-number.steps c.loop-number.invariant past;
+      tags = tags;
+      count = ap length tags ∙ length-heard 0 c.args.command.now c.args.entry.now c.args.seats.now;
       replies = heard_replies _ _ _ _ _ c.loop-number.number c.loop-number.seats c.loop-number.replies c.loop-number.steps c.loop-number.invariant past;
       wanted = c.loop-number.invariant.wanted_is;
       counted = heard_steps _ _ _ _ _ c.loop-number.number c.loop-number.seats c.loop-number.replies c.loop-number.steps c.loop-number.invariant past;

@@ -1,4 +1,4 @@
-use Rattle.std.proofs.Common.{◌*◌, ◌∙◌, [], ap, sym, subst, length}
+use Rattle.std.proofs.Common.{◌∙◌, [], ap, sym, subst, length}
 use Rattle.air_world.proofs.Beginning.{nothing-written, first-text, stands-first, told-first, cut-first, cut-history, cut-slice, history-slice, played, cut-last}
 use Rattle.air_world.proofs.Slots.{ok-each, err-each}
 use Rattle.air_world.proofs.Writing.{err-kept, written-text}
@@ -33,7 +33,7 @@ play_steps-requires-clause-told g c =
     (c.new-entries.ensures.left (subst (λ e. Rises 0 e) (sym c.as_slice.ensures.value) c.requires.scenario.rising)) in
     let lines = written-text origin _ _ _ _ (first-text c.args.mode scenario first before c.args.air.now c.in_ok-run.run' told c.requires.fresh) (c.in_ok-begin.ensures.ok origin [] nothing) in
     let begun = stands-first c.args.mode scenario first _ before _ c.args.air.now c.begin.new.self c.requires.scenario c.requires.fresh c.len.ensures.legal c.new-entries.result left run lines in
-    subst (λ s. IsTold (140002 * length s) c.args.air.now c.begin.new.self (g.O.Sink.written c.begin.new.out) (g.O.Sink.faults c.begin.new.out)) (sym c.as_slice-2.ensures.value)
+    subst (λ s. IsTold (length s) c.args.air.now c.begin.new.self (g.O.Sink.written c.begin.new.out) (g.O.Sink.faults c.begin.new.out)) (sym c.as_slice-2.ensures.value)
     (told-first c.args.mode scenario first _ before _ c.args.air.now c.begin.new.self c.requires.scenario begun)
 
 pub returns-in_err-play_steps-clause-err : goal.returns-in_err-play_steps-clause-err

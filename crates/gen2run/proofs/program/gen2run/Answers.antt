@@ -1,6 +1,6 @@
 use Rattle.std.proofs.Common.{◌≡◌}
 use Rattle.gen2run.proofs.Ends.{completes}
-use Rattle.gen2run.proofs.Headlined.{says_headline}
+use Rattle.gen2run.proofs.Headlined.{says_headline, says_inventory}
 use Rattle.gen2run.proofs.program.gen2run.Goals as goal
 
 pub returns-in-Some-clause-complete : goal.returns-in-Some-clause-complete
@@ -12,3 +12,8 @@ pub returns-in-Some-clause-headline : goal.returns-in-Some-clause-headline
 returns-in-Some-clause-headline g c form spelled done =
     let same : c.in-Some.form ≡ form = cc (c.in-Some.ensures.only form spelled) in
     says_headline c.headline.ensures.scenario form _ _ _ _ (rw (done, same) at c.answer_input.ensures)
+
+pub returns-in-Some-clause-inventory : goal.returns-in-Some-clause-inventory
+returns-in-Some-clause-inventory g c form spelled done =
+    let same : c.in-Some.form ≡ form = cc (c.in-Some.ensures.only form spelled) in
+    says_inventory c.complete_inventory.ensures.scenario c.honest_rounds_count_tags.ensures.scenario form _ _ _ _ (rw (done, same) at c.answer_input.ensures)

@@ -1,4 +1,5 @@
 use Rattle.line_codes.specs.CodeLaws.{code_even, code_has_lead, code_tells, code_refuses_flips, code_hides_lead}
+use Rattle.line_codes.specs.PreambleLaws.{preambles_differ, code_has_one_preamble, code_keeps_preamble}
 use Rattle.line_codes.proofs.laws.code_laws.Goals as goal
 
 pub returns : goal.returns
@@ -8,4 +9,7 @@ returns c = record {
   tells_bits = code_tells;
   refuses_flips = code_refuses_flips;
   hides_lead = code_hides_lead;
+  preambles_differ = preambles_differ;
+  one_preamble = code_has_one_preamble;
+  keeps_preamble = code_keeps_preamble;
 }

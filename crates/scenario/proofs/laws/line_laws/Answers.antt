@@ -7,4 +7,6 @@ returns c = record {
   lines_begin_with_one_word = c.lines_begin_with_one_word.ensures;
   spelled_lines_are_not_faulty = c.spelled_lines_are_not_faulty.ensures;
   lines_have_one_fault = c.lines_have_one_fault.ensures;
+  lines_begin_or_are_faulty = c.lines_begin_or_are_faulty.ensures;
+  lines_say_something_or_are_faulty = c.lines_say_something_or_are_faulty.ensures;
 }

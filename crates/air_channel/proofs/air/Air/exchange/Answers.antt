@@ -6,7 +6,7 @@ pub returns-clause-air : goal.returns-clause-air
 returns-clause-air g c =
     let air = c.self.inside in
     let old : AirValue =
-    record { link = air.link; tags = air.population; frame = air.frame.items; stream = air.stream.items; replies = air.replies.count; exchanges = air.exchanges } in
+    record { link = air.link; several = air.several; tags = air.population; frame = air.frame.items; stream = air.stream.items; replies = air.replies.count; exchanges = air.exchanges } in
     rw (← c.self.view_is)
     (exchange_air old c.args.command.now c.transmit-heard.result c.args.entry.now c.as_slice.result.now c.befall_all.new.self c.hear.new.self c.transmit-heard.new.frame.items
     c.give.new.stream.items c.hear.new.replies c.next_exchange-self-inside.result c.transmit-heard.ensures.heard c.as_slice.ensures.value c.befall_all.ensures c.hear.ensures.tags
@@ -15,7 +15,7 @@ returns-clause-air g c =
 pub returns-clause-got : goal.returns-clause-got
 returns-clause-got g c =
     rw (← c.self.view_is)
-    (exchange_got c.self.inside.population c.args.command.now c.transmit-heard.result c.args.entry.now c.as_slice.result.now c.befall_all.new.self c.hear.new.replies c.give.result
+    (exchange_got c.self.inside.several c.self.inside.population c.args.command.now c.transmit-heard.result c.args.entry.now c.as_slice.result.now c.befall_all.new.self c.hear.new.replies c.give.result
     c.transmit-heard.ensures.heard c.as_slice.ensures.value c.befall_all.ensures c.hear.ensures.replies c.give.ensures.got)
 
 pub returns-clause-counted : goal.returns-clause-counted

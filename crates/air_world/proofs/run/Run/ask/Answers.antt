@@ -29,6 +29,6 @@ returns-in-Stream-clause-heard g c = λ origin past round slot plays.
     let link = (c.send.ensures.plays origin past round slot plays).link in
     let legal : AreLegalTags (tags_behind origin.start past) = subst AreLegalTags plays.tags plays.legal in
     let expected : IsGivenFor c.args.expect.now given =
-    given-in-expected c.args.command.now c.args.expect.now (next_entry origin.start past) (tags_behind origin.start past) c.requires.expects c.answers_are_replies.ensures.reply
+    given-in-expected origin.start.several c.args.command.now c.args.expect.now (next_entry origin.start past) (tags_behind origin.start past) c.requires.expects c.answers_are_replies.ensures.reply
     c.answers_are_replies.ensures.legal c.steps_keep_tags_legal.ensures.befallen legal in
     heard-reception origin.start.link given c.send.new.air c.args.expect.now c.hear.result link (c.send.ensures.stream origin past round slot plays) came expected c.hear.ensures.received

@@ -8,7 +8,7 @@ use Rattle.air_world.proofs.run.Run.play_round.Given as goal
 abbrev pub invariant-slots : goal.invariant-slots
 invariant-slots g l =
     (origin : Origin) (past : List Item) → StandsAt origin past l.fn.air l.fn.self (g.O.Sink.written l.fn.out) (g.O.Sink.faults l.fn.out)
-    → RoundUnderway origin past (past_behind_round origin.start l.spec past) l.number l.spec l.round l.command l.air l.self (g.O.Sink.written l.out) (g.O.Sink.faults l.out)
+    → RoundUnderway origin l.operations past (past_behind_round origin.start l.operations l.spec past) l.number l.spec l.round l.command l.air l.self (g.O.Sink.written l.out) (g.O.Sink.faults l.out)
 
 abbrev pub decreases-slots : goal.decreases-slots
 decreases-slots g l = l.round.spec.limit - l.round.slots_sent

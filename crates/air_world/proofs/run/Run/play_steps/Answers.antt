@@ -24,4 +24,4 @@ loop-step-preserved g c = λ origin past stands.
     let u = c.loop-step.invariant origin past stands in
     let inside : c.loop-step.step-index < length c.args.steps.now = omega arith in
     let legal = step-legal (length c.args.air.now.tags) c.args.steps.now c.loop-step.step-index c.step-item.result inside c.step-item.is c.requires.steps in
-    steps-go-on origin past _ (length c.args.air.now.tags) c.args.steps.now c.loop-step.step-index c.step-item.result _ _ _ _ _ _ _ _ u inside c.step-item.is legal (c.in_ok-play_step.ensures.ok origin u.past u.stands)
+    steps-go-on c.round_laws.ensures.limit origin past _ (length c.args.air.now.tags) c.args.steps.now c.loop-step.step-index c.step-item.result _ _ _ _ _ _ _ _ u inside c.step-item.is legal (c.in_ok-play_step.ensures.ok origin u.past u.stands)

@@ -1,0 +1,4 @@
+pub mod Doing
+pub mod Telling
+pub mod Legal
+pub mod Moving

@@ -1,0 +1,5 @@
+pub mod DialogueLaws
+pub mod OperationLaws
+pub mod Operations
+pub mod Running
+pub mod Standing

@@ -1,0 +1,28 @@
+//! Copies of lists that stand in fixed room, which take no memory.
+ghost use Rattle.std.specs.Prelude.{◌≡◌};
+
+use command_grammar::BlockWords;
+use reply_grammar::ReadWords;
+
+/// A copy of the words of a Read.
+pub(crate) fn copy_of_words(words: &ReadWords) -> ReadWords
+    ensures { result ≡ words.now }
+{
+    let mut copy = ReadWords::new();
+    for word in words.as_slice() {
+        copy.push(*word).unwrap();
+    }
+    copy
+}
+
+/// A copy of the words of a BlockWrite.
+pub(crate) fn copy_of_block(block: &BlockWords) -> BlockWords
+    ensures { result ≡ block.now }
+{
+    let words = block.as_slice();
+    let mut copy = BlockWords::first(words[0]);
+    for at in 1..words.len() {
+        copy.push(words[at]).unwrap();
+    }
+    copy
+}

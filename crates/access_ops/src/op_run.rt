@@ -1,0 +1,326 @@
+//! The operations on one tag, done one thing at a time.
+ghost use Rattle.std.specs.Prelude.{◌≡◌, ◌+◌, ◌*◌, ◌-◌, ◌≤◌, ℕ, false, List, [], length, drop, option_copied, if◌then◌else◌};
+ghost use Rattle.access_ops.specs.Operations.{Move, behind_last, denials, is_for, opened, operation, words_expected};
+ghost use Rattle.access_ops.specs.Standing.{Does, IsNextOperation, OpRunStandsFor, behind_cover, behind_heard, behind_purpose, last_answer, later_of, stage_behind_result, turns_at, turns_in, turns_left};
+ghost use Rattle.access_ops.specs.declared.OpList.{OpList};
+
+use crate::answers::{number_in, result_in};
+use crate::copies::copy_of_block;
+use crate::op_next::{Answer, OpNext, OpResult};
+use crate::stage::{Covered, Password, Purpose, Stage};
+use crate::{Op, OpList};
+use bit_strings::{Count1, xor16};
+use command_grammar::Command;
+use reply_grammar::{EpcWords, Expect};
+use std::marker::Model;
+
+/// The operations on one tag, done one thing at a time. It is given the answer to each command, and
+/// keeps none of them. After its end it answers the end again.
+///
+/// A contract sees it as a record of the number that the tag goes by, how many operations have begun and
+/// what is done next.
+#[derive(Drop)]
+pub struct OpRun {
+    rn: u16,
+    begun: u32,
+    stage: Stage,
+}
+
+impl Model for OpRun {
+    ghost use Rattle.access_ops.specs.Standing.{OpRunValue};
+
+    ghost Value = { OpRunValue };
+
+    ghost view = { λ a. record { rn = a.rn; begun = a.begun; stage = a.stage } };
+}
+
+impl OpRun {
+    /// The operations of the list on the tag that sent this EPC, and this RN16 before it. Nothing is sent
+    /// where the list names another EPC.
+    pub fn start(list: &OpList, epc: &EpcWords, rn: u16) -> OpRun
+        ensures stands { OpRunStandsFor result list.now epc.now rn [] }
+        ensures turns { turns_left list.now result ≤ 5 * length list.now.ops + 2 }
+    {
+        OpRun {
+            rn,
+            begun: 0,
+            stage: first_stage(&list.only, epc),
+        }
+    }
+
+    /// What comes next. The list is the same each time. An answer is given exactly behind a command; a
+    /// whole reply in it is one that the command expects.
+    pub fn next(&mut self, list: &OpList, answer: Option<&Answer>) -> OpNext
+        ensures next { (epc : List ℕ) (rn : ℕ) (moves : List Move) → OpRunStandsFor self.old list.now epc rn moves → option_copied answer.entry ≡ last_answer moves
+            → IsNextOperation result self.new list.now epc rn moves }
+        ensures turns { turns_left list.now self.new + turns_in result ≤ turns_left list.now self.old }
+    {
+        match self.stage {
+            Stage::Open => self.open(list),
+            Stage::Deny => self.deny(list),
+            Stage::Begin => self.begin(list),
+            Stage::Number(purpose) => match number_in(answer) {
+                Ok(number) => self.go_on(list, purpose, number),
+                Err(result) => self.break_off(result),
+            },
+            Stage::Last => self.end_operation(answer),
+            Stage::Done => OpNext::End,
+        }
+    }
+
+    /// Asks the tag for its handle, where there is an operation.
+    fn open(&mut self, list: &OpList) -> OpNext
+        ensures does { Does result self.new list.now (opened (drop self.old.begun list.now.ops) self.old.rn) }
+        ensures turns { turns_left list.now self.new + turns_in result ≤ 2 + 5 * (length list.now.ops - self.old.begun) }
+    {
+        if self.begun >= list.ops.len() {
+            return self.end();
+        }
+        self.ask_for_number(Purpose::Handle)
+    }
+
+    /// Denies the next operation, where there is one.
+    fn deny(&mut self, list: &OpList) -> OpNext
+        requires { self.old.stage ≡ Stage.Deny }
+        ensures does { Does result self.new list.now (denials (drop self.old.begun list.now.ops)) }
+        ensures turns { turns_left list.now self.new + turns_in result ≤ 5 * (length list.now.ops - self.old.begun) }
+    {
+        if self.begun >= list.ops.len() {
+            return self.end();
+        }
+        self.begun += 1;
+        OpNext::Result(OpResult::Denied)
+    }
+
+    /// Begins the next operation, where there is one.
+    fn begin(&mut self, list: &OpList) -> OpNext
+        ensures does { Does result self.new list.now (later_of list.now self.old) }
+        ensures turns { turns_left list.now self.new + turns_in result ≤ 5 * (length list.now.ops - self.old.begun) }
+    {
+        let Some(op) = list.ops.as_slice().get(self.begun as usize) else {
+            return self.end();
+        };
+        self.begun += 1;
+        self.begin_operation(op)
+    }
+
+    /// Sends the first command of an operation.
+    fn begin_operation(&mut self, op: &Op) -> OpNext
+        ensures does { (list : OpList) → Does result self.new list (operation op.now self.old.rn (later_of list self.old)) }
+        ensures begun { self.new.begun ≡ self.old.begun }
+        ensures turns { turns_at self.new.stage + turns_in result ≤ 5 }
+    {
+        let handle = self.rn;
+        match op {
+            Op::Read {
+                bank,
+                pointer,
+                count,
+            } => {
+                let command = Command::Read {
+                    bank: *bank,
+                    pointer: *pointer,
+                    count: *count,
+                    rn: handle,
+                };
+                self.send_last(command, expected_words(*count, handle), false)
+            }
+            Op::Write {
+                bank,
+                pointer,
+                word,
+            } => {
+                let covered = Covered::Word {
+                    bank: *bank,
+                    pointer: *pointer,
+                    word: *word,
+                };
+                self.ask_for_number(Purpose::Cover(covered))
+            }
+            Op::BlockWrite {
+                bank,
+                pointer,
+                words,
+            } => {
+                let command = Command::BlockWrite {
+                    bank: *bank,
+                    pointer: *pointer,
+                    words: copy_of_block(words),
+                    rn: handle,
+                };
+                self.send_last(command, Expect::Header(handle), true)
+            }
+            Op::BlockErase {
+                bank,
+                pointer,
+                count,
+            } => {
+                let command = Command::BlockErase {
+                    bank: *bank,
+                    pointer: *pointer,
+                    count: *count,
+                    rn: handle,
+                };
+                self.send_last(command, Expect::Header(handle), true)
+            }
+            Op::Lock { payload } => {
+                let command = Command::Lock {
+                    payload: *payload,
+                    rn: handle,
+                };
+                self.send_last(command, Expect::Header(handle), true)
+            }
+            Op::Access { password } => {
+                let covered = Covered::Upper(Password::Access(*password));
+                self.ask_for_number(Purpose::Cover(covered))
+            }
+            Op::Kill { password } => {
+                let covered = Covered::Upper(Password::Kill(*password));
+                self.ask_for_number(Purpose::Cover(covered))
+            }
+        }
+    }
+
+    /// Goes on with a number that the tag was asked for.
+    fn go_on(&mut self, list: &OpList, purpose: Purpose, number: u16) -> OpNext
+        ensures does { Does result self.new list.now (behind_purpose purpose list.now self.old number) }
+        ensures turns { turns_left list.now self.new + turns_in result ≤ turns_at (Stage.Number purpose) + 5 * (length list.now.ops - self.old.begun) }
+    {
+        match purpose {
+            Purpose::Handle => {
+                self.rn = number;
+                self.begin(list)
+            }
+            Purpose::Cover(covered) => self.send_covered(covered, number),
+            Purpose::Same(password) => {
+                self.ask_for_number(Purpose::Cover(Covered::Lower(password)))
+            }
+        }
+    }
+
+    /// Sends what goes under this cover.
+    fn send_covered(&mut self, covered: Covered, cover: u16) -> OpNext
+        ensures does { (list : OpList) → Does result self.new list (behind_cover covered self.old.rn (later_of list self.old) cover) }
+        ensures begun { self.new.begun ≡ self.old.begun }
+        ensures turns { turns_at self.new.stage + turns_in result ≤ turns_at (Stage.Number (Purpose.Cover covered)) }
+    {
+        let handle = self.rn;
+        match covered {
+            Covered::Word {
+                bank,
+                pointer,
+                word,
+            } => {
+                let command = Command::Write {
+                    bank,
+                    pointer,
+                    covered: xor16(word, cover),
+                    rn: handle,
+                };
+                self.send_last(command, Expect::Header(handle), true)
+            }
+            Covered::Upper(password) => {
+                let command = password.command(xor16(password.upper(), cover), handle);
+                self.stage = Stage::Number(Purpose::Same(password));
+                OpNext::Send {
+                    command,
+                    expect: Expect::Same(handle),
+                    extended: false,
+                }
+            }
+            Covered::Lower(password) => {
+                let command = password.command(xor16(password.lower(), cover), handle);
+                self.send_last(
+                    command,
+                    password.lower_expected(handle),
+                    password.lower_extended(),
+                )
+            }
+        }
+    }
+
+    /// Asks the tag for a number (6.3.2.11.3.1 Req_RN).
+    fn ask_for_number(&mut self, purpose: Purpose) -> OpNext
+        ensures run { self.new ≡ record self.old { stage = Stage.Number purpose } }
+        ensures send { result ≡ OpNext.Send (Command.ReqRn self.old.rn) Expect.Handle false }
+    {
+        self.stage = Stage::Number(purpose);
+        OpNext::Send {
+            command: Command::ReqRn { rn: self.rn },
+            expect: Expect::Handle,
+            extended: false,
+        }
+    }
+
+    /// Sends the command that ends an operation.
+    fn send_last(&mut self, command: Command, expect: Expect, extended: bool) -> OpNext
+        ensures run { self.new ≡ record self.old { stage = Stage.Last } }
+        ensures send { result ≡ OpNext.Send command expect extended }
+    {
+        self.stage = Stage::Last;
+        OpNext::Send {
+            command,
+            expect,
+            extended,
+        }
+    }
+
+    /// Ends an operation with what was heard of its last command.
+    fn end_operation(&mut self, answer: Option<&Answer>) -> OpNext
+        ensures does { (list : OpList) → Does result self.new list (behind_heard (behind_last (later_of list self.old)) (option_copied answer.entry)) }
+        ensures begun { self.new.begun ≡ self.old.begun }
+        ensures turns { turns_at self.new.stage + turns_in result ≤ 1 }
+    {
+        let result = result_in(answer);
+        self.stage = stage_behind(&result);
+        OpNext::Result(result)
+    }
+
+    /// Ends the run with this result.
+    fn break_off(&mut self, last: OpResult) -> OpNext
+        ensures run { self.new ≡ record self.old { stage = Stage.Done } }
+        ensures next { result ≡ OpNext.Result last }
+    {
+        self.stage = Stage::Done;
+        OpNext::Result(last)
+    }
+
+    /// Ends the run.
+    fn end(&mut self) -> OpNext
+        ensures run { self.new ≡ record self.old { stage = Stage.Done } }
+        ensures next { result ≡ OpNext.End }
+    {
+        self.stage = Stage::Done;
+        OpNext::End
+    }
+}
+
+/// What a run begins with: the operations, or where another EPC is named, their denials.
+fn first_stage(only: &Option<EpcWords>, epc: &EpcWords) -> Stage
+    ensures { result ≡ (if is_for only.now epc.now then Stage.Open else Stage.Deny) }
+{
+    match only {
+        Some(only) if only != epc => Stage::Deny,
+        _ => Stage::Open,
+    }
+}
+
+/// What a Read of so many words expects; 0 is for as many as there are (6.3.2.11.3.2 Read).
+fn expected_words(count: u8, handle: u16) -> Expect
+    ensures { result ≡ words_expected count handle }
+{
+    match Count1::new(count) {
+        Some(count) => Expect::Words(count, handle),
+        None => Expect::AnyWords(handle),
+    }
+}
+
+/// What a run does behind the result of an operation: Silent and Broken end it.
+fn stage_behind(told: &OpResult) -> Stage
+    ensures { result ≡ stage_behind_result told.now }
+{
+    match told {
+        OpResult::Silent | OpResult::Broken => Stage::Done,
+        OpResult::Ok(_) | OpResult::TagError(_) | OpResult::Denied => Stage::Begin,
+    }
+}

@@ -1,0 +1,15 @@
+pub mod CompleteRound
+pub mod EveryTag
+pub mod Heard
+pub mod Honesty
+pub mod Others
+pub mod Population
+pub mod Standing
+pub mod TagBetween
+pub mod TagEnds
+pub mod TagQuery
+pub mod TagSteps
+pub mod Times
+pub mod Totals
+pub mod Turns
+pub mod WholeRound

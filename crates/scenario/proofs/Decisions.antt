@@ -1,0 +1,114 @@
+-- What the lines before a line leave open holds for it, or it doesn't.
+use Rattle.std.proofs.Common.{◌≡◌, ◌≢◌, ◌<◌, ◌≤◌, ◌⊎◌, ℕ, suc, List, [], ◌∷◌, length, Option, Some, None, refl, ap₂, inl, inr, arith}
+use Rattle.std.proofs.lemmas.Bool.{cases_eq, cases_lt}
+use Rattle.air_events.specs.declared.Entry.{Entry}
+use Rattle.scenario_lines.specs.declared.first_fields.Word.{Word}
+use Rattle.scenario_lines.specs.declared.first_fields.Word.TheVariants as words
+use Rattle.scenario_lines.specs.declared.line.Happening.{Happening}
+use Rattle.scenario_lines.specs.declared.line.Happening.TheVariants as happenings
+use Rattle.scenario_lines.specs.declared.line.Line.{Line}
+use Rattle.scenario_lines.specs.declared.line.Line.TheVariants as lines
+use Rattle.scenario.specs.Limits.{most_air_lines, most_ops, most_steps, most_tags}
+use Rattle.scenario.specs.Standing.{ChoosesOnce, DraftValue, HasRoom, IsBareRound, KeepsOrder, MayFollow, MayStand, NamesTag, Standing, begun, start, steps_of, within}
+
+-- a fact holds, or it doesn't
+abbrev pub Decided : Type 0 → Type 0
+Decided A = A ⊎ (¬ A)
+
+both : {A B : Type 0} → Decided A → Decided B → Decided (A × B)
+both (inl a) (inl b) = inl (a, b)
+both (inl a) (inr never) = inr (λ pair. never pair.1)
+both (inr never) other = inr (λ pair. never pair.0)
+
+-- what has to hold in one case alone
+in_case : {A B : Type 0} → Decided A → Decided B → Decided (A → B)
+in_case (inr other) holds = inl (λ here. absurd (other here))
+in_case (inl here) (inl holds) = inl (λ _. holds)
+in_case (inl here) (inr never) = inr (λ always. never (always here))
+
+le_decided : (m n : ℕ) → Decided (m ≤ n)
+le_decided m n = elim (cases_lt n m) [ inl less ↦ inr (λ le. omega arith) | inr le ↦ inl le ]
+
+lt_decided : (m n : ℕ) → Decided (m < n)
+lt_decided m n = le_decided (suc m) n
+
+number_decided : (m n : ℕ) → Decided (m ≡ n)
+number_decided m n = elim (cases_eq m n) [ inl same ↦ inl same | inr apart ↦ inr apart ]
+
+pub empty_decided : {A : Type 0} → (list : List A) → Decided (list ≡ [])
+empty_decided [] = inl refl
+empty_decided (item ∷ list) = inr (λ same. cc)
+
+none_decided : {A : Type 0} → (option : Option A) → Decided (option ≡ None)
+none_decided None = inl refl
+none_decided (Some value) = inr (λ same. cc)
+
+some_decided : {A : Type 0} → (option : Option A) → Decided (option ≢ None)
+some_decided None = inr (λ some. some refl)
+some_decided (Some value) = inl (λ same. cc)
+
+bare_decided : (draft : DraftValue) → Decided (IsBareRound draft)
+bare_decided draft = elim (both (some_decided draft.round) (both (none_decided draft.operations.only) (empty_decided draft.operations.ops))) [
+  | inl bare ↦ inl (record { round = bare.0; only = bare.1.0; ops = bare.1.1 })
+  | inr never ↦ inr (λ bare. never (bare.round, (bare.only, bare.ops)))
+]
+
+-- a line with this word may follow, or may not
+pub may_stand_decided : (standing : Standing) (word : Word) → Decided (MayStand standing word)
+may_stand_decided start words.Version = inl tt
+may_stand_decided begun words.Link = inl tt
+may_stand_decided (within draft) words.Tag = both (number_decided draft.airs 0) (empty_decided (steps_of draft))
+may_stand_decided (within draft) words.Air = empty_decided (steps_of draft)
+may_stand_decided (within draft) words.Select = inl tt
+may_stand_decided (within draft) words.Nak = inl tt
+may_stand_decided (within draft) words.Event = inl tt
+may_stand_decided (within draft) words.Round = inl tt
+may_stand_decided (within draft) words.Only = bare_decided draft
+may_stand_decided (within draft) words.Op = some_decided draft.round
+may_stand_decided (within draft) words.End = inl tt
+may_stand_decided standing word = inr (λ stands. stands)
+
+-- ... and there is room for it, or there is none
+pub has_room_decided : (standing : Standing) (word : Word) → Decided (HasRoom standing word)
+has_room_decided (within draft) words.Tag = lt_decided (length draft.tags) most_tags
+has_room_decided (within draft) words.Air = lt_decided draft.airs most_air_lines
+has_room_decided (within draft) words.Select = lt_decided (length (steps_of draft)) most_steps
+has_room_decided (within draft) words.Nak = lt_decided (length (steps_of draft)) most_steps
+has_room_decided (within draft) words.Event = lt_decided (length (steps_of draft)) most_steps
+has_room_decided (within draft) words.Round = lt_decided (length (steps_of draft)) most_steps
+has_room_decided (within draft) words.Op = lt_decided (length draft.operations.ops) most_ops
+has_room_decided standing word = inl tt
+
+-- the tag that a line names is there, or isn't
+pub names_tag_decided : (tags : ℕ) (line : Line) → Decided (NamesTag tags line)
+names_tag_decided tags (lines.Air exchange (happenings.Event event tag)) = lt_decided tag tags
+names_tag_decided tags (lines.Air exchange (happenings.Miss tag)) = lt_decided tag tags
+names_tag_decided tags (lines.Event event tag) = lt_decided tag tags
+names_tag_decided tags line = inl tt
+
+may_follow_decided : (entry : Entry) (happening : Happening) → Decided (MayFollow entry happening)
+may_follow_decided entry (happenings.Event event tag) = both (empty_decided entry.missed) (none_decided entry.choice)
+may_follow_decided entry (happenings.Miss tag) = none_decided entry.choice
+may_follow_decided entry (happenings.Choice choice) = inl tt
+
+-- it comes in order, or it doesn't
+pub keeps_order_decided : (draft : DraftValue) (line : Line) → Decided (KeepsOrder draft line)
+keeps_order_decided draft (lines.Air exchange happening) =
+    both (le_decided draft.exchange exchange) (in_case (number_decided exchange draft.exchange) (may_follow_decided draft.latest happening))
+keeps_order_decided draft line = inl tt
+
+-- it is no second choice, or it is one
+pub chooses_once_decided : (draft : DraftValue) (line : Line) → Decided (ChoosesOnce draft line)
+chooses_once_decided draft (lines.Air exchange (happenings.Choice choice)) =
+    in_case (number_decided exchange draft.exchange) (none_decided draft.latest.choice)
+chooses_once_decided draft line = inl tt
+
+-- a text is this one, or another
+pub text_decided : (one other : List ℕ) → Decided (one ≡ other)
+text_decided [] [] = inl refl
+text_decided [] (b ∷ other) = inr (λ same. cc)
+text_decided (a ∷ one) [] = inr (λ same. cc)
+text_decided (a ∷ one) (b ∷ other) = elim (both (number_decided a b) (text_decided one other)) [
+  | inl same ↦ inl (ap₂ (λ x xs. x ∷ xs) same.0 same.1)
+  | inr apart ↦ inr (λ same. apart (cc, cc))
+]

@@ -1,0 +1,189 @@
+-- A text is that of a scenario, or has a first faulty line with a first reason.
+use Rattle.std.proofs.Common.{◌≡◌, ◌≢◌, ℕ, ◌+◌, List, [], ◌∷◌, ◌++◌, length, map, ◌⊎◌, inl, inr, refl, sym, ◌∙◌, ap, subst, append_assoc, arith}
+use Rattle.std.proofs.lemmas.List.{map-append}
+use Rattle.text_fields.specs.Lines.{fields_of, lines_of, text_with}
+use Rattle.scenario_lines.specs.declared.line.Line.{Line}
+use Rattle.scenario_lines.specs.declared.line.Line.TheVariants as lines
+use Rattle.scenario_lines.specs.declared.fault.LineFault.{LineFault}
+use Rattle.scenario_lines.specs.declared.fault.LineFault.TheVariants as line_faults
+use Rattle.scenario_lines.specs.Spelling.{line_text, word_of_line}
+use Rattle.scenario_lines.specs.LineFaults.{IsFaultyLine, SpellsLine}
+use Rattle.scenario.specs.declared.fault.Fault.{Fault}
+use Rattle.scenario.specs.declared.fault.Fault.TheVariants.{Extra, End, Version, Word as WordFault, Limit, Tag, Order, Twice}
+use Rattle.scenario.specs.Limits.{IsText}
+use Rattle.scenario.specs.LineLaws.{LineLaws}
+use Rattle.scenario.specs.Standing.{Agrees, DraftValue, Follows, HasRoom, Leads, MayStand, Standing, after, begun, ended, scenario_of, start, within}
+use Rattle.scenario.specs.Faults.{DisagreesBy, HasPlace, IsFaultyAt, IsFaultyBefore, IsFirstFault, Settles, fault_of_line}
+use Rattle.scenario.proofs.Decisions.{chooses_once_decided, has_room_decided, keeps_order_decided, may_stand_decided, names_tag_decided, text_decided}
+use Rattle.scenario.proofs.Leading.{leads_one}
+use Rattle.scenario.proofs.Settled.{said_scenario}
+use Rattle.scenario.proofs.Taken.{spelled_begins}
+use Rattle.scenario.proofs.Texts.{some_line, text_of_lines, text_spelled}
+
+-- the fields spell a line that may follow
+record GoesBy (standing : Standing) (fields : List (List ℕ)) : Type 0 where
+  line : Line
+  spells : SpellsLine fields line
+  follows : Follows standing line
+
+-- a line is one that may follow, or is faulty
+abbrev IsOneOf : Standing → List (List ℕ) → Type 0
+IsOneOf standing fields = GoesBy standing fields ⊎ ((fault : Fault) × IsFaultyAt standing fields fault)
+
+-- what a line says that has its place agrees with the lines before it, or doesn't
+agrees_or_not : (draft : DraftValue) (line : Line) → Agrees draft line ⊎ ((fault : Fault) × DisagreesBy draft line fault)
+agrees_or_not draft line = elim (names_tag_decided (length draft.tags) line) [
+  | inr no_tag ↦ inr (Tag, no_tag)
+  | inl names ↦ elim (keeps_order_decided draft line) [
+    | inr falls ↦ inr (Order, (names, falls))
+    | inl order ↦ elim (chooses_once_decided draft line) [
+      | inr twice ↦ inr (Twice, (names, order, twice))
+      | inl once ↦ inl (record { names = names; order = order; once = once })
+    ]
+  ]
+]
+
+disagrees_at : (standing : Standing) (fields : List (List ℕ)) (draft : DraftValue) (fault : Fault) (line : Line) → standing ≡ within draft
+    → SpellsLine fields line → MayStand standing (word_of_line line) → HasRoom standing (word_of_line line) → DisagreesBy draft line fault
+    → IsFaultyAt standing fields fault
+disagrees_at standing fields draft Tag line here spells stands room disagrees =
+    record { draft = draft; here = here; line = line; spells = spells; stands = stands; room = room; disagrees = disagrees }
+disagrees_at standing fields draft Order line here spells stands room disagrees =
+    record { draft = draft; here = here; line = line; spells = spells; stands = stands; room = room; disagrees = disagrees }
+disagrees_at standing fields draft Twice line here spells stands room disagrees =
+    record { draft = draft; here = here; line = line; spells = spells; stands = stands; room = room; disagrees = disagrees }
+disagrees_at standing fields draft fault line here spells stands room disagrees = absurd disagrees
+
+said_line : (standing : Standing) (fields : List (List ℕ)) (line : Line) → SpellsLine fields line → MayStand standing (word_of_line line)
+    → HasRoom standing (word_of_line line) → IsOneOf standing fields
+said_line start fields line spells stands room =
+    inl (record { line = line; spells = spells; follows = record { is = spells.is; stands = stands; room = room; agrees = tt } })
+said_line begun fields line spells stands room =
+    inl (record { line = line; spells = spells; follows = record { is = spells.is; stands = stands; room = room; agrees = tt } })
+said_line (ended draft) fields line spells stands room =
+    inl (record { line = line; spells = spells; follows = record { is = spells.is; stands = stands; room = room; agrees = tt } })
+said_line (within draft) fields line spells stands room = elim (agrees_or_not draft line) [
+  | inl agrees ↦ inl (record { line = line; spells = spells; follows = record { is = spells.is; stands = stands; room = room; agrees = agrees } })
+  | inr not_so ↦ inr (not_so.0, disagrees_at (within draft) fields draft not_so.0 line refl spells stands room not_so.1)
+]
+
+-- a line that says nothing, where it has its place
+nothing_said : (standing : Standing) (fields : List (List ℕ)) (fault : LineFault) → HasPlace standing fields → IsFaultyLine fields fault
+    → IsFaultyAt standing fields (fault_of_line fault)
+nothing_said standing fields line_faults.Word place faulty = absurd (faulty place.word place.begins)
+nothing_said standing fields line_faults.Shape place faulty = record { place = place; faulty = faulty }
+nothing_said standing fields line_faults.Number place faulty = record { place = place; faulty = faulty }
+nothing_said standing fields line_faults.Tari place faulty = record { place = place; faulty = faulty }
+nothing_said standing fields line_faults.RtCal place faulty = record { place = place; faulty = faulty }
+nothing_said standing fields line_faults.TrCal place faulty = record { place = place; faulty = faulty }
+nothing_said standing fields line_faults.Pw place faulty = record { place = place; faulty = faulty }
+nothing_said standing fields line_faults.Pc place faulty = record { place = place; faulty = faulty }
+
+-- a line that has its place
+placed : LineLaws → (standing : Standing) (fields : List (List ℕ)) → HasPlace standing fields → IsOneOf standing fields
+placed laws standing fields place = elim (laws.lines_say_something_or_are_faulty fields) [
+  | inl said ↦
+      let word = laws.lines_begin_with_one_word fields place.word (word_of_line said.0) place.begins (spelled_begins fields said.0 said.1) in
+      said_line standing fields said.0 said.1 (subst (MayStand standing) word place.stands) (subst (HasRoom standing) word place.room)
+  | inr faulty ↦ inr (fault_of_line faulty.0, nothing_said standing fields faulty.0 place faulty.1)
+]
+
+-- a line is one that may follow, or is faulty for some reason
+one_of : LineLaws → (standing : Standing) (fields : List (List ℕ)) → IsOneOf standing fields
+one_of laws standing fields = elim (laws.lines_begin_or_are_faulty fields) [
+  | inr none ↦ inr (WordFault, λ word begins. absurd (none word begins))
+  | inl found ↦ elim (may_stand_decided standing found.0) [
+    | inr never ↦ inr (
+      WordFault,
+      λ word begins.
+          λ stands. never (subst (MayStand standing) (laws.lines_begin_with_one_word fields word found.0 begins found.1) stands),
+    )
+    | inl stands ↦ elim (has_room_decided standing found.0) [
+      | inr none ↦ inr (Limit, record { word = found.0; begins = found.1; stands = stands; no_room = none })
+      | inl room ↦ placed laws standing fields (record { word = found.0; begins = found.1; stands = stands; room = room })
+    ]
+  ]
+]
+
+-- the lines are those of a scenario, or one of them is the first faulty one
+data Ends (texts : List (List ℕ)) : Type 0 where
+  whole : (said : List Line) (draft : DraftValue) → Leads start said (ended draft) → texts ≡ map line_text said ++ [] ∷ [] → Ends texts
+  faulty : (before : List (List ℕ)) (line : List ℕ) (behind : List (List ℕ)) (standing : Standing) (fault : Fault) → texts ≡ before ++ line ∷ behind
+      → Settles before standing → IsFaultyBefore behind standing line fault → Ends texts
+
+-- the first faulty line is this one
+stops : (texts : List (List ℕ)) (said : List Line) (standing : Standing) (line : List ℕ) (behind : List (List ℕ)) (fault : Fault)
+    → texts ≡ map line_text said ++ line ∷ behind → Leads start said standing → IsFaultyBefore behind standing line fault → Ends texts
+stops texts said standing line behind fault cut leads is =
+    faulty (map line_text said) line behind standing fault cut (record { said = said; spelling = refl; leads = leads }) is
+
+-- one line more is said
+further : (texts : List (List ℕ)) (said : List Line) (next : Line) (line : List ℕ) (behind : List (List ℕ)) → texts ≡ map line_text said ++ line ∷ behind
+    → line ≡ line_text next → texts ≡ map line_text (said ++ next ∷ []) ++ behind
+further texts said next line behind cut is =
+    cut ∙ ap (λ (text : List ℕ). map line_text said ++ text ∷ behind) is ∙ sym (append_assoc (map line_text said) (line_text next ∷ []) behind)
+    ∙ ap (λ (list : List (List ℕ)). list ++ behind) (sym (map-append line_text said (next ∷ [])))
+
+-- behind the end
+at_end : (texts : List (List ℕ)) (said : List Line) (draft : DraftValue) (line : List ℕ) (behind : List (List ℕ))
+    → texts ≡ map line_text said ++ line ∷ behind → Leads start said (ended draft) → Ends texts
+at_end texts said draft [] [] cut leads = whole said draft leads cut
+at_end texts said draft (byte ∷ line) behind cut leads = stops texts said (ended draft) (byte ∷ line) behind Extra cut leads (refl, λ same. cc)
+at_end texts said draft [] (next ∷ behind) cut leads = stops texts said (ended draft) [] (next ∷ behind) Extra cut leads (refl, λ same. cc)
+
+-- the version follows at the start
+version_follows : Follows start lines.Version
+version_follows = record { is = record { form = tt; coherent = tt }; stands = tt; room = tt; agrees = tt }
+
+ends : LineLaws → (texts : List (List ℕ)) (said : List Line) (standing : Standing) (line : List ℕ) (behind : List (List ℕ))
+    → texts ≡ map line_text said ++ line ∷ behind → Leads start said standing → Ends texts
+ends laws texts said (ended draft) line behind cut leads = at_end texts said draft line behind cut leads
+ends laws texts said start line [] cut leads = stops texts said start line [] End cut leads refl
+ends laws texts said begun line [] cut leads = stops texts said begun line [] End cut leads refl
+ends laws texts said (within draft) line [] cut leads = stops texts said (within draft) line [] End cut leads refl
+ends laws texts said start line (next ∷ behind) cut leads = elim (text_decided line (line_text lines.Version)) [
+  | inr other ↦ stops texts said start line (next ∷ behind) Version cut leads (refl, other)
+  | inl is ↦ ends laws texts (said ++ lines.Version ∷ []) begun next behind (further texts said lines.Version line (next ∷ behind) cut is)
+      (leads_one start start begun said lines.Version leads version_follows refl)
+]
+ends laws texts said begun line (next ∷ behind) cut leads = elim (one_of laws begun (fields_of line)) [
+  | inr reason ↦ stops texts said begun line (next ∷ behind) reason.0 cut leads reason.1
+  | inl goes ↦ ends laws texts (said ++ goes.line ∷ []) (after begun goes.line) next behind
+      (further texts said goes.line line (next ∷ behind) cut (text_spelled line goes.line goes.spells))
+      (leads_one start begun (after begun goes.line) said goes.line leads goes.follows refl)
+]
+ends laws texts said (within draft) line (next ∷ behind) cut leads = elim (one_of laws (within draft) (fields_of line)) [
+  | inr reason ↦ stops texts said (within draft) line (next ∷ behind) reason.0 cut leads reason.1
+  | inl goes ↦ ends laws texts (said ++ goes.line ∷ []) (after (within draft) goes.line) next behind
+      (further texts said goes.line line (next ∷ behind) cut (text_spelled line goes.line goes.spells))
+      (leads_one start (within draft) (after (within draft) goes.line) said goes.line leads goes.follows refl)
+]
+
+-- what the lines of a text say of it
+told : (bytes : List ℕ) → Ends (lines_of bytes) → IsText bytes ⊎ ((number : ℕ) × (fault : Fault) × IsFirstFault bytes number fault)
+told bytes (whole said draft leads cut) =
+    let scenario = said_scenario draft said leads in
+    inl (scenario_of draft, scenario.1, text_of_lines bytes (map line_text said) cut ∙ ap (λ (list : List Line). text_with (map line_text list)) scenario.0)
+told bytes (faulty before line behind standing fault cut settles is) =
+    inr (
+      length before + 1,
+      fault,
+      record {
+        before = before;
+        line = line;
+        behind = behind;
+        standing = standing;
+        cut = cut;
+        settles = settles;
+        place = refl;
+        faulty = is;
+      },
+    )
+
+begins : LineLaws → (texts : List (List ℕ)) → texts ≢ [] → Ends texts
+begins laws [] some = absurd (some refl)
+begins laws (line ∷ behind) some = ends laws (line ∷ behind) [] start line behind refl refl
+
+-- each list of bytes is the text of a scenario, or has a first faulty line
+pub text_or_fault : LineLaws → (bytes : List ℕ) → IsText bytes ⊎ ((number : ℕ) × (fault : Fault) × IsFirstFault bytes number fault)
+text_or_fault laws bytes = told bytes (begins laws (lines_of bytes) (λ none. omega (arith, some_line bytes, ap length none)))

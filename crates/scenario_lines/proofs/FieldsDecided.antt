@@ -1,0 +1,305 @@
+-- Each field of a line is of its form and range, or it isn't.
+use Rattle.std.proofs.Common.{◌≡◌, ◌≢◌, ◌<◌, ◌≤◌, ◌^◌, ◌⊎◌, ℕ, suc, Bool, true, false, List, [], ◌∷◌, ◌++◌, length, map, take, drop, refl, sym, ◌∙◌, ap, ap₂, subst, inl, inr, arith}
+use Rattle.std.specs.Prelude.{All}
+use Rattle.std.specs.Fmt.{decimal}
+use Rattle.std.specs.List.{flat_map}
+use Rattle.std.proofs.lemmas.List.Elements.{All-cons, All-head, All-nil, All-tail}
+use Rattle.bit_strings.specs.declared.code.Code.{Code}
+use Rattle.bit_strings.specs.declared.code.Code.TheVariants as line_codes
+use Rattle.text_fields.specs.Binary.{binary, binary_digit, hyphen, or_hyphen}
+use Rattle.text_fields.specs.CodeNames.{code_word}
+use Rattle.text_fields.specs.Hexadecimal.{hex_word, hex_words}
+use Rattle.text_fields.specs.ToldApart.{binary_told, hex_words_told}
+use Rattle.command_text.specs.CommandText.{bank_word, flag_word, mask_bank_word, payload_digits, side_word}
+use Rattle.command_grammar.specs.declared.field_values.Bank.{Bank}
+use Rattle.command_grammar.specs.declared.field_values.Bank.TheVariants as all_banks
+use Rattle.command_grammar.specs.declared.field_values.FlagName.{FlagName}
+use Rattle.command_grammar.specs.declared.field_values.FlagName.TheVariants as flags
+use Rattle.command_grammar.specs.declared.field_values.MaskBank.{MaskBank}
+use Rattle.command_grammar.specs.declared.field_values.MaskBank.TheVariants as banks
+use Rattle.command_grammar.specs.declared.field_values.Sel.{Sel}
+use Rattle.command_grammar.specs.declared.field_values.Sel.TheVariants as sels
+use Rattle.command_grammar.specs.declared.field_values.Side.{Side}
+use Rattle.command_grammar.specs.declared.field_values.Side.TheVariants as sides
+use Rattle.lock_rules.specs.declared.locks.Pair.{Pair}
+use Rattle.scenario_lines.specs.Names.{sel_text}
+use Rattle.scenario_lines.specs.Spelling.{flag_text, locks_text, password_text}
+use Rattle.scenario_lines.specs.TagForm.{IsWordList}
+use Rattle.scenario_lines.proofs.Decisions.{Any, Behind, Decided, Spelled, behind_decided, below_decided, both, either, le_decided, nothing_decided, number_decided, same_answer, text_decided}
+
+-- a number in a range
+abbrev pub IsWithin : ℕ → ℕ → ℕ → Type 0
+IsWithin least most n = (least ≤ n) × (n ≤ most)
+
+-- a number below a bound, in some spelling
+spelled_below : (spelling : ℕ → List ℕ) (bound : ℕ) (field : List ℕ) → Decided (Spelled spelling (λ n. n < bound) field)
+spelled_below spelling bound field = below_decided (λ n. field ≡ spelling n) (λ n. text_decided field (spelling n)) bound
+
+pub decimal_decided : (least most : ℕ) (field : List ℕ) → Decided (Spelled decimal (IsWithin least most) field)
+decimal_decided least most field =
+    same_answer {A = (n : ℕ) × (n < suc most) × ((least ≤ n) × (field ≡ decimal n))}
+    (λ found. (found.0, (found.2.0, omega (arith, found.1)), found.2.1))
+    (λ found. (found.0, omega (arith, found.1.1), (found.1.0, found.2)))
+    (below_decided (λ n. (least ≤ n) × (field ≡ decimal n)) (λ n. both (le_decided least n) (text_decided field (decimal n))) (suc most))
+
+pub payload_decided : (field : List ℕ) → Decided (Spelled payload_digits (λ payload. payload < 1048576) field)
+payload_decided field = spelled_below payload_digits 1048576 field
+
+pub password_decided : (field : List ℕ) → Decided (Spelled password_text (λ password. password < 2 ^ 32) field)
+password_decided field = spelled_below password_text (2 ^ 32) field
+
+-- a value with a word of its own: each word is tried
+pub tried : {V : Type 0} {May : V → Type 0} {word : V → List ℕ} {field : List ℕ} (value : V) → May value
+    → (field ≢ word value → Decided (Spelled word May field)) → Decided (Spelled word May field)
+tried {word = word} {field = field} value may others = elim (text_decided field (word value)) [
+  | inl is ↦ inl (value, may, is)
+  | inr never ↦ others never
+]
+
+no_flag : (field : List ℕ) → field ≢ flag_word flags.S0 → field ≢ flag_word flags.S1 → field ≢ flag_word flags.S2 → field ≢ flag_word flags.S3
+    → field ≢ flag_word flags.Sl → (flag : FlagName) → field ≡ flag_word flag → ⊥
+no_flag field s0 s1 s2 s3 sl flags.S0 is = s0 is
+no_flag field s0 s1 s2 s3 sl flags.S1 is = s1 is
+no_flag field s0 s1 s2 s3 sl flags.S2 is = s2 is
+no_flag field s0 s1 s2 s3 sl flags.S3 is = s3 is
+no_flag field s0 s1 s2 s3 sl flags.Sl is = sl is
+
+pub flag_decided : (field : List ℕ) → Decided (Spelled flag_word Any field)
+flag_decided field =
+    tried flags.S0 tt (λ s0. tried flags.S1 tt (λ s1. tried flags.S2 tt (λ s2. tried flags.S3 tt (λ s3. tried flags.Sl tt (λ sl.
+    inr (λ found. no_flag field s0 s1 s2 s3 sl found.0 found.2))))))
+
+-- the flags that can expire
+abbrev pub IsLasting : FlagName → Type 0
+IsLasting flag = flag ≢ flags.S0
+
+no_lasting : (field : List ℕ) → field ≢ flag_word flags.S1 → field ≢ flag_word flags.S2 → field ≢ flag_word flags.S3 → field ≢ flag_word flags.Sl
+    → (flag : FlagName) → IsLasting flag → field ≡ flag_word flag → ⊥
+no_lasting field s1 s2 s3 sl flags.S0 lasting is = lasting refl
+no_lasting field s1 s2 s3 sl flags.S1 lasting is = s1 is
+no_lasting field s1 s2 s3 sl flags.S2 lasting is = s2 is
+no_lasting field s1 s2 s3 sl flags.S3 lasting is = s3 is
+no_lasting field s1 s2 s3 sl flags.Sl lasting is = sl is
+
+pub lasting_decided : (field : List ℕ) → Decided (Spelled flag_word IsLasting field)
+lasting_decided field =
+    tried flags.S1 (λ same. cc) (λ s1. tried flags.S2 (λ same. cc) (λ s2. tried flags.S3 (λ same. cc) (λ s3. tried flags.Sl (λ same. cc) (λ sl.
+    inr (λ found. no_lasting field s1 s2 s3 sl found.0 found.1 found.2)))))
+
+no_bank : (field : List ℕ) → field ≢ mask_bank_word banks.Epc → field ≢ mask_bank_word banks.Tid → field ≢ mask_bank_word banks.User
+    → (bank : MaskBank) → field ≡ mask_bank_word bank → ⊥
+no_bank field epc tid user banks.Epc is = epc is
+no_bank field epc tid user banks.Tid is = tid is
+no_bank field epc tid user banks.User is = user is
+
+pub bank_decided : (field : List ℕ) → Decided (Spelled mask_bank_word Any field)
+bank_decided field =
+    tried banks.Epc tt (λ epc. tried banks.Tid tt (λ tid. tried banks.User tt (λ user. inr (λ found. no_bank field epc tid user found.0 found.2))))
+
+no_any_bank : (field : List ℕ) → field ≢ bank_word all_banks.Reserved → field ≢ bank_word all_banks.Epc → field ≢ bank_word all_banks.Tid
+    → field ≢ bank_word all_banks.User → (bank : Bank) → field ≡ bank_word bank → ⊥
+no_any_bank field res epc tid user all_banks.Reserved is = res is
+no_any_bank field res epc tid user all_banks.Epc is = epc is
+no_any_bank field res epc tid user all_banks.Tid is = tid is
+no_any_bank field res epc tid user all_banks.User is = user is
+
+pub any_bank_decided : (field : List ℕ) → Decided (Spelled bank_word Any field)
+any_bank_decided field =
+    tried all_banks.Reserved tt (λ res. tried all_banks.Epc tt (λ epc. tried all_banks.Tid tt (λ tid. tried all_banks.User tt (λ user.
+    inr (λ found. no_any_bank field res epc tid user found.0 found.2)))))
+
+no_code : (field : List ℕ) → field ≢ code_word line_codes.Fm0 → field ≢ code_word line_codes.M2 → field ≢ code_word line_codes.M4
+    → field ≢ code_word line_codes.M8 → (code : Code) → field ≡ code_word code → ⊥
+no_code field fm0 m2 m4 m8 line_codes.Fm0 is = fm0 is
+no_code field fm0 m2 m4 m8 line_codes.M2 is = m2 is
+no_code field fm0 m2 m4 m8 line_codes.M4 is = m4 is
+no_code field fm0 m2 m4 m8 line_codes.M8 is = m8 is
+
+pub code_decided : (field : List ℕ) → Decided (Spelled code_word Any field)
+code_decided field =
+    tried line_codes.Fm0 tt (λ fm0. tried line_codes.M2 tt (λ m2. tried line_codes.M4 tt (λ m4. tried line_codes.M8 tt (λ m8.
+    inr (λ found. no_code field fm0 m2 m4 m8 found.0 found.2)))))
+
+no_side : (field : List ℕ) → field ≢ side_word sides.A → field ≢ side_word sides.B → (side : Side) → field ≡ side_word side → ⊥
+no_side field a b sides.A is = a is
+no_side field a b sides.B is = b is
+
+pub side_decided : (field : List ℕ) → Decided (Spelled side_word Any field)
+side_decided field = tried sides.A tt (λ a. tried sides.B tt (λ b. inr (λ found. no_side field a b found.0 found.2)))
+
+no_sel : (field : List ℕ) → field ≢ sel_text sels.All00 → field ≢ sel_text sels.NotSl → field ≢ sel_text sels.Sl
+    → (sel : Sel) → sel ≢ sels.All01 → field ≡ sel_text sel → ⊥
+no_sel field all nsl sl sels.All00 named is = all is
+no_sel field all nsl sl sels.All01 named is = named refl
+no_sel field all nsl sl sels.NotSl named is = nsl is
+no_sel field all nsl sl sels.Sl named is = sl is
+
+pub sel_decided : (field : List ℕ) → Decided (Spelled sel_text (λ sel. sel ≢ sels.All01) field)
+sel_decided field =
+    tried sels.All00 (λ same. cc) (λ all. tried sels.NotSl (λ same. cc) (λ nsl. tried sels.Sl (λ same. cc) (λ sl.
+    inr (λ found. no_sel field all nsl sl found.0 found.1 found.2))))
+
+-- a digit of a bit
+no_digit : (digit : ℕ) → digit ≢ 48 → digit ≢ 49 → (bit : Bool) → digit ≡ binary_digit bit → ⊥
+no_digit digit zero_digit one_digit false is = zero_digit is
+no_digit digit zero_digit one_digit true is = one_digit is
+
+digit_decided : (digit : ℕ) → Decided (Spelled binary_digit Any digit)
+digit_decided digit = elim (number_decided digit 48) [
+  | inl is ↦ inl (false, tt, is)
+  | inr not_0 ↦ elim (number_decided digit 49) [
+    | inl is ↦ inl (true, tt, is)
+    | inr not_1 ↦ inr (λ found. no_digit digit not_0 not_1 found.0 found.2)
+  ]
+]
+
+pub bit_decided : (field : List ℕ) → Decided (Spelled flag_text Any field)
+bit_decided field =
+    same_answer {A = Behind binary_digit Any (λ (_ : Unit {0}). []) Any field} (λ found. (found.0.0, tt, found.2))
+    (λ found. ((found.0, tt), (tt, tt), found.2)) (behind_decided binary_digit Any (λ _. []) Any digit_decided nothing_decided field)
+
+no_first_digit : (digit : ℕ) (digits : List ℕ) → (¬ Spelled binary_digit Any digit) → (bits : List Bool) → digit ∷ digits ≡ map binary_digit bits → ⊥
+no_first_digit digit digits none [] is = cc
+no_first_digit digit digits none (bit ∷ bits) is = none (bit, tt, cc)
+
+no_more_digits : (digit : ℕ) (digits : List ℕ) → (¬ Spelled (map binary_digit) Any digits) → (bits : List Bool) → digit ∷ digits ≡ map binary_digit bits → ⊥
+no_more_digits digit digits none [] is = cc
+no_more_digits digit digits none (bit ∷ bits) is = none (bits, tt, cc)
+
+-- the digits of bits
+digits_decided : (digits : List ℕ) → Decided (Spelled (map binary_digit) Any digits)
+digits_decided [] = inl ([], tt, refl)
+digits_decided (digit ∷ digits) = elim (digit_decided digit) [
+  | inl found ↦ elim (digits_decided digits) [
+    | inl more ↦ inl (found.0 ∷ more.0, tt, ap₂ (λ x xs. x ∷ xs) found.2 more.2)
+    | inr none ↦ inr (λ some. no_more_digits digit digits none some.0 some.2)
+  ]
+  | inr none ↦ inr (λ some. no_first_digit digit digits none some.0 some.2)
+]
+
+-- a list and the hyphen that stands for none
+empty_or : (spelling : List ℕ) → spelling ≢ [] → or_hyphen spelling ≡ spelling
+empty_or [] some = absurd (some refl)
+empty_or (byte ∷ bytes) some = refl
+
+hyphen_or : (field spelling : List ℕ) → field ≢ hyphen ∷ [] → field ≡ or_hyphen spelling → field ≡ spelling
+hyphen_or field [] other is = absurd (other is)
+hyphen_or field (byte ∷ bytes) other is = is
+
+or_empty : (field spelling : List ℕ) → field ≢ [] → field ≡ spelling → field ≡ or_hyphen spelling
+or_empty field [] some is = absurd (some is)
+or_empty field (byte ∷ bytes) some is = is
+
+not_empty : (spelling : List ℕ) → [] ≢ or_hyphen spelling
+not_empty [] same = cc
+not_empty (byte ∷ bytes) same = cc
+
+-- a list of items whose spellings stand one behind the other, or a hyphen
+listed : {A : Type 0} (spelling : List A → List ℕ) (May : List A → Type 0) → May [] → spelling [] ≡ []
+    → ((text : List ℕ) → Decided (Spelled spelling May text)) → (field : List ℕ) → Decided (Spelled (λ items. or_hyphen (spelling items)) May field)
+listed spelling May none nothing each [] = inr (λ found. not_empty (spelling found.0) found.2)
+listed spelling May none nothing each (byte ∷ bytes) = elim (text_decided (byte ∷ bytes) (hyphen ∷ [])) [
+  | inl is ↦ inl ([], none, is ∙ sym (ap or_hyphen nothing))
+  | inr other ↦ elim (each (byte ∷ bytes)) [
+    | inl found ↦ inl (found.0, found.1, or_empty (byte ∷ bytes) (spelling found.0) (λ same. cc) found.2)
+    | inr never ↦ inr (λ found. never (found.0, found.1, hyphen_or (byte ∷ bytes) (spelling found.0) other found.2))
+  ]
+]
+
+-- of the values that are spelled so there is one, and it is in a range or it isn't
+ranged : {V : Type 0} (spelling : V → List ℕ) (May In : V → Type 0) → ((one other : V) → May one → May other → spelling one ≡ spelling other → one ≡ other)
+    → ((value : V) → Decided (In value)) → (field : List ℕ) → Decided (Spelled spelling May field) → Decided (Spelled spelling (λ value. May value × In value) field)
+ranged spelling May In told within field (inr never) = inr (λ found. never (found.0, found.1.0, found.2))
+ranged spelling May In told within field (inl found) = elim (within found.0) [
+  | inl is ↦ inl (found.0, (found.1, is), found.2)
+  | inr out ↦ inr (λ other. out (subst In (told other.0 found.0 other.1.0 found.1 (sym other.2 ∙ found.2)) other.1.1))
+]
+
+pub mask_decided : (field : List ℕ) → Decided (Spelled binary (λ bits. length bits ≤ 255) field)
+mask_decided field =
+    same_answer {A = Spelled binary (λ bits. Any bits × (length bits ≤ 255)) field} (λ found. (found.0, found.1.1, found.2))
+    (λ found. (found.0, (tt, found.1), found.2))
+    (ranged binary Any (λ bits. length bits ≤ 255) (λ one other _ _ same. binary_told one other same) (λ bits. le_decided (length bits) 255) field
+    (listed (map binary_digit) Any tt refl digits_decided field))
+
+-- words of 16 bits
+abbrev AreSmall : List ℕ → Type 0
+AreSmall words = All (λ word. word < 2 ^ 16) words
+
+-- four digits of one word
+pub word_decided : (digits : List ℕ) → Decided (Spelled hex_word (λ word. word < 2 ^ 16) digits)
+word_decided digits = spelled_below hex_word (2 ^ 16) digits
+
+short_words : (digits : List ℕ) → digits ≢ [] → length digits < 4 → (words : List ℕ) → digits ≡ flat_map hex_word words → ⊥
+short_words digits some short [] is = some is
+short_words digits some short (word ∷ words) is = let count = ap length is in omega (arith, count, short)
+
+no_word : (a b c d : ℕ) (digits : List ℕ) → (¬ Spelled hex_word (λ word. word < 2 ^ 16) (a ∷ b ∷ c ∷ d ∷ [])) → (words : List ℕ) → AreSmall words
+    → a ∷ b ∷ c ∷ d ∷ digits ≡ flat_map hex_word words → ⊥
+no_word a b c d digits none [] small is = cc
+no_word a b c d digits none (word ∷ words) small is = none (word, All-head (λ w. w < 2 ^ 16) word words small, ap (take 4) is)
+
+no_words : (a b c d : ℕ) (digits : List ℕ) → (¬ Spelled (flat_map hex_word) AreSmall digits) → (words : List ℕ) → AreSmall words
+    → a ∷ b ∷ c ∷ d ∷ digits ≡ flat_map hex_word words → ⊥
+no_words a b c d digits none [] small is = cc
+no_words a b c d digits none (word ∷ words) small is = none (words, All-tail (λ w. w < 2 ^ 16) word words small, ap (drop 4) is)
+
+words_run : (digits : List ℕ) → Decided (Spelled (flat_map hex_word) AreSmall digits)
+words_run [] = inl ([], All-nil (λ w. w < 2 ^ 16), refl)
+words_run (a ∷ []) = inr (λ some. short_words (a ∷ []) (λ same. cc) (omega arith) some.0 some.2)
+words_run (a ∷ b ∷ []) = inr (λ some. short_words (a ∷ b ∷ []) (λ same. cc) (omega arith) some.0 some.2)
+words_run (a ∷ b ∷ c ∷ []) = inr (λ some. short_words (a ∷ b ∷ c ∷ []) (λ same. cc) (omega arith) some.0 some.2)
+words_run (a ∷ b ∷ c ∷ d ∷ digits) = elim (word_decided (a ∷ b ∷ c ∷ d ∷ [])) [
+  | inl found ↦ elim (words_run digits) [
+    | inl more ↦ inl (found.0 ∷ more.0, All-cons (λ w. w < 2 ^ 16) found.0 more.0 found.1 more.1, ap₂ (λ (x xs : List ℕ). x ++ xs) found.2 more.2)
+    | inr none ↦ inr (λ some. no_words a b c d digits none some.0 some.1 some.2)
+  ]
+  | inr none ↦ inr (λ some. no_word a b c d digits none some.0 some.1 some.2)
+]
+
+pub words_decided : (least most : ℕ) (field : List ℕ) → Decided (Spelled hex_words (IsWordList least most) field)
+words_decided least most field =
+    same_answer {A = Spelled hex_words (λ words. AreSmall words × ((least ≤ length words) × (length words ≤ most))) field}
+    (λ found. (found.0, record { some = found.1.1.0; room = found.1.1.1; small = found.1.0 }, found.2))
+    (λ found. (found.0, (found.1.small, (found.1.some, found.1.room)), found.2))
+    (ranged hex_words AreSmall (λ words. (least ≤ length words) × (length words ≤ most)) hex_words_told
+    (λ words. both (le_decided least (length words)) (le_decided (length words) most)) field
+    (listed (flat_map hex_word) AreSmall (All-nil (λ w. w < 2 ^ 16)) refl words_run field))
+
+-- some bit has the property, and some pair of bits
+which_bit : (Has : Bool → Type 0) (bit : Bool) → Has bit → Has false ⊎ Has true
+which_bit Has false has = inl has
+which_bit Has true has = inr has
+
+some_bit : (Has : Bool → Type 0) → ((bit : Bool) → Decided (Has bit)) → Decided ((bit : Bool) × Has bit)
+some_bit Has each =
+    same_answer {A = Has false ⊎ Has true} (λ one. elim one [ inl is ↦ (false, is) | inr is ↦ (true, is) ]) (λ some. which_bit Has some.0 some.1)
+    (either (each false) (each true))
+
+some_pair : (Has : Pair → Type 0) → ((pair : Pair) → Decided (Has pair)) → Decided ((pair : Pair) × Has pair)
+some_pair Has each =
+    same_answer {A = (write : Bool) × ((permanent : Bool) × Has (record { write_bit = write; permalock = permanent }))}
+    (λ some. (record { write_bit = some.0; permalock = some.1.0 }, some.1.1)) (λ some. (some.0.write_bit, (some.0.permalock, some.1)))
+    (some_bit (λ write. (permanent : Bool) × Has (record { write_bit = write; permalock = permanent }))
+    (λ write. some_bit (λ permanent. Has (record { write_bit = write; permalock = permanent }))
+    (λ permanent. each (record { write_bit = write; permalock = permanent }))))
+
+-- the field spells the lock bits of these pairs
+abbrev Pairs : List ℕ → Pair → Pair → Pair → Pair → Pair → Type 0
+Pairs field kill access epc tid user =
+    field ≡ locks_text (record { kill_word = kill; access_word = access; epc = epc; tid = tid; user = user })
+
+pub locks_decided : (field : List ℕ) → Decided (Spelled locks_text Any field)
+locks_decided field =
+    same_answer {A = (kill : Pair) × ((access : Pair) × ((epc : Pair) × ((tid : Pair) × ((user : Pair) × Pairs field kill access epc tid user))))}
+    (λ some. (
+      record { kill_word = some.0; access_word = some.1.0; epc = some.1.1.0; tid = some.1.1.1.0; user = some.1.1.1.1.0 },
+      tt,
+      some.1.1.1.1.1,
+    ))
+    (λ found. let locks = found.0 in (locks.kill_word, (locks.access_word, (locks.epc, (locks.tid, (locks.user, found.2))))))
+    (some_pair (λ kill. (access : Pair) × ((epc : Pair) × ((tid : Pair) × ((user : Pair) × Pairs field kill access epc tid user))))
+    (λ kill. some_pair (λ access. (epc : Pair) × ((tid : Pair) × ((user : Pair) × Pairs field kill access epc tid user)))
+    (λ access. some_pair (λ epc. (tid : Pair) × ((user : Pair) × Pairs field kill access epc tid user))
+    (λ epc. some_pair (λ tid. (user : Pair) × Pairs field kill access epc tid user)
+    (λ tid. some_pair (λ user. Pairs field kill access epc tid user) (λ user. text_decided field _))))))

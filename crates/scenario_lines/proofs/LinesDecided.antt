@@ -1,0 +1,529 @@
+-- The fields of a line are each of their form and range, or they are of no line's.
+use Rattle.std.proofs.Common.{◌≡◌, ◌≢◌, ◌<◌, ◌≤◌, ◌^◌, ℕ, List, [], ◌∷◌, refl, sym, ◌∙◌, ap, ap₂, inl, inr, arith}
+use Rattle.std.specs.Prelude.{codes}
+use Rattle.std.specs.Fmt.{decimal}
+use Rattle.text_fields.specs.Hexadecimal.{hex_word, hex_words}
+use Rattle.command_text.specs.CommandText.{bank_word, flag_word, payload_digits}
+use Rattle.command_grammar.specs.declared.field_values.Bank.{Bank}
+use Rattle.access_ops.specs.declared.Op.{Op}
+use Rattle.access_ops.specs.declared.Op.TheVariants as ops
+use Rattle.air_events.specs.declared.Event.{Event}
+use Rattle.air_events.specs.declared.Event.TheVariants as events
+use Rattle.air_events.specs.declared.Choice.TheVariants as choices
+use Rattle.command_grammar.specs.declared.field_values.FlagName.{FlagName}
+use Rattle.command_grammar.specs.declared.field_values.FlagName.TheVariants as flags
+use Rattle.scenario_lines.specs.declared.first_fields.EventKind.{EventKind}
+use Rattle.scenario_lines.specs.declared.first_fields.EventKind.TheVariants as event_kinds
+use Rattle.scenario_lines.specs.declared.first_fields.OpKind.{OpKind}
+use Rattle.scenario_lines.specs.declared.first_fields.OpKind.TheVariants as op_kinds
+use Rattle.scenario_lines.specs.declared.first_fields.AirKind.{AirKind}
+use Rattle.scenario_lines.specs.declared.first_fields.AirKind.TheVariants as airs
+use Rattle.scenario_lines.specs.declared.first_fields.Word.{Word}
+use Rattle.scenario_lines.specs.declared.first_fields.Word.TheVariants as words
+use Rattle.scenario_lines.specs.declared.line.Happening.{Happening}
+use Rattle.scenario_lines.specs.declared.line.Happening.TheVariants as happenings
+use Rattle.scenario_lines.specs.declared.line.Line.{Line}
+use Rattle.scenario_lines.specs.declared.line.Line.TheVariants as lines
+use Rattle.scenario_lines.specs.Names.{air_kind, air_word, event_kind, event_word, op_kind, op_word}
+use Rattle.scenario_lines.specs.TagForm.{IsTagForm, IsWordList, tag_of}
+use Rattle.scenario_lines.specs.LineForm.{HasForm, IsEvent, IsHappening, IsLinkForm, IsOp, IsPlace, IsRound, IsSelection, most_level, most_nanoseconds}
+use Rattle.scenario_lines.specs.Spelling.{event_fields, happening_fields, link_fields, op_fields, other_fields, password_text, round_fields, select_fields, tag_fields, word_of_line}
+use Rattle.scenario_lines.specs.Reading.{IsEventText, IsHappeningText, IsOpText}
+use Rattle.scenario_lines.proofs.Decisions.{Any, Decided, Only, Spelled, behind_decided, list_decided, nothing_decided, only_decided, same_answer, text_decided}
+use Rattle.scenario_lines.proofs.FieldsDecided.{IsLasting, IsWithin, any_bank_decided, bank_decided, bit_decided, code_decided, decimal_decided, flag_decided, lasting_decided, locks_decided, mask_decided, password_decided, payload_decided, sel_decided, side_decided, tried, word_decided, words_decided}
+use Rattle.scenario_lines.proofs.ToldLines.{same_fields}
+use Rattle.scenario_lines.proofs.ToldNames.{air_word_told, event_word_told, op_word_told}
+
+-- no more fields
+abbrev nothing : Unit {0} → List (List ℕ)
+nothing none = []
+
+-- one field, and those behind it
+abbrev with : {V W : Type 0} → (V → List ℕ) → (W → List (List ℕ)) → V × W → List (List ℕ)
+with one others value = one value.0 ∷ others value.1
+
+abbrev Both : {V W : Type 0} → (V → Type 0) → (W → Type 0) → V × W → Type 0
+Both May Might value = May value.0 × Might value.1
+
+-- one word alone
+abbrev the : List ℕ → Unit {0} → List ℕ
+the word any = word
+
+-- a whole list of fields is of its form and range, or is not
+abbrev FieldsDecided : {V : Type 0} → (V → List (List ℕ)) → (V → Type 0) → Type 0
+FieldsDecided fields May = (others : List (List ℕ)) → Decided (Spelled fields May others)
+
+-- behind a field that is decided, fields that are
+then : {V W : Type 0} {one : V → List ℕ} {May : V → Type 0} {others : W → List (List ℕ)} {Might : W → Type 0}
+    → ((field : List ℕ) → Decided (Spelled one May field)) → FieldsDecided others Might → FieldsDecided (with one others) (Both May Might)
+then {one = one} {May = May} {others = others} {Might = Might} first rest = behind_decided one May others Might first rest
+
+end : FieldsDecided nothing Any
+end = nothing_decided
+
+word : (text : List ℕ) → (field : List ℕ) → Decided (Spelled (the text) Any field)
+word text = only_decided text_decided text
+
+number : (least most : ℕ) → (field : List ℕ) → Decided (Spelled decimal (IsWithin least most) field)
+number = decimal_decided
+
+-- the same lists of fields, by other names
+named : {V W : Type 0} {fields : V → List (List ℕ)} {May : V → Type 0} {others : W → List (List ℕ)} {Might : W → Type 0} → (to : V → W)
+    → ((value : V) → May value → Might (to value) × (fields value ≡ others (to value))) → (from : W → V)
+    → ((value : W) → Might value → May (from value) × (others value ≡ fields (from value))) → FieldsDecided fields May → FieldsDecided others Might
+named to there from back decided texts =
+    same_answer (λ found. let both = there found.0 found.1 in (to found.0, both.0, found.2 ∙ both.1))
+    (λ found. let both = back found.0 found.1 in (from found.0, both.0, found.2 ∙ both.1)) (decided texts)
+
+link_decided : FieldsDecided link_fields IsLinkForm
+link_decided =
+    named (λ v. record { tari = v.0; rtcal = v.1.0; trcal = v.1.1.0; pw = v.1.1.1.0; dr = v.1.1.1.1.0; code = v.1.1.1.1.1.0; trext = v.1.1.1.1.1.1.0 })
+    (λ v may. (record { tari = may.0.1; rtcal = may.1.0.1; trcal = may.1.1.0.1; pw = may.1.1.1.0.1 }, refl))
+    (λ link. (link.tari, (link.rtcal, (link.trcal, (link.pw, (link.dr, (link.code, (link.trext, tt))))))))
+    (λ link form. (((omega arith, form.tari), ((omega arith, form.rtcal), ((omega arith, form.trcal), ((omega arith, form.pw), (tt, (tt, (tt, tt))))))), refl))
+    (then (number 0 most_nanoseconds) (then (number 0 most_nanoseconds) (then (number 0 most_nanoseconds) (then (number 0 most_nanoseconds)
+    (then bit_decided (then code_decided (then bit_decided end)))))))
+
+tag_decided : FieldsDecided tag_fields IsTagForm
+tag_decided =
+    named (λ v. tag_of v.0 v.1.0 v.1.1.0 v.1.1.1.0 v.1.1.1.1.0 v.1.1.1.1.1.0 v.1.1.1.1.1.1.0)
+    (λ v may. (
+      record {
+        kill = may.0;
+        access = may.1.0;
+        epc = may.1.1.1.0;
+        tid = may.1.1.1.1.0;
+        user = may.1.1.1.1.1.0;
+        words = may.1.1.1.1.1.1.0;
+      },
+      refl,
+    ))
+    (λ tag. (tag.image.kill, (tag.image.access, (tag.locks, (tag.image.epc, (tag.image.tid, (tag.image.user, (tag.words, tt))))))))
+    (λ tag form. ((form.kill, (form.access, (tt, (form.epc, (form.tid, (form.user, (form.words, tt))))))), refl))
+    (then password_decided (then password_decided (then locks_decided (then (words_decided 1 32) (then (words_decided 2 16)
+    (then (words_decided 0 512) (then (words_decided 1 256) end)))))))
+
+select_decided : FieldsDecided select_fields IsSelection
+select_decided =
+    named (λ v. record { target = v.0; action = v.1.0; bank = v.1.1.0; pointer = v.1.1.1.0; mask = v.1.1.1.1.0 })
+    (λ v may. (record { action = may.1.0.1; pointer = may.1.1.1.0.1; mask = may.1.1.1.1.0 }, refl))
+    (λ selection. (selection.target, (selection.action, (selection.bank, (selection.pointer, (selection.mask, tt))))))
+    (λ selection form. ((tt, ((omega arith, form.action), (tt, ((omega arith, form.pointer), (form.mask, tt))))), refl))
+    (then flag_decided (then (number 0 7) (then bank_decided (then (number 0 268435455) (then mask_decided end)))))
+
+round_decided : FieldsDecided round_fields IsRound
+round_decided =
+    named (λ v. record { sel = v.0; session = v.1.0; target = v.1.1.0; q = v.1.1.1.0; c = v.1.1.1.1.0; limit = v.1.1.1.1.1.0 })
+    (λ v may. (
+      record {
+        legal = record { session = may.1.0.1; q = may.1.1.1.0.1; step = may.1.1.1.1.0; limit = may.1.1.1.1.1.0 };
+        named = may.0;
+      },
+      refl,
+    ))
+    (λ spec. (spec.sel, (spec.session, (spec.target, (spec.q, (spec.c, (spec.limit, tt)))))))
+    (λ spec is.
+    ((is.named, ((omega arith, is.legal.session), (tt, ((omega arith, is.legal.q), (is.legal.step, (is.legal.limit, tt)))))), refl))
+    (then sel_decided (then (number 0 3) (then side_decided (then (number 0 15) (then (number 100 500) (then (number 1 70000) end))))))
+
+-- the kind of an event
+no_event_kind : (field : List ℕ) → field ≢ event_word event_kinds.Timeout → field ≢ event_word event_kinds.Off → field ≢ event_word event_kinds.On
+    → field ≢ event_word event_kinds.Expire → (kind : EventKind) → field ≡ event_word kind → ⊥
+no_event_kind field timeout off on expire event_kinds.Timeout is = timeout is
+no_event_kind field timeout off on expire event_kinds.Off is = off is
+no_event_kind field timeout off on expire event_kinds.On is = on is
+no_event_kind field timeout off on expire event_kinds.Expire is = expire is
+
+pub event_kind_decided : (field : List ℕ) → Decided (Spelled event_word Any field)
+event_kind_decided field =
+    tried event_kinds.Timeout tt (λ timeout. tried event_kinds.Off tt (λ off. tried event_kinds.On tt (λ on. tried event_kinds.Expire tt (λ expire.
+    inr (λ found. no_event_kind field timeout off on expire found.0 found.2)))))
+
+-- the kind of an air line
+no_air_kind : (field : List ℕ) → (¬ Spelled event_word Any field) → field ≢ air_word airs.Miss → field ≢ air_word airs.Pick
+    → field ≢ air_word airs.Silent → field ≢ air_word airs.Break → (kind : AirKind) → field ≡ air_word kind → ⊥
+no_air_kind field event miss pick silent break (airs.Event kind) is = event (kind, tt, is)
+no_air_kind field event miss pick silent break airs.Miss is = miss is
+no_air_kind field event miss pick silent break airs.Pick is = pick is
+no_air_kind field event miss pick silent break airs.Silent is = silent is
+no_air_kind field event miss pick silent break airs.Break is = break is
+
+pub air_kind_decided : (field : List ℕ) → Decided (Spelled air_word Any field)
+air_kind_decided field = elim (event_kind_decided field) [
+  | inl found ↦ inl (airs.Event found.0, tt, found.2)
+  | inr event ↦ tried airs.Miss tt (λ miss. tried airs.Pick tt (λ pick. tried airs.Silent tt (λ silent. tried airs.Break tt (λ break.
+      inr (λ found. no_air_kind field event miss pick silent break found.0 found.2)))))
+]
+
+-- one number
+one_number : (most : ℕ) → FieldsDecided (λ (n : ℕ). decimal n ∷ []) (λ n. n ≤ most)
+one_number most = named (λ v. v.0) (λ v may. (may.0.1, refl)) (λ n. (n, tt)) (λ n is. (((omega arith, is), tt), refl)) (then (number 0 most) end)
+
+one_place : FieldsDecided (λ (n : ℕ). decimal n ∷ []) IsPlace
+one_place = one_number 4095
+
+-- what stands behind the kind of an event
+abbrev HasEvent : EventKind → List (List ℕ) → Type 0
+HasEvent kind fields = (event : Event) × (tag : ℕ) × IsEventText kind fields event tag
+
+place_behind : (kind : EventKind) (fields : List (List ℕ)) → kind ≢ event_kinds.Expire → (event : Event) (tag : ℕ) → IsEventText kind fields event tag
+    → Spelled (λ (n : ℕ). decimal n ∷ []) IsPlace fields
+place_behind kind fields other events.Timeout tag text = (tag, text.is.place, text.spelling)
+place_behind kind fields other events.Off tag text = (tag, text.is.place, text.spelling)
+place_behind kind fields other events.On tag text = (tag, text.is.place, text.spelling)
+place_behind kind fields other (events.Expire flag) tag text = absurd (other (sym text.same_kind))
+
+flag_behind : (fields : List (List ℕ)) (event : Event) (tag : ℕ) → IsEventText event_kinds.Expire fields event tag
+    → Spelled (with flag_word (with decimal nothing)) (Both IsLasting (Both (IsWithin 0 4095) Any)) fields
+flag_behind fields (events.Expire flag) tag text =
+    ((flag, (tag, tt)), (λ same. text.is.expires (ap events.Expire same), ((omega arith, text.is.place), tt)), text.spelling)
+flag_behind fields events.Timeout tag text = let kind = text.same_kind in cc
+flag_behind fields events.Off tag text = let kind = text.same_kind in cc
+flag_behind fields events.On tag text = let kind = text.same_kind in cc
+
+same_flag : (flag other : FlagName) → events.Expire flag ≡ events.Expire other → flag ≡ other
+same_flag flag other same = cc
+
+event_behind : (kind : EventKind) (fields : List (List ℕ)) → Decided (HasEvent kind fields)
+event_behind event_kinds.Timeout fields =
+    same_answer (λ found. (
+      events.Timeout,
+      found.0,
+      record { same_kind = refl; spelling = found.2; is = record { expires = λ same. cc; place = found.1 } },
+    )) (λ some. place_behind event_kinds.Timeout fields (λ same. cc) some.0 some.1 some.2) (one_place fields)
+event_behind event_kinds.Off fields =
+    same_answer (λ found. (
+      events.Off,
+      found.0,
+      record { same_kind = refl; spelling = found.2; is = record { expires = λ same. cc; place = found.1 } },
+    )) (λ some. place_behind event_kinds.Off fields (λ same. cc) some.0 some.1 some.2) (one_place fields)
+event_behind event_kinds.On fields =
+    same_answer (λ found. (
+      events.On,
+      found.0,
+      record { same_kind = refl; spelling = found.2; is = record { expires = λ same. cc; place = found.1 } },
+    )) (λ some. place_behind event_kinds.On fields (λ same. cc) some.0 some.1 some.2) (one_place fields)
+event_behind event_kinds.Expire fields =
+    same_answer (λ found. (
+      events.Expire found.0.0,
+      found.0.1.0,
+      record {
+        same_kind = refl;
+        spelling = found.2;
+        is = record { expires = λ same. found.1.0 (same_flag found.0.0 flags.S0 same); place = found.1.1.0.1 };
+      },
+    )) (λ some. flag_behind fields some.0 some.1 some.2) (then lasting_decided (then (number 0 4095) end) fields)
+
+-- an event and its tag, with the word for its kind
+abbrev event_text : Event × ℕ → List (List ℕ)
+event_text event = event_word (event_kind event.0) ∷ event_fields event.0 event.1
+
+event_decided : FieldsDecided event_text (λ event. IsEvent event.0 event.1)
+event_decided [] = inr (λ some. let same = some.2 in cc)
+event_decided (field ∷ fields) = elim (event_kind_decided field) [
+  | inl known ↦ elim (event_behind known.0 fields) [
+    | inl found ↦ inl (
+      (found.0, found.1),
+      found.2.is,
+      ap₂ (λ x xs. x ∷ xs) (known.2 ∙ ap event_word (sym found.2.same_kind)) found.2.spelling,
+    )
+    | inr never ↦ inr (λ some.
+        let event = some.0.0 in
+        let same = same_fields field (event_word (event_kind event)) fields (event_fields event some.0.1) some.2 in
+        never (
+          event,
+          some.0.1,
+          record {
+            same_kind = event_word_told (event_kind event) known.0 (sym same.0 ∙ known.2);
+            spelling = same.1;
+            is = some.1;
+          },
+        ))
+  ]
+  | inr unknown ↦ inr (λ some.
+      let event = some.0.0 in
+      unknown (event_kind event, tt, (same_fields field (event_word (event_kind event)) fields (event_fields event some.0.1) some.2).0))
+]
+
+-- the kind of an operation
+no_op_kind : (field : List ℕ) → field ≢ op_word op_kinds.Read → field ≢ op_word op_kinds.Write → field ≢ op_word op_kinds.BlockWrite
+    → field ≢ op_word op_kinds.BlockErase → field ≢ op_word op_kinds.Lock → field ≢ op_word op_kinds.Access → field ≢ op_word op_kinds.Kill
+    → (kind : OpKind) → field ≡ op_word kind → ⊥
+no_op_kind field reads writes blocks erases locks shows kills op_kinds.Read is = reads is
+no_op_kind field reads writes blocks erases locks shows kills op_kinds.Write is = writes is
+no_op_kind field reads writes blocks erases locks shows kills op_kinds.BlockWrite is = blocks is
+no_op_kind field reads writes blocks erases locks shows kills op_kinds.BlockErase is = erases is
+no_op_kind field reads writes blocks erases locks shows kills op_kinds.Lock is = locks is
+no_op_kind field reads writes blocks erases locks shows kills op_kinds.Access is = shows is
+no_op_kind field reads writes blocks erases locks shows kills op_kinds.Kill is = kills is
+
+pub op_kind_decided : (field : List ℕ) → Decided (Spelled op_word Any field)
+op_kind_decided field =
+    tried op_kinds.Read tt (λ reads. tried op_kinds.Write tt (λ writes. tried op_kinds.BlockWrite tt (λ blocks. tried op_kinds.BlockErase tt (λ erases.
+    tried op_kinds.Lock tt (λ locks. tried op_kinds.Access tt (λ shows. tried op_kinds.Kill tt (λ kills.
+    inr (λ found. no_op_kind field reads writes blocks erases locks shows kills found.0 found.2))))))))
+
+-- what stands behind the kind of an operation
+abbrev HasOp : OpKind → List (List ℕ) → Type 0
+HasOp kind fields = (op : Op) × IsOpText kind fields op
+
+-- the fields of an operation at a place, whose last field is spelled so
+abbrev placed : {V : Type 0} → (V → List ℕ) → Bank × (ℕ × (V × Unit {0})) → List (List ℕ)
+placed last = with bank_word (with decimal (with last nothing))
+
+abbrev IsPlaced : {V : Type 0} → (V → Type 0) → Bank × (ℕ × (V × Unit {0})) → Type 0
+IsPlaced May = Both Any (Both (IsWithin 0 268435455) (Both May Any))
+
+at_place : {V : Type 0} {last : V → List ℕ} {May : V → Type 0} → ((field : List ℕ) → Decided (Spelled last May field)) → FieldsDecided (placed last) (IsPlaced May)
+at_place decided = then any_bank_decided (then (number 0 268435455) (then decided end))
+
+read_there : (fields : List (List ℕ)) → HasOp op_kinds.Read fields → Spelled (placed decimal) (IsPlaced (IsWithin 0 255)) fields
+read_there fields (ops.Read bank pointer count, text) =
+    ((bank, (pointer, (count, tt))), (tt, ((omega arith, text.is.0), ((omega arith, text.is.1), tt))), text.spelling)
+read_there fields (op, text) = let is = text.same_kind in cc
+
+write_there : (fields : List (List ℕ)) → HasOp op_kinds.Write fields → Spelled (placed hex_word) (IsPlaced (λ word. word < 2 ^ 16)) fields
+write_there fields (ops.Write bank pointer word, text) =
+    ((bank, (pointer, (word, tt))), (tt, ((omega arith, text.is.0), (text.is.1, tt))), text.spelling)
+write_there fields (op, text) = let is = text.same_kind in cc
+
+block_write_there : (fields : List (List ℕ)) → HasOp op_kinds.BlockWrite fields → Spelled (placed hex_words) (IsPlaced (IsWordList 1 255)) fields
+block_write_there fields (ops.BlockWrite bank pointer block, text) =
+    ((bank, (pointer, (block, tt))), (tt, ((omega arith, text.is.0), (text.is.1, tt))), text.spelling)
+block_write_there fields (op, text) = let is = text.same_kind in cc
+
+block_erase_there : (fields : List (List ℕ)) → HasOp op_kinds.BlockErase fields → Spelled (placed decimal) (IsPlaced (IsWithin 1 255)) fields
+block_erase_there fields (ops.BlockErase bank pointer count, text) =
+    ((bank, (pointer, (count, tt))), (tt, ((omega arith, text.is.0), ((text.is.1, text.is.2), tt))), text.spelling)
+block_erase_there fields (op, text) = let is = text.same_kind in cc
+
+lock_there : (fields : List (List ℕ)) → HasOp op_kinds.Lock fields → Spelled (with payload_digits nothing) (Both (λ n. n < 1048576) Any) fields
+lock_there fields (ops.Lock payload, text) = ((payload, tt), (omega (arith, text.is), tt), text.spelling)
+lock_there fields (op, text) = let is = text.same_kind in cc
+
+access_there : (fields : List (List ℕ)) → HasOp op_kinds.Access fields → Spelled (with password_text nothing) (Both (λ n. n < 2 ^ 32) Any) fields
+access_there fields (ops.Access password, text) = ((password, tt), (text.is, tt), text.spelling)
+access_there fields (op, text) = let is = text.same_kind in cc
+
+kill_there : (fields : List (List ℕ)) → HasOp op_kinds.Kill fields → Spelled (with password_text nothing) (Both (λ n. n < 2 ^ 32) Any) fields
+kill_there fields (ops.Kill password, text) = ((password, tt), (text.is, tt), text.spelling)
+kill_there fields (op, text) = let is = text.same_kind in cc
+
+op_behind : (kind : OpKind) (fields : List (List ℕ)) → Decided (HasOp kind fields)
+op_behind op_kinds.Read fields =
+    same_answer (λ found. (
+      ops.Read found.0.0 found.0.1.0 found.0.1.1.0,
+      record { same_kind = refl; spelling = found.2; is = (found.1.1.0.1, found.1.1.1.0.1) },
+    )) (read_there fields) (at_place (number 0 255) fields)
+op_behind op_kinds.Write fields =
+    same_answer (λ found. (
+      ops.Write found.0.0 found.0.1.0 found.0.1.1.0,
+      record { same_kind = refl; spelling = found.2; is = (found.1.1.0.1, found.1.1.1.0) },
+    )) (write_there fields) (at_place word_decided fields)
+op_behind op_kinds.BlockWrite fields =
+    same_answer (λ found. (
+      ops.BlockWrite found.0.0 found.0.1.0 found.0.1.1.0,
+      record { same_kind = refl; spelling = found.2; is = (found.1.1.0.1, found.1.1.1.0) },
+    )) (block_write_there fields) (at_place (words_decided 1 255) fields)
+op_behind op_kinds.BlockErase fields =
+    same_answer (λ found. (
+      ops.BlockErase found.0.0 found.0.1.0 found.0.1.1.0,
+      record { same_kind = refl; spelling = found.2; is = (found.1.1.0.1, found.1.1.1.0.0, found.1.1.1.0.1) },
+    )) (block_erase_there fields) (at_place (number 1 255) fields)
+op_behind op_kinds.Lock fields =
+    same_answer (λ found. (ops.Lock found.0.0, record { same_kind = refl; spelling = found.2; is = omega (arith, found.1.0) })) (lock_there fields)
+    (then payload_decided end fields)
+op_behind op_kinds.Access fields =
+    same_answer (λ found. (ops.Access found.0.0, record { same_kind = refl; spelling = found.2; is = found.1.0 })) (access_there fields)
+    (then password_decided end fields)
+op_behind op_kinds.Kill fields =
+    same_answer (λ found. (ops.Kill found.0.0, record { same_kind = refl; spelling = found.2; is = found.1.0 })) (kill_there fields)
+    (then password_decided end fields)
+
+-- an operation, with the word for its kind
+abbrev op_text : Op → List (List ℕ)
+op_text op = op_word (op_kind op) ∷ op_fields op
+
+op_decided : FieldsDecided op_text IsOp
+op_decided [] = inr (λ some. let same = some.2 in cc)
+op_decided (field ∷ fields) = elim (op_kind_decided field) [
+  | inl known ↦ elim (op_behind known.0 fields) [
+    | inl found ↦ inl (
+      found.0,
+      found.1.is,
+      ap₂ (λ x xs. x ∷ xs) (known.2 ∙ ap op_word (sym found.1.same_kind)) found.1.spelling,
+    )
+    | inr never ↦ inr (λ some.
+        let same = same_fields field (op_word (op_kind some.0)) fields (op_fields some.0) some.2 in
+        never (
+          some.0,
+          record {
+            same_kind = op_word_told (op_kind some.0) known.0 (sym same.0 ∙ known.2);
+            spelling = same.1;
+            is = some.1;
+          },
+        ))
+  ]
+  | inr unknown ↦ inr (λ some.
+      unknown (op_kind some.0, tt, (same_fields field (op_word (op_kind some.0)) fields (op_fields some.0) some.2).0))
+]
+
+-- what stands behind the kind of an air line
+abbrev HasHappening : AirKind → List (List ℕ) → Type 0
+HasHappening kind fields = (happening : Happening) × IsHappeningText kind fields happening
+
+same_event_kind : (kind other : EventKind) → airs.Event kind ≡ airs.Event other → kind ≡ other
+same_event_kind kind other same = cc
+
+event_there : (kind : EventKind) (fields : List (List ℕ)) (happening : Happening) → IsHappeningText (airs.Event kind) fields happening → HasEvent kind fields
+event_there kind fields (happenings.Event event tag) text =
+    (event, tag, record { same_kind = same_event_kind (event_kind event) kind text.same_kind; spelling = text.spelling; is = text.is })
+event_there kind fields (happenings.Miss tag) text = let is = text.same_kind in cc
+event_there kind fields (happenings.Choice (choices.Pick reply)) text = let is = text.same_kind in cc
+event_there kind fields (happenings.Choice choices.Silent) text = let is = text.same_kind in cc
+event_there kind fields (happenings.Choice (choices.Break place)) text = let is = text.same_kind in cc
+
+miss_there : (fields : List (List ℕ)) (happening : Happening) → IsHappeningText airs.Miss fields happening → Spelled (λ (n : ℕ). decimal n ∷ []) IsPlace fields
+miss_there fields (happenings.Miss tag) text = (tag, text.is, text.spelling)
+miss_there fields (happenings.Event event tag) text = let is = text.same_kind in cc
+miss_there fields (happenings.Choice (choices.Pick reply)) text = let is = text.same_kind in cc
+miss_there fields (happenings.Choice choices.Silent) text = let is = text.same_kind in cc
+miss_there fields (happenings.Choice (choices.Break place)) text = let is = text.same_kind in cc
+
+pick_there : (fields : List (List ℕ)) (happening : Happening) → IsHappeningText airs.Pick fields happening → Spelled (λ (n : ℕ). decimal n ∷ []) IsPlace fields
+pick_there fields (happenings.Choice (choices.Pick reply)) text = (reply, text.is, text.spelling)
+pick_there fields (happenings.Event event tag) text = let is = text.same_kind in cc
+pick_there fields (happenings.Miss tag) text = let is = text.same_kind in cc
+pick_there fields (happenings.Choice choices.Silent) text = let is = text.same_kind in cc
+pick_there fields (happenings.Choice (choices.Break place)) text = let is = text.same_kind in cc
+
+silent_there : (fields : List (List ℕ)) (happening : Happening) → IsHappeningText airs.Silent fields happening → Spelled nothing Any fields
+silent_there fields (happenings.Choice choices.Silent) text = (tt, tt, text.spelling)
+silent_there fields (happenings.Event event tag) text = let is = text.same_kind in cc
+silent_there fields (happenings.Miss tag) text = let is = text.same_kind in cc
+silent_there fields (happenings.Choice (choices.Pick reply)) text = let is = text.same_kind in cc
+silent_there fields (happenings.Choice (choices.Break place)) text = let is = text.same_kind in cc
+
+break_there : (fields : List (List ℕ)) (happening : Happening) → IsHappeningText airs.Break fields happening
+    → Spelled (λ (n : ℕ). decimal n ∷ []) (λ n. n ≤ most_level) fields
+break_there fields (happenings.Choice (choices.Break place)) text = (place, text.is, text.spelling)
+break_there fields (happenings.Event event tag) text = let is = text.same_kind in cc
+break_there fields (happenings.Miss tag) text = let is = text.same_kind in cc
+break_there fields (happenings.Choice (choices.Pick reply)) text = let is = text.same_kind in cc
+break_there fields (happenings.Choice choices.Silent) text = let is = text.same_kind in cc
+
+happening_behind : (kind : AirKind) (fields : List (List ℕ)) → Decided (HasHappening kind fields)
+happening_behind (airs.Event kind) fields =
+    same_answer (λ found. (
+      happenings.Event found.0 found.1,
+      record { same_kind = ap airs.Event found.2.same_kind; spelling = found.2.spelling; is = found.2.is },
+    )) (λ some. event_there kind fields some.0 some.1) (event_behind kind fields)
+happening_behind airs.Miss fields =
+    same_answer (λ found. (happenings.Miss found.0, record { same_kind = refl; spelling = found.2; is = found.1 }))
+    (λ some. miss_there fields some.0 some.1) (one_place fields)
+happening_behind airs.Pick fields =
+    same_answer (λ found. (happenings.Choice (choices.Pick found.0), record { same_kind = refl; spelling = found.2; is = found.1 }))
+    (λ some. pick_there fields some.0 some.1) (one_place fields)
+happening_behind airs.Silent fields =
+    same_answer (λ found. (happenings.Choice choices.Silent, record { same_kind = refl; spelling = found.2; is = tt }))
+    (λ some. silent_there fields some.0 some.1) (end fields)
+happening_behind airs.Break fields =
+    same_answer (λ found. (happenings.Choice (choices.Break found.0), record { same_kind = refl; spelling = found.2; is = found.1 }))
+    (λ some. break_there fields some.0 some.1) (one_number most_level fields)
+
+-- what is said of an exchange, with the word for its kind
+abbrev happening_text : Happening → List (List ℕ)
+happening_text happening = air_word (air_kind happening) ∷ happening_fields happening
+
+happening_decided : FieldsDecided happening_text IsHappening
+happening_decided [] = inr (λ some. let same = some.2 in cc)
+happening_decided (field ∷ fields) = elim (air_kind_decided field) [
+  | inl known ↦ elim (happening_behind known.0 fields) [
+    | inl found ↦ inl (
+      found.0,
+      found.1.is,
+      ap₂ (λ x xs. x ∷ xs) (known.2 ∙ ap air_word (sym found.1.same_kind)) found.1.spelling,
+    )
+    | inr never ↦ inr (λ some.
+        let same = same_fields field (air_word (air_kind some.0)) fields (happening_fields some.0) some.2 in
+        never (
+          some.0,
+          record {
+            same_kind = air_word_told (air_kind some.0) known.0 (sym same.0 ∙ known.2);
+            spelling = same.1;
+            is = some.1;
+          },
+        ))
+  ]
+  | inr unknown ↦ inr (λ some.
+      unknown (air_kind some.0, tt, (same_fields field (air_word (air_kind some.0)) fields (happening_fields some.0) some.2).0))
+]
+
+air_decided : FieldsDecided (with decimal happening_text) (Both (IsWithin 1 1000000) IsHappening)
+air_decided = then (number 1 1000000) happening_decided
+
+-- behind this first field the fields are of their forms
+abbrev pub FormedBehind : Word → List (List ℕ) → Type 0
+FormedBehind first others = (line : Line) × HasForm line × (word_of_line line ≡ first) × (others ≡ other_fields line)
+
+version_there : (others : List (List ℕ)) → FormedBehind words.Version others → Only (codes "1" ∷ []) others
+version_there others (lines.Version, form, same, is) = (tt, tt, is)
+version_there others (line, form, same, is) = cc
+
+link_there : (others : List (List ℕ)) → FormedBehind words.Link others → Spelled link_fields IsLinkForm others
+link_there others (lines.Link link, form, same, is) = (link, form, is)
+link_there others (line, form, same, is) = cc
+
+tag_there : (others : List (List ℕ)) → FormedBehind words.Tag others → Spelled tag_fields IsTagForm others
+tag_there others (lines.Tag tag, form, same, is) = (tag, form, is)
+tag_there others (line, form, same, is) = cc
+
+air_there : (others : List (List ℕ)) → FormedBehind words.Air others → Spelled (with decimal happening_text) (Both (IsWithin 1 1000000) IsHappening) others
+air_there others (lines.Air exchange happening, form, same, is) = ((exchange, happening), form, is)
+air_there others (line, form, same, is) = cc
+
+select_there : (others : List (List ℕ)) → FormedBehind words.Select others → Spelled select_fields IsSelection others
+select_there others (lines.Select selection, form, same, is) = (selection, form, is)
+select_there others (line, form, same, is) = cc
+
+nak_there : (others : List (List ℕ)) → FormedBehind words.Nak others → Spelled nothing Any others
+nak_there others (lines.Nak, form, same, is) = (tt, tt, is)
+nak_there others (line, form, same, is) = cc
+
+event_line_there : (others : List (List ℕ)) → FormedBehind words.Event others → Spelled event_text (λ event. IsEvent event.0 event.1) others
+event_line_there others (lines.Event event tag, form, same, is) = ((event, tag), form, is)
+event_line_there others (line, form, same, is) = cc
+
+round_there : (others : List (List ℕ)) → FormedBehind words.Round others → Spelled round_fields IsRound others
+round_there others (lines.Round spec, form, same, is) = (spec, form, is)
+round_there others (line, form, same, is) = cc
+
+only_there : (others : List (List ℕ)) → FormedBehind words.Only others → Spelled (with hex_words nothing) (Both (IsWordList 0 31) Any) others
+only_there others (lines.Only epc, form, same, is) = ((epc, tt), (form, tt), is)
+only_there others (line, form, same, is) = cc
+
+op_there : (others : List (List ℕ)) → FormedBehind words.Op others → Spelled op_text IsOp others
+op_there others (lines.Op op, form, same, is) = (op, form, is)
+op_there others (line, form, same, is) = cc
+
+end_there : (others : List (List ℕ)) → FormedBehind words.End others → Spelled nothing Any others
+end_there others (lines.End, form, same, is) = (tt, tt, is)
+end_there others (line, form, same, is) = cc
+
+-- fields behind a first field are of the forms of some line, or of none
+pub formed_behind : (first : Word) (others : List (List ℕ)) → Decided (FormedBehind first others)
+formed_behind words.Version others =
+    same_answer (λ found. (lines.Version, tt, refl, found.2)) (version_there others) (only_decided (list_decided text_decided) (codes "1" ∷ []) others)
+formed_behind words.Link others = same_answer (λ found. (lines.Link found.0, found.1, refl, found.2)) (link_there others) (link_decided others)
+formed_behind words.Tag others = same_answer (λ found. (lines.Tag found.0, found.1, refl, found.2)) (tag_there others) (tag_decided others)
+formed_behind words.Air others =
+    same_answer (λ found. (lines.Air found.0.0 found.0.1, found.1, refl, found.2)) (air_there others) (air_decided others)
+formed_behind words.Select others = same_answer (λ found. (lines.Select found.0, found.1, refl, found.2)) (select_there others) (select_decided others)
+formed_behind words.Nak others = same_answer (λ found. (lines.Nak, tt, refl, found.2)) (nak_there others) (end others)
+formed_behind words.Event others =
+    same_answer (λ found. (lines.Event found.0.0 found.0.1, found.1, refl, found.2)) (event_line_there others) (event_decided others)
+formed_behind words.Round others = same_answer (λ found. (lines.Round found.0, found.1, refl, found.2)) (round_there others) (round_decided others)
+formed_behind words.Only others =
+    same_answer (λ found. (lines.Only found.0.0, found.1.0, refl, found.2)) (only_there others) (then (words_decided 0 31) end others)
+formed_behind words.Op others = same_answer (λ found. (lines.Op found.0, found.1, refl, found.2)) (op_there others) (op_decided others)
+formed_behind words.End others = same_answer (λ found. (lines.End, tt, refl, found.2)) (end_there others) (end others)

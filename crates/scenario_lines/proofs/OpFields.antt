@@ -1,0 +1,88 @@
+-- The fields of an operation.
+use Rattle.std.proofs.Common.{◌≡◌, ℕ, List, [], ◌∷◌, ap, arith, refl, ◌∙◌}
+use Rattle.std.specs.Fmt.{decimal}
+use Rattle.access_ops.specs.declared.Op.{Op}
+use Rattle.access_ops.specs.declared.Op.TheVariants as ops
+use Rattle.command_grammar.specs.declared.field_values.Bank.{Bank}
+use Rattle.command_text.specs.CommandText.{bank_word, payload_digits}
+use Rattle.text_fields.specs.Hexadecimal.{hex_word, hex_words}
+use Rattle.scenario_lines.specs.declared.first_fields.OpKind.{OpKind}
+use Rattle.scenario_lines.specs.Names.{op_field_count, op_kind}
+use Rattle.scenario_lines.specs.LineForm.{IsOp, IsPointer}
+use Rattle.scenario_lines.specs.Spelling.{op_fields, password_text}
+use Rattle.scenario_lines.specs.LineFaults.{AreFilled}
+use Rattle.scenario_lines.proofs.Counted.{Filled, none_filled, one_more}
+use Rattle.scenario_lines.proofs.Filled.{any_bank_is, number_text, one_word_is, password_is, payload_is, words_is}
+
+one_field_filled : (field : List ℕ) → Filled field → AreFilled 1 (field ∷ [])
+one_field_filled field filled = one_more 0 field [] filled none_filled
+
+place_filled : (bank : Bank) (pointer : ℕ) (last : List ℕ) → IsPointer pointer → Filled last → AreFilled 3 (bank_word bank ∷ decimal pointer ∷ last ∷ [])
+place_filled bank pointer last is filled =
+    one_more 2 (bank_word bank) (decimal pointer ∷ last ∷ []) (any_bank_is bank).filled
+    (one_more 1 (decimal pointer) (last ∷ []) (number_text pointer (omega (arith, is))).filled (one_field_filled last filled))
+
+-- an operation has its fields
+pub op_filled : (op : Op) → IsOp op → AreFilled (op_field_count (op_kind op)) (op_fields op)
+op_filled (ops.Read bank pointer count) is = place_filled bank pointer (decimal count) is.0 (number_text count (omega (arith, is.1))).filled
+op_filled (ops.Write bank pointer word) is = place_filled bank pointer (hex_word word) is.0 (one_word_is word).filled
+op_filled (ops.BlockWrite bank pointer words) is = place_filled bank pointer (hex_words words) is.0 (words_is words).filled
+op_filled (ops.BlockErase bank pointer count) is = place_filled bank pointer (decimal count) is.0 (number_text count (omega (arith, is.2))).filled
+op_filled (ops.Lock payload) is = one_field_filled (payload_digits payload) (payload_is payload).filled
+op_filled (ops.Access password) is = one_field_filled (password_text password) (password_is password).filled
+op_filled (ops.Kill password) is = one_field_filled (password_text password) (password_is password).filled
+
+-- an operation at a place, by its three fields
+pub record AtPlace (op : Op) : Type 0 where
+  pub bank : Bank
+  pub pointer : ℕ
+  pub last : List ℕ
+  pub is : IsPointer pointer
+  pub filled : Filled last
+  pub fields : op_fields op ≡ bank_word bank ∷ decimal pointer ∷ last ∷ []
+
+placed_op : (op : Op) → op_field_count (op_kind op) ≡ 3 → IsOp op → AtPlace op
+placed_op (ops.Read bank pointer count) three is = record {
+  bank = bank;
+  pointer = pointer;
+  last = decimal count;
+  is = is.0;
+  filled = (number_text count (omega (arith, is.1))).filled;
+  fields = refl;
+}
+placed_op (ops.Write bank pointer word) three is = record {
+  bank = bank;
+  pointer = pointer;
+  last = hex_word word;
+  is = is.0;
+  filled = (one_word_is word).filled;
+  fields = refl;
+}
+placed_op (ops.BlockWrite bank pointer words) three is = record {
+  bank = bank;
+  pointer = pointer;
+  last = hex_words words;
+  is = is.0;
+  filled = (words_is words).filled;
+  fields = refl;
+}
+placed_op (ops.BlockErase bank pointer count) three is = record {
+  bank = bank;
+  pointer = pointer;
+  last = decimal count;
+  is = is.0;
+  filled = (number_text count (omega (arith, is.2))).filled;
+  fields = refl;
+}
+placed_op (ops.Lock payload) three is = absurd (omega (arith, three))
+placed_op (ops.Access password) three is = absurd (omega (arith, three))
+placed_op (ops.Kill password) three is = absurd (omega (arith, three))
+
+pub at_place : (op : Op) (kind : OpKind) → op_kind op ≡ kind → op_field_count kind ≡ 3 → IsOp op → AtPlace op
+at_place op kind same three is = placed_op op (ap op_field_count same ∙ three) is
+
+pub bank_filled : (bank : Bank) → Filled (bank_word bank)
+bank_filled bank = (any_bank_is bank).filled
+
+pub pointer_filled : (pointer : ℕ) → IsPointer pointer → Filled (decimal pointer)
+pointer_filled pointer is = (number_text pointer (omega (arith, is))).filled

@@ -1,0 +1,228 @@
+-- Fields spell a line, or there is a reason for which they spell none.
+use Rattle.std.proofs.Common.{◌≡◌, ◌≢◌, ◌≤◌, ◌*◌, ◌⊎◌, ℕ, Bool, true, false, List, [], ◌∷◌, length, refl, sym, ◌∙◌, ap, subst, inl, inr}
+use Rattle.std.specs.Prelude.{All}
+use Rattle.std.proofs.lemmas.List.Elements.{All-cons, All-head, All-nil, All-tail}
+use Rattle.tag_memory.specs.Image.{pc_fits}
+use Rattle.pie_line.specs.Link.{IsLegalLink, IsPw, LinkValue}
+use Rattle.pie_line.specs.LinkRefusal.{IsFirstBroken}
+use Rattle.pie_line.specs.declared.link.LinkRefusal.{LinkRefusal}
+use Rattle.pie_line.specs.declared.link.LinkRefusal.TheVariants as refusals
+use Rattle.scenario_lines.specs.declared.first_fields.AirKind.{AirKind}
+use Rattle.scenario_lines.specs.declared.first_fields.Word.{Word}
+use Rattle.scenario_lines.specs.declared.first_fields.Word.TheVariants as words
+use Rattle.scenario_lines.specs.declared.tag.TagSpec.{TagSpec}
+use Rattle.scenario_lines.specs.declared.line.Line.{Line}
+use Rattle.scenario_lines.specs.declared.line.Line.TheVariants as lines
+use Rattle.scenario_lines.specs.declared.fault.LineFault.{LineFault}
+use Rattle.scenario_lines.specs.declared.fault.LineFault.TheVariants.{Word as WordFault, Shape, Number, Pc}
+use Rattle.scenario_lines.specs.Names.{air_field_count, air_word, event_field_count, op_field_count, word_text}
+use Rattle.scenario_lines.specs.LineForm.{HasForm, IsLinkForm}
+use Rattle.scenario_lines.specs.TagForm.{IsTagForm}
+use Rattle.scenario_lines.specs.LineFaults.{AreFilled, BeginsWith, HasKnownKind, HasShape, IsFaultyLine, SpellsLine}
+use Rattle.scenario_lines.specs.Reading.{link_fault}
+use Rattle.scenario_lines.specs.Spelling.{line_fields, link_fields, tag_fields, word_of_line}
+use Rattle.scenario_lines.proofs.Counted.{Filled}
+use Rattle.scenario_lines.proofs.Decisions.{Any, Decided, Spelled, both, le_decided, number_decided, same_answer}
+use Rattle.scenario_lines.proofs.FieldsDecided.{tried}
+use Rattle.scenario_lines.proofs.LinesDecided.{air_kind_decided, event_kind_decided, formed_behind, op_kind_decided}
+use Rattle.scenario_lines.proofs.ToldLines.{same_fields}
+use Rattle.scenario_lines.proofs.ToldNames.{air_word_told, event_word_told, op_word_told, word_told}
+
+-- the first field of a line
+no_word : (field : List ℕ) → field ≢ word_text words.Version → field ≢ word_text words.Link → field ≢ word_text words.Tag → field ≢ word_text words.Air
+    → field ≢ word_text words.Select → field ≢ word_text words.Nak → field ≢ word_text words.Event → field ≢ word_text words.Round
+    → field ≢ word_text words.Only → field ≢ word_text words.Op → field ≢ word_text words.End → (word : Word) → field ≡ word_text word → ⊥
+no_word field version link tag air select nak event round epc op end words.Version is = version is
+no_word field version link tag air select nak event round epc op end words.Link is = link is
+no_word field version link tag air select nak event round epc op end words.Tag is = tag is
+no_word field version link tag air select nak event round epc op end words.Air is = air is
+no_word field version link tag air select nak event round epc op end words.Select is = select is
+no_word field version link tag air select nak event round epc op end words.Nak is = nak is
+no_word field version link tag air select nak event round epc op end words.Event is = event is
+no_word field version link tag air select nak event round epc op end words.Round is = round is
+no_word field version link tag air select nak event round epc op end words.Only is = epc is
+no_word field version link tag air select nak event round epc op end words.Op is = op is
+no_word field version link tag air select nak event round epc op end words.End is = end is
+
+word_decided : (field : List ℕ) → Decided (Spelled word_text Any field)
+word_decided field =
+    tried words.Version tt (λ version. tried words.Link tt (λ link. tried words.Tag tt (λ tag. tried words.Air tt (λ air. tried words.Select tt (λ select.
+    tried words.Nak tt (λ nak. tried words.Event tt (λ event. tried words.Round tt (λ round. tried words.Only tt (λ epc. tried words.Op tt (λ op.
+    tried words.End tt (λ end. inr (λ found. no_word field version link tag air select nak event round epc op end found.0 found.2))))))))))))
+
+-- the kind, where one is there
+kind_decided : (first : Word) (others : List (List ℕ)) → Decided (HasKnownKind first others)
+kind_decided words.Air (exchange ∷ kind ∷ others) =
+    same_answer (λ found. (found.0, found.2)) (λ known. (known.0, tt, known.1)) (air_kind_decided kind)
+kind_decided words.Event (kind ∷ others) = same_answer (λ found. (found.0, found.2)) (λ known. (known.0, tt, known.1)) (event_kind_decided kind)
+kind_decided words.Air [] = inl tt
+kind_decided words.Air (exchange ∷ []) = inl tt
+kind_decided words.Event [] = inl tt
+kind_decided words.Op (kind ∷ others) = same_answer (λ found. (found.0, found.2)) (λ known. (known.0, tt, known.1)) (op_kind_decided kind)
+kind_decided words.Op [] = inl tt
+kind_decided word others = inl tt
+
+-- so many fields, none of them empty
+filled_decided : (field : List ℕ) → Decided (Filled field)
+filled_decided [] = inr (λ filled. filled refl)
+filled_decided (byte ∷ bytes) = inl (λ same. cc)
+
+all_filled_decided : (fields : List (List ℕ)) → Decided (All Filled fields)
+all_filled_decided [] = inl (All-nil Filled)
+all_filled_decided (field ∷ fields) =
+    same_answer (λ (pair : Filled field × All Filled fields). All-cons Filled field fields pair.0 pair.1)
+    (λ all. (All-head Filled field fields all, All-tail Filled field fields all)) (both (filled_decided field) (all_filled_decided fields))
+
+count_decided : (count : ℕ) (fields : List (List ℕ)) → Decided (AreFilled count fields)
+count_decided count fields =
+    same_answer (λ (pair : (length fields ≡ count) × All Filled fields). record { number = pair.0; filled = pair.1 }) (λ are. (are.number, are.filled))
+    (both (number_decided (length fields) count) (all_filled_decided fields))
+
+same_air_kind : (kind : List ℕ) (known other : AirKind) → kind ≡ air_word known → kind ≡ air_word other → other ≡ known
+same_air_kind kind known other is is' = air_word_told other known (sym is' ∙ is)
+
+air_shape_decided : (exchange kind : List ℕ) (others : List (List ℕ)) → Decided (HasShape words.Air (exchange ∷ kind ∷ others))
+air_shape_decided exchange kind others = elim (air_kind_decided kind) [
+  | inr unknown ↦ inr (λ shape. unknown (shape.1, tt, shape.2))
+  | inl known ↦ same_answer (λ (pair : Filled exchange × AreFilled (air_field_count known.0) others). (pair.0, known.0, known.2, pair.1))
+      (λ shape. (shape.0, subst (λ other. AreFilled (air_field_count other) others) (same_air_kind kind known.0 shape.1 known.2 shape.2) shape.3))
+      (both (filled_decided exchange) (count_decided (air_field_count known.0) others))
+]
+
+event_shape_decided : (kind : List ℕ) (others : List (List ℕ)) → Decided (HasShape words.Event (kind ∷ others))
+event_shape_decided kind others = elim (event_kind_decided kind) [
+  | inr unknown ↦ inr (λ shape. unknown (shape.0, tt, shape.1))
+  | inl known ↦ same_answer (λ (are : AreFilled (event_field_count known.0) others). (known.0, known.2, are))
+      (λ shape. subst (λ other. AreFilled (event_field_count other) others) (event_word_told shape.0 known.0 (sym shape.1 ∙ known.2)) shape.2)
+      (count_decided (event_field_count known.0) others)
+]
+
+op_shape_decided : (kind : List ℕ) (others : List (List ℕ)) → Decided (HasShape words.Op (kind ∷ others))
+op_shape_decided kind others = elim (op_kind_decided kind) [
+  | inr unknown ↦ inr (λ shape. unknown (shape.0, tt, shape.1))
+  | inl known ↦ same_answer (λ (are : AreFilled (op_field_count known.0) others). (known.0, known.2, are))
+      (λ shape. subst (λ other. AreFilled (op_field_count other) others) (op_word_told shape.0 known.0 (sym shape.1 ∙ known.2)) shape.2)
+      (count_decided (op_field_count known.0) others)
+]
+
+shape_decided : (first : Word) (others : List (List ℕ)) → Decided (HasShape first others)
+shape_decided words.Version others = count_decided 1 others
+shape_decided words.Link others = count_decided 7 others
+shape_decided words.Tag others = count_decided 7 others
+shape_decided words.Air [] = inr (λ shape. shape)
+shape_decided words.Air (exchange ∷ []) = inr (λ shape. shape)
+shape_decided words.Air (exchange ∷ kind ∷ others) = air_shape_decided exchange kind others
+shape_decided words.Select others = count_decided 5 others
+shape_decided words.Nak others = count_decided 0 others
+shape_decided words.Event [] = inr (λ shape. shape)
+shape_decided words.Event (kind ∷ others) = event_shape_decided kind others
+shape_decided words.Round others = count_decided 6 others
+shape_decided words.Only others = count_decided 1 others
+shape_decided words.Op [] = inr (λ shape. shape)
+shape_decided words.Op (kind ∷ others) = op_shape_decided kind others
+shape_decided words.End others = count_decided 0 others
+
+-- Some word of a scenario stands at the head of fields, with a kind that is known where a kind is there, or none does.
+pub some_word : (fields : List (List ℕ)) → ((word : Word) × BeginsWith fields word) ⊎ IsFaultyLine fields WordFault
+some_word [] = inr (λ word begins. let first = begins.first in cc)
+some_word (field ∷ others) = elim (word_decided field) [
+  | inr unknown ↦ inr (λ word begins. unknown (word, tt, (same_fields field (word_text word) others begins.others begins.first).0))
+  | inl found ↦ elim (kind_decided found.0 others) [
+    | inl known ↦ inl (found.0, record { others = others; first = ap (λ (text : List ℕ). text ∷ others) found.2; kind = known })
+    | inr unknown ↦ inr (λ word begins.
+        let same = same_fields field (word_text word) others begins.others begins.first in
+        let word_is = word_told word found.0 (sym same.0 ∙ found.2) in
+        unknown (subst (λ first. HasKnownKind first others) word_is (subst (HasKnownKind word) (sym same.1) begins.kind)))
+  ]
+]
+
+-- the link is legal, or one of its parameters is the first that is refused
+pw_decided : (tari pw : ℕ) → Decided (IsPw tari pw)
+pw_decided tari pw =
+    same_answer (λ (all : (2000 ≤ pw) × ((265 * tari ≤ 1000 * pw) × (1000 * pw ≤ 525 * tari))). (all.0, all.1.0, all.1.1))
+    (λ is. (is.0, (is.1, is.2))) (both (le_decided 2000 pw) (both (le_decided (265 * tari) (1000 * pw)) (le_decided (1000 * pw) (525 * tari))))
+
+refusal_of : (link : LinkValue) → IsLegalLink link ⊎ ((refusal : LinkRefusal) × IsFirstBroken refusal link.tari link.rtcal link.trcal link.pw)
+refusal_of link = elim (both (le_decided 6250 link.tari) (le_decided link.tari 25000)) [
+  | inr out ↦ inr (refusals.Tari, out)
+  | inl tari ↦ elim (both (le_decided (5 * link.tari) (2 * link.rtcal)) (le_decided link.rtcal (3 * link.tari))) [
+    | inr out ↦ inr (refusals.RtCal, (tari, out))
+    | inl rtcal ↦ elim (both (le_decided (11 * link.rtcal) (10 * link.trcal)) (le_decided link.trcal (3 * link.rtcal))) [
+      | inr out ↦ inr (refusals.TrCal, (tari, rtcal, out))
+      | inl trcal ↦ elim (pw_decided link.tari link.pw) [
+        | inr out ↦ inr (refusals.Pw, (tari, rtcal, trcal, out))
+        | inl pw ↦ inl (record { tari_range = tari; rtcal_range = rtcal; trcal_range = trcal; pw_range = pw })
+      ]
+    ]
+  ]
+]
+
+-- what fields with a first field say
+abbrev SaysOrIsFaulty : List (List ℕ) → Type 0
+SaysOrIsFaulty fields = ((line : Line) × SpellsLine fields line) ⊎ ((fault : LineFault) × IsFaultyLine fields fault)
+
+link_breaks : (fields : List (List ℕ)) (refusal : LinkRefusal) (link : LinkValue) → fields ≡ line_fields (lines.Link link) → IsLinkForm link
+    → IsFirstBroken refusal link.tari link.rtcal link.trcal link.pw → IsFaultyLine fields (link_fault refusal)
+link_breaks fields refusals.Tari link is form broken =
+    record { word = words.Link; others = link_fields link; first = is; faulty = record { link = link; spelling = refl; form = form; broken = broken } }
+link_breaks fields refusals.RtCal link is form broken =
+    record { word = words.Link; others = link_fields link; first = is; faulty = record { link = link; spelling = refl; form = form; broken = broken } }
+link_breaks fields refusals.TrCal link is form broken =
+    record { word = words.Link; others = link_fields link; first = is; faulty = record { link = link; spelling = refl; form = form; broken = broken } }
+link_breaks fields refusals.Pw link is form broken =
+    record { word = words.Link; others = link_fields link; first = is; faulty = record { link = link; spelling = refl; form = form; broken = broken } }
+
+pc_reason : (fields : List (List ℕ)) (tag : TagSpec) (fits : Bool) → pc_fits tag.image ≡ fits → fields ≡ line_fields (lines.Tag tag) → IsTagForm tag → SaysOrIsFaulty fields
+pc_reason fields tag true fits is form = inl (lines.Tag tag, record { spelling = is; is = record { form = form; coherent = fits } })
+pc_reason fields tag false fits is form = inr (
+  Pc,
+  record {
+    word = words.Tag;
+    others = tag_fields tag;
+    first = is;
+    faulty = record { tag = tag; spelling = refl; form = form; broken = fits };
+  },
+)
+
+-- fields that are each of their form and range agree with one another, or don't
+coherent_or_not : (fields : List (List ℕ)) (line : Line) → HasForm line → fields ≡ line_fields line → SaysOrIsFaulty fields
+coherent_or_not fields (lines.Link link) form is = elim (refusal_of link) [
+  | inl legal ↦ inl (lines.Link link, record { spelling = is; is = record { form = form; coherent = legal } })
+  | inr broken ↦ inr (link_fault broken.0, link_breaks fields broken.0 link is form broken.1)
+]
+coherent_or_not fields (lines.Tag tag) form is = pc_reason fields tag (pc_fits tag.image) refl is form
+coherent_or_not fields lines.Version form is = inl (lines.Version, record { spelling = is; is = record { form = form; coherent = tt } })
+coherent_or_not fields (lines.Air exchange happening) form is =
+    inl (lines.Air exchange happening, record { spelling = is; is = record { form = form; coherent = tt } })
+coherent_or_not fields (lines.Select selection) form is = inl (lines.Select selection, record { spelling = is; is = record { form = form; coherent = tt } })
+coherent_or_not fields lines.Nak form is = inl (lines.Nak, record { spelling = is; is = record { form = form; coherent = tt } })
+coherent_or_not fields (lines.Event event tag) form is = inl (lines.Event event tag, record { spelling = is; is = record { form = form; coherent = tt } })
+coherent_or_not fields (lines.Round spec) form is = inl (lines.Round spec, record { spelling = is; is = record { form = form; coherent = tt } })
+coherent_or_not fields (lines.Only epc) form is = inl (lines.Only epc, record { spelling = is; is = record { form = form; coherent = tt } })
+coherent_or_not fields (lines.Op op) form is = inl (lines.Op op, record { spelling = is; is = record { form = form; coherent = tt } })
+coherent_or_not fields lines.End form is = inl (lines.End, record { spelling = is; is = record { form = form; coherent = tt } })
+
+behind_or_not : (fields : List (List ℕ)) (word : Word) (others : List (List ℕ)) → fields ≡ word_text word ∷ others → HasKnownKind word others → SaysOrIsFaulty fields
+behind_or_not fields word others first known = elim (shape_decided word others) [
+  | inr unshaped ↦ inr (Shape, record { word = word; others = others; first = first; faulty = (known, unshaped) })
+  | inl shape ↦ elim (formed_behind word others) [
+    | inr unformed ↦ inr (
+      Number,
+      record {
+        word = word;
+        others = others;
+        first = first;
+        faulty = (shape, λ line form same is. unformed (line, form, same, is));
+      },
+    )
+    | inl formed ↦ coherent_or_not fields formed.0 formed.1
+        (first ∙ ap (λ (text : List ℕ). text ∷ others) (ap word_text (sym formed.2)) ∙ ap (λ (rest : List (List ℕ)). word_text (word_of_line formed.0) ∷ rest) formed.3)
+  ]
+]
+
+-- fields spell a line, or are faulty for some reason
+pub some_reason : (fields : List (List ℕ)) → ((line : Line) × SpellsLine fields line) ⊎ ((fault : LineFault) × IsFaultyLine fields fault)
+some_reason fields = elim (some_word fields) [
+  | inr none ↦ inr (WordFault, none)
+  | inl found ↦ behind_or_not fields found.0 found.1.others found.1.first found.1.kind
+]
