@@ -4,7 +4,7 @@
 Of decode lines each line is as long as a line may be (or a whole reply), and each stream, reply and sample group is a
 good one, so that the decoder goes over all of it. `scenario` is a scenario without steps, with as many tags of full banks as
 fit, and `long` one whose first tag line is as long as fits, so that its last field is refused. `run` is a scenario that is
-played: 256 tags, and rounds in each of which every tag is listed.
+played: 256 tags, and rounds in each of which every tag is listed. `names` is list lines, each of an SGTIN-96.
 """
 
 import random
@@ -130,11 +130,33 @@ def run(rounds, rng):
     return "".join(text) + END
 
 
+# How many bits and digits the company of an SGTIN-96 has, by the partition.
+PARTITIONS = [(40, 12), (37, 11), (34, 10), (30, 9), (27, 8), (24, 7), (20, 6)]
+
+
+def names(size, rng):
+    lines, left = [], size
+    while True:
+        partition = rng.randrange(7)
+        company_bits, company_digits = PARTITIONS[partition]
+        item_bits = 44 - company_bits
+        epc = 0x30 << 6 | rng.randrange(8) << 3 | partition
+        epc = epc << company_bits | rng.randrange(10**company_digits)
+        epc = epc << item_bits | rng.randrange(10 ** (13 - company_digits))
+        epc = epc << 38 | rng.randrange(1 << 38)
+        line = f"list {rng.randrange(1, 100)} {rng.randrange(1, 1000)} 3000 {epc:024X}\n"
+        if len(line) > left:
+            return "".join(lines)
+        lines.append(line)
+        left -= len(line)
+
+
 def main():
     kind, size = sys.argv[1], int(sys.argv[2])
     rng = random.Random(7)
-    if kind in ("scenario", "long", "run"):
-        sys.stdout.write({"scenario": scenario, "long": long, "run": run}[kind](size, rng))
+    whole = {"scenario": scenario, "long": long, "run": run, "names": names}
+    if kind in whole:
+        sys.stdout.write(whole[kind](size, rng))
         return
     lines = [line(kind, rng) + "\n" for _ in range(4)]
     written = 0

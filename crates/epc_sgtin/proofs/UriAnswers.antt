@@ -1,17 +1,20 @@
 -- A text is the URI of one SGTIN, or has one first fault.
-use Rattle.std.proofs.Common.{◌≡◌, ◌≢◌, ◌⊎◌, ℕ, ◌+◌, ◌-◌, ◌^◌, ◌<◌, Bool, true, false, List, [], ◌∷◌, ◌++◌, length, drop, get_or, refl, sym, ◌∙◌, ap, subst, arith, inl, inr}
+use Rattle.std.proofs.Common.{◌≡◌, ◌≢◌, ◌⊎◌, ℕ, ◌+◌, ◌-◌, ◌^◌, ◌<◌, Bool, true, false, List, [], ◌∷◌, ◌++◌, length, drop, get_or, refl, sym, ◌∙◌, ap, subst, arith, inl, inr, lit<, nat_lt}
 use Rattle.std.specs.Fmt.{decimal}
 use Rattle.std.specs.List.{join_with_byte, list_all}
 use Rattle.std.specs.Str.Parse.{digits_value}
 use Rattle.std.proofs.lemmas.Bool.{cases_eq, cases_lt}
 use Rattle.std.proofs.lemmas.Bool.Decides.{nat_tests}
-use Rattle.std.proofs.lemmas.Fmt.{decimal_digit, decimal_is_IsNumeral, decimal_injective}
+use Rattle.std.specs.Str.{IsAscii}
+use Rattle.std.proofs.lemmas.Str.{IsAscii-append}
+use Rattle.std.proofs.lemmas.Str.Ascii.{IsAscii-cons, IsAscii-from_all}
+use Rattle.std.proofs.lemmas.Fmt.{IsAscii-decimal, IsAscii-from_digits, decimal_digit, decimal_is_IsNumeral, decimal_injective}
 use Rattle.std.proofs.lemmas.List.Elements.{All-weaker}
 use Rattle.std.proofs.lemmas.List.Sums.{AllPass-from_list_all, list_all-from_AllPass}
 use Rattle.text_fields.specs.Lines.{Lacks, pieces_between}
 use Rattle.text_fields.specs.LineLaws.{pieces_between-cut, whole_piece}
 use Rattle.epc_sgtin.specs.SgtinValue.{SgtinValue, IsLegalSgtin, IsCompanyDigits, all_digits}
-use Rattle.epc_sgtin.specs.Uri.{padded, dot, prefix, uri_parts, IsUriOf}
+use Rattle.epc_sgtin.specs.Uri.{padded, dot, prefix, uri_parts, uri_of, IsUriOf}
 use Rattle.epc_sgtin.specs.UriFaults.{is_digit, AreDigits, IsFilterPart, IsCompanyPart, IsItemPart, IsSerialPart, UriParts, RefusesUri}
 use Rattle.epc_sgtin.specs.declared.tag_uri.UriFault.{UriFault}
 use Rattle.epc_sgtin.specs.declared.tag_uri.UriFault.TheVariants.{Prefix, Parts, Filter, Company, Item, Serial}
@@ -28,6 +31,31 @@ Lacks-digits part are = All-weaker (λ byte. is_digit byte ≡ true) (λ byte. b
 
 AreDigits-decimal : (n : ℕ) → n < 2 ^ 64 → AreDigits (decimal n)
 AreDigits-decimal n small = numerals.from (decimal n) (decimal_is_IsNumeral n small).0.1
+
+-- a URI is ASCII
+IsAscii-digits : (part : List ℕ) → AreDigits part → IsAscii part
+IsAscii-digits part are = IsAscii-from_digits part (numerals.to part are)
+
+IsAscii-dotted : (part rest : List ℕ) → IsAscii part → IsAscii rest → IsAscii (part ++ dot ∷ rest)
+IsAscii-dotted part rest first second = IsAscii-append part (dot ∷ rest) first (IsAscii-cons dot rest (lit< tt) second)
+
+below_ascii : (byte : ℕ) → nat_lt byte 128 ≡ true → byte < 128
+below_ascii byte is = grind (arith, nat_tests)
+
+IsAscii-prefix : IsAscii prefix
+IsAscii-prefix =
+    IsAscii-from_all prefix (All-weaker (λ byte. nat_lt byte 128 ≡ true) (λ byte. byte < 128) below_ascii prefix (AllPass-from_list_all (λ byte. nat_lt byte 128) prefix refl))
+
+pub IsAscii-uri : (sgtin : SgtinValue) → IsLegalSgtin sgtin → IsAscii (uri_of sgtin)
+IsAscii-uri sgtin legal =
+    let company = padded sgtin.company sgtin.digits in
+    let item = padded sgtin.item (all_digits - sgtin.digits) in
+    let serial = decimal sgtin.serial in
+    let last = IsAscii-decimal sgtin.serial (omega (arith, legal.serial_range)) in
+    let third = IsAscii-dotted item serial (IsAscii-digits item (AreDigits-padded sgtin.item (all_digits - sgtin.digits))) last in
+    let second = IsAscii-dotted company (item ++ dot ∷ serial) (IsAscii-digits company (AreDigits-padded sgtin.company sgtin.digits)) third in
+    let first = IsAscii-dotted (decimal sgtin.filter) (company ++ dot ∷ (item ++ dot ∷ serial)) (IsAscii-decimal sgtin.filter (omega (arith, legal.filter_range))) second in
+    IsAscii-append prefix (decimal sgtin.filter ++ dot ∷ (company ++ dot ∷ (item ++ dot ∷ serial))) IsAscii-prefix first
 
 -- four parts without dots come back
 pieces_joined : (a b c d : List ℕ) → Lacks dot a → Lacks dot b → Lacks dot c → Lacks dot d → pieces_between dot (join_with_byte dot (a ∷ b ∷ c ∷ d ∷ [])) ≡ a ∷ b ∷ c ∷ d ∷ []

@@ -1,10 +1,11 @@
 //! The laws of SGTINs, their words and their URIs.
 ghost use Rattle.std.specs.Prelude.{◌≡◌, ◌⊎◌, ℕ, ◌+◌, ◌-◌, ◌<◌, ◌≤◌, ◌^◌, List, All};
+ghost use Rattle.std.specs.Str.{IsAscii};
 ghost use Rattle.epc_sgtin.specs.SgtinValue.{SgtinValue, IsLegalSgtin};
 ghost use Rattle.epc_sgtin.specs.Partitions.{partition_row};
 ghost use Rattle.epc_sgtin.specs.Epc.{IsSgtin};
 ghost use Rattle.epc_sgtin.specs.EpcFaults.{RefusesEpc};
-ghost use Rattle.epc_sgtin.specs.Uri.{IsUriOf};
+ghost use Rattle.epc_sgtin.specs.Uri.{IsUriOf, uri_of};
 ghost use Rattle.epc_sgtin.specs.UriFaults.{RefusesUri};
 ghost use Rattle.epc_sgtin.specs.declared.encoding.EpcFault.{EpcFault};
 ghost use Rattle.epc_sgtin.specs.declared.tag_uri.UriFault.{UriFault};
@@ -35,9 +36,10 @@ pub fn sgtin_laws()
     ensures one_fault { (one other : EpcFault) (words : List ℕ) → RefusesEpc one words → RefusesEpc other words → one ≡ other }
 {}
 
-/// No two SGTINs have one URI. For each text there is exactly one of the two: an SGTIN whose URI it is, or a
+/// A URI is ASCII. No two SGTINs have one URI. For each text there is exactly one of the two: an SGTIN whose URI it is, or a
 /// refusal that is the first to apply.
 pub fn uri_laws()
+    ensures ascii { (sgtin : SgtinValue) → IsLegalSgtin sgtin → IsAscii (uri_of sgtin) }
     ensures one_sgtin { (one other : SgtinValue) (text : List ℕ) → IsUriOf one text → IsUriOf other text → one ≡ other }
     ensures some { (text : List ℕ) → ((sgtin : SgtinValue) × IsUriOf sgtin text) ⊎ ((fault : UriFault) × RefusesUri fault text) }
     ensures apart { (sgtin : SgtinValue) (text : List ℕ) (fault : UriFault) → IsUriOf sgtin text → RefusesUri fault text → ⊥ }

@@ -35,7 +35,7 @@ next_of (l ∷ lines) (r ∷ asked) line behind each cut =
 pub next_asked : (rest line behind : List ℕ) → IsGrammatical rest → lines_of rest ≡ line ∷ lines_of behind → IsAsked line × IsGrammatical behind
 next_asked rest line behind asks lines = next_of asks.1.lines asks.0 line behind asks.1.each (sym asks.1.cut ∙ lines)
 
-flat_map_push : {A B : Type 0} (f : A → List B) (xs : List A) (y : A) → flat_map f (xs ++ y ∷ []) ≡ flat_map f xs ++ f y
+pub flat_map_push : {A B : Type 0} (f : A → List B) (xs : List A) (y : A) → flat_map f (xs ++ y ∷ []) ≡ flat_map f xs ++ f y
 flat_map_push f [] y = append-nil (f y)
 flat_map_push f (x ∷ xs) y = ap (λ t. f x ++ t) (flat_map_push f xs y) ∙ sym (append_assoc (f x) (flat_map f xs) (f y))
 

@@ -8,7 +8,7 @@ use Rattle.gen2run.specs.declared.ending.Wrote.{Wrote}
 use Rattle.gen2run.specs.declared.ending.WriteEnd.{WriteEnd}
 use Rattle.gen2run.specs.declared.ending.WriteEnd.TheVariants.{Fault}
 use Rattle.gen2run.specs.declared.forms.Form.{Form}
-use Rattle.gen2run.specs.declared.forms.Form.TheVariants.{Decode, Run}
+use Rattle.gen2run.specs.declared.forms.Form.TheVariants.{Decode, Run, Names}
 use Rattle.gen2run.specs.declared.status.Status.{Status}
 use Rattle.gen2run.specs.declared.status.Status.TheVariants.{Done, BadWords, BadInput, ReadFault, WriteFault, TooLong, OutOfMemory}
 
@@ -43,6 +43,7 @@ all_read told (Some rest) bytes reads end = let e : told ≡ bytes ++ rest = cc 
 all_taken : (form : Form) (told : List ℕ) (left' : Option (List ℕ)) (bytes : List ℕ) → TakesInput form (Some told) left' bytes → told ≡ bytes
 all_taken Decode told left' bytes input = all_read told left' bytes input.reads input.end
 all_taken (Run mode) told left' bytes input = all_read told left' bytes input.reads input.end
+all_taken Names told left' bytes input = all_read told left' bytes input.reads input.end
 
 -- what the law of grammatical inputs says: bytes that the grammar of a form allows have no fault line
 abbrev pub AllowedAreNotRefused : Type 0

@@ -9,7 +9,7 @@ use Rattle.air_world.specs.declared.mode.Mode.{Mode}
 use Rattle.gen2run.specs.Defined.{WritesOf, HeadlineOf, InventoryOf}
 use Rattle.gen2run.specs.Outcome.{WritesWhole}
 use Rattle.gen2run.specs.declared.forms.Form.{Form}
-use Rattle.gen2run.specs.declared.forms.Form.TheVariants.{Decode, Run}
+use Rattle.gen2run.specs.declared.forms.Form.TheVariants.{Decode, Run, Names}
 use Rattle.inventory.specs.Complete.{CompleteInventory}
 use Rattle.inventory.specs.Counted.{CountedRound}
 use Rattle.inventory.specs.Honest.{IsHonest, IsApart}
@@ -26,6 +26,7 @@ ReportsSayHeadlines = (mode : Mode) (scenario : Scenario) → IsScenario scenari
 
 text_says : ReportsSayHeadlines → (form : Form) (bytes text : List ℕ) → WritesOf form bytes text → HeadlineOf form bytes text
 text_says say Decode bytes text writes = tt
+text_says say Names bytes text writes = tt
 text_says say (Run mode) bytes text writes = record { reports = writes; headline = say mode writes.scenario writes.legal }
 
 -- what holds of the text that is written holds of what is written
@@ -60,6 +61,7 @@ RoundsAreCounted = (scenario : Scenario) (before after : List Step) (spec : Spec
 
 text_counts : RoundsAreComplete → RoundsAreCounted → (form : Form) (bytes text : List ℕ) → WritesOf form bytes text → InventoryOf form bytes text
 text_counts complete counted Decode bytes text writes = tt
+text_counts complete counted Names bytes text writes = tt
 text_counts complete counted (Run mode) bytes text writes = record {
   reports = writes;
   complete = λ before after spec operations is honest apart. complete writes.scenario before after spec operations writes.legal is honest apart;

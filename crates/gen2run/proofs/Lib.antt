@@ -9,3 +9,5 @@ pub mod OneRequest
 pub mod OneAnswer
 pub mod OneText
 pub mod SomeAnswer
+pub mod NamedLines
+pub mod Waits

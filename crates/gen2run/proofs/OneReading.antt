@@ -15,13 +15,14 @@ use Rattle.bit_strings.specs.declared.code.Code.TheVariants.{Fm0, M2, M4, M8}
 use Rattle.hex.specs.Hex.{decode_of}
 use Rattle.hex.proofs.OnLiterals.{hex_on_literals}
 use Rattle.std.specs.Fmt.{decimal}
-use Rattle.text_fields.specs.FieldTextLaws.{IsFieldText-decimal, IsFieldText-binary}
+use Rattle.text_fields.specs.FieldTextLaws.{IsFieldText-decimal, IsFieldText-binary, IsFieldText-hex_words}
+use Rattle.text_fields.specs.Hexadecimal.{hex_words}
 use Rattle.gen2run.specs.Request.{request_word, HasShape, request_kind, AreSpelled, IsWithinLimits, AsksBehind, AsksForRequest, AreFaulty, IsFaultyRequest}
 use Rattle.gen2run.specs.DecodeLines.{IsGrammatical, IsFaultyBefore, IsFirstFault}
 use Rattle.gen2run.specs.declared.decode.request.RequestKind.{RequestKind}
-use Rattle.gen2run.specs.declared.decode.request.RequestKind.TheVariants.{Stream as StreamKind, Samples as SamplesKind, Reply as ReplyKind, Heard as HeardKind, Pie as PieKind, Command as CommandKind}
+use Rattle.gen2run.specs.declared.decode.request.RequestKind.TheVariants.{Stream as StreamKind, Samples as SamplesKind, Reply as ReplyKind, Heard as HeardKind, Pie as PieKind, Command as CommandKind, Sgtin as SgtinKind, Uri as UriKind}
 use Rattle.gen2run.specs.declared.decode.request.Request.{Request}
-use Rattle.gen2run.specs.declared.decode.request.Request.TheVariants.{Stream, Samples, Reply, Heard, Pie, Command}
+use Rattle.gen2run.specs.declared.decode.request.Request.TheVariants.{Stream, Samples, Reply, Heard, Pie, Command, Sgtin, Uri}
 use Rattle.gen2run.specs.declared.decode.request.FaultReason.{FaultReason}
 use Rattle.gen2run.specs.declared.decode.request.FaultReason.TheVariants.{End, Word, Shape, Number}
 use Rattle.gen2run.specs.declared.decode.request.DecodeFault.{DecodeFault}
@@ -38,7 +39,9 @@ kind_read word =
     else (if bytes_eq word (codes "reply") then Some ReplyKind
     else (if bytes_eq word (codes "heard") then Some HeardKind
     else (if bytes_eq word (codes "pie") then Some PieKind
-    else (if bytes_eq word (codes "command") then Some CommandKind else None)))))))))
+    else (if bytes_eq word (codes "command") then Some CommandKind
+    else (if bytes_eq word (codes "sgtin") then Some SgtinKind
+    else (if bytes_eq word (codes "uri") then Some UriKind else None)))))))))))
 
 kind_read_word : (kind : RequestKind) → kind_read (request_word kind) ≡ Some kind
 unfolding kind_read
@@ -51,6 +54,8 @@ kind_read_word ReplyKind = refl
 kind_read_word HeardKind = refl
 kind_read_word PieKind = refl
 kind_read_word CommandKind = refl
+kind_read_word SgtinKind = refl
+kind_read_word UriKind = refl
 
 -- a first field says one kind
 pub kind_word-injective : (a b : RequestKind) → request_word a ≡ request_word b → a ≡ b
@@ -112,6 +117,9 @@ request_shape (Pie intervals) others spelling limits =
     rw spelling ((some, room), numbers_filled intervals limits.2)
 request_shape (Command bits) others spelling limits =
     rw spelling (refl, All-cons Filled (binary bits) [] (IsFieldText-binary bits).filled (All-nil Filled))
+request_shape (Sgtin words) others spelling limits =
+    rw spelling (refl, All-cons Filled (hex_words words) [] (IsFieldText-hex_words words).filled (All-nil Filled))
+request_shape (Uri text) others spelling limits = rw spelling (refl, All-cons Filled text [] limits (All-nil Filled))
 
 -- fields that ask for something are not faulty
 asked_not_faulty : (request : Request) (kind : RequestKind) (others : List (List ℕ)) (reason : FaultReason) → AsksBehind kind others request → AreFaulty kind others reason → ⊥

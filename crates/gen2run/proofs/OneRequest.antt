@@ -5,14 +5,15 @@ use Rattle.std.specs.Fmt.{decimal}
 use Rattle.std.proofs.lemmas.List.Elements.{All-head, All-tail}
 use Rattle.text_fields.specs.Binary.{binary, binary_digit}
 use Rattle.text_fields.specs.CodeNames.{code_word}
-use Rattle.text_fields.specs.ToldApart.{decimal_told, binary_told}
+use Rattle.text_fields.specs.ToldApart.{decimal_told, binary_told, hex_words_told}
+use Rattle.text_fields.specs.Hexadecimal.{hex_words}
 use Rattle.bit_strings.specs.declared.code.Code.{Code}
 use Rattle.reply_text.specs.ReplyText.{expect_word}
 use Rattle.reply_text.specs.ToldApart.{expect_told}
 use Rattle.gen2run.specs.Request.{request_kind, AreSpelled, IsWithinLimits, AsksForRequest}
 use Rattle.gen2run.specs.declared.decode.request.RequestKind.TheVariants.{Stream as StreamKind}
 use Rattle.gen2run.specs.declared.decode.request.Request.{Request}
-use Rattle.gen2run.specs.declared.decode.request.Request.TheVariants.{Stream, Samples, Reply, Heard, Pie, Command}
+use Rattle.gen2run.specs.declared.decode.request.Request.TheVariants.{Stream, Samples, Reply, Heard, Pie, Command, Sgtin, Uri}
 use Rattle.gen2run.proofs.OneReading.{kind_word-injective, same_fields}
 use Rattle.pie_line.specs.Pie.{longest_interval}
 
@@ -78,6 +79,14 @@ same_behind (Pie intervals) (Pie intervals') others kinds spelled spelled' withi
 same_behind (Command bits) (Command bits') others kinds spelled spelled' within within' =
     let fields : binary bits ∷ [] ≡ binary bits' ∷ [] = sym spelled ∙ spelled' in
     let e : bits ≡ bits' = binary_told bits bits' (cc) in
+    cc
+same_behind (Sgtin words) (Sgtin words') others kinds spelled spelled' within within' =
+    let fields : hex_words words ∷ [] ≡ hex_words words' ∷ [] = sym spelled ∙ spelled' in
+    let e : words ≡ words' = hex_words_told words words' within.2 within'.2 (cc) in
+    cc
+same_behind (Uri text) (Uri text') others kinds spelled spelled' within within' =
+    let fields : text ∷ [] ≡ text' ∷ [] = sym spelled ∙ spelled' in
+    let e : text ≡ text' = cc in
     cc
 same_behind one other others kinds spelled spelled' within within' = cc
 

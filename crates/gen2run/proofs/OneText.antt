@@ -1,4 +1,4 @@
--- An input has one text of answers and one fault line at most, where each list of bits has one outcome as a command.
+-- An input has one text of answers and one fault line at most, by the laws of lower crates.
 use Rattle.std.proofs.Common.{◌≡◌, ℕ, ◌+◌, List, [], ◌∷◌, ◌++◌, length, refl, sym, ◌∙◌, ap, subst, suc}
 use Rattle.std.specs.List.{AllZip, flat_map}
 use Rattle.std.proofs.lemmas.List.{append_cancel_right}
@@ -13,7 +13,7 @@ use Rattle.gen2run.specs.declared.decode.request.FaultReason.TheVariants.{End, W
 use Rattle.gen2run.specs.declared.decode.request.DecodeFault.{DecodeFault}
 use Rattle.gen2run.proofs.OneReading.{kind_word-injective, same_fields, spelled_not_faulty}
 use Rattle.gen2run.proofs.OneRequest.{same_request}
-use Rattle.gen2run.proofs.OneAnswer.{HasOneOutcome, same_answer}
+use Rattle.gen2run.proofs.OneAnswer.{TellAnswers, same_answer}
 
 -- the answer is one to what the line asks for
 record Answered (line : List ℕ) (answer : Answer) : Type 0 where
@@ -21,10 +21,10 @@ record Answered (line : List ℕ) (answer : Answer) : Type 0 where
   asks : AsksForRequest line request
   right : IsLineAnswer request answer
 
-same_answered : HasOneOutcome → (line : List ℕ) (one other : Answer) → Answered line one → Answered line other → one ≡ other
-same_answered one_outcome line one other left right =
+same_answered : TellAnswers → (line : List ℕ) (one other : Answer) → Answered line one → Answered line other → one ≡ other
+same_answered tell line one other left right =
     let requests : right.request ≡ left.request = same_request line right.request left.request right.asks left.asks in
-    same_answer one_outcome left.request one other left.asks.asks.limits left.right (subst (λ request. IsLineAnswer request other) requests right.right)
+    same_answer tell left.request one other left.asks.asks.limits left.right (subst (λ request. IsLineAnswer request other) requests right.right)
 
 -- each line has its answer
 answered_lines : (lines : List (List ℕ)) (asked : List Request) (answers : List Answer) → AllZip AsksForRequest lines asked → AllZip IsLineAnswer asked answers → AllZip Answered lines answers
@@ -37,25 +37,25 @@ answered_lines (l ∷ lines) (r ∷ asked) (a ∷ answers) asks right =
     (record { request = r; asks = asks.0; right = right.0 }, answered_lines lines asked answers asks.1 right.1)
 
 -- lines have one list of answers
-same_answers : HasOneOutcome → (lines : List (List ℕ)) (one other : List Answer) → AllZip Answered lines one → AllZip Answered lines other → one ≡ other
-same_answers one_outcome [] [] [] left right = refl
-same_answers one_outcome [] [] (b ∷ other) left right = absurd right
-same_answers one_outcome [] (a ∷ one) other left right = absurd left
-same_answers one_outcome (l ∷ lines) [] other left right = absurd left
-same_answers one_outcome (l ∷ lines) (a ∷ one) [] left right = absurd right
-same_answers one_outcome (l ∷ lines) (a ∷ one) (b ∷ other) left right =
-    let first : a ≡ b = same_answered one_outcome l a b left.0 right.0 in
-    let rest : one ≡ other = same_answers one_outcome lines one other left.1 right.1 in
+same_answers : TellAnswers → (lines : List (List ℕ)) (one other : List Answer) → AllZip Answered lines one → AllZip Answered lines other → one ≡ other
+same_answers tell [] [] [] left right = refl
+same_answers tell [] [] (b ∷ other) left right = absurd right
+same_answers tell [] (a ∷ one) other left right = absurd left
+same_answers tell (l ∷ lines) [] other left right = absurd left
+same_answers tell (l ∷ lines) (a ∷ one) [] left right = absurd right
+same_answers tell (l ∷ lines) (a ∷ one) (b ∷ other) left right =
+    let first : a ≡ b = same_answered tell l a b left.0 right.0 in
+    let rest : one ≡ other = same_answers tell lines one other left.1 right.1 in
     cc
 
 -- an input has one text of answers
-pub same_decoded : HasOneOutcome → (bytes one other : List ℕ) → Decodes bytes one → Decodes bytes other → one ≡ other
-same_decoded one_outcome bytes one other left right =
+pub same_decoded : TellAnswers → (bytes one other : List ℕ) → Decodes bytes one → Decodes bytes other → one ≡ other
+same_decoded tell bytes one other left right =
     let lines : right.asks.lines ≡ left.asks.lines = append_cancel_right right.asks.lines left.asks.lines ([] ∷ []) (sym right.asks.cut ∙ left.asks.cut) in
     let mine = answered_lines left.asks.lines left.requests left.answers.answers left.asks.each left.answers.each in
     let yours = answered_lines right.asks.lines right.requests right.answers.answers right.asks.each right.answers.each in
     let answers : left.answers.answers ≡ right.answers.answers =
-    same_answers one_outcome left.asks.lines left.answers.answers right.answers.answers mine (subst (λ each. AllZip Answered each right.answers.answers) lines yours) in
+    same_answers tell left.asks.lines left.answers.answers right.answers.answers mine (subst (λ each. AllZip Answered each right.answers.answers) lines yours) in
     left.answers.lines ∙ ap (λ all. flat_map answer_line all) answers ∙ sym right.answers.lines
 
 -- where a first field is read in two ways, the fields have the shape of both or of none

@@ -22,8 +22,15 @@ use Rattle.pie_line.specs.declared.frame.PieRefusal.{PieRefusal}
 use Rattle.command_grammar.specs.Commands.{IsFinishAnswer}
 use Rattle.command_grammar.specs.declared.commands.Command.{Command}
 use Rattle.command_grammar.specs.declared.refusal.CommandRefusal.{CommandRefusal}
-use Rattle.gen2run.specs.Answer.{IsLineAnswer, streamed, sliced, replied, heard, framed, commanded, with_left}
-use Rattle.gen2run.specs.declared.decode.request.Request.TheVariants.{Stream as StreamLine, Samples as SamplesLine, Reply as ReplyLine, Heard as HeardLine, Pie as PieLine, Command as CommandLine}
+use Rattle.epc_sgtin.specs.SgtinValue.{SgtinValue}
+use Rattle.epc_sgtin.specs.Epc.{IsSgtin}
+use Rattle.epc_sgtin.specs.EpcFaults.{RefusesEpc}
+use Rattle.epc_sgtin.specs.Uri.{IsUriOf}
+use Rattle.epc_sgtin.specs.UriFaults.{RefusesUri}
+use Rattle.epc_sgtin.specs.declared.encoding.EpcFault.{EpcFault}
+use Rattle.epc_sgtin.specs.declared.tag_uri.UriFault.{UriFault}
+use Rattle.gen2run.specs.Answer.{IsLineAnswer, streamed, sliced, replied, heard, framed, commanded, named, worded, with_left}
+use Rattle.gen2run.specs.declared.decode.request.Request.TheVariants.{Stream as StreamLine, Samples as SamplesLine, Reply as ReplyLine, Heard as HeardLine, Pie as PieLine, Command as CommandLine, Sgtin as SgtinLine, Uri as UriLine}
 
 pub streamed_right : (code : Code) (trext : Bool) (levels items bits : List Bool) (outcome : Result (Unit {0}) LineRefusal) → items ≡ levels → OnOk outcome (IsStream (table_of code) trext bits items) → IfErr outcome (RefusesStream (Streams (table_of code) trext) items) → IsLineAnswer (StreamLine code trext levels) (streamed (with_left (λ done. bits) outcome))
 streamed_right code trext levels items bits (Ok done) same ok refused = subst (IsStream (table_of code) trext bits) same ok
@@ -46,3 +53,15 @@ framed_right intervals items bits (Err refusal) same ok refused = subst (Refuses
 
 pub commanded_right : (bits items : List Bool) (outcome : Result Command CommandRefusal) → items ≡ bits → IsFinishAnswer outcome items → IsLineAnswer (CommandLine bits) (commanded outcome)
 commanded_right bits items outcome same found = subst (IsFinishAnswer outcome) same found
+
+pub named_right : (words items : List ℕ) (outcome : Result SgtinValue EpcFault) → items ≡ words → IfOk outcome (λ sgtin. IsSgtin sgtin items) → IfErr outcome (λ fault. RefusesEpc fault items) → IsLineAnswer (SgtinLine words) (named outcome)
+named_right words items (Ok sgtin) same ok refused = subst (IsSgtin sgtin) same ok
+named_right words items (Err fault) same ok refused = subst (RefusesEpc fault) same refused
+
+-- the words of an SGTIN that has the text as its URI
+abbrev pub AreWordsOf : List ℕ → List ℕ → Type 0
+AreWordsOf text words = (sgtin : SgtinValue) × IsUriOf sgtin text × IsSgtin sgtin words
+
+pub worded_right : (text items : List ℕ) (outcome : Result (List ℕ) UriFault) → items ≡ text → IfOk outcome (AreWordsOf items) → IfErr outcome (λ fault. RefusesUri fault items) → IsLineAnswer (UriLine text) (worded outcome)
+worded_right text items (Ok words) same ok refused = subst (λ t. AreWordsOf t words) same ok
+worded_right text items (Err fault) same ok refused = subst (RefusesUri fault) same refused

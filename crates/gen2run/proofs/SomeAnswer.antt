@@ -1,6 +1,6 @@
 -- Each request within its limits has an answer, by the laws of what it asks for, and so has an input that asks for requests.
-use Rattle.std.proofs.Common.{◌≤◌, ◌⊎◌, ℕ, Bool, List, [], ◌∷◌, Result, Ok, Err, refl, inl, inr}
-use Rattle.std.specs.Prelude.{slice_index, OnOk, IfErr}
+use Rattle.std.proofs.Common.{◌≤◌, ◌<◌, ◌^◌, ◌⊎◌, ℕ, Bool, List, [], ◌∷◌, Result, Ok, Err, refl, inl, inr}
+use Rattle.std.specs.Prelude.{slice_index, All, OnOk, IfErr}
 use Rattle.std.specs.List.{AllZip, flat_map}
 use Rattle.bit_strings.specs.declared.code.Code.{Code}
 use Rattle.line_code.specs.Answer.{IsStreamAnswer}
@@ -21,14 +21,21 @@ use Rattle.pie_line.specs.declared.frame.PieRefusal.TheVariants.{Unfinished}
 use Rattle.command_grammar.specs.Commands.{IsFinishAnswer}
 use Rattle.command_grammar.specs.declared.commands.Command.{Command}
 use Rattle.command_grammar.specs.declared.refusal.CommandRefusal.{CommandRefusal}
+use Rattle.epc_sgtin.specs.SgtinValue.{SgtinValue, IsLegalSgtin}
+use Rattle.epc_sgtin.specs.Epc.{IsSgtin}
+use Rattle.epc_sgtin.specs.EpcFaults.{RefusesEpc}
+use Rattle.epc_sgtin.specs.Uri.{IsUriOf}
+use Rattle.epc_sgtin.specs.UriFaults.{RefusesUri}
+use Rattle.epc_sgtin.specs.declared.encoding.EpcFault.{EpcFault}
+use Rattle.epc_sgtin.specs.declared.tag_uri.UriFault.{UriFault}
 use Rattle.gen2run.specs.Request.{IsWithinLimits, AsksForRequest}
-use Rattle.gen2run.specs.Answer.{Answer, IsLineAnswer, answer_line, streamed, sliced, replied, heard, framed, commanded}
+use Rattle.gen2run.specs.Answer.{Answer, IsLineAnswer, answer_line, streamed, sliced, replied, heard, framed, commanded, named, worded}
 use Rattle.gen2run.specs.DecodeLines.{Decodes, IsGrammatical, IsFirstFault, fault_line}
 use Rattle.gen2run.specs.Defined.{DefinesOf}
 use Rattle.gen2run.specs.declared.forms.Form.TheVariants.{Decode}
 use Rattle.gen2run.specs.declared.decode.request.DecodeFault.{DecodeFault}
 use Rattle.gen2run.specs.declared.decode.request.Request.{Request}
-use Rattle.gen2run.specs.declared.decode.request.Request.TheVariants.{Stream, Samples, Reply as ReplyLine, Heard, Pie, Command as CommandLine}
+use Rattle.gen2run.specs.declared.decode.request.Request.TheVariants.{Stream, Samples, Reply as ReplyLine, Heard, Pie, Command as CommandLine, Sgtin as SgtinLine, Uri as UriLine}
 
 -- what the laws of lower crates say: levels have an answer in each code,
 abbrev pub StreamsHaveAnswers : Type 0
@@ -50,9 +57,15 @@ LevelsAreReceived = (code : Code) (trext : Bool) (expect : Expect) (levels : Lis
 abbrev pub FramesHaveAnswers : Type 0
 FramesHaveAnswers = (intervals : List ℕ) → HasOneAnswer intervals
 
--- and the bits of commands have one
+-- the bits of commands have one,
 abbrev pub CommandsHaveAnswers : Type 0
 CommandsHaveAnswers = (bits : List Bool) → (outcome : Result Command CommandRefusal) × IsFinishAnswer outcome bits
+
+-- and words and texts have one, each SGTIN having words
+pub record SgtinsHaveAnswers : Type 0 where
+  pub some_words : (sgtin : SgtinValue) → IsLegalSgtin sgtin → (words : List ℕ) × IsSgtin sgtin words
+  pub words : (words : List ℕ) → All (λ word. word < 2 ^ 16) words → ((sgtin : SgtinValue) × IsSgtin sgtin words) ⊎ ((fault : EpcFault) × RefusesEpc fault words)
+  pub texts : (text : List ℕ) → ((sgtin : SgtinValue) × IsUriOf sgtin text) ⊎ ((fault : UriFault) × RefusesUri fault text)
 
 -- the request has an answer
 abbrev HasAnswer : Request → Type 0
@@ -79,15 +92,25 @@ framed_as intervals answers = elim answers.some [
   ]
 ]
 
+named_as : (words : List ℕ) → ((sgtin : SgtinValue) × IsSgtin sgtin words) ⊎ ((fault : EpcFault) × RefusesEpc fault words) → HasAnswer (SgtinLine words)
+named_as words (inl is) = (named (Ok is.0), is.1)
+named_as words (inr is) = (named (Err is.0), is.1)
+
+worded_as : SgtinsHaveAnswers → (text : List ℕ) → ((sgtin : SgtinValue) × IsUriOf sgtin text) ⊎ ((fault : UriFault) × RefusesUri fault text) → HasAnswer (UriLine text)
+worded_as sgtins text (inl is) = let words = sgtins.some_words is.0 is.1.legal in (worded (Ok words.0), (is.0, is.1, words.1))
+worded_as sgtins text (inr is) = (worded (Err is.0), is.1)
+
 -- a request within its limits has an answer
-pub some_answer : StreamsHaveAnswers → SamplesHaveAnswers → RepliesHaveAnswers → LevelsAreReceived → FramesHaveAnswers → CommandsHaveAnswers
+pub some_answer : StreamsHaveAnswers → SamplesHaveAnswers → RepliesHaveAnswers → LevelsAreReceived → FramesHaveAnswers → CommandsHaveAnswers → SgtinsHaveAnswers
     → (request : Request) → IsWithinLimits request → HasAnswer request
-some_answer streams slices replies received frames commands (Stream code trext levels) within = let is = streams code trext levels in streamed_as code trext levels is.0 is.1
-some_answer streams slices replies received frames commands (Samples threshold per_level samples) within = let is = slices threshold per_level samples within.1 in sliced_as threshold per_level samples is.0 is.1
-some_answer streams slices replies received frames commands (ReplyLine expect bits) within = replied_as expect bits (replies expect bits)
-some_answer streams slices replies received frames commands (Heard code trext expect levels) within = let is = received code trext expect levels in (heard is.0, is.1)
-some_answer streams slices replies received frames commands (Pie intervals) within = framed_as intervals (frames intervals)
-some_answer streams slices replies received frames commands (CommandLine bits) within = let is = commands bits in (commanded is.0, is.1)
+some_answer streams slices replies received frames commands sgtins (Stream code trext levels) within = let is = streams code trext levels in streamed_as code trext levels is.0 is.1
+some_answer streams slices replies received frames commands sgtins (Samples threshold per_level samples) within = let is = slices threshold per_level samples within.1 in sliced_as threshold per_level samples is.0 is.1
+some_answer streams slices replies received frames commands sgtins (ReplyLine expect bits) within = replied_as expect bits (replies expect bits)
+some_answer streams slices replies received frames commands sgtins (Heard code trext expect levels) within = let is = received code trext expect levels in (heard is.0, is.1)
+some_answer streams slices replies received frames commands sgtins (Pie intervals) within = framed_as intervals (frames intervals)
+some_answer streams slices replies received frames commands sgtins (CommandLine bits) within = let is = commands bits in (commanded is.0, is.1)
+some_answer streams slices replies received frames commands sgtins (SgtinLine words) within = named_as words (sgtins.words words within.2)
+some_answer streams slices replies received frames commands sgtins (UriLine text) within = worded_as sgtins text (sgtins.texts text)
 
 -- what the law of requests says
 abbrev pub RequestsHaveAnswers : Type 0

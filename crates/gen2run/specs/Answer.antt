@@ -29,8 +29,16 @@ use Rattle.command_grammar.specs.Commands.{IsFinishAnswer}
 use Rattle.command_grammar.specs.declared.commands.Command.{Command}
 use Rattle.command_grammar.specs.declared.refusal.CommandRefusal.{CommandRefusal}
 use Rattle.command_text.specs.CommandText.{command_line, command_refusal_line}
+use Rattle.epc_sgtin.specs.SgtinValue.{SgtinValue}
+use Rattle.epc_sgtin.specs.Epc.{IsSgtin}
+use Rattle.epc_sgtin.specs.EpcFaults.{RefusesEpc}
+use Rattle.epc_sgtin.specs.Uri.{IsUriOf}
+use Rattle.epc_sgtin.specs.UriFaults.{RefusesUri}
+use Rattle.epc_sgtin.specs.declared.encoding.EpcFault.{EpcFault}
+use Rattle.epc_sgtin.specs.declared.tag_uri.UriFault.{UriFault}
+use Rattle.sgtin_text.specs.SgtinText.{name_line, sgtin_words_line, epc_fault_line, uri_fault_line}
 use Rattle.gen2run.specs.declared.decode.request.Request.{Request}
-use Rattle.gen2run.specs.declared.decode.request.Request.TheVariants.{Stream, Samples, Reply as ReplyLine, Heard as HeardLine, Pie as PieLine, Command as CommandLine}
+use Rattle.gen2run.specs.declared.decode.request.Request.TheVariants.{Stream, Samples, Reply as ReplyLine, Heard as HeardLine, Pie as PieLine, Command as CommandLine, Sgtin as SgtinLine, Uri as UriLine}
 
 pub data Answer : Type 0 where
   -- the levels are the stream of these bits, or are none
@@ -45,6 +53,10 @@ pub data Answer : Type 0 where
   framed : Result (FrameKind × List Bool) PieRefusal → Answer
   -- the bits are this command, or are none
   commanded : Result Command CommandRefusal → Answer
+  -- the words are those of this SGTIN, or of none
+  named : Result SgtinValue EpcFault → Answer
+  -- the text is the URI of the SGTIN that has these words, or of none
+  worded : Result (List ℕ) UriFault → Answer
 
 -- the answer is the one to the request
 abbrev pub IsLineAnswer : Request → Answer → Type 0
@@ -58,6 +70,10 @@ IsLineAnswer (HeardLine code trext expect levels) (heard received) = IsReceived 
 IsLineAnswer (PieLine intervals) (framed (Ok frame)) = IsFrame frame.0 frame.1 intervals
 IsLineAnswer (PieLine intervals) (framed (Err refusal)) = RefusesFrame refusal intervals
 IsLineAnswer (CommandLine bits) (commanded outcome) = IsFinishAnswer outcome bits
+IsLineAnswer (SgtinLine words) (named (Ok sgtin)) = IsSgtin sgtin words
+IsLineAnswer (SgtinLine words) (named (Err fault)) = RefusesEpc fault words
+IsLineAnswer (UriLine text) (worded (Ok words)) = (sgtin : SgtinValue) × IsUriOf sgtin text × IsSgtin sgtin words
+IsLineAnswer (UriLine text) (worded (Err fault)) = RefusesUri fault text
 IsLineAnswer request answer = ⊥
 
 -- an outcome with what its call left, where that was no refusal
@@ -81,6 +97,10 @@ answer_line (framed (Ok frame)) = frame_line frame.0 frame.1 ++ line_feed ∷ []
 answer_line (framed (Err refusal)) = pie_refusal_line refusal ++ line_feed ∷ []
 answer_line (commanded (Ok command)) = command_line command ++ line_feed ∷ []
 answer_line (commanded (Err refusal)) = command_refusal_line refusal ++ line_feed ∷ []
+answer_line (named (Ok sgtin)) = name_line sgtin ++ line_feed ∷ []
+answer_line (named (Err fault)) = epc_fault_line fault ++ line_feed ∷ []
+answer_line (worded (Ok words)) = sgtin_words_line words ++ line_feed ∷ []
+answer_line (worded (Err fault)) = uri_fault_line fault ++ line_feed ∷ []
 
 -- the text is the answers to the requests, each on a line of its own, in order
 pub record AreAnswers (requests : List Request) (text : List ℕ) : Type 0 where

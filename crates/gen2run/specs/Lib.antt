@@ -3,6 +3,8 @@ pub mod Request
 pub mod Answer
 pub mod DecodeLines
 pub mod Reported
+pub mod Named
+pub mod Waiting
 pub mod Defined
 pub mod Outcome
 pub mod Ending

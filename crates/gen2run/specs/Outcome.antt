@@ -4,7 +4,7 @@ use Rattle.std.specs.Prelude.{◌≡◌, ℕ, ◌+◌, ◌≤◌, List, ◌++◌
 use Rattle.air_io.specs.Flow.{Reads, Adds, AtEnd, FaultsRose}
 use Rattle.gen2run.specs.Defined.{WritesOf, RefusesOf, DefinesOf}
 use Rattle.gen2run.specs.declared.forms.Form.{Form}
-use Rattle.gen2run.specs.declared.forms.Form.TheVariants.{Decode, Run}
+use Rattle.gen2run.specs.declared.forms.Form.TheVariants.{Decode, Run, Names}
 use Rattle.gen2run.specs.declared.ending.Wrote.{Wrote}
 use Rattle.gen2run.specs.declared.ending.Wrote.TheVariants.{Text, FaultLine}
 use Rattle.gen2run.specs.declared.ending.WriteEnd.{WriteEnd}
@@ -26,6 +26,7 @@ pub record ReadsAll (old new : Option (List ℕ)) (bytes : List ℕ) : Type 0 wh
 abbrev pub TakesInput : Form → (left left' : Option (List ℕ)) → List ℕ → Type 0
 TakesInput Decode left left' bytes = ReadsAll left left' bytes
 TakesInput (Run mode) left left' bytes = ReadsAll left left' bytes
+TakesInput Names left left' bytes = ReadsAll left left' bytes
 
 -- a text that T names was added whole
 pub record AddsWhole (T : List ℕ → Type 0) (written written' : Option (List ℕ)) : Type 0 where

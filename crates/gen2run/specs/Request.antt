@@ -1,16 +1,17 @@
 -- Profile: the decode lines. A line is a list of fields; the first says what is asked for.
-use Rattle.std.specs.Prelude.{◌≡◌, ◌≢◌, ℕ, ◌≤◌, List, [], ◌∷◌, length, map, codes, Ok}
+use Rattle.std.specs.Prelude.{◌≡◌, ◌≢◌, ℕ, ◌^◌, ◌<◌, ◌≤◌, List, [], ◌∷◌, length, map, codes, Ok}
 use Rattle.std.specs.List.{All}
 use Rattle.std.specs.Fmt.{decimal}
 use Rattle.hex.specs.Hex.{decode_of}
 use Rattle.text_fields.specs.Lines.{fields_of}
 use Rattle.text_fields.specs.Binary.{binary, binary_digit}
+use Rattle.text_fields.specs.Hexadecimal.{hex_words}
 use Rattle.text_fields.specs.CodeNames.{code_word}
 use Rattle.reply_text.specs.ReplyText.{expect_word, IsExpect}
 use Rattle.gen2run.specs.declared.decode.request.RequestKind.{RequestKind}
-use Rattle.gen2run.specs.declared.decode.request.RequestKind.TheVariants.{Stream as StreamKind, Samples as SamplesKind, Reply as ReplyKind, Heard as HeardKind, Pie as PieKind, Command as CommandKind}
+use Rattle.gen2run.specs.declared.decode.request.RequestKind.TheVariants.{Stream as StreamKind, Samples as SamplesKind, Reply as ReplyKind, Heard as HeardKind, Pie as PieKind, Command as CommandKind, Sgtin as SgtinKind, Uri as UriKind}
 use Rattle.gen2run.specs.declared.decode.request.Request.{Request}
-use Rattle.gen2run.specs.declared.decode.request.Request.TheVariants.{Stream, Samples, Reply, Heard, Pie, Command}
+use Rattle.gen2run.specs.declared.decode.request.Request.TheVariants.{Stream, Samples, Reply, Heard, Pie, Command, Sgtin, Uri}
 use Rattle.gen2run.specs.declared.decode.request.FaultReason.{FaultReason}
 use Rattle.gen2run.specs.declared.decode.request.FaultReason.TheVariants.{End, Word, Shape, Number}
 use Rattle.pie_line.specs.Pie.{longest_interval}
@@ -32,6 +33,8 @@ request_word ReplyKind = codes "reply"
 request_word HeardKind = codes "heard"
 request_word PieKind = codes "pie"
 request_word CommandKind = codes "command"
+request_word SgtinKind = codes "sgtin"
+request_word UriKind = codes "uri"
 
 -- the first field is no name of a line code
 abbrev pub NamesNoCode : RequestKind → Type 0
@@ -46,6 +49,8 @@ MayHave ReplyKind count = count ≡ 2
 MayHave HeardKind count = count ≡ 4
 MayHave PieKind count = (1 ≤ count) × (count ≤ 20000)
 MayHave CommandKind count = count ≡ 1
+MayHave SgtinKind count = count ≡ 1
+MayHave UriKind count = count ≡ 1
 
 -- the fields behind the first: their number is right, and none is empty
 abbrev pub HasShape : RequestKind → List (List ℕ) → Type 0
@@ -59,6 +64,8 @@ request_kind (Reply expect bits) = ReplyKind
 request_kind (Heard code trext expect levels) = HeardKind
 request_kind (Pie intervals) = PieKind
 request_kind (Command bits) = CommandKind
+request_kind (Sgtin words) = SgtinKind
+request_kind (Uri text) = UriKind
 
 -- The fields behind the first spell the request. Sample bytes are hexadecimal digits of either case; all else has one
 -- spelling.
@@ -70,6 +77,8 @@ AreSpelled (Reply expect bits) others = others ≡ expect_word expect ∷ binary
 AreSpelled (Heard code trext expect levels) others = others ≡ code_word code ∷ (binary_digit trext ∷ []) ∷ expect_word expect ∷ binary levels ∷ []
 AreSpelled (Pie intervals) others = others ≡ map decimal intervals
 AreSpelled (Command bits) others = others ≡ binary bits ∷ []
+AreSpelled (Sgtin words) others = others ≡ hex_words words ∷ []
+AreSpelled (Uri text) others = others ≡ text ∷ []
 
 -- the limits on the numbers and lists of a line
 abbrev pub IsWithinLimits : Request → Type 0
@@ -80,6 +89,8 @@ IsWithinLimits (Reply expect bits) = IsExpect expect × (length bits ≤ most_bi
 IsWithinLimits (Heard code trext expect levels) = IsExpect expect × (length levels ≤ most_levels)
 IsWithinLimits (Pie intervals) = (1 ≤ length intervals) × (length intervals ≤ 20000) × All (λ interval. interval ≤ longest_interval) intervals
 IsWithinLimits (Command bits) = length bits ≤ most_bits
+IsWithinLimits (Sgtin words) = (1 ≤ length words) × (length words ≤ 31) × All (λ word. word < 2 ^ 16) words
+IsWithinLimits (Uri text) = text ≢ []
 
 -- behind a first field of this kind, these fields ask for this
 pub record AsksBehind (kind : RequestKind) (others : List (List ℕ)) (request : Request) : Type 0 where

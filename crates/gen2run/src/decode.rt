@@ -3,4 +3,5 @@
 pub mod answer;
 pub mod laws;
 pub mod lines;
+pub mod raw_field;
 pub mod request;

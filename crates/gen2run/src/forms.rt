@@ -11,6 +11,8 @@ pub enum Form {
     Decode,
     /// The word `run`, and `trace` behind it for a trace: run the scenario of the input, and report.
     Run(Mode),
+    /// The word `names`: copy lines, and add its name behind each line that has one.
+    Names,
 }
 
 /// Whether a word is the name.
@@ -28,6 +30,7 @@ pub fn form_of(words: &[String]) -> Option<Form>
     match words {
         [word] if is_word(word.as_str(), "decode") => Some(Form::Decode),
         [word] if is_word(word.as_str(), "run") => Some(Form::Run(Mode::Plain)),
+        [word] if is_word(word.as_str(), "names") => Some(Form::Names),
         [word, mode] if is_word(word.as_str(), "run") && is_word(mode.as_str(), "trace") => {
             Some(Form::Run(Mode::Trace))
         }

@@ -11,6 +11,7 @@ use scenario::{
     scenario_texts_are_not_faulty, scenarios_are_told_apart, texts_are_scenarios_or_faulty,
     texts_have_one_fault,
 };
+use sgtin_text::lines_have_names;
 
 /// A list of words is the spelling of one form at most.
 pub fn forms_are_told_apart()
@@ -33,6 +34,7 @@ pub fn inputs_have_one_text()
     decode_lines_have_one_text();
     scenarios_are_told_apart();
     texts_have_one_fault();
+    lines_have_names();
     grammatical_inputs_are_not_refused();
 }
 

@@ -5,6 +5,8 @@ mod decode;
 mod ending;
 mod forms;
 mod laws;
+mod names;
+mod page;
 mod program;
 mod run;
 mod status;

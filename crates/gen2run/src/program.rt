@@ -10,6 +10,7 @@ use crate::decode::lines::decode_input;
 use crate::ending::{WriteEnd, Wrote};
 use crate::forms::{Form, form_of};
 use crate::laws::grammatical_inputs_are_not_refused;
+use crate::names::names_input;
 use crate::run::run_input;
 use crate::status::Status;
 use air_io::{ReadEnd, Sink, Source, read_to_end};
@@ -122,5 +123,6 @@ fn write_defined<O: Sink>(
     match form {
         Form::Decode => decode_input(alloc, bytes, output),
         Form::Run(mode) => run_input(alloc, mode, bytes, output),
+        Form::Names => names_input(bytes, output),
     }
 }

@@ -1,23 +1,30 @@
 //! The answer to a decode line.
-ghost use Rattle.std.specs.Prelude.{◌≡◌, ◌≤◌, ◌++◌, length, OnOk};
+ghost use Rattle.std.specs.Prelude.{◌≡◌, ◌≤◌, ◌++◌, length, IfOk, IfErr, OnOk};
 ghost use Rattle.std.specs.String.{string_bytes};
-ghost use Rattle.gen2run.specs.Answer.{AddsAnswer, answer_line, streamed, sliced, replied, heard, framed, commanded, with_left};
+ghost use Rattle.gen2run.specs.Answer.{AddsAnswer, answer_line, streamed, sliced, replied, heard, framed, commanded, named, worded, with_left};
 ghost use Rattle.gen2run.specs.Request.{IsWithinLimits, most_levels};
 ghost use Rattle.command_grammar.specs.Commands.{IsFinishAnswer};
+ghost use Rattle.epc_sgtin.specs.SgtinValue.{SgtinValue};
+ghost use Rattle.epc_sgtin.specs.Epc.{IsSgtin};
+ghost use Rattle.epc_sgtin.specs.Uri.{IsUriOf};
+ghost use Rattle.epc_sgtin.specs.UriFaults.{RefusesUri};
 
+use crate::decode::raw_field::RawField;
 use crate::decode::request::{MOST_INTERVALS, MOST_LEVELS, Request};
 use air_channel::receive;
 use bit_strings::{Bits, Code, Levels, OutOfMemory};
 use command_grammar::{Command, CommandRefusal, Framer};
 use command_text::{push_command, push_command_refusal};
+use epc_sgtin::{EpcFault, Sgtin, UriFault};
 use line_codes::{LineRefusal, decode_levels};
 use pie_line::{FrameKind, Intervals, PieRefusal, decode_frame};
 use pie_text::{Numbers, push_frame, push_pie_refusal};
 use reply_grammar::{Expect, Received, Reply, ReplyRefusal, decode_reply};
 use reply_text::{push_reply, push_reply_refusal};
 use sample_slicer::{SliceRefusal, slice_levels};
+use sgtin_text::{push_epc_fault, push_name, push_sgtin_words, push_uri_fault};
 use std::alloc::Global;
-use text_fields::{Digits, HexBytes, push_bits, push_number};
+use text_fields::{Digits, HexBytes, Words, push_bits, push_number};
 
 /// Room for the levels, bits and intervals of the longest line, taken once for all lines. The samples of
 /// a line and the text of the answers take memory of their own.
@@ -71,6 +78,8 @@ impl Workspace {
             } => self.answer_heard(*code, *trext, expect, levels, text),
             Request::Pie { intervals } => self.answer_pie(intervals, text),
             Request::Command { bits } => self.answer_command(bits, text),
+            Request::Sgtin { words } => self.answer_sgtin(words, text),
+            Request::Uri { text: uri } => answer_uri(uri, text),
         }
     }
 
@@ -157,6 +166,32 @@ impl Workspace {
         let outcome = command_of(self.bits.as_slice());
         push_commanded(text, &outcome)
     }
+
+    /// Adds the trade item number that words carry, or why they carry none. Each line takes memory for its words.
+    fn answer_sgtin(&self, words: &Words, text: &mut String) -> Result<(), OutOfMemory>
+        ensures { OnOk result (AddsAnswer (Request.Sgtin words.now) (string_bytes text.old) (string_bytes text.new)) }
+    {
+        let words = words.to_vec(self.alloc)?;
+        let outcome = Sgtin::decode(&words);
+        push_named(text, &outcome)
+    }
+}
+
+/// Adds the words of the trade item number that a URI names, or why it names none.
+fn answer_uri(uri: &RawField, text: &mut String) -> Result<(), OutOfMemory>
+    ensures { OnOk result (AddsAnswer (Request.Uri uri.now) (string_bytes text.old) (string_bytes text.new)) }
+{
+    let outcome = words_of_uri(uri.as_slice());
+    push_worded(text, &outcome)
+}
+
+/// The words of the trade item number that a URI names, or why it names none.
+fn words_of_uri(uri: &[u8]) -> Result<[u16; 6], UriFault>
+    ensures ok { IfOk result (λ words. (sgtin : SgtinValue) × IsUriOf sgtin uri.now × IsSgtin sgtin words) }
+    ensures refused { IfErr result (λ fault. RefusesUri fault uri.now) }
+{
+    let sgtin = Sgtin::read_uri(uri)?;
+    Ok(sgtin.encode())
 }
 
 /// Adds what a line decoder answered, as a line.
@@ -259,6 +294,28 @@ fn push_commanded(
     match outcome {
         Ok(command) => push_command(text, command)?,
         Err(refusal) => push_command_refusal(text, *refusal)?,
+    }
+    text.push_str("\n")
+}
+
+/// Adds what words carry, as a line.
+fn push_named(text: &mut String, outcome: &Result<Sgtin, EpcFault>) -> Result<(), OutOfMemory>
+    ensures { OnOk result (string_bytes text.new ≡ string_bytes text.old ++ answer_line (named outcome.now)) }
+{
+    match outcome {
+        Ok(sgtin) => push_name(text, sgtin)?,
+        Err(fault) => push_epc_fault(text, *fault)?,
+    }
+    text.push_str("\n")
+}
+
+/// Adds what a URI names, as a line.
+fn push_worded(text: &mut String, outcome: &Result<[u16; 6], UriFault>) -> Result<(), OutOfMemory>
+    ensures { OnOk result (string_bytes text.new ≡ string_bytes text.old ++ answer_line (worded outcome.now)) }
+{
+    match outcome {
+        Ok(words) => push_sgtin_words(text, words)?,
+        Err(fault) => push_uri_fault(text, *fault)?,
     }
     text.push_str("\n")
 }

@@ -12,6 +12,7 @@ use crate::decode::request::Request;
 use crate::forms::Form;
 use air_channel::one_received;
 use command_grammar::one_outcome;
+use epc_sgtin::{sgtin_laws, uri_laws};
 use line_codes::code_laws;
 use reply_grammar::reply_laws;
 
@@ -20,8 +21,10 @@ pub fn decode_lines_have_one_text()
     ensures answers { (bytes one other : List ℕ) → Decodes bytes one → Decodes bytes other → one ≡ other }
     ensures fault_line { (bytes one other : List ℕ) → IsFaultText bytes one → IsFaultText bytes other → one ≡ other }
 {
-    // The bits of a command line have one outcome.
+    // The bits of a command line have one outcome, and so have words and URIs.
     one_outcome();
+    sgtin_laws();
+    uri_laws();
 }
 
 /// Each request within its limits has an answer.
@@ -35,6 +38,8 @@ pub fn requests_have_an_answer()
     one_received();
     pie_line::one_answer();
     one_outcome();
+    sgtin_laws();
+    uri_laws();
 }
 
 /// Decode lines within the limit have a defined text: their answers, or their fault line.

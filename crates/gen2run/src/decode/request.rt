@@ -3,12 +3,13 @@ ghost use Rattle.std.specs.Prelude.{◌≡◌, ◌≢◌, ℕ, List, ◌∷◌, 
 ghost use Rattle.text_fields.specs.Lines.{fields_of};
 ghost use Rattle.gen2run.specs.Request.{request_word, NamesNoCode, AsksForRequest, AsksBehind, AreFaulty, IsFaultyRequest};
 
+use crate::decode::raw_field::RawField;
 use bit_strings::Code;
 use pie_text::{NotNumbers, Numbers};
 use reply_grammar::Expect;
 use reply_text::expect_of;
 use text_fields::{
-    Digits, Fields, HexBytes, code_named, four_fields, number, one_bit, one_field, three_fields,
+    Digits, Fields, HexBytes, Words, code_named, four_fields, number, one_bit, one_field, three_fields,
     two_fields,
 };
 
@@ -26,6 +27,9 @@ pub const MOST_BITS: u32 = 8_240;
 
 /// The greatest number of intervals in a line.
 pub const MOST_INTERVALS: u32 = 20_000;
+
+/// The greatest number of an EPC's words in a line.
+const MOST_WORDS: u32 = 31;
 
 /// The greatest interval in a line, in nanoseconds.
 const MOST_NANOSECONDS: u32 = 999_999;
@@ -45,6 +49,10 @@ pub enum RequestKind {
     Pie,
     /// Bits of an interrogator's command.
     Command,
+    /// Words of a trade item number's EPC.
+    Sgtin,
+    /// URI of a trade item number.
+    Uri,
 }
 
 /// What a line asks for.
@@ -81,6 +89,14 @@ pub enum Request<'a> {
     /// The command that bits are: `command BITS`.
     Command {
         bits: Digits<'a>,
+    },
+    /// The trade item number that an EPC carries: `sgtin WORDS`.
+    Sgtin {
+        words: Words<'a>,
+    },
+    /// The EPC that carries what a URI names: `uri TEXT`.
+    Uri {
+        text: RawField<'a>,
     },
 }
 
@@ -128,6 +144,8 @@ fn other_kind(word: &[u8]) -> Option<RequestKind>
         b"heard" => Some(RequestKind::Heard),
         b"pie" => Some(RequestKind::Pie),
         b"command" => Some(RequestKind::Command),
+        b"sgtin" => Some(RequestKind::Sgtin),
+        b"uri" => Some(RequestKind::Uri),
         _ => None,
     }
 }
@@ -149,6 +167,8 @@ pub fn request_of(line: &[u8]) -> Result<Request<'_>, FaultReason>
         Some(RequestKind::Heard) => heard_of(fields),
         Some(RequestKind::Pie) => pie_of(fields),
         Some(RequestKind::Command) => command_of(fields),
+        Some(RequestKind::Sgtin) => sgtin_of(fields),
+        Some(RequestKind::Uri) => uri_of(fields),
         None => Err(FaultReason::Word),
     }
 }
@@ -270,4 +290,34 @@ fn command_of<'a>(others: Fields<'a>) -> Result<Request<'a>, FaultReason>
         return Err(FaultReason::Number);
     };
     Ok(Request::Command { bits })
+}
+
+/// The request of a line that begins with `sgtin`, by its other field.
+fn sgtin_of<'a>(others: Fields<'a>) -> Result<Request<'a>, FaultReason>
+    ensures ok { IfOk result (AsksBehind RequestKind.Sgtin others.entry) }
+    ensures refused { IfErr result (AreFaulty RequestKind.Sgtin others.entry) }
+{
+    let Some(words) = one_field(others) else {
+        return Err(FaultReason::Shape);
+    };
+    let Some(words) = Words::new(words, MOST_WORDS) else {
+        return Err(FaultReason::Number);
+    };
+    if words.is_empty() {
+        return Err(FaultReason::Number);
+    }
+    Ok(Request::Sgtin { words })
+}
+
+/// The request of a line that begins with `uri`, by its other field.
+fn uri_of<'a>(others: Fields<'a>) -> Result<Request<'a>, FaultReason>
+    ensures ok { IfOk result (AsksBehind RequestKind.Uri others.entry) }
+    ensures refused { IfErr result (AreFaulty RequestKind.Uri others.entry) }
+{
+    match one_field(others) {
+        Some(text) => Ok(Request::Uri {
+            text: RawField::new(text),
+        }),
+        None => Err(FaultReason::Shape),
+    }
 }

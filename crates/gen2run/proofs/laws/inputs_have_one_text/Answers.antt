@@ -1,7 +1,8 @@
 use Rattle.std.proofs.Common.{◌≡◌, ℕ, List, inl, inr}
 use Rattle.gen2run.specs.Defined.{IsGrammaticalOf, WritesOf, RefusesOf, DefinesOf}
 use Rattle.gen2run.specs.declared.forms.Form.{Form}
-use Rattle.gen2run.specs.declared.forms.Form.TheVariants.{Decode, Run}
+use Rattle.gen2run.specs.declared.forms.Form.TheVariants.{Decode, Run, Names}
+use Rattle.gen2run.proofs.NamedLines.{same_named, same_cut_line}
 use Rattle.gen2run.proofs.Ends.{AllowedAreNotRefused}
 use Rattle.gen2run.proofs.RunEnds.{same_report, same_refusal}
 use Rattle.gen2run.proofs.laws.inputs_have_one_text.Goals as goal
@@ -10,6 +11,7 @@ use Rattle.gen2run.proofs.laws.inputs_have_one_text.Goals as goal
 allowed_of : (form : Form) (bytes text : List ℕ) → WritesOf form bytes text → IsGrammaticalOf form bytes
 allowed_of Decode bytes text writes = (writes.requests, writes.asks)
 allowed_of (Run mode) bytes text writes = (writes.scenario, writes.legal, writes.spelled)
+allowed_of Names bytes text writes = (writes.lines, writes.cut)
 
 -- what is defined is one text, where it is one in each of its two cases, and no input has both
 defined_once : AllowedAreNotRefused → (form : Form) → ((bytes one other : List ℕ) → WritesOf form bytes one → WritesOf form bytes other → one ≡ other)
@@ -25,6 +27,8 @@ returns-clause-one c Decode =
     defined_once c.grammatical_inputs_are_not_refused.ensures Decode c.decode_lines_have_one_text.ensures.answers c.decode_lines_have_one_text.ensures.fault_line
 returns-clause-one c (Run mode) =
     defined_once c.grammatical_inputs_are_not_refused.ensures (Run mode) (same_report c.scenarios_are_told_apart.ensures mode) (same_refusal c.texts_have_one_fault.ensures)
+returns-clause-one c Names =
+    defined_once c.grammatical_inputs_are_not_refused.ensures Names (same_named c.lines_have_names.ensures.one) same_cut_line
 
 pub returns-clause-apart : goal.returns-clause-apart
 returns-clause-apart c form bytes one other writes refused = c.grammatical_inputs_are_not_refused.ensures form bytes other (allowed_of form bytes one writes) refused

@@ -1,0 +1,3 @@
+pub mod SixWords
+pub mod OneName
+pub mod SomeName

@@ -1,0 +1,2 @@
+pub mod SgtinText
+pub mod Names
