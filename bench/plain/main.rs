@@ -1,10 +1,14 @@
-//! Plays scenarios without operations as `gen2run run` and `gen2run run trace` do, in plain Rust and unproved, so that the time
+//! Plays scenarios as `gen2run run` and `gen2run run trace` do, in plain Rust and unproved, so that the time
 //! of the proved program can be compared with it. It does the same work: each command is encoded as a frame and decoded, and
 //! each reply that the channel gives is encoded as a stream of levels and decoded.
 
+mod access;
 mod bits;
 mod command;
 mod line_code;
+mod locks;
+mod memory;
+mod operation;
 mod pie;
 mod scenario;
 mod tag;
