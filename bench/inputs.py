@@ -1,10 +1,12 @@
 #!/usr/bin/env python3
-"""Writes an input of one kind: inputs.py KIND SIZE > FILE. It has at most SIZE bytes; of the kind `run`, SIZE rounds.
+"""Writes an input of one kind: inputs.py KIND SIZE > FILE. It has at most SIZE bytes; of the kind `run`, SIZE rounds; of the
+kind `operations`, SIZE operations.
 
 Of decode lines each line is as long as a line may be (or a whole reply), and each stream, reply and sample group is a
 good one, so that the decoder goes over all of it. `scenario` is a scenario without steps, with as many tags of full banks as
 fit, and `long` one whose first tag line is as long as fits, so that its last field is refused. `run` is a scenario that is
-played: 256 tags, and rounds in each of which every tag is listed. `names` is list lines, each of an SGTIN-96.
+played: 256 tags, and rounds in each of which every tag is listed. `operations` is one such round with operations on each tag.
+`names` is list lines, each of an SGTIN-96.
 """
 
 import random
@@ -151,10 +153,38 @@ def names(size, rng):
         left -= len(line)
 
 
+ACCESS = "5EC0DE42"
+KILL = "C0FFEE01"
+
+
+def operations(count, rng):
+    """One round, and on each tag Access, then reads, writes and locks in turn, and Kill in the end."""
+    text = [HEAD]
+    for number in range(256):
+        epc = f"30003074257BF7194E400000{number:04X}"
+        text.append(f"tag {KILL} {ACCESS} 0010000010 {epc} E200{number:04X} {words(8, rng)} {words(64, rng)}\n")
+    text.append("round all 0 a 8 300 1024\n")
+    between = [
+        "read user 0 0",
+        f"write user 3 {words(1, rng)}",
+        "read epc 1 0",
+        f"blockwrite user 0 {words(8, rng)}",
+        "read user 0 8",
+        "lock 00802",
+        "blockerase user 4 4",
+        "read tid 0 0",
+        "read res 0 4",
+        f"write epc 7 {words(1, rng)}",
+    ]
+    chosen = [f"access {ACCESS}"] + [between[place % len(between)] for place in range(count - 2)] + [f"kill {KILL}"]
+    text += [f"op {operation}\n" for operation in chosen]
+    return "".join(text) + END
+
+
 def main():
     kind, size = sys.argv[1], int(sys.argv[2])
     rng = random.Random(7)
-    whole = {"scenario": scenario, "long": long, "run": run, "names": names}
+    whole = {"scenario": scenario, "long": long, "run": run, "operations": operations, "names": names}
     if kind in whole:
         sys.stdout.write(whole[kind](size, rng))
         return

@@ -1,5 +1,6 @@
-//! The commands that a run without operations sends, and their bits (6.3.2.11).
+//! The commands and their bits (6.3.2.11).
 
+use crate::access::Access;
 use crate::bits::{crc5, push_crc16, push_field, value_of, without_crc16};
 
 /// The inventoried flag of a session.
@@ -36,9 +37,26 @@ pub enum Change {
 
 #[derive(Clone, Copy)]
 pub enum Bank {
+    Reserved,
     Epc,
     Tid,
     User,
+}
+
+impl Bank {
+    pub fn field(self) -> u32 {
+        self as u32
+    }
+
+    /// The bank whose field of two bits this is.
+    pub fn of_field(field: u32) -> Bank {
+        match field {
+            0 => Bank::Reserved,
+            1 => Bank::Epc,
+            2 => Bank::Tid,
+            _ => Bank::User,
+        }
+    }
 }
 
 /// What a Select changes.
@@ -77,6 +95,7 @@ pub enum Command {
     QueryAdjust { session: u8, change: Change },
     Select(Select),
     Nak,
+    Access(Access),
 }
 
 impl Command {
@@ -93,10 +112,11 @@ impl Command {
             }
             Command::Select(select) => encode_select(select, bits),
             Command::Nak => push_field(bits, 0b1100_0000, 8),
+            Command::Access(access) => access.encode(bits),
         }
     }
 
-    /// The command that the bits spell, of those that are sent here.
+    /// The command that the bits spell.
     pub fn decode(bits: &[bool]) -> Option<Command> {
         match (bits.len(), value_of(&bits[..bits.len().min(4)])) {
             (4, head @ 0b0000..=0b0011) => Some(Command::QueryRep {
@@ -117,7 +137,7 @@ impl Command {
             }
             (_, 0b1010) => decode_select(bits).map(Command::Select),
             (8, _) => (value_of(bits) == 0b1100_0000).then_some(Command::Nak),
-            _ => None,
+            _ => Access::decode(bits).map(Command::Access),
         }
     }
 }
@@ -173,12 +193,7 @@ fn encode_select(select: &Select, bits: &mut Vec<bool>) {
     };
     push_field(bits, target, 3);
     push_field(bits, select.action, 3);
-    let bank = match select.bank {
-        Bank::Epc => 1,
-        Bank::Tid => 2,
-        Bank::User => 3,
-    };
-    push_field(bits, bank, 2);
+    push_field(bits, select.bank.field(), 2);
     push_ebv(bits, select.pointer);
     push_field(bits, select.mask.len() as u32, 8);
     bits.extend_from_slice(&select.mask);
@@ -193,12 +208,10 @@ fn decode_select(bits: &[bool]) -> Option<Select> {
         0b100 => Target::Sl,
         _ => return None,
     };
-    let bank = match value_of(body.get(10..12)?) {
-        1 => Bank::Epc,
-        2 => Bank::Tid,
-        3 => Bank::User,
-        _ => return None,
-    };
+    let bank = Bank::of_field(value_of(body.get(10..12)?));
+    if matches!(bank, Bank::Reserved) {
+        return None;
+    }
     let (pointer, rest) = take_ebv(&body[12..])?;
     let length = value_of(rest.get(..8)?) as usize;
     let mask = rest.get(8..8 + length)?.to_vec();
@@ -213,7 +226,7 @@ fn decode_select(bits: &[bool]) -> Option<Select> {
 }
 
 /// Appends the shortest spelling of the number as an extensible bit vector (annex A).
-fn push_ebv(bits: &mut Vec<bool>, value: u32) {
+pub fn push_ebv(bits: &mut Vec<bool>, value: u32) {
     let blocks = (1..4)
         .rev()
         .find(|&block| value >> (7 * block) != 0)
@@ -225,7 +238,7 @@ fn push_ebv(bits: &mut Vec<bool>, value: u32) {
 }
 
 /// The number of the extensible bit vector at the front, and the bits behind it.
-fn take_ebv(mut bits: &[bool]) -> Option<(u32, &[bool])> {
+pub fn take_ebv(mut bits: &[bool]) -> Option<(u32, &[bool])> {
     let mut value = 0;
     loop {
         let block = bits.get(..8)?;

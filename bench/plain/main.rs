@@ -1,12 +1,16 @@
-//! Plays scenarios without operations as `gen2run run` and `gen2run run trace` do, and names what was listed as `gen2run names`
+//! Plays scenarios as `gen2run run` and `gen2run run trace` do, and names what was listed as `gen2run names`
 //! does, in plain Rust and unproved, so that the time of the proved program can be compared with it. It does the same work: in
 //! a run each command is encoded as a frame and decoded, and each reply that the channel gives is encoded as a stream of levels
 //! and decoded.
 
+mod access;
 mod bits;
 mod command;
 mod line_code;
+mod locks;
+mod memory;
 mod names;
+mod operation;
 mod pie;
 mod scenario;
 mod tag;

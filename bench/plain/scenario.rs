@@ -1,9 +1,13 @@
-//! Reads the text of a scenario without operations. Forms are read, and a faulty line is told by its number alone.
+//! Reads the text of a scenario. Forms are read, and a faulty line is told by its number alone.
 
 use std::collections::BTreeMap;
 
+use crate::access::{Password, Place};
 use crate::command::{Bank, Flag, Sel, Select, Target};
 use crate::line_code::{Code, LineCode};
+use crate::locks::Locks;
+use crate::memory::Memory;
+use crate::operation::{Operation, Operations};
 use crate::pie::Timing;
 use crate::tag::{Event, Expiry, Tag};
 
@@ -46,7 +50,7 @@ pub enum Step {
     Select(Select),
     Nak,
     Event(usize, Event),
-    Round(Round),
+    Round(Round, Operations),
 }
 
 pub struct Scenario {
@@ -96,10 +100,27 @@ impl Scenario {
                 let (tag, event) = self.read_event(&fields)?;
                 self.steps.push(Step::Event(tag, event));
             }
-            "round" => self.steps.push(Step::Round(read_round(&fields)?)),
+            "round" => {
+                let round = read_round(&fields)?;
+                self.steps.push(Step::Round(round, Operations::default()));
+            }
+            "only" => {
+                let operations = self.operations()?;
+                let is_first = operations.only.is_none() && operations.list.is_empty();
+                operations.only = Some(is_first.then(|| read_words(rest))??);
+            }
+            "op" => self.operations()?.list.push(read_operation(&fields)?),
             _ => return None,
         }
         Some(())
+    }
+
+    /// The operations of the round that is the last step.
+    fn operations(&mut self) -> Option<&mut Operations> {
+        match self.steps.last_mut()? {
+            Step::Round(_, operations) => Some(operations),
+            _ => None,
+        }
     }
 
     fn read_tag_number(&self, field: &str) -> Option<usize> {
@@ -182,19 +203,28 @@ fn read_tag(fields: &[&str]) -> Option<Tag> {
         .first()
         .is_some_and(|&pc| usize::from(pc >> 11) < epc.len())
         && !draws.is_empty();
-    fits.then_some(())?;
-    Some(Tag::new(
+    let memory = Memory {
         reserved,
-        locks,
-        &epc,
-        read_words(tid)?,
-        read_words(user)?,
-        draws,
-    ))
+        epc: [&[0], epc.as_slice()].concat(),
+        tid: read_words(tid)?,
+        user: read_words(user)?,
+        locks: Locks::read(locks)?,
+    };
+    fits.then(|| Tag::new(memory, draws))
 }
 
 fn read_session(field: &str) -> Option<u8> {
     field.parse().ok().filter(|&session| session < 4)
+}
+
+fn read_bank(field: &str) -> Option<Bank> {
+    match field {
+        "res" => Some(Bank::Reserved),
+        "epc" => Some(Bank::Epc),
+        "tid" => Some(Bank::Tid),
+        "user" => Some(Bank::User),
+        _ => None,
+    }
 }
 
 fn read_select(fields: &[&str]) -> Option<Select> {
@@ -207,12 +237,7 @@ fn read_select(fields: &[&str]) -> Option<Select> {
             session => Target::Session(read_session(session)?),
         },
         action: action.parse().ok()?,
-        bank: match *bank {
-            "epc" => Bank::Epc,
-            "tid" => Bank::Tid,
-            "user" => Bank::User,
-            _ => return None,
-        },
+        bank: read_bank(bank).filter(|bank| !matches!(bank, Bank::Reserved))?,
         pointer: pointer.parse().ok()?,
         mask: mask
             .bytes()
@@ -239,4 +264,43 @@ fn read_round(fields: &[&str]) -> Option<Round> {
         step: step.parse().ok()?,
         limit: limit.parse().ok()?,
     })
+}
+
+fn read_operation(fields: &[&str]) -> Option<Operation> {
+    let place = |bank, pointer: &str| {
+        Some(Place {
+            bank: read_bank(bank)?,
+            pointer: pointer.parse().ok()?,
+        })
+    };
+    let give = |password, value| {
+        Some(Operation::Give {
+            password,
+            value: u32::from_str_radix(value, 16).ok()?,
+        })
+    };
+    match fields {
+        ["read", bank, pointer, count] => Some(Operation::Read {
+            place: place(bank, pointer)?,
+            count: count.parse().ok()?,
+        }),
+        ["write", bank, pointer, word] => Some(Operation::Write {
+            place: place(bank, pointer)?,
+            word: u16::from_str_radix(word, 16).ok()?,
+        }),
+        ["blockwrite", bank, pointer, words] => Some(Operation::BlockWrite {
+            place: place(bank, pointer)?,
+            words: read_words(words)?,
+        }),
+        ["blockerase", bank, pointer, count] => Some(Operation::BlockErase {
+            place: place(bank, pointer)?,
+            count: count.parse().ok()?,
+        }),
+        ["lock", payload] => Some(Operation::Lock {
+            payload: u32::from_str_radix(payload, 16).ok()?,
+        }),
+        ["access", value] => give(Password::Access, value),
+        ["kill", value] => give(Password::Kill, value),
+        _ => None,
+    }
 }

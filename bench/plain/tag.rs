@@ -1,7 +1,9 @@
 //! One tag: its memory, flags and state, and what it does on a command or an event (6.3.2).
 
-use crate::bits::{crc16, push_crc16, push_field, push_words};
-use crate::command::{Bank, Change, Command, Flag, Query, Sel, Select, Target};
+use crate::access::{Access, Order, Password};
+use crate::bits::{push_crc16, push_field, push_words};
+use crate::command::{Change, Command, Flag, Query, Sel, Select, Target};
+use crate::memory::{Memory, Refusal};
 
 /// The session and Q of the round that a tag takes part in.
 #[derive(Clone, Copy)]
@@ -10,14 +12,73 @@ pub struct Round {
     q: u8,
 }
 
-/// The states that a tag reaches without operations.
+/// What a tag holds in open and in secured.
+#[derive(Clone, Copy)]
+pub struct Held {
+    round: Round,
+    pub secured: bool,
+    handle: u16,
+    /// What covers the next word or half of a password.
+    cover: Option<u16>,
+    /// The upper half of a password, where it came and the lower one is awaited.
+    half: Option<(Password, u16)>,
+}
+
 #[derive(Clone, Copy)]
 pub enum State {
     Off,
+    Killed,
     Ready,
-    Arbitrate { round: Round, slot: u16 },
-    Reply { round: Round, rn: u16 },
-    Acknowledged { round: Round, rn: u16 },
+    Arbitrate {
+        round: Round,
+        slot: u16,
+    },
+    Reply {
+        round: Round,
+        rn: u16,
+    },
+    Acknowledged {
+        round: Round,
+        rn: u16,
+    },
+    /// Open or secured.
+    Held(Held),
+}
+
+/// The bits that a tag answers with.
+pub struct Reply {
+    pub bits: Vec<bool>,
+    /// Whether the reply has the extended preamble, whatever the Query asked for.
+    pub extended: bool,
+}
+
+impl Reply {
+    fn plain(bits: Vec<bool>) -> Reply {
+        Reply {
+            bits,
+            extended: false,
+        }
+    }
+
+    /// An RN16 or a handle with its CRC-16.
+    fn handle(handle: u16) -> Reply {
+        let mut bits = Vec::new();
+        push_field(&mut bits, u32::from(handle), 16);
+        push_crc16(&mut bits);
+        Reply::plain(bits)
+    }
+
+    /// A header bit of 0 and the words, or a header bit of 1 and the error code; and the handle.
+    fn result(result: Result<&[u16], Refusal>, handle: u16, extended: bool) -> Reply {
+        let mut bits = vec![result.is_err()];
+        match result {
+            Ok(words) => push_words(&mut bits, words),
+            Err(refusal) => push_field(&mut bits, refusal as u32, 8),
+        }
+        push_field(&mut bits, u32::from(handle), 16);
+        push_crc16(&mut bits);
+        Reply { bits, extended }
+    }
 }
 
 /// A flag that loses its value after a time.
@@ -38,11 +99,7 @@ pub enum Event {
 }
 
 pub struct Tag {
-    pub reserved: Vec<u16>,
-    pub locks: String,
-    pub epc: Vec<u16>,
-    pub tid: Vec<u16>,
-    pub user: Vec<u16>,
+    pub memory: Memory,
     pub flags: [Flag; 4],
     pub sl: bool,
     pub state: State,
@@ -51,40 +108,17 @@ pub struct Tag {
 }
 
 impl Tag {
-    /// A tag in ready. `epc` begins with PC: StoredCRC is put before it.
-    pub fn new(
-        reserved: Vec<u16>,
-        locks: &str,
-        epc: &[u16],
-        tid: Vec<u16>,
-        user: Vec<u16>,
-        draws: Vec<u16>,
-    ) -> Tag {
-        let mut tag = Tag {
-            reserved,
-            locks: locks.to_string(),
-            epc: [&[0], epc].concat(),
-            tid,
-            user,
+    /// A tag in ready. StoredCRC is computed.
+    pub fn new(mut memory: Memory, draws: Vec<u16>) -> Tag {
+        memory.store_crc();
+        Tag {
+            memory,
             flags: [Flag::A; 4],
             sl: false,
             state: State::Ready,
             draws,
             next_draw: 0,
-        };
-        tag.store_crc();
-        tag
-    }
-
-    /// PC and as many words of the EPC as its length field says.
-    fn pc_and_epc(&self) -> &[u16] {
-        &self.epc[1..2 + usize::from(self.epc[1] >> 11)]
-    }
-
-    fn store_crc(&mut self) {
-        let mut bits = Vec::new();
-        push_words(&mut bits, self.pc_and_epc());
-        self.epc[0] = crc16(&bits);
+        }
     }
 
     fn draw(&mut self) -> u16 {
@@ -95,8 +129,8 @@ impl Tag {
 
     /// Hears a command, and answers with the bits of a reply or not at all.
     #[inline]
-    pub fn hear(&mut self, command: &Command) -> Option<Vec<bool>> {
-        if matches!(self.state, State::Off) {
+    pub fn hear(&mut self, command: &Command) -> Option<Reply> {
+        if matches!(self.state, State::Off | State::Killed) {
             return None;
         }
         match command {
@@ -109,12 +143,15 @@ impl Tag {
                 self.back();
                 None
             }
+            Command::Access(access) => self.hear_access(access),
         }
     }
 
-    fn hear_query(&mut self, query: &Query) -> Option<Vec<bool>> {
+    fn hear_query(&mut self, query: &Query) -> Option<Reply> {
         match self.state {
-            State::Acknowledged { round, .. } if round.session == query.session => {
+            State::Acknowledged { round, .. } | State::Held(Held { round, .. })
+                if round.session == query.session =>
+            {
                 self.invert(query.session)
             }
             _ => {}
@@ -136,7 +173,7 @@ impl Tag {
     }
 
     #[inline]
-    fn hear_query_rep(&mut self, session: u8) -> Option<Vec<bool>> {
+    fn hear_query_rep(&mut self, session: u8) -> Option<Reply> {
         match self.state {
             State::Arbitrate { round, slot: 1 } if round.session == session => {
                 Some(self.reply(round))
@@ -155,12 +192,11 @@ impl Tag {
                 };
                 None
             }
-            State::Acknowledged { round, .. } if round.session == session => self.close(round),
-            _ => None,
+            _ => self.hear_end_of_slot(session),
         }
     }
 
-    fn hear_query_adjust(&mut self, session: u8, change: Change) -> Option<Vec<bool>> {
+    fn hear_query_adjust(&mut self, session: u8, change: Change) -> Option<Reply> {
         match self.state {
             State::Arbitrate { round, .. } | State::Reply { round, .. }
                 if round.session == session =>
@@ -172,20 +208,162 @@ impl Tag {
                 };
                 self.enter(Round { session, q })
             }
-            State::Acknowledged { round, .. } if round.session == session => self.close(round),
+            _ => self.hear_end_of_slot(session),
+        }
+    }
+
+    /// A QueryRep or QueryAdjust in acknowledged, open or secured.
+    fn hear_end_of_slot(&mut self, session: u8) -> Option<Reply> {
+        match self.state {
+            State::Held(Held {
+                round,
+                half: Some(_),
+                ..
+            }) if round.session == session => self.back(),
+            State::Acknowledged { round, .. } | State::Held(Held { round, .. })
+                if round.session == session =>
+            {
+                self.invert(session);
+                self.state = State::Ready;
+            }
+            _ => {}
+        }
+        None
+    }
+
+    #[inline]
+    fn hear_ack(&mut self, sent: u16) -> Option<Reply> {
+        match self.state {
+            State::Reply { round, rn } | State::Acknowledged { round, rn } if rn == sent => {
+                self.state = State::Acknowledged { round, rn };
+            }
+            State::Held(Held {
+                handle, half: None, ..
+            }) if handle == sent => {}
+            _ => {
+                self.back();
+                return None;
+            }
+        }
+        let mut bits = Vec::new();
+        push_words(&mut bits, self.memory.pc_and_epc());
+        push_crc16(&mut bits);
+        Some(Reply::plain(bits))
+    }
+
+    fn hear_access(&mut self, access: &Access) -> Option<Reply> {
+        match (self.state, &access.order) {
+            (State::Acknowledged { round, rn }, Order::ReqRn) => {
+                if rn != access.rn {
+                    return None;
+                }
+                let handle = self.draw();
+                self.state = State::Held(Held {
+                    round,
+                    secured: self.memory.password(Password::Access) == 0,
+                    handle,
+                    cover: None,
+                    half: None,
+                });
+                Some(Reply::handle(handle))
+            }
+            (State::Reply { .. } | State::Acknowledged { .. }, _) => {
+                self.back();
+                None
+            }
+            (State::Held(held), order) if held.handle == access.rn => self.obey(held, order),
             _ => None,
         }
     }
 
-    #[inline]
-    fn hear_ack(&mut self, sent: u16) -> Option<Vec<bool>> {
-        match self.state {
-            State::Reply { round, rn } | State::Acknowledged { round, rn } if rn == sent => {
-                self.state = State::Acknowledged { round, rn };
-                let mut bits = Vec::new();
-                push_words(&mut bits, self.pc_and_epc());
-                push_crc16(&mut bits);
-                Some(bits)
+    /// An access command with the tag's handle, in open or secured.
+    fn obey(&mut self, held: Held, order: &Order) -> Option<Reply> {
+        let is_awaited = match (held.half, order) {
+            (None, _) | (_, Order::ReqRn) => true,
+            (Some((awaited, _)), Order::Half { password, .. }) => awaited == *password,
+            _ => false,
+        };
+        if !is_awaited {
+            self.back();
+            return None;
+        }
+        let (handle, secured) = (held.handle, held.secured);
+        let changed = match order {
+            Order::ReqRn => {
+                let cover = self.draw();
+                self.state = State::Held(Held {
+                    cover: Some(cover),
+                    ..held
+                });
+                return Some(Reply::handle(cover));
+            }
+            Order::Read { place, count } => {
+                let words = self.memory.read(*place, *count, secured);
+                return Some(Reply::result(words, handle, false));
+            }
+            Order::Write { place, covered } => {
+                let word = self.uncover(held, *covered)?;
+                self.memory.change(*place, &[word], secured)
+            }
+            Order::Half { password, covered } => {
+                let value = self.uncover(held, *covered)?;
+                return self.hear_half(
+                    Held {
+                        cover: None,
+                        ..held
+                    },
+                    *password,
+                    value,
+                );
+            }
+            Order::Lock { .. } if !secured => return None,
+            Order::Lock { payload } => self.memory.lock(*payload),
+            Order::BlockWrite { place, words } => self.memory.change(*place, words, secured),
+            Order::BlockErase { place, count } => {
+                self.memory
+                    .change(*place, &vec![0; usize::from(*count)], secured)
+            }
+        };
+        Some(Reply::result(changed.map(|()| &[][..]), handle, true))
+    }
+
+    /// The value below the tag's cover, which is used up.
+    fn uncover(&mut self, held: Held, covered: u16) -> Option<u16> {
+        let cover = held.cover?;
+        self.state = State::Held(Held {
+            cover: None,
+            ..held
+        });
+        Some(covered ^ cover)
+    }
+
+    /// Half of a password, without its cover.
+    fn hear_half(&mut self, held: Held, password: Password, value: u16) -> Option<Reply> {
+        let Some((_, upper)) = held.half else {
+            self.state = State::Held(Held {
+                half: Some((password, value)),
+                ..held
+            });
+            return Some(Reply::handle(held.handle));
+        };
+        let own = self.memory.password(password);
+        let is_right = own == u32::from(upper) << 16 | u32::from(value);
+        match password {
+            Password::Kill if own == 0 => {
+                self.state = State::Held(Held { half: None, ..held });
+                Some(Reply::result(Err(Refusal::Other), held.handle, true))
+            }
+            Password::Kill if is_right => {
+                self.state = State::Killed;
+                Some(Reply::result(Ok(&[]), held.handle, true))
+            }
+            Password::Access if is_right => {
+                self.state = State::Held(Held {
+                    secured: true,
+                    half: None,
+                    ..held
+                });
+                Some(Reply::handle(held.handle))
             }
             _ => {
                 self.back();
@@ -195,7 +373,7 @@ impl Tag {
     }
 
     /// Draws a slot: slot 0 replies at once.
-    fn enter(&mut self, round: Round) -> Option<Vec<bool>> {
+    fn enter(&mut self, round: Round) -> Option<Reply> {
         let slot = self.draw() & ((1 << round.q) - 1);
         if slot == 0 {
             return Some(self.reply(round));
@@ -205,24 +383,21 @@ impl Tag {
     }
 
     /// Draws an RN16 and replies with it.
-    fn reply(&mut self, round: Round) -> Vec<bool> {
+    fn reply(&mut self, round: Round) -> Reply {
         let rn = self.draw();
         self.state = State::Reply { round, rn };
         let mut bits = Vec::new();
         push_field(&mut bits, u32::from(rn), 16);
-        bits
+        Reply::plain(bits)
     }
 
     fn back(&mut self) {
-        if let State::Reply { round, .. } | State::Acknowledged { round, .. } = self.state {
+        if let State::Reply { round, .. }
+        | State::Acknowledged { round, .. }
+        | State::Held(Held { round, .. }) = self.state
+        {
             self.state = State::Arbitrate { round, slot: 0 };
         }
-    }
-
-    fn close(&mut self, round: Round) -> Option<Vec<bool>> {
-        self.invert(round.session);
-        self.state = State::Ready;
-        None
     }
 
     fn invert(&mut self, session: u8) {
@@ -231,18 +406,17 @@ impl Tag {
     }
 
     fn matches(&self, select: &Select) -> bool {
-        let bank = match select.bank {
-            Bank::Epc => &self.epc,
-            Bank::Tid => &self.tid,
-            Bank::User => &self.user,
-        };
         let mut bits = Vec::new();
-        push_words(&mut bits, bank);
+        push_words(&mut bits, self.memory.bank(select.bank));
         let from = select.pointer as usize;
         bits.get(from..from + select.mask.len()) == Some(&select.mask)
     }
 
-    fn hear_select(&mut self, select: &Select) -> Option<Vec<bool>> {
+    fn hear_select(&mut self, select: &Select) -> Option<Reply> {
+        if let State::Held(Held { half: Some(_), .. }) = self.state {
+            self.back();
+            return None;
+        }
         self.apply(select);
         self.state = State::Ready;
         None
@@ -271,14 +445,15 @@ impl Tag {
 
     pub fn befall(&mut self, event: Event) {
         match (event, self.state) {
-            (Event::Timeout, _) => self.back(),
+            (_, State::Killed) => {}
+            (Event::Timeout, State::Reply { .. } | State::Acknowledged { .. }) => self.back(),
             (Event::Off, _) => {
                 self.flags[0] = Flag::A;
                 self.state = State::Off;
             }
             (Event::On, State::Off) => {
                 self.state = State::Ready;
-                self.store_crc();
+                self.memory.store_crc();
             }
             (Event::Expire(Expiry::S1), State::Ready | State::Off) => self.flags[1] = Flag::A,
             (Event::Expire(Expiry::S2), State::Off) => self.flags[2] = Flag::A,

@@ -3,11 +3,14 @@
 use std::collections::HashMap;
 use std::fmt::Write;
 
+use crate::access::Access;
 use crate::bits::{value_of, without_crc16, words_of};
 use crate::command::{Change, Command, Flag, Query};
+use crate::operation::{ask_number, operate, read_reply};
+use crate::operation::{Answer, Await, Exchange, Failure, Operations, Outcome};
 use crate::pie;
 use crate::scenario::{Choice, Entry, Round, Scenario, Step};
-use crate::tag::{State, Tag};
+use crate::tag::{Reply, State, Tag};
 
 /// What the interrogator makes of an exchange. The bits of a whole reply stand in `World::received`.
 #[derive(Clone, Copy, PartialEq)]
@@ -40,7 +43,7 @@ struct World {
     report: String,
     exchanges: u32,
     seen: Seen,
-    replies: Vec<Vec<bool>>,
+    replies: Vec<Reply>,
     bits: Vec<bool>,
     intervals: Vec<u32>,
     levels: Vec<bool>,
@@ -71,15 +74,15 @@ pub fn play(mut scenario: Scenario, trace: bool) -> String {
     for step in steps {
         match step {
             Step::Select(select) => {
-                world.exchange(&Command::Select(select));
+                world.exchange(&Command::Select(select), false);
             }
             Step::Nak => {
-                world.exchange(&Command::Nak);
+                world.exchange(&Command::Nak, false);
             }
             Step::Event(tag, event) => world.scenario.tags[tag].befall(event),
-            Step::Round(round) => {
+            Step::Round(round, operations) => {
                 rounds += 1;
-                world.play_round(rounds, &round);
+                world.play_round(rounds, &round, &operations);
             }
         }
     }
@@ -88,8 +91,9 @@ pub fn play(mut scenario: Scenario, trace: bool) -> String {
 }
 
 impl World {
-    /// Sends a command over the link, lets each tag hear it that doesn't miss it, and receives what the channel gives.
-    fn exchange(&mut self, command: &Command) -> Heard {
+    /// Sends a command over the link, lets each tag hear it that doesn't miss it, and receives what the channel gives, as a
+    /// stream with the extended preamble where one is awaited.
+    fn exchange(&mut self, command: &Command, extended: bool) -> Heard {
         self.exchanges += 1;
         let entry = self
             .scenario
@@ -107,10 +111,12 @@ impl World {
         let link = &self.scenario.link;
         if !gave {
             Heard::Silence
-        } else if link
-            .code
-            .decode(link.trext, &self.levels, &mut self.lead, &mut self.received)
-        {
+        } else if link.code.decode(
+            link.trext || extended,
+            &self.levels,
+            &mut self.lead,
+            &mut self.received,
+        ) {
             Heard::Whole
         } else {
             Heard::Refused
@@ -155,7 +161,8 @@ impl World {
         };
         let Some(reply) = reply else { return false };
         let link = &self.scenario.link;
-        link.code.encode(link.trext, reply, &mut self.levels);
+        link.code
+            .encode(link.trext || reply.extended, &reply.bits, &mut self.levels);
         if let Some(place) = broken {
             let place = place % self.levels.len();
             self.levels[place] = !self.levels[place];
@@ -164,18 +171,18 @@ impl World {
     }
 
     /// Plays a round with the standard's rule for Q, in thousandths.
-    fn play_round(&mut self, number: u32, round: &Round) {
+    fn play_round(&mut self, number: u32, round: &Round, operations: &Operations) {
         let (mut q, mut q_fp) = (round.q, 1000 * u32::from(round.q));
         let (mut slots, mut frame, mut all_silent) = (0, 0_u32, true);
         let mut command = self.query(round);
         loop {
-            let heard = self.exchange(&command);
+            let heard = self.exchange(&command, false);
             slots += 1;
             frame += 1;
             match heard {
                 Heard::Silence => q_fp = q_fp.saturating_sub(round.step),
                 Heard::Refused => q_fp = (q_fp + round.step).min(15_000),
-                Heard::Whole => self.acknowledge(number, slots),
+                Heard::Whole => self.acknowledge(number, slots, operations),
             }
             all_silent &= heard == Heard::Silence;
             let whole_frame = frame == 1 << q;
@@ -219,10 +226,10 @@ impl World {
         })
     }
 
-    /// Acknowledges the RN16 received, and lists the PC and EPC that come back whole.
-    fn acknowledge(&mut self, round: u32, slot: u32) {
+    /// Acknowledges the RN16 received, lists the PC and EPC that come back whole, and goes through the operations.
+    fn acknowledge(&mut self, round: u32, slot: u32, operations: &Operations) {
         let rn = value_of(&self.received) as u16;
-        if self.exchange(&Command::Ack { rn }) != Heard::Whole {
+        if self.exchange(&Command::Ack { rn }, false) != Heard::Whole {
             return;
         }
         let Some(body) = without_crc16(&self.received) else {
@@ -235,7 +242,34 @@ impl World {
         {
             write!(self.report, "list {round} {slot} ").unwrap();
             push_pc_and_epc(&mut self.report, &words);
+            self.operate(round, slot, operations, rn, &words[1..]);
             self.seen.count(words);
+        }
+    }
+
+    /// Goes through the operations with the tag that was acknowledged with this RN16.
+    fn operate(&mut self, round: u32, slot: u32, operations: &Operations, rn: u16, epc: &[u16]) {
+        let denied = operations.only.as_ref().is_some_and(|only| only != epc);
+        let mut handle = None;
+        for (index, operation) in (1..).zip(&operations.list) {
+            let outcome = if denied {
+                Outcome::Denied
+            } else {
+                let known = handle.map_or_else(|| ask_number(self, rn), Ok);
+                handle = known.as_ref().ok().copied();
+                match known.and_then(|handle| operate(self, operation, handle)) {
+                    Ok(Answer::Words(words)) => Outcome::Ok(words),
+                    Ok(Answer::Number(_)) => Outcome::Ok(Vec::new()),
+                    Ok(Answer::Error(code)) => Outcome::Error(code),
+                    Err(Failure::Silent) => Outcome::Silent,
+                    Err(Failure::Broken) => Outcome::Broken,
+                }
+            };
+            write!(self.report, "op {round} {slot} {index} ").unwrap();
+            write_outcome(&mut self.report, &outcome);
+            if let Outcome::Silent | Outcome::Broken = outcome {
+                return;
+            }
         }
     }
 
@@ -290,13 +324,41 @@ impl World {
     }
 }
 
+impl Exchange for World {
+    fn exchange(&mut self, access: Access, awaited: Await, handle: u16) -> Result<Answer, Failure> {
+        match World::exchange(self, &Command::Access(access), awaited.is_extended()) {
+            Heard::Silence => Err(Failure::Silent),
+            Heard::Refused => Err(Failure::Broken),
+            Heard::Whole => read_reply(&self.received, awaited, handle).ok_or(Failure::Broken),
+        }
+    }
+}
+
+fn write_outcome(report: &mut String, outcome: &Outcome) {
+    match outcome {
+        Outcome::Ok(words) if words.is_empty() => report.push_str("ok"),
+        Outcome::Ok(words) => {
+            report.push_str("ok ");
+            push_words(report, words);
+        }
+        Outcome::Error(code) => write!(report, "error {code:02X}").unwrap(),
+        Outcome::Silent => report.push_str("silent"),
+        Outcome::Broken => report.push_str("broken"),
+        Outcome::Denied => report.push_str("denied"),
+    }
+    report.push('\n');
+}
+
 fn write_tag(report: &mut String, number: usize, tag: &Tag) {
     let state = match tag.state {
         State::Off => "off",
+        State::Killed => "killed",
         State::Ready => "ready",
         State::Arbitrate { .. } => "arbitrate",
         State::Reply { .. } => "reply",
         State::Acknowledged { .. } => "acknowledged",
+        State::Held(held) if held.secured => "secured",
+        State::Held(_) => "open",
     };
     write!(report, "tag {number} {state} ").unwrap();
     report.extend(
@@ -304,8 +366,9 @@ fn write_tag(report: &mut String, number: usize, tag: &Tag) {
             .iter()
             .map(|&flag| if flag == Flag::A { 'A' } else { 'B' }),
     );
-    write!(report, "{} {}", u32::from(tag.sl), tag.locks).unwrap();
-    for bank in [&tag.reserved, &tag.epc, &tag.tid, &tag.user] {
+    let memory = &tag.memory;
+    write!(report, "{} {}", u32::from(tag.sl), memory.locks).unwrap();
+    for bank in [&memory.reserved, &memory.epc, &memory.tid, &memory.user] {
         report.push(' ');
         push_words(report, bank);
     }

@@ -4,6 +4,7 @@ use super::{ROOM, expect, words};
 use crate::{Status, gen2run};
 use air_io::{MemSink, SureSource};
 use std::alloc::{AllocError, Global};
+use std::fmt::Write;
 use std::process::Abort;
 use std::test::Fail;
 
@@ -16,6 +17,14 @@ const ONE_ROUND: &str = "round all 0 a 0 300 5\n";
 /// Two tags that draw the same slot, and then other ones.
 const TWO_TAGS: &str = "tag 00000000 00000000 0000000000 08001234 E2000001 - 0000111100022222\n\
                         tag 00000000 00000000 0000000000 08005678 E2000002 - 0000333300014444\n";
+
+/// The StoredCRC of each of 48 tags with the EPC 3074257BF7194E4000001A85 and the 47 that follow.
+const STORED_CRCS: [u16; 48] = [
+    0xAAF9, 0x9A9A, 0x8ABB, 0x7B54, 0x6B75, 0x5B16, 0x4B37, 0x3BD0, 0x2BF1, 0x1B92, 0x0BB3, 0xE86D,
+    0xF84C, 0xC82F, 0xD80E, 0xA8E9, 0xB8C8, 0x88AB, 0x988A, 0x6965, 0x7944, 0x4927, 0x5906, 0x29E1,
+    0x39C0, 0x09A3, 0x1982, 0xDE3E, 0xCE1F, 0xFE7C, 0xEE5D, 0x9EBA, 0x8E9B, 0xBEF8, 0xAED9, 0x5F36,
+    0x4F17, 0x7F74, 0x6F55, 0x1FB2, 0x0F93, 0x3FF0, 0x2FD1, 0xCC0F, 0xDC2E, 0xEC4D, 0xFC6C, 0x8C8B,
+];
 
 /// The scenario of these lines behind those of the version and the link.
 fn scenario_of(alloc: Global, lines: &[&str]) -> Result<String, AllocError> {
@@ -135,6 +144,144 @@ fn flag_events(rt: HostRuntime) -> Result<(), Fail> {
     ] {
         expect_report(&rt, &[tag, steps, events], report)?;
     }
+    Ok(())
+}
+
+/// Operations on one tag: a permalock, wrong passwords, a kill, and reads at the edges of banks.
+#[test]
+fn operations(rt: HostRuntime) -> Result<(), Fail> {
+    for (lines, report) in [
+        (
+            [
+                ONE_TAG,
+                ONE_ROUND,
+                "op lock 0C030\nop write epc 2 9999\nop lock 0C000\n",
+            ],
+            "list 1 1 0800 1234\n\
+             op 1 1 1 ok\n\
+             op 1 1 2 error 04\n\
+             op 1 1 3 error 04\n\
+             round 1 quiet 2\n\
+             seen 1 0800 1234\n\
+             tag 0 ready BAAA0 0000110000 0000000000000000 ED3A08001234 E2000001 -\n\
+             done\n",
+        ),
+        (
+            [
+                "tag 00000000 12345678 0000000000 08001234 E2000001 - A1B2\n",
+                "round all 0 a 0 300 1\n",
+                "op kill 11112222\nop access 12340000\n",
+            ],
+            "list 1 1 0800 1234\n\
+             op 1 1 1 error 00\n\
+             op 1 1 2 silent\n\
+             round 1 limit 1\n\
+             seen 1 0800 1234\n\
+             tag 0 arbitrate AAAA0 0000000000 0000000012345678 ED3A08001234 E2000001 -\n\
+             done\n",
+        ),
+        (
+            [
+                "tag AABBCCDD 00000000 0000000000 08001234 E2000001 - A1B2\n",
+                ONE_ROUND,
+                "op kill AABBCCDD\n",
+            ],
+            "list 1 1 0800 1234\n\
+             op 1 1 1 ok\n\
+             round 1 quiet 2\n\
+             seen 1 0800 1234\n\
+             tag 0 killed AAAA0 0000000000 AABBCCDD00000000 ED3A08001234 E2000001 -\n\
+             done\n",
+        ),
+        (
+            [
+                "tag 00000000 00000000 0000000000 30003074257BF7194E4000001A85 E2000003 11112222 0F0F\n",
+                ONE_ROUND,
+                "op read epc 1 0\nop read epc 8 1\nop read user 2 0\nop read user 0 0\n",
+            ],
+            "list 1 1 3000 3074257BF7194E4000001A85\n\
+             op 1 1 1 ok 30003074257BF7194E4000001A85\n\
+             op 1 1 2 error 03\n\
+             op 1 1 3 error 03\n\
+             op 1 1 4 ok 11112222\n\
+             round 1 quiet 2\n\
+             seen 1 3000 3074257BF7194E4000001A85\n\
+             tag 0 ready BAAA0 0000000000 0000000000000000 AAF930003074257BF7194E4000001A85 E2000003 11112222\n\
+             done\n",
+        ),
+    ] {
+        expect_report(&rt, &lines, report)?;
+    }
+    Ok(())
+}
+
+/// The last 255 words of a full User bank are read, and 255 words from one place further are too many.
+#[test]
+fn full_user_bank(rt: HostRuntime) -> Result<(), Fail> {
+    let alloc = rt.alloc();
+    let mut tag = String::from_str(
+        alloc,
+        "tag 00000000 00000000 0000000000 30003074257BF7194E4000001A85 E2000003 ",
+    )?;
+    let mut report = String::from_str(
+        alloc,
+        "list 1 1 3000 3074257BF7194E4000001A85\nop 1 1 1 ok ",
+    )?;
+    for _ in 0..255 {
+        report.push_str("0000")?;
+    }
+    report.push_str(
+        "\nop 1 1 2 error 03\n\
+         round 1 quiet 2\n\
+         seen 1 3000 3074257BF7194E4000001A85\n\
+         tag 0 ready BAAA0 0000000000 0000000000000000 AAF930003074257BF7194E4000001A85 E2000003 ",
+    )?;
+    for _ in 0..512 {
+        tag.push_str("0000")?;
+        report.push_str("0000")?;
+    }
+    tag.push_str(" 0F0F\n")?;
+    report.push_str("\ndone\n")?;
+    let operations = "op read user 257 255\nop read user 258 255\n";
+    expect_report(&rt, &[tag.as_str(), ONE_ROUND, operations], report.as_str())?;
+    Ok(())
+}
+
+/// A dock door: 48 tags, each in a slot of its own, and of each two words of its User bank are read.
+#[test]
+fn dock_portal(rt: HostRuntime) -> Result<(), Fail> {
+    let alloc = rt.alloc();
+    let mut scenario = String::from_str(alloc, "gen2 1\nlink 12500 31250 50000 6250 1 m4 0\n")?;
+    let mut listed = String::new(alloc);
+    let mut seen = String::new(alloc);
+    let mut tags = String::new(alloc);
+    for (k, stored_crc) in (0_u16..48).zip(STORED_CRCS) {
+        let epc = 0x1A85 + k;
+        let user = 0x0100 + k;
+        let slot = k + 1;
+        write!(
+            scenario,
+            "tag 00000000 00000000 0000000000 30003074257BF7194E400000{epc:04X} E200{k:04X} {user:04X}0000 {k:04X}"
+        )?;
+        let (second, third) = (0x1000 + k, 0x2000 + k);
+        writeln!(scenario, "{second:04X}{third:04X}")?;
+        writeln!(listed, "list 1 {slot} 3000 3074257BF7194E400000{epc:04X}")?;
+        writeln!(listed, "op 1 {slot} 1 ok {user:04X}0000")?;
+        writeln!(seen, "seen 1 3000 3074257BF7194E400000{epc:04X}")?;
+        write!(
+            tags,
+            "tag {k} ready AABA0 0000000000 0000000000000000 {stored_crc:04X}30003074257BF7194E400000{epc:04X}"
+        )?;
+        writeln!(tags, " E200{k:04X} {user:04X}0000")?;
+    }
+    scenario.push_str("round all 2 a 6 100 500\nop read user 0 2\nend\n")?;
+    let mut report = listed;
+    report.push_str("round 1 quiet 82\n")?;
+    report.push_str(seen.as_str())?;
+    report.push_str(tags.as_str())?;
+    report.push_str("done\n")?;
+    let wanted = (Status::Done, report.as_str());
+    expect(&rt, &["run"], scenario.as_str(), None, None, wanted)?;
     Ok(())
 }
 
