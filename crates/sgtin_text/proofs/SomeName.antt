@@ -27,7 +27,7 @@ same_list [] (y ∷ ys) = inr (λ same. cc)
 same_list (x ∷ xs) [] = inr (λ same. cc)
 same_list (x ∷ xs) (y ∷ ys) = elim (cases_eq x y) [
   | inr differs ↦ inr (λ same. let first : x ≡ y = cc in differs first)
-  | inl first ↦ elim (same_list xs ys) [ | inl others ↦ inl (cc) | inr differ ↦ inr (λ same. let others : xs ≡ ys = cc in differ others) ]
+  | inl first ↦ elim (same_list xs ys) [ inl others ↦ inl (cc) | inr differ ↦ inr (λ same. let others : xs ≡ ys = cc in differ others) ]
 ]
 
 digit_number-small : (digit : ℕ) → digit_number digit < 16

@@ -9,8 +9,8 @@ use pie_text::{NotNumbers, Numbers};
 use reply_grammar::Expect;
 use reply_text::expect_of;
 use text_fields::{
-    Digits, Fields, HexBytes, Words, code_named, four_fields, number, one_bit, one_field, three_fields,
-    two_fields,
+    Digits, Fields, HexBytes, Words, code_named, four_fields, number, one_bit, one_field,
+    three_fields, two_fields,
 };
 
 /// The greatest number of levels in a line.

@@ -115,11 +115,23 @@ fn numbers_and_uris(rt: HostRuntime) -> Result<(), Fail> {
         ("sgtin 3003FFFFFFFFFC0000000000\n", "refused company\n"),
         ("sgtin 3074000007D0900000000005\n", "refused item\n"),
         ("uri x\n", "refused prefix\n"),
-        ("uri urn:epc:tag:sgtin-96:3.0614141.812345\n", "refused parts\n"),
+        (
+            "uri urn:epc:tag:sgtin-96:3.0614141.812345\n",
+            "refused parts\n",
+        ),
         ("uri urn:epc:tag:sgtin-96:...\n", "refused filter\n"),
-        ("uri urn:epc:tag:sgtin-96:3..812345.6789\n", "refused company\n"),
-        ("uri urn:epc:tag:sgtin-96:3.0614141.0.6789\n", "refused item\n"),
-        ("uri urn:epc:tag:sgtin-96:3.0614141.812345.\n", "refused serial\n"),
+        (
+            "uri urn:epc:tag:sgtin-96:3..812345.6789\n",
+            "refused company\n",
+        ),
+        (
+            "uri urn:epc:tag:sgtin-96:3.0614141.0.6789\n",
+            "refused item\n",
+        ),
+        (
+            "uri urn:epc:tag:sgtin-96:3.0614141.812345.\n",
+            "refused serial\n",
+        ),
     ] {
         expect_lines(&rt, input, Status::Done, output)?;
     }
