@@ -13,7 +13,7 @@ use Rattle.access_ops.specs.declared.op_next.OpResult.{OpResult}
 use Rattle.air_channel.specs.Air.{AreLegalTags, given_in}
 use Rattle.air_channel.specs.Channel.{Given, silence, whole, broken}
 use Rattle.air_channel.specs.Exchange.{outcome_unless, outcomes_from, tags_after, tags_after_event, tag_after_events, is_missed}
-use Rattle.air_channel.specs.Past.{Start, Item, befell, exchanged, operated, ended, next_record, next_entry, past_behind_command, rounds_in, tags_behind, tags_behind_from}
+use Rattle.air_channel.specs.Past.{Start, Item, befell, operated, ended, next_record, next_entry, past_behind_command, rounds_in, tags_behind, tags_behind_from}
 use Rattle.air_channel.specs.Reception.{has_handle, has_preamble, is_expected, reception_of, reception_with, IsGiven}
 use Rattle.air_events.specs.declared.Entry.{Entry}
 use Rattle.air_events.specs.declared.Event.{Event}

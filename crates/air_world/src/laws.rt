@@ -98,8 +98,7 @@ pub fn histories_keep_tags_legal()
 }
 
 /// What a history makes of a record is what is received of the levels that come, where a reply to an
-/// inventory command or to a command of an operation is expected. So of the exchanges the interrogator
-/// learns no more than the line brings.
+/// inventory command or to a command of an operation is expected.
 pub fn histories_hear_what_is_received()
     ensures inventory { (scenario : Scenario) (sent : Record) (earlier : List Item) (expect : Expect) (received : Received) → IsScenario scenario →
         IsRecordOf (history scenario) sent earlier → expectation_of sent.command ≡ Some expect → got_of sent.given ≡ Stream →
