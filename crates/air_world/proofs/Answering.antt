@@ -83,7 +83,7 @@ event-legal : (b : Bool) (event : Event) (tag : TagValue) → StaysLegal → IsL
 event-legal true event tag stays legal = stays event tag.state tag.body legal
 event-legal false event tag stays legal = legal
 
-events-legal : (number : ℕ) (events : List (Event × ℕ)) (tag : TagValue) → StaysLegal → IsLegalTag tag → IsLegalTag (tag_after_events number events tag)
+pub events-legal : (number : ℕ) (events : List (Event × ℕ)) (tag : TagValue) → StaysLegal → IsLegalTag tag → IsLegalTag (tag_after_events number events tag)
 events-legal number [] tag stays legal = legal
 events-legal number (event ∷ events) tag stays legal =
     events-legal number events (tag_after_own_event number event.0 event.1 tag) stays (event-legal (event.1 == number) event.0 tag stays legal)

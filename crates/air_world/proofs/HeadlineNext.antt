@@ -326,7 +326,7 @@ pub history-stops : RoundsKeepLimit → (start : Start) (all : List Step) → Ar
 history-stops keeps start all legal = (history-ends keeps start all legal).ends
 
 -- two pasts that grow by what comes next and are as long are the same
-same-growth : (start : Start) (all : List Step) (first second : List Item) → GrowsByNext start all first → GrowsByNext start all second
+pub same-growth : (start : Start) (all : List Step) (first second : List Item) → GrowsByNext start all first → GrowsByNext start all second
     → length first ≡ length second → first ≡ second
 same-growth start all [] [] left right count = refl
 same-growth start all [] (item ∷ second) left right count = absurd (omega (arith, count))
@@ -336,7 +336,7 @@ same-growth start all (item ∷ first) (other ∷ second) left right count =
     let items : Some item ≡ Some other = sym left.0 ∙ ap (λ (past : List Item). next_item start all past) same ∙ right.0 in
     cc
 
-data Compared (m n : ℕ) : Type 0 where
+pub data Compared (m n : ℕ) : Type 0 where
   equal : (m ≡ n) → Compared m n
   below : (m < n) → Compared m n
   above : (n < m) → Compared m n
@@ -346,7 +346,7 @@ compared-on m n (equal is) = equal (ap suc is)
 compared-on m n (below is) = below (omega (arith, is))
 compared-on m n (above is) = above (omega (arith, is))
 
-compared : (m n : ℕ) → Compared m n
+pub compared : (m n : ℕ) → Compared m n
 compared zero zero = equal refl
 compared zero (suc n) = below (omega arith)
 compared (suc m) zero = above (omega arith)

@@ -11,8 +11,12 @@ pub mod HeadlineOperations
 pub mod HeadlineSent
 pub mod HeadlineSlots
 pub mod HeadlineTags
+pub mod HeardRecords
 pub mod LastLines
+pub mod LegalPasts
+pub mod LegalStart
 pub mod Lines
+pub mod OnePast
 pub mod Operating
 pub mod Rounds
 pub mod Sending

@@ -1,17 +1,32 @@
 //! What the history and the report of every run say.
-ghost use Rattle.std.specs.Prelude.{◌≡◌, ℕ, ◌*◌, ◌≤◌, List, ◌∷◌, ◌++◌, length, filter, Some, None};
-ghost use Rattle.air_channel.specs.Past.{Start, Record, Item, exchanges_in, next_record};
+ghost use Rattle.std.specs.Prelude.{◌≡◌, ℕ, ◌*◌, ◌≤◌, ◌⊎◌, Bool, ◌||◌, List, ◌∷◌, ◌++◌, length, filter, Some, None};
+ghost use Rattle.access_ops.specs.OperationLaws.{Expects};
+ghost use Rattle.air_channel.specs.Air.{AreLegalTags};
+ghost use Rattle.air_channel.specs.Channel.{got_of, heard_levels};
+ghost use Rattle.air_channel.specs.Past.{Start, Record, Item, exchanges_in, next_record, tags_behind};
+ghost use Rattle.air_channel.specs.Received.{IsReceived};
+ghost use Rattle.air_channel.specs.Reception.{reception_of, reception_with};
+ghost use Rattle.air_channel.specs.declared.air.Got.TheVariants.{Stream};
+ghost use Rattle.air_world.specs.Happened.{happened, IsConcluded};
 ghost use Rattle.air_world.specs.Headline.{AreLegalSteps, Headline, IsRecordOf, is_op_line, op_lines, most_exchanges};
 ghost use Rattle.air_world.specs.History.{history_of};
 ghost use Rattle.air_world.specs.HistoryLaws.{GrowsByNext, next_item};
+ghost use Rattle.air_world.specs.Playing.{expectation_of};
 ghost use Rattle.air_world.specs.Report.{report_of};
 ghost use Rattle.air_world.specs.ScenarioStart.{history, start_of};
 ghost use Rattle.air_world.specs.declared.mode.Mode.{Mode};
+ghost use Rattle.line_codes.specs.Codes.{table_of};
+ghost use Rattle.reply_grammar.specs.Reception.{reception_from};
+ghost use Rattle.reply_grammar.specs.declared.expected.Expect.{Expect};
+ghost use Rattle.reply_grammar.specs.declared.expected.Received.{Received};
 ghost use Rattle.scenario.specs.Limits.{IsScenario};
 ghost use Rattle.scenario.specs.declared.values.Scenario.{Scenario};
 ghost use Rattle.scenario.specs.declared.values.Step.{Step};
 
+use access_ops::operation_commands;
+use air_channel::reception_law;
 use q_round::round_laws;
+use tag_machine::{answers_are_replies, steps_keep_tags_legal};
 
 /// The headline. Each EPC listed is one that a present tag sent in that round and slot; each EPC that
 /// the channel gave whole is listed once; each tag stands in the end as the commands that it heard and
@@ -70,3 +85,41 @@ pub fn exchanges_are_few()
 {
     round_laws();
 }
+
+/// Behind each past of the history of a scenario every tag is legal.
+pub fn histories_keep_tags_legal()
+    ensures { (scenario : Scenario) (later earlier : List Item) → IsScenario scenario → history scenario ≡ later ++ earlier →
+        AreLegalTags (tags_behind (start_of scenario) earlier) }
+{
+    answers_are_replies();
+    steps_keep_tags_legal();
+    round_laws();
+    operation_commands();
+}
+
+/// What a history makes of a record is what is received of the levels that come, where a reply to an
+/// inventory command or to a command of an operation is expected.
+pub fn histories_hear_what_is_received()
+    ensures inventory { (scenario : Scenario) (sent : Record) (earlier : List Item) (expect : Expect) (received : Received) → IsScenario scenario →
+        IsRecordOf (history scenario) sent earlier → expectation_of sent.command ≡ Some expect → got_of sent.given ≡ Stream →
+        IsReceived (table_of scenario.link.code) scenario.link.trext expect (heard_levels scenario.link sent.given) received →
+        reception_of expect sent.given ≡ reception_from received }
+    ensures operations { (scenario : Scenario) (sent : Record) (earlier : List Item) (expect : Expect) (extended : Bool) (received : Received) → IsScenario scenario →
+        IsRecordOf (history scenario) sent earlier → Expects sent.command expect extended → got_of sent.given ≡ Stream →
+        IsReceived (table_of scenario.link.code) (extended || scenario.link.trext) expect (heard_levels scenario.link sent.given) received →
+        reception_with scenario.link.trext extended expect sent.given ≡ reception_from received }
+{
+    answers_are_replies();
+    steps_keep_tags_legal();
+    histories_keep_tags_legal();
+    records_follow_from_the_past();
+    reception_law();
+}
+
+/// Results of operations and ends of rounds say nothing that the events and the records don't: of two
+/// pasts with the same events and records, which both grow by the next item alone, one is the other
+/// behind further results and ends.
+pub fn events_and_records_determine_a_past()
+    ensures { (start : Start) (steps : List Step) (one other : List Item) → GrowsByNext start steps one → GrowsByNext start steps other →
+        happened one ≡ happened other → IsConcluded one other ⊎ IsConcluded other one }
+{}
