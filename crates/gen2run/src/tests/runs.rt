@@ -247,39 +247,82 @@ fn full_user_bank(rt: HostRuntime) -> Result<(), Fail> {
     Ok(())
 }
 
-/// A dock door: 48 tags, each in a slot of its own, and of each two words of its User bank are read.
-#[test]
-fn dock_portal(rt: HostRuntime) -> Result<(), Fail> {
-    let alloc = rt.alloc();
+/// The last word of the EPC of the tag of this number at the dock door, and its first User word.
+fn dock_words(k: u16) -> (u32, u32) {
+    (0x1A85 + u32::from(k), 0x0100 + u32::from(k))
+}
+
+/// Adds a tag of the dock door to a scenario. It draws a slot of its own.
+fn push_dock_tag(scenario: &mut String, k: u16) -> Result<(), Fail> {
+    let (epc, user) = dock_words(k);
+    let (second, third) = (0x1000 + u32::from(k), 0x2000 + u32::from(k));
+    writeln!(
+        scenario,
+        "tag 00000000 00000000 0000000000 30003074257BF7194E400000{epc:04X} E200{k:04X} {user:04X}0000 {k:04X}{second:04X}{third:04X}"
+    )?;
+    Ok(())
+}
+
+/// Adds what comes of such a tag in its slot.
+fn push_dock_listing(report: &mut String, k: u16) -> Result<(), Fail> {
+    let (epc, user) = dock_words(k);
+    let slot = u32::from(k) + 1;
+    writeln!(
+        report,
+        "list 1 {slot} 3000 3074257BF7194E400000{epc:04X}\nop 1 {slot} 1 ok {user:04X}0000"
+    )?;
+    Ok(())
+}
+
+/// Adds how often such a tag was listed.
+fn push_dock_count(report: &mut String, k: u16) -> Result<(), Fail> {
+    let (epc, _) = dock_words(k);
+    writeln!(report, "seen 1 3000 3074257BF7194E400000{epc:04X}")?;
+    Ok(())
+}
+
+/// Adds what such a tag is in the end.
+fn push_dock_end(report: &mut String, k: u16, stored_crc: u16) -> Result<(), Fail> {
+    let (epc, user) = dock_words(k);
+    writeln!(
+        report,
+        "tag {k} ready AABA0 0000000000 0000000000000000 {stored_crc:04X}30003074257BF7194E400000{epc:04X} E200{k:04X} {user:04X}0000"
+    )?;
+    Ok(())
+}
+
+/// The scenario of the dock door: of each tag two words of its User bank are read.
+fn dock_scenario(alloc: Global) -> Result<String, Fail> {
     let mut scenario = String::from_str(alloc, "gen2 1\nlink 12500 31250 50000 6250 1 m4 0\n")?;
-    let mut listed = String::new(alloc);
-    let mut seen = String::new(alloc);
-    let mut tags = String::new(alloc);
-    for (k, stored_crc) in (0_u16..48).zip(STORED_CRCS) {
-        let epc = 0x1A85 + k;
-        let user = 0x0100 + k;
-        let slot = k + 1;
-        write!(
-            scenario,
-            "tag 00000000 00000000 0000000000 30003074257BF7194E400000{epc:04X} E200{k:04X} {user:04X}0000 {k:04X}"
-        )?;
-        let (second, third) = (0x1000 + k, 0x2000 + k);
-        writeln!(scenario, "{second:04X}{third:04X}")?;
-        writeln!(listed, "list 1 {slot} 3000 3074257BF7194E400000{epc:04X}")?;
-        writeln!(listed, "op 1 {slot} 1 ok {user:04X}0000")?;
-        writeln!(seen, "seen 1 3000 3074257BF7194E400000{epc:04X}")?;
-        write!(
-            tags,
-            "tag {k} ready AABA0 0000000000 0000000000000000 {stored_crc:04X}30003074257BF7194E400000{epc:04X}"
-        )?;
-        writeln!(tags, " E200{k:04X} {user:04X}0000")?;
+    for k in 0..48 {
+        push_dock_tag(&mut scenario, k)?;
     }
     scenario.push_str("round all 2 a 6 100 500\nop read user 0 2\nend\n")?;
-    let mut report = listed;
+    Ok(scenario)
+}
+
+/// Its report.
+fn dock_report(alloc: Global) -> Result<String, Fail> {
+    let mut report = String::new(alloc);
+    for k in 0..48 {
+        push_dock_listing(&mut report, k)?;
+    }
     report.push_str("round 1 quiet 82\n")?;
-    report.push_str(seen.as_str())?;
-    report.push_str(tags.as_str())?;
+    for k in 0..48 {
+        push_dock_count(&mut report, k)?;
+    }
+    for (k, stored_crc) in (0..48).zip(STORED_CRCS) {
+        push_dock_end(&mut report, k, stored_crc)?;
+    }
     report.push_str("done\n")?;
+    Ok(report)
+}
+
+/// A dock door: 48 tags, each in a slot of its own.
+#[test]
+fn dock_portal(rt: HostRuntime) -> Result<(), Fail> {
+    let scenario = dock_scenario(rt.alloc())?;
+    let report = dock_report(rt.alloc())?;
     let wanted = (Status::Done, report.as_str());
     expect(&rt, &["run"], scenario.as_str(), None, None, wanted)?;
     Ok(())
