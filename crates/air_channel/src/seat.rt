@@ -1,8 +1,9 @@
 //! One place in a population, which has a tag.
-ghost use Rattle.std.specs.Prelude.{◌≡◌, ◌+◌, ◌≤◌, if◌then◌else◌};
-ghost use Rattle.tag_machine.specs.Answers.{IsSent, bits_sent};
+ghost use Rattle.std.specs.Prelude.{◌≡◌, ◌+◌, ◌≤◌, true, false, if◌then◌else◌};
+ghost use Rattle.tag_machine.specs.Answers.{IsSent, bits_sent, silent};
 ghost use Rattle.tag_machine.specs.Events.{tag_after_event};
 ghost use Rattle.tag_machine.specs.Hearing.{mark_of, tag_value_of};
+ghost use Rattle.tag_machine.specs.Step.{step};
 ghost use Rattle.tag_machine.specs.TagValue.{IsLegalTag};
 ghost use Rattle.air_channel.specs.Exchange.{outcome_unless};
 
@@ -86,11 +87,28 @@ impl Seat {
             let _tag = &self.tag;
             return Answered::Silent;
         }
+        if self.hear_in_place(command, steps) {
+            out.clear();
+            return Answered::Silent;
+        }
         let Some(tag) = self.tag.take() else {
             unreachable!()
         };
         let heard = tag.hear(command, out, steps);
         self.tag = Some(heard.tag);
         heard.answered
+    }
+
+    /// Lets the tag hear a command where it only waits, and answers whether it did.
+    fn hear_in_place<L: Ledger>(&mut self, command: &Command, steps: &mut Steps<L>) -> bool
+        ensures heard { result ≡ true → step command.now self.old.state self.old.body ≡ silent self.new.state self.new.body }
+        ensures left { result ≡ false → self.new ≡ self.old }
+        ensures counted { steps.new ≡ steps.old + (if result then 1 else 0) }
+        ensures legal { IsLegalTag self.new }
+    {
+        match &mut self.tag {
+            Some(tag) => tag.hear_in_place(command, steps),
+            None => unreachable!(),
+        }
     }
 }

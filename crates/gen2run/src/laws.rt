@@ -45,3 +45,10 @@ pub fn run_inputs_have_a_text()
 {
     texts_are_scenarios_or_faulty();
 }
+
+/// Each list of bytes has a defined text under `names`: its lines with their names, or its fault line.
+pub fn names_inputs_have_a_text()
+    ensures { (bytes : List ℕ) → (text : List ℕ) × DefinesOf Form.Names bytes text }
+{
+    lines_have_names();
+}

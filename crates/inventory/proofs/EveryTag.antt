@@ -84,7 +84,7 @@ if_listed-is [] replied = refl
 if_listed-is (one ∷ more) replied = refl
 
 -- a record lists nobody, or one tag
-data Lists (listed : List Listed) (senders : List ℕ) : Type 0 where
+pub data Lists (listed : List Listed) (senders : List ℕ) : Type 0 where
   nobody : listed ≡ [] → senders ≡ [] → Lists listed senders
   somebody : (one : Listed) (number : ℕ) → listed ≡ one ∷ [] → senders ≡ number ∷ [] → Lists listed senders
 
@@ -112,7 +112,7 @@ lists-by : (sent : Record) (command : Command) → let listed = listed_from sent
 lists-by sent (commands.Ack rn) = lists-given sent sent.given
 lists-by sent command = nobody refl refl
 
-lists : (sent : Record) → Lists (listed_by sent) (sender_listed_by sent)
+pub lists : (sent : Record) → Lists (listed_by sent) (sender_listed_by sent)
 lists sent = lists-by sent sent.command
 
 as-many : (listed : List Listed) (senders : List ℕ) → Lists listed senders → length senders ≡ length listed

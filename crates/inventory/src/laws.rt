@@ -1,4 +1,5 @@
 //! What an honest round of a run says of the tags that it lists.
+ghost use Rattle.std.specs.List.{AllZip};
 ghost use Rattle.std.specs.Prelude.{◌≡◌, ℕ, ◌+◌, List, [], ◌∷◌, ◌++◌, Some};
 ghost use Rattle.access_ops.specs.declared.OpList.{OpList};
 ghost use Rattle.air_channel.specs.Past.{Start, Record, Item};
@@ -11,6 +12,8 @@ ghost use Rattle.inventory.specs.Complete.{CompleteInventory};
 ghost use Rattle.inventory.specs.Counted.{CountedRound};
 ghost use Rattle.inventory.specs.EveryTag.{AllTakePart, HaveOwnEpcs, ListsEveryTag};
 ghost use Rattle.inventory.specs.Honest.{IsHonest, IsApart};
+ghost use Rattle.inventory.specs.ListLines.{IsEntryOf, entries_in};
+ghost use Rattle.inventory.specs.Listed.{tags_listed_in};
 ghost use Rattle.inventory.specs.Moments.{Ending, ending_of};
 ghost use Rattle.q_round.specs.SpecValue.{SpecValue};
 ghost use Rattle.q_round.specs.declared.round.RoundEnd.TheVariants as ends;
@@ -89,3 +92,9 @@ pub fn quiet_runs_list_every_tag()
     round_facts();
     rounds_are_honest_where_nothing_is_said();
 }
+
+/// The list lines of a round of a history, in order, are those of the tags that are listed in it: each line
+/// tells what a record of the round lists, and that tag sent it.
+pub fn list_lines_are_of_listed_tags()
+    ensures { (history : List Item) (round : ℕ) → AllZip (IsEntryOf history round) (entries_in round history) (tags_listed_in round history) }
+{}

@@ -16,3 +16,4 @@ pub mod OneFault
 pub mod FirstLines
 pub mod Decisions
 pub mod SomeFault
+pub mod LinesBefore

@@ -7,6 +7,7 @@ pub mod Taking
 pub mod Rest
 pub mod Beginnings
 pub mod LineLaws
+pub mod LinesBefore
 pub mod Cursor
 pub use Rattle.scenario_lines.specs.Spelling
 pub use Rattle.scenario_lines.specs.LineForm

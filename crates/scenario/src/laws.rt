@@ -1,15 +1,17 @@
 //! What holds of the lines and the texts of scenarios. Each function here states one law by its contract,
 //! and does nothing but call the laws that it follows from.
-ghost use Rattle.std.specs.Prelude.{◌≡◌, ◌⊎◌, ℕ, ◌<◌, List};
+ghost use Rattle.std.specs.Prelude.{◌≡◌, ◌⊎◌, ◌↔◌, ℕ, ◌<◌, List};
+ghost use Rattle.scenario_lines.specs.declared.first_fields.Word.{Word};
 ghost use Rattle.scenario_lines.specs.declared.line.Line.{Line};
 ghost use Rattle.scenario.specs.declared.values.Scenario.{Scenario};
 ghost use Rattle.scenario.specs.declared.fault.Fault.{Fault};
 ghost use Rattle.scenario.specs.ScenarioText.{scenario_lines, scenario_text};
 ghost use Rattle.scenario.specs.Limits.{IsScenario, IsText};
 ghost use Rattle.scenario.specs.LineLaws.{LineLaws};
-ghost use Rattle.scenario.specs.Faults.{IsFirstFault};
+ghost use Rattle.scenario.specs.Faults.{DisagreesBy, IsFirstFault};
+ghost use Rattle.scenario.specs.LinesBefore.{DisagreesWith, IsFullBefore};
 ghost use Rattle.scenario.specs.Beginnings.{BeginsScenario, FirstLinesBegin};
-ghost use Rattle.scenario.specs.Standing.{DraftValue, IsSaid, Leads, ended, Standing, scenario_of, start};
+ghost use Rattle.scenario.specs.Standing.{DraftValue, HasRoom, IsSaid, Leads, ended, Standing, scenario_of, start, within};
 
 use scenario_lines::{
     lines_are_field_texts, lines_are_told_apart, lines_begin_or_are_faulty,
@@ -89,3 +91,13 @@ pub fn faulty_lines_begin_no_text()
 {
     line_laws();
 }
+
+/// The reasons `limit`, `tag`, `order` and `twice`, said of the lines before a line: there are as many lines of
+/// its kind already as there may be; its tag has no line among them; an earlier air line is of a later exchange,
+/// or says of the same one what has to stand behind; an earlier line is a choice for the same exchange.
+pub fn reasons_tell_of_lines_before()
+    ensures limit { (said : List Line) (draft : DraftValue) (word : Word) → Leads start said (within draft)
+        → HasRoom (within draft) word ↔ (¬ IsFullBefore said word) }
+    ensures disagrees { (said : List Line) (draft : DraftValue) (line : Line) (fault : Fault) → Leads start said (within draft)
+        → DisagreesBy draft line fault ↔ DisagreesWith said line fault }
+{}

@@ -21,8 +21,8 @@ pub use cursor::{EntryCursor, empty_entry};
 pub use fault::{Fault, ScenarioFault};
 pub use laws::{
     faulty_lines_begin_no_text, lines_begin_a_scenario, lines_say_a_scenario,
-    scenario_texts_are_not_faulty, scenarios_are_said, scenarios_are_told_apart,
-    texts_are_scenarios_or_faulty, texts_have_one_fault,
+    reasons_tell_of_lines_before, scenario_texts_are_not_faulty, scenarios_are_said,
+    scenarios_are_told_apart, texts_are_scenarios_or_faulty, texts_have_one_fault,
 };
 pub use printing::print_scenario;
 pub use q_round::RoundSpec;

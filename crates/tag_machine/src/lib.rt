@@ -8,6 +8,7 @@ mod any_tag;
 mod body;
 mod event;
 mod hear;
+mod in_place;
 mod inventory;
 mod laws;
 mod moves;

@@ -15,7 +15,7 @@ use std::sync::ledger::Ledger;
 
 impl Slot {
     /// The counter that is one less; below 0 stands 7FFFh (6.3.2.4.8 Slot counter).
-    fn below(self) -> Slot
+    pub(crate) fn below(self) -> Slot
         ensures { result ≡ slot_below self }
     {
         let number = self.get();

@@ -1,0 +1,523 @@
+-- What a scenario has settled behind some lines says the same of the next line as those lines do.
+use Rattle.std.proofs.Common.{◌≡◌, ◌≢◌, ℕ, zero, suc, ◌+◌, ◌<◌, ◌≤◌, ◌==◌, ◌↔◌, Bool, true, false, List, [], ◌∷◌, ◌++◌, length, Option, Some, None, if◌then◌else◌, refl, sym, ◌∙◌, ap, subst, arith, append_assoc, append-nil}
+use Rattle.std.proofs.lemmas.Bool.{eqb-true, eqb-false}
+use Rattle.std.proofs.lemmas.List.{length-append}
+use Rattle.std.specs.List.{AllByRecursion}
+use Rattle.access_ops.specs.declared.OpList.{OpList}
+use Rattle.air_events.specs.Entries.{no_entry}
+use Rattle.air_events.specs.declared.Entry.{Entry}
+use Rattle.air_events.specs.declared.Choice.{Choice}
+use Rattle.q_round.specs.SpecValue.{SpecValue}
+use Rattle.scenario_lines.specs.declared.first_fields.Word.{Word}
+use Rattle.scenario_lines.specs.declared.first_fields.Word.TheVariants as words
+use Rattle.scenario_lines.specs.declared.line.Happening.{Happening}
+use Rattle.scenario_lines.specs.declared.line.Happening.TheVariants as happenings
+use Rattle.scenario_lines.specs.declared.line.Line.{Line}
+use Rattle.scenario_lines.specs.declared.line.Line.TheVariants as lines
+use Rattle.scenario.specs.declared.fault.Fault.{Fault}
+use Rattle.scenario.specs.declared.fault.Fault.TheVariants as faults
+use Rattle.scenario.specs.declared.values.Step.{Step}
+use Rattle.scenario.specs.Limits.{most_tags, most_air_lines, most_ops, most_steps}
+use Rattle.scenario.specs.Standing.{DraftValue, Standing, start, begun, within, ended, new_draft, after, grown, turned, with_air, with_said, with_happening, with_last, with_step, with_round, with_only, with_op, steps_of, Follows, Leads, HasRoom, NamesTag, MayFollow, KeepsOrder, ChoosesOnce}
+use Rattle.scenario.specs.Faults.{DisagreesBy}
+use Rattle.scenario.specs.LinesBefore.{tags_in, airs_in, steps_in, ops_behind, IsFullBefore, turn_of, ComesBefore, ChoosesOther, KeepsOrderBehind, ChoosesFirst, DisagreesWith}
+
+-- lists with one more
+
+all-push : {A : Type 0} (P : A → Type 0) (xs : List A) (x : A) → AllByRecursion P xs → P x → AllByRecursion P (xs ++ x ∷ [])
+all-push P [] x all last = (last, tt)
+all-push P (first ∷ xs) x all last = (all.0, all-push P xs x all.1 last)
+
+all-front : {A : Type 0} (P : A → Type 0) (xs : List A) (x : A) → AllByRecursion P (xs ++ x ∷ []) → AllByRecursion P xs
+all-front P [] x all = tt
+all-front P (first ∷ xs) x all = (all.0, all-front P xs x all.1)
+
+all-last : {A : Type 0} (P : A → Type 0) (xs : List A) (x : A) → AllByRecursion P (xs ++ x ∷ []) → P x
+all-last P [] x all = all.0
+all-last P (first ∷ xs) x all = all-last P xs x all.1
+
+-- how many lines of a kind one line is
+abbrev tags_one : Line → ℕ
+tags_one line = tags_in (line ∷ [])
+
+abbrev airs_one : Line → ℕ
+airs_one line = airs_in (line ∷ [])
+
+abbrev steps_one : Line → ℕ
+steps_one line = steps_in (line ∷ [])
+
+tags-first : (line : Line) (more : List Line) → tags_in (line ∷ more) ≡ tags_in more + tags_one line
+tags-first lines.Version more = omega arith
+tags-first (lines.Link link) more = omega arith
+tags-first (lines.Tag tag) more = omega arith
+tags-first (lines.Air exchange happening) more = omega arith
+tags-first (lines.Select selection) more = omega arith
+tags-first lines.Nak more = omega arith
+tags-first (lines.Event event tag) more = omega arith
+tags-first (lines.Round spec) more = omega arith
+tags-first (lines.Only epc) more = omega arith
+tags-first (lines.Op op) more = omega arith
+tags-first lines.End more = omega arith
+
+airs-first : (line : Line) (more : List Line) → airs_in (line ∷ more) ≡ airs_in more + airs_one line
+airs-first lines.Version more = omega arith
+airs-first (lines.Link link) more = omega arith
+airs-first (lines.Tag tag) more = omega arith
+airs-first (lines.Air exchange happening) more = omega arith
+airs-first (lines.Select selection) more = omega arith
+airs-first lines.Nak more = omega arith
+airs-first (lines.Event event tag) more = omega arith
+airs-first (lines.Round spec) more = omega arith
+airs-first (lines.Only epc) more = omega arith
+airs-first (lines.Op op) more = omega arith
+airs-first lines.End more = omega arith
+
+steps-first : (line : Line) (more : List Line) → steps_in (line ∷ more) ≡ steps_in more + steps_one line
+steps-first lines.Version more = omega arith
+steps-first (lines.Link link) more = omega arith
+steps-first (lines.Tag tag) more = omega arith
+steps-first (lines.Air exchange happening) more = omega arith
+steps-first (lines.Select selection) more = omega arith
+steps-first lines.Nak more = omega arith
+steps-first (lines.Event event tag) more = omega arith
+steps-first (lines.Round spec) more = omega arith
+steps-first (lines.Only epc) more = omega arith
+steps-first (lines.Op op) more = omega arith
+steps-first lines.End more = omega arith
+
+-- a count that one line first adds to adds to it last as well
+count-push : (count : List Line → ℕ) (one : Line → ℕ) → count [] ≡ 0 → ((line : Line) (more : List Line) → count (line ∷ more) ≡ count more + one line)
+    → (before : List Line) (line : Line) → count (before ++ line ∷ []) ≡ count before + one line
+count-push count one none first [] line = omega (arith, none, first line [])
+count-push count one none first (other ∷ before) line =
+    omega (arith, first other (before ++ line ∷ []), first other before, count-push count one none first before line)
+
+tags-push : (before : List Line) (line : Line) → tags_in (before ++ line ∷ []) ≡ tags_in before + tags_one line
+tags-push = count-push tags_in tags_one refl tags-first
+
+airs-push : (before : List Line) (line : Line) → airs_in (before ++ line ∷ []) ≡ airs_in before + airs_one line
+airs-push = count-push airs_in airs_one refl airs-first
+
+steps-push : (before : List Line) (line : Line) → steps_in (before ++ line ∷ []) ≡ steps_in before + steps_one line
+steps-push = count-push steps_in steps_one refl steps-first
+
+ops-push : (count : ℕ) (before : List Line) (line : Line) → ops_behind count (before ++ line ∷ []) ≡ ops_behind (ops_behind count before) (line ∷ [])
+ops-push count [] line = refl
+ops-push count (lines.Version ∷ before) line = ops-push count before line
+ops-push count (lines.Link link ∷ before) line = ops-push count before line
+ops-push count (lines.Tag tag ∷ before) line = ops-push count before line
+ops-push count (lines.Air exchange happening ∷ before) line = ops-push count before line
+ops-push count (lines.Select selection ∷ before) line = ops-push 0 before line
+ops-push count (lines.Nak ∷ before) line = ops-push 0 before line
+ops-push count (lines.Event event tag ∷ before) line = ops-push 0 before line
+ops-push count (lines.Round spec ∷ before) line = ops-push 0 before line
+ops-push count (lines.Only epc ∷ before) line = ops-push count before line
+ops-push count (lines.Op op ∷ before) line = ops-push (count + 1) before line
+ops-push count (lines.End ∷ before) line = ops-push count before line
+
+-- what is said of one exchange
+
+-- one thing more leaves its turn to what comes no earlier
+may-still : (entry : Entry) (said happening : Happening) → MayFollow entry happening → turn_of said ≤ turn_of happening → MayFollow (with_happening entry said) happening
+may-still entry (happenings.Event event tag) (happenings.Event event' tag') may turn = may
+may-still entry (happenings.Event event tag) (happenings.Miss tag') may turn = may
+may-still entry (happenings.Event event tag) (happenings.Choice choice') may turn = tt
+may-still entry (happenings.Miss tag) (happenings.Event event' tag') may turn = absurd (omega (arith, turn))
+may-still entry (happenings.Miss tag) (happenings.Miss tag') may turn = may
+may-still entry (happenings.Miss tag) (happenings.Choice choice') may turn = tt
+may-still entry (happenings.Choice choice) (happenings.Event event' tag') may turn = absurd (omega (arith, turn))
+may-still entry (happenings.Choice choice) (happenings.Miss tag') may turn = absurd (omega (arith, turn))
+may-still entry (happenings.Choice choice) (happenings.Choice choice') may turn = tt
+
+-- not empty with one more
+not-none : {A : Type 0} (xs : List A) (x : A) → xs ++ x ∷ [] ≡ [] → ⊥
+not-none [] x none = cc
+not-none (first ∷ xs) x none = cc
+
+-- ... and what may follow it comes no earlier
+turn-kept : (entry : Entry) (said happening : Happening) → MayFollow (with_happening entry said) happening → turn_of said ≤ turn_of happening
+turn-kept entry (happenings.Event event tag) happening may = omega arith
+turn-kept entry (happenings.Miss tag) (happenings.Event event' tag') may = absurd (not-none entry.missed tag may.0)
+turn-kept entry (happenings.Miss tag) (happenings.Miss tag') may = omega arith
+turn-kept entry (happenings.Miss tag) (happenings.Choice choice') may = omega arith
+turn-kept entry (happenings.Choice choice) (happenings.Event event' tag') may = absurd (some-none choice may.1)
+turn-kept entry (happenings.Choice choice) (happenings.Miss tag') may = absurd (some-none choice may)
+turn-kept entry (happenings.Choice choice) (happenings.Choice choice') may = omega arith
+
+some-none : (choice : Choice) → Some choice ≡ None → ⊥
+some-none choice same = cc
+
+-- ... and could follow before
+may-before : (entry : Entry) (said happening : Happening) → MayFollow (with_happening entry said) happening → MayFollow entry happening
+may-before entry (happenings.Event event tag) (happenings.Event event' tag') may = may
+may-before entry (happenings.Event event tag) (happenings.Miss tag') may = may
+may-before entry (happenings.Event event tag) (happenings.Choice choice') may = tt
+may-before entry (happenings.Miss tag) (happenings.Event event' tag') may = absurd (not-none entry.missed tag may.0)
+may-before entry (happenings.Miss tag) (happenings.Miss tag') may = may
+may-before entry (happenings.Miss tag) (happenings.Choice choice') may = tt
+may-before entry (happenings.Choice choice) (happenings.Event event' tag') may = absurd (some-none choice may.1)
+may-before entry (happenings.Choice choice) (happenings.Miss tag') may = absurd (some-none choice may)
+may-before entry (happenings.Choice choice) (happenings.Choice choice') may = tt
+
+nothing-said : (happening : Happening) → MayFollow no_entry happening
+nothing-said (happenings.Event event tag) = (refl, refl)
+nothing-said (happenings.Miss tag) = refl
+nothing-said (happenings.Choice choice) = tt
+
+-- an exchange has no choice with one thing more where it had none, and that is none
+choice-of : (entry : Entry) (said : Happening) (exchange number : ℕ) → exchange ≡ number → entry.choice ≡ None → ChoosesOther number (lines.Air exchange said) → (with_happening entry said).choice ≡ None
+choice-of entry (happenings.Event event tag) exchange number same none other = none
+choice-of entry (happenings.Miss tag) exchange number same none other = none
+choice-of entry (happenings.Choice choice) exchange number same none other = absurd (other same)
+
+-- ... and where it has none, that was none
+no-choice : (entry : Entry) (said : Happening) (exchange number : ℕ) → (number ≡ exchange → (with_happening entry said).choice ≡ None) → ChoosesOther number (lines.Air exchange said)
+no-choice entry (happenings.Event event tag) exchange number none = tt
+no-choice entry (happenings.Miss tag) exchange number none = tt
+no-choice entry (happenings.Choice choice) exchange number none = λ same. some-none choice (none (sym same))
+
+choice-before : (entry : Entry) (said : Happening) → (with_happening entry said).choice ≡ None → entry.choice ≡ None
+choice-before entry (happenings.Event event tag) none = none
+choice-before entry (happenings.Miss tag) none = none
+choice-before entry (happenings.Choice choice) none = absurd (some-none choice none)
+
+-- What the number of the last exchange and what is said of it tell of the next air line, and what the lines before it do.
+record TellsAirs (before : List Line) (last : ℕ) (latest : Entry) : Type 0 where
+  order : (exchange : ℕ) (happening : Happening) → last ≤ exchange → (exchange ≡ last → MayFollow latest happening) → AllByRecursion (ComesBefore exchange happening) before
+  above : (exchange : ℕ) (happening : Happening) → AllByRecursion (ComesBefore exchange happening) before → last ≤ exchange
+  may : (exchange : ℕ) (happening : Happening) → AllByRecursion (ComesBefore exchange happening) before → exchange ≡ last → MayFollow latest happening
+  once : (exchange : ℕ) → last ≤ exchange → (exchange ≡ last → latest.choice ≡ None) → AllByRecursion (ChoosesOther exchange) before
+  chosen : (exchange : ℕ) → AllByRecursion (ChoosesOther exchange) before → exchange ≡ last → latest.choice ≡ None
+
+-- a line that is no air line changes nothing of that
+airs-kept : (before : List Line) (last : ℕ) (latest : Entry) (line : Line) → ((exchange : ℕ) (happening : Happening) → ComesBefore exchange happening line)
+    → ((exchange : ℕ) → ChoosesOther exchange line) → TellsAirs before last latest → TellsAirs (before ++ line ∷ []) last latest
+airs-kept before last latest line comes other told = record {
+  order = λ exchange happening above may. all-push (ComesBefore exchange happening) before line (told.order exchange happening above may) (comes exchange happening);
+  above = λ exchange happening all. told.above exchange happening (all-front (ComesBefore exchange happening) before line all);
+  may = λ exchange happening all same. told.may exchange happening (all-front (ComesBefore exchange happening) before line all) same;
+  once = λ exchange above none. all-push (ChoosesOther exchange) before line (told.once exchange above none) (other exchange);
+  chosen = λ exchange all same. told.chosen exchange (all-front (ChoosesOther exchange) before line all) same;
+}
+
+-- one thing more of the last exchange
+airs-same : (before : List Line) (last : ℕ) (latest : Entry) (said : Happening) → TellsAirs before last latest
+    → TellsAirs (before ++ lines.Air last said ∷ []) last (with_happening latest said)
+airs-same before last latest said told =
+    let line = lines.Air last said in
+    record {
+      order = λ exchange happening above may.
+          all-push (ComesBefore exchange happening) before line (told.order exchange happening above (λ same. may-before latest said happening (may same)))
+          (above, λ same. turn-kept latest said happening (may (sym same)));
+      above = λ exchange happening all. told.above exchange happening (all-front (ComesBefore exchange happening) before line all);
+      may = λ exchange happening all same.
+          may-still latest said happening (told.may exchange happening (all-front (ComesBefore exchange happening) before line all) same)
+          ((all-last (ComesBefore exchange happening) before line all).1 (sym same));
+      once = λ exchange above none.
+          all-push (ChoosesOther exchange) before line (told.once exchange above (λ same. choice-before latest said (none same))) (no-choice latest said last exchange none);
+      chosen = λ exchange all same.
+          choice-of latest said last exchange (sym same) (told.chosen exchange (all-front (ChoosesOther exchange) before line all) same)
+          (all-last (ChoosesOther exchange) before line all);
+    }
+
+-- the first of another exchange
+airs-next : (before : List Line) (last next : ℕ) (latest : Entry) (said : Happening) → last < next → TellsAirs before last latest
+    → TellsAirs (before ++ lines.Air next said ∷ []) next (with_happening no_entry said)
+airs-next before last next latest said later told =
+    let line = lines.Air next said in
+    record {
+      order = λ exchange happening above may.
+          all-push (ComesBefore exchange happening) before line (told.order exchange happening (omega (arith, later, above)) (λ same. absurd (omega (arith, later, above, same))))
+          (above, λ same. turn-kept no_entry said happening (may (sym same)));
+      above = λ exchange happening all. (all-last (ComesBefore exchange happening) before line all).0;
+      may = λ exchange happening all same. may-still no_entry said happening (nothing-said happening) ((all-last (ComesBefore exchange happening) before line all).1 (sym same));
+      once = λ exchange above none.
+          all-push (ChoosesOther exchange) before line (told.once exchange (omega (arith, later, above)) (λ same. absurd (omega (arith, later, above, same))))
+          (no-choice no_entry said next exchange none);
+      chosen = λ exchange all same. choice-of no_entry said next exchange (sym same) refl (all-last (ChoosesOther exchange) before line all);
+    }
+
+-- What a draft tells of the next line, and what the lines before it do.
+record Tells (before : List Line) (draft : DraftValue) : Type 0 where
+  tags : length draft.tags ≡ tags_in before
+  airs : draft.airs ≡ airs_in before
+  steps : length (steps_of draft) ≡ steps_in before
+  ops : length draft.operations.ops ≡ ops_behind 0 before
+  exchanges : TellsAirs before draft.exchange draft.latest
+
+length-push : {A : Type 0} (xs : List A) (x : A) → length (xs ++ x ∷ []) ≡ length xs + 1
+length-push [] x = refl
+length-push (first ∷ xs) x = ap suc (length-push xs x)
+
+-- a last step has one place, whatever its operations are
+last-same : (before : List Step) (round : Option SpecValue) (operations operations' : OpList) → length (with_last before round operations) ≡ length (with_last before round operations')
+last-same before None operations operations' = refl
+last-same before (Some spec) operations operations' = length-push before _ ∙ sym (length-push before _)
+
+ops-same : (before : List Line) (line : Line) (count : ℕ) → count ≡ ops_behind 0 before → ops_behind (ops_behind 0 before) (line ∷ []) ≡ ops_behind 0 before → count ≡ ops_behind 0 (before ++ line ∷ [])
+ops-same before line count so_far same = so_far ∙ sym same ∙ sym (ops-push 0 before line)
+
+tells-tag : (before : List Line) (draft : DraftValue) (line : Line) (grows : DraftValue) → Tells before draft → tags_one line ≡ 1 → airs_one line ≡ 0 → steps_one line ≡ 0
+    → ops_behind (ops_behind 0 before) (line ∷ []) ≡ ops_behind 0 before → length grows.tags ≡ length draft.tags + 1 → grows.airs ≡ draft.airs → steps_of grows ≡ steps_of draft
+    → grows.operations ≡ draft.operations → TellsAirs (before ++ line ∷ []) grows.exchange grows.latest → Tells (before ++ line ∷ []) grows
+tells-tag before draft line grows told tag no_air no_step no_op tags airs steps operations exchanges = record {
+  tags = omega (arith, tags, told.tags, tags-push before line, tag);
+  airs = omega (arith, airs, told.airs, airs-push before line, no_air);
+  steps = omega (arith, ap length steps, told.steps, steps-push before line, no_step);
+  ops = ops-same before line (length grows.operations.ops) (ap (λ (o : OpList). length o.ops) operations ∙ told.ops) no_op;
+  exchanges = exchanges;
+}
+
+tells-air : (before : List Line) (draft : DraftValue) (exchange : ℕ) (said : Happening) (grows : DraftValue) → Tells before draft → grows.tags ≡ draft.tags → grows.airs ≡ draft.airs + 1
+    → steps_of grows ≡ steps_of draft → grows.operations ≡ draft.operations → TellsAirs (before ++ lines.Air exchange said ∷ []) grows.exchange grows.latest
+    → Tells (before ++ lines.Air exchange said ∷ []) grows
+tells-air before draft exchange said grows told tags airs steps operations exchanges =
+    let line = lines.Air exchange said in
+    record {
+      tags = omega (arith, ap length tags, told.tags, tags-push before line);
+      airs = omega (arith, airs, told.airs, airs-push before line);
+      steps = omega (arith, ap length steps, told.steps, steps-push before line);
+      ops = ops-same before line (length grows.operations.ops) (ap (λ (o : OpList). length o.ops) operations ∙ told.ops) refl;
+      exchanges = exchanges;
+    }
+
+air-grown : (before : List Line) (draft : DraftValue) (exchange : ℕ) (said : Happening) (same : Bool) → (exchange == draft.exchange) ≡ same → draft.exchange ≤ exchange → Tells before draft
+    → let counted = record draft { airs = draft.airs + 1 } in
+    Tells (before ++ lines.Air exchange said ∷ []) (if same then with_said counted said else with_said (turned counted exchange) said)
+air-grown before draft exchange said true is above told =
+    let counted = record draft { airs = draft.airs + 1 } in
+    tells-air before draft exchange said (with_said counted said) told refl refl refl refl
+    (subst (λ (n : ℕ). TellsAirs (before ++ lines.Air n said ∷ []) draft.exchange (with_happening draft.latest said)) (sym (eqb-true exchange draft.exchange is))
+    (airs-same before draft.exchange draft.latest said told.exchanges))
+air-grown before draft exchange said false is above told =
+    let counted = record draft { airs = draft.airs + 1 } in
+    let differs : exchange ≢ draft.exchange = eqb-false exchange draft.exchange is in
+    tells-air before draft exchange said (with_said (turned counted exchange) said) told refl refl refl refl
+    (airs-next before draft.exchange exchange draft.latest said (above-not draft.exchange exchange above differs) told.exchanges)
+
+above-not : (last next : ℕ) → last ≤ next → next ≢ last → last < next
+above-not zero zero above differs = absurd (differs refl)
+above-not zero (suc next) above differs = omega arith
+above-not (suc last) zero above differs = absurd (omega (arith, above))
+above-not (suc last) (suc next) above differs =
+    let less = above-not last next (omega (arith, above)) (λ same. differs (ap suc same)) in omega (arith, less)
+
+-- a step, behind which no operation stands yet
+tells-step : (before : List Line) (draft : DraftValue) (line : Line) (grows : DraftValue) → Tells before draft → tags_one line ≡ 0 → airs_one line ≡ 0 → steps_one line ≡ 1
+    → ops_behind (ops_behind 0 before) (line ∷ []) ≡ 0 → grows.tags ≡ draft.tags → grows.airs ≡ draft.airs → length (steps_of grows) ≡ length (steps_of draft) + 1
+    → grows.operations.ops ≡ [] → TellsAirs (before ++ line ∷ []) grows.exchange grows.latest → Tells (before ++ line ∷ []) grows
+tells-step before draft line grows told no_tag no_air step no_op tags airs steps operations exchanges = record {
+  tags = omega (arith, ap length tags, told.tags, tags-push before line, no_tag);
+  airs = omega (arith, airs, told.airs, airs-push before line, no_air);
+  steps = omega (arith, steps, told.steps, steps-push before line, step);
+  ops = ap length operations ∙ sym no_op ∙ sym (ops-push 0 before line);
+  exchanges = exchanges;
+}
+
+-- what is said of the operations of the last step
+tells-operations : (before : List Line) (draft : DraftValue) (line : Line) (operations : OpList) → Tells before draft → tags_one line ≡ 0 → airs_one line ≡ 0 → steps_one line ≡ 0
+    → length operations.ops ≡ ops_behind (ops_behind 0 before) (line ∷ []) → TellsAirs (before ++ line ∷ []) draft.exchange draft.latest
+    → Tells (before ++ line ∷ []) (record draft { operations = operations })
+tells-operations before draft line operations told no_tag no_air no_step ops exchanges = record {
+  tags = omega (arith, told.tags, tags-push before line, no_tag);
+  airs = omega (arith, told.airs, airs-push before line, no_air);
+  steps = omega (arith, last-same draft.steps draft.round operations draft.operations, told.steps, steps-push before line, no_step);
+  ops = ops ∙ sym (ops-push 0 before line);
+  exchanges = exchanges;
+}
+
+-- the same of any place in a scenario
+abbrev Stands : List Line → Standing → Type 0
+Stands before start = before ≡ []
+Stands before begun = before ≡ lines.Version ∷ []
+Stands before (within draft) = Tells before draft
+Stands before (ended draft) = Unit {0}
+
+-- one line more
+tells-one : (before : List Line) (draft : DraftValue) (line : Line) → Follows (within draft) line → Tells before draft → Stands (before ++ line ∷ []) (after (within draft) line)
+tells-one before draft lines.Version follows told = absurd follows.stands
+tells-one before draft (lines.Link link) follows told = absurd follows.stands
+tells-one before draft (lines.Tag tag) follows told =
+    let line = lines.Tag tag in
+    tells-tag before draft line (grown draft line) told refl refl refl refl (length-push draft.tags tag) refl refl refl
+    (airs-kept before draft.exchange draft.latest line (λ exchange happening. tt) (λ exchange. tt) told.exchanges)
+tells-one before draft (lines.Air exchange said) follows told = air-grown before draft exchange said (exchange == draft.exchange) refl follows.agrees.order.0 told
+tells-one before draft (lines.Select selection) follows told =
+    let line = lines.Select selection in
+    tells-step before draft line (grown draft line) told refl refl refl refl refl refl (length-push (steps_of draft) _) refl
+    (airs-kept before draft.exchange draft.latest line (λ exchange happening. tt) (λ exchange. tt) told.exchanges)
+tells-one before draft lines.Nak follows told =
+    let line = lines.Nak in
+    tells-step before draft line (grown draft line) told refl refl refl refl refl refl (length-push (steps_of draft) _) refl
+    (airs-kept before draft.exchange draft.latest line (λ exchange happening. tt) (λ exchange. tt) told.exchanges)
+tells-one before draft (lines.Event event tag) follows told =
+    let line = lines.Event event tag in
+    tells-step before draft line (grown draft line) told refl refl refl refl refl refl (length-push (steps_of draft) _) refl
+    (airs-kept before draft.exchange draft.latest line (λ exchange happening. tt) (λ exchange. tt) told.exchanges)
+tells-one before draft (lines.Round spec) follows told =
+    let line = lines.Round spec in
+    tells-step before draft line (grown draft line) told refl refl refl refl refl refl (length-push (steps_of draft) _) refl
+    (airs-kept before draft.exchange draft.latest line (λ exchange happening. tt) (λ exchange. tt) told.exchanges)
+tells-one before draft (lines.Only epc) follows told =
+    let line = lines.Only epc in
+    tells-operations before draft line (record { only = Some epc; ops = draft.operations.ops }) told refl refl refl told.ops
+    (airs-kept before draft.exchange draft.latest line (λ exchange happening. tt) (λ exchange. tt) told.exchanges)
+tells-one before draft (lines.Op op) follows told =
+    let line = lines.Op op in
+    let more : length (draft.operations.ops ++ op ∷ []) ≡ ops_behind 0 before + 1 = length-push draft.operations.ops op ∙ ap (λ n. n + 1) told.ops in
+    tells-operations before draft line (record { only = draft.operations.only; ops = draft.operations.ops ++ op ∷ [] }) told refl refl refl more
+    (airs-kept before draft.exchange draft.latest line (λ exchange happening. tt) (λ exchange. tt) told.exchanges)
+tells-one before draft lines.End follows told = tt
+
+stands-first : (before : List Line) (line : Line) → Follows start line → before ≡ [] → before ++ line ∷ [] ≡ lines.Version ∷ []
+stands-first before lines.Version follows none = ap (λ (b : List Line). b ++ lines.Version ∷ []) none
+stands-first before (lines.Link link) follows none = absurd follows.stands
+stands-first before (lines.Tag tag) follows none = absurd follows.stands
+stands-first before (lines.Air exchange happening) follows none = absurd follows.stands
+stands-first before (lines.Select selection) follows none = absurd follows.stands
+stands-first before lines.Nak follows none = absurd follows.stands
+stands-first before (lines.Event event tag) follows none = absurd follows.stands
+stands-first before (lines.Round spec) follows none = absurd follows.stands
+stands-first before (lines.Only epc) follows none = absurd follows.stands
+stands-first before (lines.Op op) follows none = absurd follows.stands
+stands-first before lines.End follows none = absurd follows.stands
+
+-- behind the version and the link nothing is settled
+tells-none : (link : _) → Tells (lines.Version ∷ lines.Link link ∷ []) (new_draft link)
+tells-none link = record {
+  tags = refl;
+  airs = refl;
+  steps = refl;
+  ops = refl;
+  exchanges = record {
+    order = λ exchange happening above may. (tt, tt, tt);
+    above = λ exchange happening all. omega arith;
+    may = λ exchange happening all same. nothing-said happening;
+    once = λ exchange above none. (tt, tt, tt);
+    chosen = λ exchange all same. refl;
+  };
+}
+
+stands-second : (before : List Line) (line : Line) → Follows begun line → before ≡ lines.Version ∷ [] → Stands (before ++ line ∷ []) (after begun line)
+stands-second before lines.Version follows version = absurd follows.stands
+stands-second before (lines.Link link) follows version =
+    subst (λ (b : List Line). Tells (b ++ lines.Link link ∷ []) (new_draft link)) (sym version) (tells-none link)
+stands-second before (lines.Tag tag) follows version = absurd follows.stands
+stands-second before (lines.Air exchange happening) follows version = absurd follows.stands
+stands-second before (lines.Select selection) follows version = absurd follows.stands
+stands-second before lines.Nak follows version = absurd follows.stands
+stands-second before (lines.Event event tag) follows version = absurd follows.stands
+stands-second before (lines.Round spec) follows version = absurd follows.stands
+stands-second before (lines.Only epc) follows version = absurd follows.stands
+stands-second before (lines.Op op) follows version = absurd follows.stands
+stands-second before lines.End follows version = absurd follows.stands
+
+stands-one : (before : List Line) (from : Standing) (line : Line) → Follows from line → Stands before from → Stands (before ++ line ∷ []) (after from line)
+stands-one before start line follows stands = stands-first before line follows stands
+stands-one before begun line follows stands = stands-second before line follows stands
+stands-one before (within draft) line follows stands = tells-one before draft line follows stands
+stands-one before (ended draft) line follows stands = absurd follows.stands
+
+stands-behind : (before said : List Line) (from to : Standing) → Leads from said to → Stands before from → Stands (before ++ said) to
+stands-behind before [] from to leads stands = subst (λ (b : List Line). Stands b to) (sym (append-nil before)) (subst (Stands before) leads stands)
+stands-behind before (line ∷ said) from to leads stands =
+    subst (λ (b : List Line). Stands b to) (append_assoc before (line ∷ []) said)
+    (stands-behind (before ++ line ∷ []) said (after from line) to leads.1 (stands-one before from line leads.0 stands))
+
+tells : (said : List Line) (draft : DraftValue) → Leads start said (within draft) → Tells said draft
+tells said draft leads = stands-behind [] said start (within draft) leads refl
+
+-- there is room exactly where the lines before are not full
+less-or-not : (count most : ℕ) → (¬ (most ≤ count)) → count < most
+less-or-not zero zero few = absurd (few (omega arith))
+less-or-not zero (suc most) few = omega arith
+less-or-not (suc count) zero few = absurd (few (omega arith))
+less-or-not (suc count) (suc most) few = let less = less-or-not count most (λ full. few (omega (arith, full))) in omega (arith, less)
+
+room-or-full : (count counted most : ℕ) → count ≡ counted → (count < most) ↔ (¬ (most ≤ counted))
+room-or-full count counted most same =
+    (λ room full. absurd (omega (arith, same, room, full)), λ few. less-or-not count most (λ full. few (omega (arith, same, full))))
+
+always : {A : Type 0} → A → A ↔ (¬ ⊥)
+always value = (λ any none. none, λ any. value)
+
+pub has-room : (said : List Line) (draft : DraftValue) (word : Word) → Leads start said (within draft) → HasRoom (within draft) word ↔ (¬ IsFullBefore said word)
+has-room said draft words.Version leads = always tt
+has-room said draft words.Link leads = always tt
+has-room said draft words.Tag leads = room-or-full (length draft.tags) (tags_in said) most_tags (tells said draft leads).tags
+has-room said draft words.Air leads = room-or-full draft.airs (airs_in said) most_air_lines (tells said draft leads).airs
+has-room said draft words.Select leads = room-or-full (length (steps_of draft)) (steps_in said) most_steps (tells said draft leads).steps
+has-room said draft words.Nak leads = room-or-full (length (steps_of draft)) (steps_in said) most_steps (tells said draft leads).steps
+has-room said draft words.Event leads = room-or-full (length (steps_of draft)) (steps_in said) most_steps (tells said draft leads).steps
+has-room said draft words.Round leads = room-or-full (length (steps_of draft)) (steps_in said) most_steps (tells said draft leads).steps
+has-room said draft words.Only leads = always tt
+has-room said draft words.Op leads = room-or-full (length draft.operations.ops) (ops_behind 0 said) most_ops (tells said draft leads).ops
+has-room said draft words.End leads = always tt
+
+keeps-order : (said : List Line) (draft : DraftValue) (line : Line) → Tells said draft → KeepsOrder draft line ↔ KeepsOrderBehind said line
+keeps-order said draft lines.Version told = (λ k. k, λ k. k)
+keeps-order said draft (lines.Link link) told = (λ k. k, λ k. k)
+keeps-order said draft (lines.Tag tag) told = (λ k. k, λ k. k)
+keeps-order said draft (lines.Air exchange happening) told =
+    (λ keeps. told.exchanges.order exchange happening keeps.0 keeps.1, λ all. (told.exchanges.above exchange happening all, told.exchanges.may exchange happening all))
+keeps-order said draft (lines.Select selection) told = (λ k. k, λ k. k)
+keeps-order said draft lines.Nak told = (λ k. k, λ k. k)
+keeps-order said draft (lines.Event event tag) told = (λ k. k, λ k. k)
+keeps-order said draft (lines.Round spec) told = (λ k. k, λ k. k)
+keeps-order said draft (lines.Only epc) told = (λ k. k, λ k. k)
+keeps-order said draft (lines.Op op) told = (λ k. k, λ k. k)
+keeps-order said draft lines.End told = (λ k. k, λ k. k)
+
+chooses-once : (said : List Line) (draft : DraftValue) (line : Line) → Tells said draft → KeepsOrder draft line → ChoosesOnce draft line ↔ ChoosesFirst said line
+chooses-once said draft lines.Version told keeps = (λ k. k, λ k. k)
+chooses-once said draft (lines.Link link) told keeps = (λ k. k, λ k. k)
+chooses-once said draft (lines.Tag tag) told keeps = (λ k. k, λ k. k)
+chooses-once said draft (lines.Air exchange (happenings.Event event tag)) told keeps = (λ k. k, λ k. k)
+chooses-once said draft (lines.Air exchange (happenings.Miss tag)) told keeps = (λ k. k, λ k. k)
+chooses-once said draft (lines.Air exchange (happenings.Choice choice)) told keeps = (told.exchanges.once exchange keeps.0, told.exchanges.chosen exchange)
+chooses-once said draft (lines.Select selection) told keeps = (λ k. k, λ k. k)
+chooses-once said draft lines.Nak told keeps = (λ k. k, λ k. k)
+chooses-once said draft (lines.Event event tag) told keeps = (λ k. k, λ k. k)
+chooses-once said draft (lines.Round spec) told keeps = (λ k. k, λ k. k)
+chooses-once said draft (lines.Only epc) told keeps = (λ k. k, λ k. k)
+chooses-once said draft (lines.Op op) told keeps = (λ k. k, λ k. k)
+chooses-once said draft lines.End told keeps = (λ k. k, λ k. k)
+
+names-tag : (said : List Line) (draft : DraftValue) (line : Line) → Tells said draft → NamesTag (length draft.tags) line ↔ NamesTag (tags_in said) line
+names-tag said draft line told = (subst (λ n. NamesTag n line) told.tags, subst (λ n. NamesTag n line) (sym told.tags))
+
+neither : {A B : Type 0} → A ↔ B → (¬ A) ↔ (¬ B)
+neither same = (λ none b. none (same.1 b), λ none a. none (same.0 a))
+
+by-order : (said : List Line) (draft : DraftValue) (line : Line) → Tells said draft → DisagreesBy draft line faults.Order ↔ DisagreesWith said line faults.Order
+by-order said draft line told =
+    let names = names-tag said draft line told in
+    let order = neither (keeps-order said draft line told) in
+    (λ by. (names.0 by.0, order.0 by.1), λ with_lines. (names.1 with_lines.0, order.1 with_lines.1))
+
+by-choice : (said : List Line) (draft : DraftValue) (line : Line) → Tells said draft → DisagreesBy draft line faults.Twice ↔ DisagreesWith said line faults.Twice
+by-choice said draft line told =
+    let names = names-tag said draft line told in
+    let order = keeps-order said draft line told in (
+      λ by. (names.0 by.0, order.0 by.1, (neither (chooses-once said draft line told by.1)).0 by.2),
+      λ with_lines.
+          let keeps : KeepsOrder draft line = order.1 with_lines.1 in
+          (names.1 with_lines.0, keeps, (neither (chooses-once said draft line told keeps)).1 with_lines.2),
+    )
+
+pub disagrees-with : (said : List Line) (draft : DraftValue) (line : Line) (fault : Fault) → Leads start said (within draft) → DisagreesBy draft line fault ↔ DisagreesWith said line fault
+disagrees-with said draft line faults.Tag leads = neither (names-tag said draft line (tells said draft leads))
+disagrees-with said draft line faults.Order leads = by-order said draft line (tells said draft leads)
+disagrees-with said draft line faults.Twice leads = by-choice said draft line (tells said draft leads)
+disagrees-with said draft line faults.Extra leads = (λ none. none, λ none. none)
+disagrees-with said draft line faults.End leads = (λ none. none, λ none. none)
+disagrees-with said draft line faults.Version leads = (λ none. none, λ none. none)
+disagrees-with said draft line faults.Word leads = (λ none. none, λ none. none)
+disagrees-with said draft line faults.Limit leads = (λ none. none, λ none. none)
+disagrees-with said draft line faults.Shape leads = (λ none. none, λ none. none)
+disagrees-with said draft line faults.Number leads = (λ none. none, λ none. none)
+disagrees-with said draft line faults.Tari leads = (λ none. none, λ none. none)
+disagrees-with said draft line faults.RtCal leads = (λ none. none, λ none. none)
+disagrees-with said draft line faults.TrCal leads = (λ none. none, λ none. none)
+disagrees-with said draft line faults.Pw leads = (λ none. none, λ none. none)
+disagrees-with said draft line faults.Pc leads = (λ none. none, λ none. none)

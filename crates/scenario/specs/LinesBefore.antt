@@ -1,0 +1,90 @@
+-- Profile: why a line doesn't agree with the lines before it, said of these lines alone. The lines are those behind one
+-- another from the first line of a scenario on.
+use Rattle.std.specs.Prelude.{◌≡◌, ◌≢◌, ℕ, ◌+◌, ◌≤◌, List, [], ◌∷◌}
+use Rattle.std.specs.List.{AllByRecursion}
+use Rattle.scenario_lines.specs.declared.first_fields.Word.{Word}
+use Rattle.scenario_lines.specs.declared.first_fields.Word.TheVariants as words
+use Rattle.scenario_lines.specs.declared.line.Happening.{Happening}
+use Rattle.scenario_lines.specs.declared.line.Happening.TheVariants as happenings
+use Rattle.scenario_lines.specs.declared.line.Line.{Line}
+use Rattle.scenario_lines.specs.declared.line.Line.TheVariants as lines
+use Rattle.scenario.specs.declared.fault.Fault.{Fault}
+use Rattle.scenario.specs.declared.fault.Fault.TheVariants.{Tag, Order, Twice}
+use Rattle.scenario.specs.Limits.{most_tags, most_air_lines, most_ops, most_steps}
+use Rattle.scenario.specs.Standing.{NamesTag}
+
+-- how many of the lines are tag lines
+abbrev pub tags_in : List Line → ℕ
+tags_in [] = 0
+tags_in (lines.Tag tag ∷ more) = tags_in more + 1
+tags_in (line ∷ more) = tags_in more
+
+-- ... air lines
+abbrev pub airs_in : List Line → ℕ
+airs_in [] = 0
+airs_in (lines.Air exchange happening ∷ more) = airs_in more + 1
+airs_in (line ∷ more) = airs_in more
+
+-- ... steps: selects, NAKs, events and rounds
+abbrev pub steps_in : List Line → ℕ
+steps_in [] = 0
+steps_in (lines.Select selection ∷ more) = steps_in more + 1
+steps_in (lines.Nak ∷ more) = steps_in more + 1
+steps_in (lines.Event event tag ∷ more) = steps_in more + 1
+steps_in (lines.Round spec ∷ more) = steps_in more + 1
+steps_in (line ∷ more) = steps_in more
+
+-- how many operations come behind the last of the steps, where so many came already
+abbrev pub ops_behind : ℕ → List Line → ℕ
+ops_behind count [] = count
+ops_behind count (lines.Select selection ∷ more) = ops_behind 0 more
+ops_behind count (lines.Nak ∷ more) = ops_behind 0 more
+ops_behind count (lines.Event event tag ∷ more) = ops_behind 0 more
+ops_behind count (lines.Round spec ∷ more) = ops_behind 0 more
+ops_behind count (lines.Op op ∷ more) = ops_behind (count + 1) more
+ops_behind count (line ∷ more) = ops_behind count more
+
+-- there are as many lines of this kind already as there may be
+abbrev pub IsFullBefore : List Line → Word → Type 0
+IsFullBefore before words.Tag = most_tags ≤ tags_in before
+IsFullBefore before words.Air = most_air_lines ≤ airs_in before
+IsFullBefore before words.Select = most_steps ≤ steps_in before
+IsFullBefore before words.Nak = most_steps ≤ steps_in before
+IsFullBefore before words.Event = most_steps ≤ steps_in before
+IsFullBefore before words.Round = most_steps ≤ steps_in before
+IsFullBefore before words.Op = most_ops ≤ ops_behind 0 before
+IsFullBefore before word = ⊥
+
+-- of one exchange events come first, then misses, and the choice last
+abbrev pub turn_of : Happening → ℕ
+turn_of (happenings.Event event tag) = 0
+turn_of (happenings.Miss tag) = 1
+turn_of (happenings.Choice choice) = 2
+
+-- an earlier air line is of no later exchange, and what it says of the same exchange comes no later
+abbrev pub ComesBefore : ℕ → Happening → Line → Type 0
+ComesBefore exchange happening (lines.Air other said) = (other ≤ exchange) × (other ≡ exchange → turn_of said ≤ turn_of happening)
+ComesBefore exchange happening line = Unit {0}
+
+-- an earlier line is no choice for the exchange
+abbrev pub ChoosesOther : ℕ → Line → Type 0
+ChoosesOther exchange (lines.Air other (happenings.Choice choice)) = other ≢ exchange
+ChoosesOther exchange line = Unit {0}
+
+-- the exchanges of the air lines don't fall, and what they say of one exchange comes in order
+abbrev pub KeepsOrderBehind : List Line → Line → Type 0
+KeepsOrderBehind before (lines.Air exchange happening) = AllByRecursion (ComesBefore exchange happening) before
+KeepsOrderBehind before line = Unit {0}
+
+-- no earlier line is a choice for the exchange of a choice
+abbrev pub ChoosesFirst : List Line → Line → Type 0
+ChoosesFirst before (lines.Air exchange (happenings.Choice choice)) = AllByRecursion (ChoosesOther exchange) before
+ChoosesFirst before line = Unit {0}
+
+-- the first reason for which a line that may stand here doesn't agree with the lines before it: its tag has no line among
+-- them, it is out of order, or it is a second choice
+abbrev pub DisagreesWith : List Line → Line → Fault → Type 0
+DisagreesWith before line Tag = ¬ NamesTag (tags_in before) line
+DisagreesWith before line Order = NamesTag (tags_in before) line × (¬ KeepsOrderBehind before line)
+DisagreesWith before line Twice = NamesTag (tags_in before) line × KeepsOrderBehind before line × (¬ ChoosesFirst before line)
+DisagreesWith before line fault = ⊥
