@@ -134,6 +134,9 @@ not-none : {A : Type 0} (xs : List A) (x : A) → xs ++ x ∷ [] ≡ [] → ⊥
 not-none [] x none = cc
 not-none (first ∷ xs) x none = cc
 
+some-none : (choice : Choice) → Some choice ≡ None → ⊥
+some-none choice same = cc
+
 -- ... and what may follow it comes no earlier
 turn-kept : (entry : Entry) (said happening : Happening) → MayFollow (with_happening entry said) happening → turn_of said ≤ turn_of happening
 turn-kept entry (happenings.Event event tag) happening may = omega arith
@@ -143,9 +146,6 @@ turn-kept entry (happenings.Miss tag) (happenings.Choice choice') may = omega ar
 turn-kept entry (happenings.Choice choice) (happenings.Event event' tag') may = absurd (some-none choice may.1)
 turn-kept entry (happenings.Choice choice) (happenings.Miss tag') may = absurd (some-none choice may)
 turn-kept entry (happenings.Choice choice) (happenings.Choice choice') may = omega arith
-
-some-none : (choice : Choice) → Some choice ≡ None → ⊥
-some-none choice same = cc
 
 -- ... and could follow before
 may-before : (entry : Entry) (said happening : Happening) → MayFollow (with_happening entry said) happening → MayFollow entry happening
@@ -247,7 +247,7 @@ record Tells (before : List Line) (draft : DraftValue) : Type 0 where
 
 length-push : {A : Type 0} (xs : List A) (x : A) → length (xs ++ x ∷ []) ≡ length xs + 1
 length-push [] x = refl
-length-push (first ∷ xs) x = ap suc (length-push xs x)
+length-push (first ∷ xs) x = let rest = length-push xs x in omega (arith, rest)
 
 -- a last step has one place, whatever its operations are
 last-same : (before : List Step) (round : Option SpecValue) (operations operations' : OpList) → length (with_last before round operations) ≡ length (with_last before round operations')
@@ -281,6 +281,13 @@ tells-air before draft exchange said grows told tags airs steps operations excha
       exchanges = exchanges;
     }
 
+above-not : (last next : ℕ) → last ≤ next → next ≢ last → last < next
+above-not zero zero above differs = absurd (differs refl)
+above-not zero (suc next) above differs = omega arith
+above-not (suc last) zero above differs = absurd (omega (arith, above))
+above-not (suc last) (suc next) above differs =
+    let less = above-not last next (omega (arith, above)) (λ same. differs (ap suc same)) in omega (arith, less)
+
 air-grown : (before : List Line) (draft : DraftValue) (exchange : ℕ) (said : Happening) (same : Bool) → (exchange == draft.exchange) ≡ same → draft.exchange ≤ exchange → Tells before draft
     → let counted = record draft { airs = draft.airs + 1 } in
     Tells (before ++ lines.Air exchange said ∷ []) (if same then with_said counted said else with_said (turned counted exchange) said)
@@ -294,13 +301,6 @@ air-grown before draft exchange said false is above told =
     let differs : exchange ≢ draft.exchange = eqb-false exchange draft.exchange is in
     tells-air before draft exchange said (with_said (turned counted exchange) said) told refl refl refl refl
     (airs-next before draft.exchange exchange draft.latest said (above-not draft.exchange exchange above differs) told.exchanges)
-
-above-not : (last next : ℕ) → last ≤ next → next ≢ last → last < next
-above-not zero zero above differs = absurd (differs refl)
-above-not zero (suc next) above differs = omega arith
-above-not (suc last) zero above differs = absurd (omega (arith, above))
-above-not (suc last) (suc next) above differs =
-    let less = above-not last next (omega (arith, above)) (λ same. differs (ap suc same)) in omega (arith, less)
 
 -- a step, behind which no operation stands yet
 tells-step : (before : List Line) (draft : DraftValue) (line : Line) (grows : DraftValue) → Tells before draft → tags_one line ≡ 0 → airs_one line ≡ 0 → steps_one line ≡ 1
@@ -390,10 +390,10 @@ tells-none link = record {
   steps = refl;
   ops = refl;
   exchanges = record {
-    order = λ exchange happening above may. (tt, tt, tt);
+    order = λ exchange happening above may. (tt, (tt, tt));
     above = λ exchange happening all. omega arith;
     may = λ exchange happening all same. nothing-said happening;
-    once = λ exchange above none. (tt, tt, tt);
+    once = λ exchange above none. (tt, (tt, tt));
     chosen = λ exchange all same. refl;
   };
 }
