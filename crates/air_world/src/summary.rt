@@ -11,6 +11,7 @@ use crate::start::set_up;
 use air_channel::Air;
 use air_io::SureSink;
 use bit_strings::OutOfMemory;
+use q_round::round_laws;
 use scenario::{EntryCursor, Scenario, empty_entry};
 use std::alloc::{AllocError, Global};
 use std::marker::Brand;
@@ -66,7 +67,7 @@ fn count_run<L: Ledger>(
     ensures ok { IfOk result (λ summary. summary ≡ summary_of scenario.now) }
     ensures err { IfErr result (λ fault. fault ≡ NoMemory) }
 {
-    prove!(air.len() <= 256);
+    round_laws();
     let tags = air.len();
     let empty = empty_entry(alloc);
     let entries = EntryCursor::new(scenario.entries.as_slice(), &empty);
