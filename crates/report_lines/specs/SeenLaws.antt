@@ -260,4 +260,6 @@ total-behind pairs (pair ∷ more) =
 
 -- all that was listed was counted
 pub total_of-all : (pairs : List (ℕ × List ℕ)) → total_of (seen_in pairs) ≡ length pairs
-total_of-all pairs = total-behind [] pairs
+total_of-all pairs =
+    let all : total_of (seen_in pairs) ≡ 0 + length pairs = total-behind [] pairs in
+    omega (arith, all)
