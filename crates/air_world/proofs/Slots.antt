@@ -4,7 +4,6 @@ use Rattle.std.proofs.lemmas.List.{append-nil, map-append}
 use Rattle.std.specs.Result.{IfErr, OnOk}
 use Rattle.access_ops.specs.Operations.{dialogue_of}
 use Rattle.access_ops.specs.declared.OpList.{OpList}
-use Rattle.access_ops.specs.declared.op_next.OpResult.{OpResult}
 use Rattle.air_channel.specs.Air.{AirValue}
 use Rattle.air_channel.specs.Channel.{Given, got_of, heard_levels}
 use Rattle.air_channel.specs.Past.{Start, Record, Item, befell, exchanged, operated, ended, next_record, past_behind_command, exchanges_in}
@@ -202,6 +201,8 @@ plays-listed origin past air run after seen is plays = record {
   exchanges = plays.exchanges;
   entries = subst (λ l. IsLeft l origin.start.entries (exchanges_in past)) (sym (ap (λ (r : RunValue). r.entries) is)) plays.entries;
   rounds = ap (λ (r : RunValue). r.rounds) is ∙ plays.rounds;
+  slots = ap (λ (r : RunValue). r.slots) is ∙ plays.slots;
+  quiet = ap (λ (r : RunValue). r.quiet) is ∙ plays.quiet;
 }
 
 -- two facts on success give a third

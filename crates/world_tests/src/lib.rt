@@ -10,6 +10,8 @@ mod report;
 #[cfg(test)]
 mod single_tag;
 #[cfg(test)]
+mod summary;
+#[cfg(test)]
 mod tag_lines;
 #[cfg(test)]
 mod worlds;
