@@ -13,3 +13,4 @@ pub mod Times
 pub mod Totals
 pub mod Turns
 pub mod WholeRound
+pub mod MadeRuns

@@ -6,3 +6,4 @@ pub mod EveryTag
 pub mod Honest
 pub mod Listed
 pub mod Moments
+pub mod MadeRuns
