@@ -61,7 +61,7 @@ nothing-written mode scenario written faults = record { added = Adds-nothing wri
 
 -- the run begins
 pub stands-first : (mode : Mode) (scenario : Scenario) (first written : Option (List ℕ)) (before faults : ℕ) (air : AirValue) (run : RunValue) → IsScenario scenario → air ≡ new_air (start_of scenario)
-    → AreLegalTags air.tags → (left : List (ℕ × Entry)) → IsLeft left scenario.entries 0 → run ≡ record { mode = mode; entries = left; seen = []; rounds = 0 }
+    → AreLegalTags air.tags → (left : List (ℕ × Entry)) → IsLeft left scenario.entries 0 → run ≡ record { mode = mode; entries = left; seen = []; rounds = 0; slots = 0; quiet = true }
     → IsWritten (origin_of mode scenario first before) (past_text (origin_of mode scenario first before) []) written faults
     → StandsAt (origin_of mode scenario first before) [] air run written faults
 stands-first mode scenario first written before faults air run is fresh legal left left_is run_is done = record {
@@ -75,6 +75,8 @@ stands-first mode scenario first written before faults air run is fresh legal le
     exchanges = ap (λ (a : AirValue). a.exchanges) fresh;
     entries = subst (λ l. IsLeft l scenario.entries 0) (sym (ap (λ (r : RunValue). r.entries) run_is)) left_is;
     rounds = ap (λ (r : RunValue). r.rounds) run_is;
+    slots = ap (λ (r : RunValue). r.slots) run_is;
+    quiet = ap (λ (r : RunValue). r.quiet) run_is;
   };
   seen = ap (λ (r : RunValue). r.seen) run_is;
   text = done;
@@ -89,6 +91,7 @@ told-first mode scenario first written before faults air run is stands = record 
   stands = stands;
   room = omega (arith, is.few_steps);
   rounds = omega (arith, is.few_steps);
+  slots = omega (arith, is.few_steps);
 }
 
 pub steps-legal : (scenario : Scenario) (air : AirValue) → IsScenario scenario → air ≡ new_air (start_of scenario) → All (IsStep (length air.tags)) scenario.steps

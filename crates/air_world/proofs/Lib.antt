@@ -1,5 +1,6 @@
 pub mod Answering
 pub mod Beginning
+pub mod Counted
 pub mod Growth
 pub mod HeadlineAll
 pub mod HeadlineCounts

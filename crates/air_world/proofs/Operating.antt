@@ -189,6 +189,8 @@ stands-operated origin past round slot index result air run after was_written wr
     exchanges = stands.plays.exchanges;
     entries = stands.plays.entries;
     rounds = stands.plays.rounds;
+    slots = stands.plays.slots;
+    quiet = stands.plays.quiet;
   };
   seen = ap (λ (r : RunValue). r.seen) same ∙ stands.seen;
   text = subst (λ (t : List ℕ). IsWritten origin t written faults) (sym (text-operated origin past round slot index result)) written_is;

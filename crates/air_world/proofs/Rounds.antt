@@ -1,5 +1,5 @@
 -- The slots of a round, one after another.
-use Rattle.std.proofs.Common.{◌≡◌, ℕ, zero, suc, ◌+◌, ◌*◌, ◌≤◌, false, List, [], ◌∷◌, ◌++◌, length, Option, Some, refl, sym, ◌∙◌, ap, subst, arith}
+use Rattle.std.proofs.Common.{◌≡◌, ℕ, zero, suc, ◌+◌, ◌*◌, ◌≤◌, ◌<◌, ◌^◌, Bool, ◌&&◌, false, List, [], ◌∷◌, ◌++◌, length, Option, Some, refl, sym, ◌∙◌, ap, subst, arith}
 use Rattle.std.proofs.lemmas.List.{append-nil}
 use Rattle.access_ops.specs.declared.OpList.{OpList}
 use Rattle.air_channel.specs.Air.{AirValue}
@@ -12,8 +12,9 @@ use Rattle.air_world.proofs.Tags.{tags-ended}
 use Rattle.air_world.proofs.Writing.{cut-past}
 use Rattle.air_world.specs.History.{outcome_of, slot_reception, past_behind_answer, past_behind_slot, past_behind_turn, past_behind_turns, past_behind_round}
 use Rattle.air_world.specs.Headline.{most_operating}
-use Rattle.air_world.specs.Playing.{Origin, RunValue, StandsAt, IsWritten, IsCutOff, most_in_slot, past_text, expectation_of}
+use Rattle.air_world.specs.Playing.{Origin, RunValue, StandsAt, IsWritten, IsCutOff, most_in_slot, most_slots, past_text, expectation_of}
 use Rattle.air_world.specs.Report.{past_lines}
+use Rattle.air_world.specs.Summary.{slots_in, is_quiet}
 use Rattle.air_world.specs.declared.mode.PlayFault.{PlayFault}
 use Rattle.command_grammar.specs.declared.commands.Command.{Command}
 use Rattle.command_grammar.specs.declared.commands.Command.TheVariants as commands
@@ -46,6 +47,7 @@ pub record RoundUnderway (origin : Origin) (operations : OpList) (first whole : 
   pub rest : past_behind_turns (suc (suc left)) origin.start operations number spec outcomes past ≡ whole
   pub few : exchanges_in past + most_in_slot * suc left ≤ exchanges_in first + most_in_slot * spec.limit
   pub rounds : number ≡ rounds_in past + 1
+  pub counted : slots_in past ≡ slots_in first
 
 -- a command that a round sends is answered with an RN16
 sends-expected : (session : ℕ) (command : Command) → IsSlotCommand session command → expectation_of command ≡ Some expects.Rn16
@@ -87,6 +89,7 @@ round-begins origin operations past number spec round command air run written fa
       rest = ap (λ n. past_behind_turns (suc n) origin.start operations number spec [] past) whole ∙ ap (λ n. past_behind_turns (suc spec.limit) origin.start operations n spec [] past) is;
       few = omega (arith, whole);
       rounds = is;
+      counted = refl;
     }
 
 -- the past behind the slot that comes next
@@ -132,6 +135,22 @@ rounds-slot start operations round slot command past =
     (record { command = λ sent expect extended now expects same. same; result = λ index result now same. same })
     (λ rn same. same) refl
 
+pub slots-slot : (start : Start) (operations : OpList) (round slot : ℕ) (command : Command) (past : List Item)
+    → slots_in (past_behind_slot start operations round slot command past) ≡ slots_in past
+slots-slot start operations round slot command past =
+    answer-keeps (λ now. slots_in now ≡ slots_in past) start operations round slot (slot_reception start round slot command past) (past_behind_command start round slot command past)
+    (record { command = λ sent expect extended now expects same. same; result = λ index result now same. same })
+    (λ rn same. same) refl
+
+-- so what was counted before has room for this round
+pub slots-fit : (origin : Origin) (operations : OpList) (first whole : List Item) (number : ℕ) (spec : SpecValue) (round : RoundValue) (command : Command) (air : AirValue) (run after : RunValue) (was_written : Option (List ℕ)) (was_faults slot : ℕ)
+    (then_air : AirValue) (written : Option (List ℕ)) (faults : ℕ)
+    → (u : RoundUnderway origin operations first whole number spec round command air run was_written was_faults) → slots_in first + most_slots * 1 ≤ 2 ^ 62
+    → StandsAt origin (past_behind_slot origin.start operations number slot command u.past) then_air after written faults → after.slots < 2 ^ 63
+slots-fit origin operations first whole number spec round command air run after was_written was_faults slot then_air written faults u room stands =
+    let same : after.slots ≡ slots_in first = stands.plays.slots ∙ slots-slot origin.start operations number slot command u.past ∙ u.counted in
+    omega (arith, same, room)
+
 -- a slot of a round that goes on
 pub round-goes-on : (origin : Origin) (operations : OpList) (first whole : List Item) (number : ℕ) (spec : SpecValue) (round after : RoundValue) (command next : Command) (air then_air : AirValue) (run then_run : RunValue)
     (was_written written : Option (List ℕ)) (was_faults faults : ℕ) (slot : ℕ) (outcome : Outcome)
@@ -162,6 +181,7 @@ round-goes-on origin operations first whole number spec round after command next
       rest = ap (λ n. past_behind_turns (suc n) origin.start operations number spec (outcome ∷ u.outcomes) between) one ∙ turned;
       few = omega (arith, one, u.few, grown, few_operations);
       rounds = u.rounds ∙ ap (λ n. n + 1) (sym (rounds-slot origin.start operations number slot command u.past));
+      counted = slots-slot origin.start operations number slot command u.past ∙ u.counted;
     }
 
 -- the past that the end of a round leaves
@@ -192,9 +212,13 @@ text-ended origin past number end slots =
     report_text-append (past_lines origin.mode origin.start.link past) (RoundLine number end slots ∷ [])
     ∙ ap (λ (t : List ℕ). past_text origin past ++ t) (append-nil (report_line_text (RoundLine number end slots)))
 
+-- what a run counts of a round
+abbrev pub run_ended : RunValue → ℕ → RoundEnd → ℕ → RunValue
+run_ended run number end slots = record run { rounds = number; slots = run.slots + slots; quiet = run.quiet && is_quiet end }
+
 -- a round ended
 pub stands-ended : (origin : Origin) (past : List Item) (number : ℕ) (end : RoundEnd) (slots : ℕ) (air : AirValue) (run after : RunValue) (before_written written : Option (List ℕ)) (before_faults faults : ℕ)
-    → number ≡ rounds_in past + 1 → StandsAt origin past air run before_written before_faults → after ≡ record run { rounds = number }
+    → number ≡ rounds_in past + 1 → StandsAt origin past air run before_written before_faults → after ≡ run_ended run number end slots
     → IsWritten origin (past_text origin past ++ report_line_text (RoundLine number end slots)) written faults
     → StandsAt origin (ended number end slots ∷ past) air after written faults
 stands-ended origin past number end slots air run after before_written written before_faults faults number_is stands is done = record {
@@ -208,6 +232,8 @@ stands-ended origin past number end slots air run after before_written written b
     exchanges = stands.plays.exchanges;
     entries = subst (λ l. IsLeft l origin.start.entries (exchanges_in past)) (sym (ap (λ (r : RunValue). r.entries) is)) stands.plays.entries;
     rounds = ap (λ (r : RunValue). r.rounds) is ∙ number_is;
+    slots = ap (λ (r : RunValue). r.slots) is ∙ ap (λ n. n + slots) stands.plays.slots;
+    quiet = ap (λ (r : RunValue). r.quiet) is ∙ ap (λ (b : Bool). b && is_quiet end) stands.plays.quiet;
   };
   seen = ap (λ (r : RunValue). r.seen) is ∙ stands.seen;
   text = subst (λ (t : List ℕ). IsWritten origin t written faults) (sym (text-ended origin past number end slots)) done;
@@ -220,7 +246,7 @@ cut-ended origin past number end slots written faults fault cut = subst (λ (t :
 
 -- ... so ends it
 pub whole-ended : (origin : Origin) (past whole : List Item) (number : ℕ) (end : RoundEnd) (slots : ℕ) (air : AirValue) (run after : RunValue) (before_written written : Option (List ℕ)) (before_faults faults : ℕ)
-    → number ≡ rounds_in past + 1 → StandsAt origin past air run before_written before_faults → after ≡ record run { rounds = number } → ended number end slots ∷ past ≡ whole
+    → number ≡ rounds_in past + 1 → StandsAt origin past air run before_written before_faults → after ≡ run_ended run number end slots → ended number end slots ∷ past ≡ whole
     → IsWritten origin (past_text origin past ++ report_line_text (RoundLine number end slots)) written faults → StandsAt origin whole air after written faults
 whole-ended origin past whole number end slots air run after before_written written before_faults faults number_is stands is left done =
     subst (λ (p : List Item). StandsAt origin p air after written faults) left

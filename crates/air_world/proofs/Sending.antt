@@ -64,6 +64,8 @@ sent-plays origin past round slot command air next run after entry left plays is
       exchanges = ap (λ (a : AirValue). a.exchanges) is ∙ next-below air.exchanges few ∙ ap (λ n. n + 1) plays.exchanges;
       entries = subst (λ l. IsLeft l origin.start.entries (exchanges_in past + 1)) (sym (ap (λ (r : RunValue). r.entries) after_is)) left_is;
       rounds = ap (λ (r : RunValue). r.rounds) after_is ∙ plays.rounds;
+      slots = ap (λ (r : RunValue). r.slots) after_is ∙ plays.slots;
+      quiet = ap (λ (r : RunValue). r.quiet) after_is ∙ plays.quiet;
     }
 
 lines-of-mode : (mode : Mode) (origin : Origin) (past : List Item) (round slot : ℕ) (command : Command) (air next : AirValue) (entry : Entry)

@@ -202,6 +202,8 @@ plays-listed origin past air run after seen is plays = record {
   exchanges = plays.exchanges;
   entries = subst (λ l. IsLeft l origin.start.entries (exchanges_in past)) (sym (ap (λ (r : RunValue). r.entries) is)) plays.entries;
   rounds = ap (λ (r : RunValue). r.rounds) is ∙ plays.rounds;
+  slots = ap (λ (r : RunValue). r.slots) is ∙ plays.slots;
+  quiet = ap (λ (r : RunValue). r.quiet) is ∙ plays.quiet;
 }
 
 -- two facts on success give a third

@@ -9,17 +9,18 @@ use Rattle.air_channel.specs.Air.{AirValue, AreLegalTags, air_after_event}
 use Rattle.air_channel.specs.Past.{Start, Record, Item, befell, exchanges_in, rounds_in, tags_behind}
 use Rattle.reply_grammar.specs.Reception.{Reception, no_stream}
 use Rattle.air_events.specs.declared.Event.{Event}
-use Rattle.air_world.proofs.Growth.{steps-grow, round-holds}
+use Rattle.air_world.proofs.Growth.{steps-grow, round-holds, few-outcomes}
 use Rattle.air_world.proofs.HeadlineCounts.{round-exchanges}
 use Rattle.air_world.proofs.HeadlineLegal.{legal-step}
-use Rattle.air_world.proofs.Rounds.{KeepsLimit, rounds-slot}
+use Rattle.air_world.proofs.Rounds.{KeepsLimit, rounds-slot, slots-slot}
 use Rattle.air_world.proofs.Tags.{tags-befell, length-tags}
 use Rattle.air_world.proofs.Writing.{cut-past}
 use Rattle.air_world.specs.History.{past_behind, past_behind_step, past_behind_round}
 use Rattle.air_world.specs.Headline.{most_operating}
 use Rattle.air_world.specs.Listing.{reception_of_ack, listed_from, listed_by}
-use Rattle.air_world.specs.Playing.{Origin, RunValue, PlaysAt, StandsAt, IsWritten, IsCutOff, most_in_round, past_text, expectation_of}
+use Rattle.air_world.specs.Playing.{Origin, RunValue, PlaysAt, StandsAt, IsWritten, IsCutOff, most_in_round, most_slots, past_text, expectation_of}
 use Rattle.air_world.specs.Report.{past_lines}
+use Rattle.air_world.specs.Summary.{slots_in}
 use Rattle.air_world.specs.declared.mode.PlayFault.{PlayFault}
 use Rattle.command_grammar.specs.declared.commands.Command.{Command}
 use Rattle.command_grammar.specs.declared.commands.Command.TheVariants as commands
@@ -59,6 +60,8 @@ stands-befell origin past event number air next run written faults stands is leg
         exchanges = ap (λ (a : AirValue). a.exchanges) is ∙ stands.plays.exchanges;
         entries = stands.plays.entries;
         rounds = stands.plays.rounds;
+        slots = stands.plays.slots;
+        quiet = stands.plays.quiet;
       };
       seen = stands.seen;
       text = subst (λ (t : List ℕ). IsWritten origin t written faults) (sym text) stands.text;
@@ -89,6 +92,20 @@ step-rounds keeps tags start (steps.Round spec operations) past is =
     })
     refl
 
+-- ... and how many slots the rounds have
+step-slots : KeepsLimit → (tags : ℕ) (start : Start) (step : Step) (past : List Item) → IsStep tags step → slots_in (past_behind_step start step past) ≤ slots_in past + most_slots
+step-slots keeps tags start (steps.Select command) past is = omega arith
+step-slots keeps tags start steps.Nak past is = omega arith
+step-slots keeps tags start (steps.Event event number) past is = omega arith
+step-slots keeps tags start (steps.Round spec operations) past is =
+    let legal = legal-step tags (steps.Round spec operations) is in
+    round-holds (λ outcomes now. slots_in now ≡ slots_in past) (λ now. slots_in now ≤ slots_in past + most_slots) start operations spec past keeps legal.legal
+    (record {
+      slot = λ outcomes now command are sends same. slots-slot start operations (rounds_in past + 1) (length outcomes + 1) command now ∙ same;
+      end = λ outcomes now end are sends same. omega (arith, same, few-outcomes keeps spec outcomes legal.legal are, legal.legal.limit.1);
+    })
+    refl
+
 -- before a step of those whose end leaves a known past
 pub record StepsUnderway (origin : Origin) (first whole : List Item) (steps : List Step) (index : ℕ) (air : AirValue) (run : RunValue) (written : Option (List ℕ)) (faults : ℕ) : Type 0 where
   pub past : List Item
@@ -96,6 +113,7 @@ pub record StepsUnderway (origin : Origin) (first whole : List Item) (steps : Li
   pub rest : past_behind origin.start (drop index steps) past ≡ whole
   pub few : exchanges_in past ≤ exchanges_in first + most_in_round * index
   pub rounds : rounds_in past ≤ rounds_in first + index
+  pub slots : slots_in past ≤ slots_in first + most_slots * index
 
 -- a step among others
 pub step-legal : (tags : ℕ) (list : List Step) (index : ℕ) (step : Step) → index < length list → step ≡ get_or list index step → All (IsStep tags) list → IsStep tags step
@@ -125,6 +143,7 @@ steps-go-on keeps origin first whole tags list index step air next run then_run 
       rest = steps-rest origin.start list index step u.past whole inside is u.rest;
       few = omega (arith, step-exchanges keeps tags origin.start step u.past legal, u.few);
       rounds = omega (arith, step-rounds keeps tags origin.start step u.past legal, u.rounds);
+      slots = omega (arith, step-slots keeps tags origin.start step u.past legal, u.slots);
     }
 
 pub cut-steps : (origin : Origin) (first whole : List Item) (list : List Step) (index : ℕ) (step : Step) (air : AirValue) (run : RunValue) (was_written written : Option (List ℕ)) (was_faults faults : ℕ) (fault : PlayFault)

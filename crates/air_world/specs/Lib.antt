@@ -7,3 +7,4 @@ pub mod Happened
 pub mod Headline
 pub mod HistoryLaws
 pub mod ScenarioStart
+pub mod Summary

@@ -1,6 +1,6 @@
 -- Profile: a run that is under way. A contract says of each part of it what the past becomes, and how much of the report is
 -- written.
-use Rattle.std.specs.Prelude.{◌≡◌, ℕ, ◌+◌, ◌*◌, ◌≤◌, ◌^◌, List, [], ◌∷◌, ◌++◌, length, map, Option, Some, None}
+use Rattle.std.specs.Prelude.{◌≡◌, ℕ, Bool, ◌+◌, ◌*◌, ◌≤◌, ◌^◌, List, [], ◌∷◌, ◌++◌, length, map, Option, Some, None}
 use Rattle.air_channel.specs.Air.{AirValue, AreLegalTags, NamesTags}
 use Rattle.air_channel.specs.Past.{Start, Item, exchanges_in, rounds_in, tags_behind}
 use Rattle.air_events.specs.Entries.{entry_at}
@@ -9,6 +9,7 @@ use Rattle.air_io.specs.Flow.{Adds, FaultsRose}
 use Rattle.air_world.specs.Listing.{Listed, listing_of}
 use Rattle.air_world.specs.Report.{past_lines, report_text_of}
 use Rattle.air_world.specs.ScenarioStart.{start_of, history}
+use Rattle.air_world.specs.Summary.{slots_in, all_quiet}
 use Rattle.scenario.specs.declared.values.Scenario.{Scenario}
 use Rattle.air_world.specs.declared.mode.Mode.{Mode}
 use Rattle.air_world.specs.declared.mode.Mode.TheVariants.{Plain, Trace}
@@ -30,12 +31,14 @@ pub record Origin : Type 0 where
   pub faults : ℕ
 
 -- what is kept of a run beside the air: how much is told, what is said of later exchanges, how often each pair of PC and EPC
--- was listed, and how many rounds ended
+-- was listed, how many rounds ended, how many slot commands they had, and whether each ended quiet
 pub record RunValue : Type 0 where
   pub mode : Mode
   pub entries : List (ℕ × Entry)
   pub seen : List Seen
   pub rounds : ℕ
+  pub slots : ℕ
+  pub quiet : Bool
 
 -- what is said of each exchange names tags that there are
 abbrev pub NamesItsTags : Start → Type 0
@@ -52,6 +55,8 @@ pub record PlaysAt (origin : Origin) (past : List Item) (air : AirValue) (run : 
   pub exchanges : air.exchanges ≡ exchanges_in past
   pub entries : IsLeft run.entries origin.start.entries (exchanges_in past)
   pub rounds : run.rounds ≡ rounds_in past
+  pub slots : run.slots ≡ slots_in past
+  pub quiet : run.quiet ≡ all_quiet past
 
 -- a text was added since the run began
 pub record IsWritten (origin : Origin) (text : List ℕ) (written : Option (List ℕ)) (faults : ℕ) : Type 0 where
@@ -93,6 +98,10 @@ most_in_slot = 131
 abbrev pub most_in_round : ℕ
 most_in_round = 9170000
 
+-- how many slot commands a round has at most
+abbrev pub most_slots : ℕ
+most_slots = 70000
+
 -- the air and the run are what some past made of them
 pub record IsUnderway (more : ℕ) (air : AirValue) (run : RunValue) : Type 0 where
   pub origin : Origin
@@ -115,6 +124,7 @@ pub record IsTold (steps : ℕ) (air : AirValue) (run : RunValue) (written : Opt
   pub stands : StandsAt origin past air run written faults
   pub room : HasRoom (most_in_round * steps) past
   pub rounds : rounds_in past + steps ≤ 2 ^ 31
+  pub slots : slots_in past + most_slots * steps ≤ 2 ^ 62
 
 -- 6.3.2.11 Interrogator commands and Tag replies: what an interrogator expects in reply to the commands of an inventory
 abbrev pub expectation_of : Command → Option Expect

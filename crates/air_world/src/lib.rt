@@ -6,6 +6,7 @@ mod mode;
 mod playing;
 mod run;
 mod start;
+mod summary;
 
 pub use laws::{
     events_and_records_determine_a_past, exchanges_are_few, headline,
@@ -15,3 +16,4 @@ pub use laws::{
 pub use mode::{Mode, PlayFault};
 pub use playing::play;
 pub use start::set_up;
+pub use summary::{Summary, summarise};

@@ -1,5 +1,5 @@
 //! A run that is under way.
-ghost use Rattle.std.specs.Prelude.{◌≡◌, ℕ, ◌≤◌, ◌<◌, ◌^◌, ◌++◌, ◌||◌, length, List, [], ◌∷◌, Some, IfOk, IfErr, OnOk};
+ghost use Rattle.std.specs.Prelude.{◌≡◌, ℕ, ◌+◌, ◌≤◌, ◌<◌, ◌^◌, ◌++◌, ◌||◌, ◌&&◌, length, List, [], ◌∷◌, Some, IfOk, IfErr, OnOk};
 ghost use Rattle.std.specs.String.{string_bytes};
 ghost use Rattle.air_channel.specs.Channel.{got_of, heard_levels};
 ghost use Rattle.air_channel.specs.Past.{Item, next_record, past_behind_command};
@@ -11,8 +11,10 @@ ghost use Rattle.report_lines.specs.SeenCounts.{count_of, seen_in};
 ghost use Rattle.air_world.specs.Heard.{heard_reception, rn16_in, pair_in};
 ghost use Rattle.air_world.specs.Playing.{Origin, PlaysAt, StandsAt, IsStanding, IsTold, IsUnderway, IsWritten, IsCutOff, past_text, expectation_of, last_exchange_lines};
 ghost use Rattle.air_world.specs.Report.{trace_lines};
+ghost use Rattle.air_world.specs.Summary.{is_quiet};
 ghost use Rattle.report_lines.specs.ReportLine.{ListLine, RoundLine, RxLine, TxLine, report_line_text, report_text};
 
+mod counting;
 mod operating;
 mod report;
 mod steps;
@@ -41,13 +43,15 @@ const LINE: usize = 132100;
 /// What is kept of a run beside the air.
 ///
 /// A contract sees it as a record of how much is told, what is said of later exchanges, the counts of
-/// what was listed and the number of rounds.
+/// what was listed, the number of rounds and of their slots, and whether each round ended quiet.
 #[derive(Drop)]
 pub(crate) struct Run<'a, L: Ledger> {
     mode: Mode,
     entries: EntryCursor<'a>,
     seen: SeenCounts,
     rounds: u32,
+    slots: u64,
+    quiet: bool,
     steps: Steps<L>,
     bits: Bits,
     line: String,
@@ -59,13 +63,13 @@ impl<'a, L: Ledger> Model for Run<'a, L> {
 
     ghost Value = { RunValue };
 
-    ghost view = { λ a. record { mode = a.mode; entries = a.entries; seen = a.seen; rounds = a.rounds } };
+    ghost view = { λ a. record { mode = a.mode; entries = a.entries; seen = a.seen; rounds = a.rounds; slots = a.slots; quiet = a.quiet } };
 
     ghost invariant = { λ a. 131968 ≤ a.bits.capacity };
 }
 
 impl<'a, L: Ledger> Run<'a, L> {
-    ghost use Rattle.std.specs.Prelude.{[]};
+    ghost use Rattle.std.specs.Prelude.{[], true};
 
     /// Begins a run on the entries of a scenario: no exchange was made, and nothing was listed.
     pub(crate) fn new(
@@ -74,7 +78,7 @@ impl<'a, L: Ledger> Run<'a, L> {
         entries: EntryCursor<'a>,
         steps: Steps<L>,
     ) -> Result<Run<'a, L>, OutOfMemory>
-        ensures { IfOk result (λ run. run ≡ record { mode = mode; entries = entries.entry; seen = []; rounds = 0 }) }
+        ensures { IfOk result (λ run. run ≡ record { mode = mode; entries = entries.entry; seen = []; rounds = 0; slots = 0; quiet = true }) }
     {
         let bits = Bits::new(alloc, BITS)?;
         let line = String::with_capacity(alloc, LINE)?;
@@ -83,6 +87,8 @@ impl<'a, L: Ledger> Run<'a, L> {
             entries,
             seen: SeenCounts::new(alloc),
             rounds: 0,
+            slots: 0,
+            quiet: true,
             steps,
             bits,
             line,
@@ -193,7 +199,7 @@ impl<'a, L: Ledger> Run<'a, L> {
         }
     }
 
-    /// Tells of the end of a round.
+    /// Counts the end of a round, and tells of it.
     fn end_round<O: Sink>(
         &mut self,
         number: u32,
@@ -201,13 +207,16 @@ impl<'a, L: Ledger> Run<'a, L> {
         slots: u32,
         out: &mut O,
     ) -> Result<(), PlayFault>
-        ensures rest { self.new ≡ record self.old { rounds = number } }
+        requires { self.old.slots < 2 ^ 63 }
+        ensures rest { self.new ≡ record self.old { rounds = number; slots = self.old.slots + slots; quiet = self.old.quiet && is_quiet end } }
         ensures ok { (origin : Origin) (before : List ℕ) → IsWritten origin before (O.written out.old) (O.faults out.old)
             → OnOk result (IsWritten origin (before ++ report_line_text (RoundLine number end slots)) (O.written out.new) (O.faults out.new)) }
         ensures err { (origin : Origin) (before : List ℕ) → IsWritten origin before (O.written out.old) (O.faults out.old)
             → IfErr result (IsCutOff origin (before ++ report_line_text (RoundLine number end slots)) (O.written out.new) (O.faults out.new)) }
     {
         self.rounds = number;
+        self.slots += u64::from(slots);
+        self.quiet = self.quiet && matches!(end, RoundEnd::Quiet);
         self.line.clear();
         push_round_line(&mut self.line, number, end, slots)?;
         write_text(&self.line, out)

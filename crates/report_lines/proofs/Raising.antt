@@ -1,10 +1,12 @@
 -- What a map gives and keeps, as counts.
-use Rattle.std.proofs.Common.{◌≡◌, ℕ, ◌+◌, Bool, true, false, List, [], ◌∷◌, ◌++◌, refl, sym, ap, unwrap_or, Option, Some, cond}
+use Rattle.std.proofs.Common.{◌≡◌, ℕ, ◌+◌, Bool, true, false, List, [], ◌∷◌, ◌++◌, map, refl, sym, ◌∙◌, ap, unwrap_or, Option, Some, cond}
+use Rattle.std.specs.Prelude.{sum}
+use Rattle.std.proofs.lemmas.List.Sums.{sum_by-cons}
 use Rattle.std.specs.Map.{lookup}
 use Rattle.indexmap.specs.IndexMap.{insert_entry}
 use Rattle.report_lines.specs.declared.seen.Listed.{Listed}
 use Rattle.report_lines.specs.Entries.{seen_of, seen_of_entry}
-use Rattle.report_lines.specs.SeenCounts.{Seen, same_pair, count_of, seen_in, seen_more}
+use Rattle.report_lines.specs.SeenCounts.{Seen, same_pair, count_of, seen_in, seen_more, total_of}
 use Rattle.report_lines.specs.SeenLaws.{seen_in-more}
 
 -- the derived test of keys is that of pairs
@@ -40,3 +42,9 @@ inserted (entry ∷ entries) listed =
 pub listed_more : (seen : List Seen) (pairs : List (ℕ × List ℕ)) (pc : ℕ) (epc copy : List ℕ) → seen ≡ seen_in pairs → copy ≡ epc →
     seen_more seen (pc, copy) ≡ seen_in (pairs ++ (pc, epc) ∷ [])
 listed_more seen pairs pc epc copy is same = rw (is, same) (sym (seen_in-more pairs (pc, epc)))
+
+-- the values of the map in all
+pub totalled : (entries : List (Listed × ℕ)) → sum (map (λ entry. entry.1) entries) ≡ total_of (seen_of entries)
+totalled [] = refl
+totalled (entry ∷ entries) =
+    sum_by-cons (λ (n : ℕ). n) entry.1 (map (λ entry. entry.1) entries) ∙ ap (λ n. entry.1 + n) (totalled entries)

@@ -35,6 +35,11 @@ abbrev pub count_of : List Seen → ℕ × List ℕ → ℕ
 count_of [] pair = 0
 count_of (seen ∷ others) pair = if is_of pair seen then seen.count else count_of others pair
 
+-- how often a pair was listed in all
+abbrev pub total_of : List Seen → ℕ
+total_of [] = 0
+total_of (seen ∷ others) = seen.count + total_of others
+
 -- one more of a pair: its count rises where it has one, else it stands last, with the count 1
 abbrev pub seen_more : List Seen → ℕ × List ℕ → List Seen
 seen_more [] pair = record { pc = pair.0; epc = pair.1; count = 1 } ∷ []

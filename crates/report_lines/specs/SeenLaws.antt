@@ -1,12 +1,12 @@
 -- How the counts of pairs change with one pair more.
-use Rattle.std.proofs.Common.{◌≡◌, ◌⊎◌, inl, inr, ℕ, ◌+◌, ◌≤◌, Bool, true, false, not, List, [], ◌∷◌, ◌++◌, length, map, refl, sym, ap, ◌∙◌, subst, eq-eqb, arith}
+use Rattle.std.proofs.Common.{◌≡◌, ◌⊎◌, inl, inr, ℕ, ◌+◌, ◌≤◌, Bool, true, false, not, List, [], ◌∷◌, ◌++◌, length, map, refl, sym, ap, ◌∙◌, subst, eq-eqb, arith, append_assoc}
 use Rattle.std.specs.Prelude.{◌==◌, ◌&&◌, nat_eq, filter, count_by, if◌then◌else◌}
 use Rattle.std.specs.Cmp.Lexicographic.{pointwise, same_text, other_text}
 use Rattle.std.proofs.lemmas.Bool.{eqb-true}
 use Rattle.std.proofs.lemmas.List.{append-nil, map-append}
 use Rattle.std.proofs.lemmas.List.Elements.{filter-append}
 use Rattle.std.proofs.lemmas.List.Sums.{count_by-le-length, sum_by-append}
-use Rattle.report_lines.specs.SeenCounts.{Seen, same_pair, distinct, seen_among, seen_in, seen_more, count_of}
+use Rattle.report_lines.specs.SeenCounts.{Seen, same_pair, distinct, seen_among, seen_in, seen_more, count_of, is_of, total_of}
 
 split : (b : Bool) → (b ≡ true) ⊎ (b ≡ false)
 split true = inl refl
@@ -241,3 +241,25 @@ count-few pairs (first ∷ some) pair =
 -- no pair was listed more often than pairs were listed
 pub count_of-few : (pairs : List (ℕ × List ℕ)) (pair : ℕ × List ℕ) → count_of (seen_in pairs) pair ≤ length pairs
 count_of-few pairs pair = count-few pairs (distinct pairs) pair
+
+total-more : (some : List Seen) (pair : ℕ × List ℕ) → total_of (seen_more some pair) ≡ total_of some + 1
+total-more [] pair = refl
+total-more (seen ∷ others) pair =
+    elim (split (is_of pair seen)) [
+      | inl same ↦ rw same (omega arith)
+      | inr other ↦ rw other (omega (arith, total-more others pair))
+    ]
+
+total-behind : (pairs more : List (ℕ × List ℕ)) → total_of (seen_in (pairs ++ more)) ≡ total_of (seen_in pairs) + length more
+total-behind pairs [] = ap (λ (all : List (ℕ × List ℕ)). total_of (seen_in all)) (append-nil pairs) ∙ omega arith
+total-behind pairs (pair ∷ more) =
+    let joined : total_of (seen_in (pairs ++ pair ∷ more)) ≡ total_of (seen_in ((pairs ++ pair ∷ []) ++ more)) =
+    ap (λ (all : List (ℕ × List ℕ)). total_of (seen_in all)) (sym (append_assoc pairs (pair ∷ []) more)) in
+    let one : total_of (seen_in (pairs ++ pair ∷ [])) ≡ total_of (seen_in pairs) + 1 = ap total_of (seen_in-more pairs pair) ∙ total-more (seen_in pairs) pair in
+    omega (arith, joined, total-behind (pairs ++ pair ∷ []) more, one)
+
+-- all that was listed was counted
+pub total_of-all : (pairs : List (ℕ × List ℕ)) → total_of (seen_in pairs) ≡ length pairs
+total_of-all pairs =
+    let all : total_of (seen_in pairs) ≡ 0 + length pairs = total-behind [] pairs in
+    omega (arith, all)

@@ -1,7 +1,7 @@
 //! How often each tag was listed.
 ghost use Rattle.std.specs.Prelude.{◌≡◌, ◌<◌, ◌^◌, ◌+◌, ◌++◌, ℕ, List, [], ◌∷◌, length, map, ◌≤◌, ◌↔◌, OnErr, OnOk, IfOk, IfSome, IsNone, Some, slice_get};
 ghost use Rattle.std.specs.String.{string_bytes};
-ghost use Rattle.report_lines.specs.SeenCounts.{count_of, seen_in, seen_line, seen_more};
+ghost use Rattle.report_lines.specs.SeenCounts.{count_of, seen_in, seen_line, seen_more, total_of};
 
 use bit_strings::OutOfMemory;
 use indexmap::IndexMap;
@@ -84,6 +84,14 @@ impl SeenCounts {
         ensures { result ≡ length self.now }
     {
         self.counts.len()
+    }
+
+    /// How often a pair was listed in all.
+    pub fn total(&self) -> u64
+        requires { total_of self.now < 2 ^ 64 }
+        ensures { result ≡ total_of self.now }
+    {
+        self.counts.values().sum()
     }
 
     /// The pair with this number, counted from 0 in the order in which they came first: how often it was

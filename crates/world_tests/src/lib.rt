@@ -8,6 +8,8 @@ mod play;
 #[cfg(test)]
 mod report;
 #[cfg(test)]
+mod summary;
+#[cfg(test)]
 mod tag_lines;
 #[cfg(test)]
 mod worlds;

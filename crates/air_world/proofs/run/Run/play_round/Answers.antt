@@ -1,5 +1,5 @@
 use Rattle.std.proofs.Common.{◌+◌, [], ◌∷◌, sym, ◌∙◌, ap, subst}
-use Rattle.air_world.proofs.Rounds.{round-begins, cut-round, slot-number, round-goes-on, round-left, ended-slots, whole-ended, cut-whole, rounds-slot}
+use Rattle.air_world.proofs.Rounds.{round-begins, cut-round, slot-number, round-goes-on, round-left, ended-slots, whole-ended, cut-whole, rounds-slot, slots-fit}
 use Rattle.air_world.proofs.Slots.{ok-each, err-each}
 use Rattle.air_world.proofs.Writing.{err-kept}
 use Rattle.air_world.specs.Playing.{RunValue}
@@ -68,3 +68,15 @@ returns-in-Limit-clause-err g c = λ origin past stands.
     let answers : IsNextAnswer ends.Limit c.next.new.self c.args.spec.now (c.in_ok-outcome.outcome ∷ u.outcomes) = subst (λ (n : Next). IsNextAnswer n c.next.new.self c.args.spec.now (c.in_ok-outcome.outcome ∷ u.outcomes)) c.in-Limit.is (c.next.ensures.answer c.args.spec.now u.outcomes u.goes u.on) in
     let left = ended-slots _ round_ends.Limit c.slots_sent-slot.result c.in_ok-outcome.outcome u.outcomes _ _ slot (round-left origin c.args.operations.now past _ _ c.args.spec.now c.slots.round c.next.new.self c.slots.command _ _ _ _ c.slots_sent-slot.result c.in_ok-outcome.outcome ends.Limit u slot (c.in_ok-outcome.ensures.outcome origin u.past u.stands) answers) in
     err-each c.end_round-in-Limit.result _ _ (λ fault cut. cut-whole origin _ _ _ round_ends.Limit _ _ _ fault left cut) (c.end_round-in-Limit.ensures.err origin _ behind.text)
+
+pub end_round-requires : goal.end_round-requires
+end_round-requires g c =
+    let t = c.requires.told in
+    let u = c.slots.invariant t.origin t.past t.stands in
+    slots-fit t.origin c.args.operations.now t.past _ _ c.args.spec.now c.slots.round c.slots.command _ _ _ _ _ c.slots_sent-slot.result _ _ _ u t.slots (c.in_ok-outcome.ensures.ok t.origin u.past u.stands)
+
+pub end_round-in-Limit-requires : goal.end_round-in-Limit-requires
+end_round-in-Limit-requires g c =
+    let t = c.requires.told in
+    let u = c.slots.invariant t.origin t.past t.stands in
+    slots-fit t.origin c.args.operations.now t.past _ _ c.args.spec.now c.slots.round c.slots.command _ _ _ _ _ c.slots_sent-slot.result _ _ _ u t.slots (c.in_ok-outcome.ensures.ok t.origin u.past u.stands)
