@@ -56,7 +56,11 @@ fn seed_of(word: &str) -> Option<u64>
     let seed = word.parse::<u64>().ok()?;
     let mut digits = Buffer::new();
     // std reads a plus and leading zeros as well.
-    if is_word(digits.format(seed), word) { Some(seed) } else { None }
+    if is_word(digits.format(seed), word) {
+        Some(seed)
+    } else {
+        None
+    }
 }
 
 /// The form of a seed and a number of tags.

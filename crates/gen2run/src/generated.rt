@@ -64,5 +64,9 @@ fn end_line(quiet: bool) -> &'static [u8]
     ensures line { result.now ≡ end_line quiet ++ line_feed ∷ [] }
     ensures count { length result.now ≡ 10 }
 {
-    if quiet { b"end quiet\n" } else { b"end limit\n" }
+    if quiet {
+        b"end quiet\n"
+    } else {
+        b"end limit\n"
+    }
 }

@@ -16,9 +16,7 @@ use crate::run::run_input;
 use crate::status::Status;
 use air_io::{ReadEnd, Sink, Source, read_to_end};
 use air_world::headline;
-use inventory::{
-    complete_inventory, honest_rounds_count_tags, quiet_made_runs_list_every_tag,
-};
+use inventory::{complete_inventory, honest_rounds_count_tags, quiet_made_runs_list_every_tag};
 use std::alloc::Global;
 
 /// How many bytes of input are read at most.
