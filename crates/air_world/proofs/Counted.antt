@@ -1,8 +1,8 @@
 -- What a run counted, of the history of its scenario.
-use Rattle.std.proofs.Common.{◌≡◌, ℕ, ◌*◌, ◌≤◌, ◌<◌, ◌^◌, List, [], length, map, Option, None, refl, sym, ◌∙◌, ap, arith}
+use Rattle.std.proofs.Common.{◌≡◌, ℕ, ◌<◌, ◌^◌, List, [], length, map, Option, refl, ◌∙◌, ap, arith}
 use Rattle.std.proofs.lemmas.List.{length-map}
 use Rattle.air_channel.specs.Air.{AirValue}
-use Rattle.air_channel.specs.Past.{Item, exchanges_in}
+use Rattle.air_channel.specs.Past.{Item}
 use Rattle.air_io.specs.Flow.{FaultsRose}
 use Rattle.air_world.proofs.Growth.{RoundsKeepLimit}
 use Rattle.air_world.proofs.HeadlineCounts.{steps-exchanges, few-exchanges}
@@ -10,13 +10,12 @@ use Rattle.air_world.proofs.HeadlineLegal.{legal-steps}
 use Rattle.air_world.proofs.Slots.{few-listed}
 use Rattle.air_world.specs.Headline.{AreLegalSteps}
 use Rattle.air_world.specs.Listing.{listing_of}
-use Rattle.air_world.specs.Playing.{Origin, RunValue, StandsAt, IsCutOff, pair_of}
+use Rattle.air_world.specs.Playing.{Origin, RunValue, StandsAt, pair_of}
 use Rattle.air_world.specs.ScenarioStart.{history, start_of, new_air}
 use Rattle.air_world.specs.Summary.{summary_of, pairs_in}
 use Rattle.air_world.specs.declared.mode.PlayFault.{PlayFault}
 use Rattle.air_world.specs.declared.mode.PlayFault.TheVariants.{Write, OutOfMemory}
-use Rattle.air_world.specs.declared.summary.Summary.{Summary}
-use Rattle.report_lines.specs.SeenCounts.{Seen, distinct, seen_among, seen_in, total_of}
+use Rattle.report_lines.specs.SeenCounts.{distinct, seen_among, seen_in, total_of}
 use Rattle.report_lines.specs.SeenLaws.{total_of-all}
 use Rattle.scenario.specs.Limits.{IsScenario}
 use Rattle.scenario.specs.declared.values.Scenario.{Scenario}

@@ -1,10 +1,9 @@
 -- The lines of a past are the first lines of what it grows to.
-use Rattle.std.proofs.Common.{◌≡◌, ℕ, List, [], ◌∷◌, ◌++◌, sym, ◌∙◌, ap, append_assoc}
-use Rattle.std.proofs.lemmas.List.{append-nil}
+use Rattle.std.proofs.Common.{◌≡◌, ℕ, List, ◌++◌, ◌∙◌, ap}
 use Rattle.std.proofs.lemmas.Grind.{flat_map-append}
 use Rattle.air_channel.specs.Past.{Item}
 use Rattle.air_world.proofs.Growth.{Grows, added_lines, past_lines-more}
-use Rattle.air_world.specs.Report.{past_lines, item_lines}
+use Rattle.air_world.specs.Report.{past_lines}
 use Rattle.air_world.specs.Playing.{Origin, past_text}
 use Rattle.air_world.specs.declared.mode.Mode.{Mode}
 use Rattle.pie_line.specs.Link.{LinkValue}

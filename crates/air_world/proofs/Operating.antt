@@ -3,16 +3,15 @@ use Rattle.std.proofs.Common.{◌≡◌, ℕ, ◌+◌, ◌≤◌, ◌*◌, ◌-�
 use Rattle.std.proofs.lemmas.List.{append-nil}
 use Rattle.access_ops.specs.DialogueLaws.{AwaitsReplies, SendsAtMost, dialogues-await, dialogues-are-few, first-sends, first-tells, first-done}
 use Rattle.access_ops.specs.OperationLaws.{Expects}
-use Rattle.access_ops.specs.Operations.{Dialogue, sends, tells, done, dialogue_of, first_of, Move, answered, told, reception_in, dialogue_behind, dialogue_after, IsAnswerFor}
+use Rattle.access_ops.specs.Operations.{Dialogue, sends, tells, done, dialogue_of, Move, answered, told, reception_in, dialogue_behind, dialogue_after, IsAnswerFor}
 use Rattle.access_ops.specs.Standing.{OpRunValue, OpRunStandsFor, IsNextOperation, last_answer, turns_left}
 use Rattle.access_ops.specs.declared.OpList.{OpList}
 use Rattle.access_ops.specs.declared.op_next.Answer.{Answer}
 use Rattle.access_ops.specs.declared.op_next.Answer.TheVariants.{Got}
-use Rattle.access_ops.specs.declared.op_next.OpNext.{OpNext}
 use Rattle.access_ops.specs.declared.op_next.OpNext.TheVariants as nexts
 use Rattle.access_ops.specs.declared.op_next.OpResult.{OpResult}
 use Rattle.air_channel.specs.Air.{AirValue}
-use Rattle.air_channel.specs.Past.{Start, Record, Item, exchanged, operated, next_record, past_behind_command, exchanges_in}
+use Rattle.air_channel.specs.Past.{Start, Record, Item, operated, next_record, past_behind_command, exchanges_in}
 use Rattle.air_channel.specs.AwaitedLaws.{awaited_reception}
 use Rattle.air_channel.specs.Channel.{Given, got_of, heard_levels}
 use Rattle.air_channel.specs.Received.{IsReceived}

@@ -3,14 +3,13 @@ use Rattle.std.proofs.Common.{◌≡◌, ℕ, zero, suc, ◌+◌, ◌*◌, ◌�
 use Rattle.std.proofs.lemmas.List.{append-nil}
 use Rattle.access_ops.specs.declared.OpList.{OpList}
 use Rattle.air_channel.specs.Air.{AirValue}
-use Rattle.reply_grammar.specs.Reception.{Reception, no_stream, whole_reply, no_such_reply}
 use Rattle.air_channel.specs.Past.{Start, Item, ended, past_behind_command, exchanges_in, rounds_in}
 use Rattle.air_world.proofs.Growth.{answer-keeps, turns-grow}
 use Rattle.air_world.proofs.HeadlineCounts.{slot-exchanges}
 use Rattle.air_world.proofs.Lines.{report_text-append}
 use Rattle.air_world.proofs.Tags.{tags-ended}
 use Rattle.air_world.proofs.Writing.{cut-past}
-use Rattle.air_world.specs.History.{outcome_of, slot_reception, past_behind_answer, past_behind_slot, past_behind_turn, past_behind_turns, past_behind_round}
+use Rattle.air_world.specs.History.{outcome_of, slot_reception, past_behind_slot, past_behind_turn, past_behind_turns, past_behind_round}
 use Rattle.air_world.specs.Headline.{most_operating}
 use Rattle.air_world.specs.Playing.{Origin, RunValue, StandsAt, IsWritten, IsCutOff, most_in_slot, most_slots, past_text, expectation_of}
 use Rattle.air_world.specs.Report.{past_lines}
@@ -28,7 +27,6 @@ use Rattle.q_round.specs.declared.round.Next.{Next}
 use Rattle.q_round.specs.declared.round.Next.TheVariants as nexts
 use Rattle.q_round.specs.declared.round.RoundEnd.{RoundEnd}
 use Rattle.reply_grammar.specs.declared.expected.Expect.TheVariants as expects
-use Rattle.reply_grammar.specs.declared.expected.Reply.TheVariants as replies
 use Rattle.report_lines.specs.ReportLine.{RoundLine, report_line_text}
 use Rattle.scenario.specs.Cursor.{IsLeft}
 

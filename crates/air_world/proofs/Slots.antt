@@ -4,7 +4,6 @@ use Rattle.std.proofs.lemmas.List.{append-nil, map-append}
 use Rattle.std.specs.Result.{IfErr, OnOk}
 use Rattle.access_ops.specs.Operations.{dialogue_of}
 use Rattle.access_ops.specs.declared.OpList.{OpList}
-use Rattle.access_ops.specs.declared.op_next.OpResult.{OpResult}
 use Rattle.air_channel.specs.Air.{AirValue}
 use Rattle.air_channel.specs.Channel.{Given, got_of, heard_levels}
 use Rattle.air_channel.specs.Past.{Start, Record, Item, befell, exchanged, operated, ended, next_record, past_behind_command, exchanges_in}

@@ -15,7 +15,7 @@ use Rattle.air_world.proofs.HeadlineLegal.{legal-step}
 use Rattle.air_world.proofs.Rounds.{KeepsLimit, rounds-slot, slots-slot}
 use Rattle.air_world.proofs.Tags.{tags-befell, length-tags}
 use Rattle.air_world.proofs.Writing.{cut-past}
-use Rattle.air_world.specs.History.{past_behind, past_behind_step, past_behind_round}
+use Rattle.air_world.specs.History.{past_behind, past_behind_step}
 use Rattle.air_world.specs.Headline.{most_operating}
 use Rattle.air_world.specs.Listing.{reception_of_ack, listed_from, listed_by}
 use Rattle.air_world.specs.Playing.{Origin, RunValue, PlaysAt, StandsAt, IsWritten, IsCutOff, most_in_round, most_slots, past_text, expectation_of}

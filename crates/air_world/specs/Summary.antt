@@ -1,7 +1,7 @@
 -- Profile: what a run counts, over its history.
 use Rattle.std.specs.Prelude.{ℕ, ◌+◌, Bool, true, false, ◌&&◌, List, [], ◌∷◌, length, map}
 use Rattle.air_channel.specs.Past.{Start, Item, befell, exchanged, operated, ended}
-use Rattle.air_world.specs.Listing.{Listed, listing_of}
+use Rattle.air_world.specs.Listing.{listing_of}
 use Rattle.air_world.specs.ScenarioStart.{start_of, history}
 use Rattle.air_world.specs.declared.summary.Summary.{Summary}
 use Rattle.q_round.specs.declared.round.RoundEnd.{RoundEnd}

@@ -37,7 +37,7 @@ summary-requires g c =
     (c.new-entries.ensures.left (subst (λ e. Rises 0 e) (sym c.as_slice.ensures.value) c.requires.scenario.rising)) in
     let begun = stands-first Plain scenario None _ 0 _ c.args.air.now c.in_ok-run.run' c.requires.scenario c.requires.fresh c.len-tags.ensures.legal c.new-entries.result left c.in_ok-run.ensures (nothing-written Plain scenario None 0) in
     let stands = history-slice origin scenario _ _ _ _ _ c.as_slice-2.ensures.value (c.in_ok-play_steps.ensures.ok origin [] begun) in
-    total-fits c.round_laws.ensures.limit scenario _ c.requires.scenario stands.seen
+    total-fits c.round_laws.ensures.limit scenario c.play_steps.new.self c.requires.scenario stands.seen
 
 pub returns-clause-ok : goal.returns-clause-ok
 returns-clause-ok g c =

@@ -1,7 +1,7 @@
 use Rattle.std.proofs.Common.{◌≡◌, [], ◌∷◌, Some, None, refl, sym, ◌∙◌, ap, map}
 use Rattle.air_channel.specs.Past.{Record, next_record, past_behind_command}
 use Rattle.reply_grammar.specs.Reception.{Reception}
-use Rattle.air_world.proofs.Slots.{cut-same, ok-each, room-behind, ack-stands, ack-with, ack-without, other-listing, cut-ack, cut-exchanged, cut-listed, count-fits, some-room, stands-unlisted, stands-listed, whole-listed, other-unlisted, plays-listed, ok-both, err-each}
+use Rattle.air_world.proofs.Slots.{cut-same, ok-each, room-behind, ack-stands, ack-with, ack-without, other-listing, cut-ack, cut-exchanged, cut-listed, count-fits, some-room, stands-unlisted, stands-listed, whole-listed, other-unlisted, plays-listed, err-each}
 use Rattle.air_world.proofs.Writing.{err-kept}
 use Rattle.air_world.specs.Heard.{heard_reception, pair_in}
 use Rattle.air_world.specs.Listing.{Listed, listed_from, listed_by, listing_of}

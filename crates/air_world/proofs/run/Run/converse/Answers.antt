@@ -1,4 +1,4 @@
-use Rattle.std.proofs.Common.{◌≡◌, sym, subst, ◌∙◌, ap}
+use Rattle.std.proofs.Common.{◌≡◌, sym, subst}
 use Rattle.air_channel.specs.Air.{AreLegalTags}
 use Rattle.air_channel.specs.AwaitedLaws.{silent_awaited}
 use Rattle.air_channel.specs.Channel.{Given, got_of}

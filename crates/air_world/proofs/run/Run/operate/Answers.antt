@@ -1,6 +1,4 @@
-use Rattle.std.proofs.Common.{◌≡◌, ◌∙◌, refl, arith}
-use Rattle.access_ops.specs.Standing.{IsNextOperation, last_answer}
-use Rattle.access_ops.specs.declared.op_next.OpNext.TheVariants as nexts
+use Rattle.std.proofs.Common.{◌∙◌, refl, arith}
 use Rattle.air_channel.specs.Past.{Record, next_record}
 use Rattle.air_world.proofs.Operating.{operations-begin, operations-sent, operations-told, operations-end, operation-unlisted, sent-of, sent-expects, sent-one, cut-sent, cut-told}
 use Rattle.air_world.proofs.Slots.{stands-unlisted}

@@ -75,8 +75,8 @@ end_round-requires g c =
     let u = c.slots.invariant t.origin t.past t.stands in
     slots-fit t.origin c.args.operations.now t.past _ _ c.args.spec.now c.slots.round c.slots.command _ _ _ _ _ c.slots_sent-slot.result _ _ _ u t.slots (c.in_ok-outcome.ensures.ok t.origin u.past u.stands)
 
-pub end_round-in-Limit-requires : goal.end_round-in-Limit-requires
-end_round-in-Limit-requires g c =
+pub end_round-requires-in-Limit : goal.end_round-requires-in-Limit
+end_round-requires-in-Limit g c =
     let t = c.requires.told in
     let u = c.slots.invariant t.origin t.past t.stands in
     slots-fit t.origin c.args.operations.now t.past _ _ c.args.spec.now c.slots.round c.slots.command _ _ _ _ _ c.slots_sent-slot.result _ _ _ u t.slots (c.in_ok-outcome.ensures.ok t.origin u.past u.stands)
