@@ -1,11 +1,9 @@
 -- The tags of a made scenario: each is ready with the flags of a new tag, and each has an EPC of its own, so that a run that ended
 -- quiet lists each of them.
-use Rattle.std.proofs.Common.{◌≡◌, ◌<◌, ◌==◌, ◌&&◌, ℕ, zero, suc, ◌+◌, Bool, true, false, List, [], ◌∷◌, ◌++◌, length, map, get_or, Option, Some, None, slice_get, if◌then◌else◌, ◌⊎◌, inl, inr, refl, ap, sym, ◌∙◌, subst, arith, length-append}
+use Rattle.std.proofs.Common.{◌≡◌, ◌==◌, ℕ, zero, suc, Bool, true, false, List, [], ◌∷◌, ◌++◌, length, map, get_or, Some, slice_get, if◌then◌else◌, ◌⊎◌, inl, inr, refl, ap, sym, ◌∙◌, arith, length-append}
 use Rattle.std.proofs.lemmas.Bool.{and_parts}
 use Rattle.std.proofs.lemmas.List.{length-map}
-use Rattle.access_ops.specs.declared.OpList.{OpList}
-use Rattle.air_channel.specs.Past.{Start, Item, befell, exchanged, operated, ended}
-use Rattle.air_events.specs.declared.Several.TheVariants as severals
+use Rattle.air_channel.specs.Past.{Item, befell, exchanged, operated, ended}
 use Rattle.air_world.specs.ScenarioStart.{history, start_of, tag_of}
 use Rattle.air_world.specs.Summary.{is_quiet, all_quiet}
 use Rattle.inventory.specs.Complete.{HasNumber}
@@ -15,8 +13,6 @@ use Rattle.made_scenario.specs.Made.{made, made_round, made_tag, numbers_below}
 use Rattle.q_round.specs.SpecValue.{IsLegalSpec}
 use Rattle.q_round.specs.declared.round.RoundEnd.{RoundEnd}
 use Rattle.q_round.specs.declared.round.RoundEnd.TheVariants as ends
-use Rattle.scenario.specs.Limits.{no_operations}
-use Rattle.scenario_lines.specs.declared.tag.TagSpec.{TagSpec}
 use Rattle.tag_machine.specs.TagValue.{TagValue}
 use Rattle.tag_memory.specs.Memory.{epc_of}
 
