@@ -49,10 +49,30 @@ struct World {
     levels: Vec<bool>,
     lead: Vec<bool>,
     received: Vec<bool>,
+    /// The slots of all rounds, and whether each round ended quiet.
+    slots: u32,
+    quiet: bool,
 }
 
 /// The report of the scenario, with intervals and levels where a trace is wanted.
-pub fn play(mut scenario: Scenario, trace: bool) -> String {
+pub fn play(scenario: Scenario, trace: bool) -> String {
+    let mut world = play_steps(scenario, trace);
+    world.write_end();
+    world.report
+}
+
+/// What the run of the scenario counts.
+pub fn summary(scenario: Scenario) -> String {
+    let world = play_steps(scenario, false);
+    let tags = world.scenario.tags.len();
+    let listed: u32 = world.seen.counts.iter().map(|(_, count)| count).sum();
+    let distinct = world.seen.counts.len();
+    let end = if world.quiet { "quiet" } else { "limit" };
+    format!("tags {tags}\nlisted {listed}\ndistinct {distinct}\nslots {}\nend {end}\ndone\n", world.slots)
+}
+
+/// The world behind the steps of the scenario.
+fn play_steps(mut scenario: Scenario, trace: bool) -> World {
     let steps = std::mem::take(&mut scenario.steps);
     let mut world = World {
         scenario,
@@ -66,6 +86,8 @@ pub fn play(mut scenario: Scenario, trace: bool) -> String {
         levels: Vec::new(),
         lead: Vec::new(),
         received: Vec::new(),
+        slots: 0,
+        quiet: true,
     };
     if trace {
         world.write_frequency();
@@ -86,8 +108,7 @@ pub fn play(mut scenario: Scenario, trace: bool) -> String {
             }
         }
     }
-    world.write_end();
-    world.report
+    world
 }
 
 impl World {
@@ -310,6 +331,8 @@ impl World {
 
     fn write_round(&mut self, number: u32, end: &str, slots: u32) {
         writeln!(self.report, "round {number} {end} {slots}").unwrap();
+        self.slots += slots;
+        self.quiet &= end == "quiet";
     }
 
     fn write_end(&mut self) {

@@ -1,18 +1,21 @@
 -- What a run writes says its headline, and what its honest rounds prove.
-use Rattle.std.proofs.Common.{◌≡◌, ℕ, ◌+◌, List, ◌∷◌, ◌++◌, Option}
+use Rattle.std.proofs.Common.{◌≡◌, ℕ, true, ◌+◌, List, ◌∷◌, ◌++◌, Option}
 use Rattle.access_ops.specs.declared.OpList.{OpList}
 use Rattle.air_events.specs.declared.Several.TheVariants as severals
 use Rattle.air_world.specs.Headline.{Headline, rounds_of}
 use Rattle.air_world.specs.Report.{report_of}
 use Rattle.air_world.specs.ScenarioStart.{history, start_of}
+use Rattle.air_world.specs.Summary.{summary_of}
 use Rattle.air_world.specs.declared.mode.Mode.{Mode}
 use Rattle.gen2run.specs.Defined.{WritesOf, HeadlineOf, InventoryOf}
 use Rattle.gen2run.specs.Outcome.{WritesWhole}
 use Rattle.gen2run.specs.declared.forms.Form.{Form}
-use Rattle.gen2run.specs.declared.forms.Form.TheVariants.{Decode, Run, Names}
+use Rattle.gen2run.specs.declared.forms.Form.TheVariants.{Decode, Run, Names, Gen}
 use Rattle.inventory.specs.Complete.{CompleteInventory}
 use Rattle.inventory.specs.Counted.{CountedRound}
+use Rattle.inventory.specs.MadeRuns.{CountsAll}
 use Rattle.inventory.specs.Honest.{IsHonest, IsApart}
+use Rattle.made_scenario.specs.Made.{made}
 use Rattle.q_round.specs.SpecValue.{SpecValue}
 use Rattle.scenario.specs.Limits.{IsScenario}
 use Rattle.scenario.specs.declared.values.Scenario.{Scenario}
@@ -27,6 +30,7 @@ ReportsSayHeadlines = (mode : Mode) (scenario : Scenario) → IsScenario scenari
 text_says : ReportsSayHeadlines → (form : Form) (bytes text : List ℕ) → WritesOf form bytes text → HeadlineOf form bytes text
 text_says say Decode bytes text writes = tt
 text_says say Names bytes text writes = tt
+text_says say (Gen seed tags) bytes text writes = tt
 text_says say (Run mode) bytes text writes = record { reports = writes; headline = say mode writes.scenario writes.legal }
 
 -- what holds of the text that is written holds of what is written
@@ -59,15 +63,20 @@ RoundsAreCounted = (scenario : Scenario) (before after : List Step) (spec : Spec
     → ((start_of scenario).several ≡ severals.Capture → IsApart (history scenario) (rounds_of before + 1))
     → CountedRound (start_of scenario) (history scenario) (rounds_of before + 1) spec
 
-text_counts : RoundsAreComplete → RoundsAreCounted → (form : Form) (bytes text : List ℕ) → WritesOf form bytes text → InventoryOf form bytes text
-text_counts complete counted Decode bytes text writes = tt
-text_counts complete counted Names bytes text writes = tt
-text_counts complete counted (Run mode) bytes text writes = record {
+-- what the law of generated scenarios says
+abbrev pub MadeRunsAreCounted : Type 0
+MadeRunsAreCounted = (seed tags : ℕ) → (summary_of (made seed tags)).quiet ≡ true → CountsAll (summary_of (made seed tags)) tags
+
+text_counts : RoundsAreComplete → RoundsAreCounted → MadeRunsAreCounted → (form : Form) (bytes text : List ℕ) → WritesOf form bytes text → InventoryOf form bytes text
+text_counts complete counted all Decode bytes text writes = tt
+text_counts complete counted all Names bytes text writes = tt
+text_counts complete counted all (Gen seed tags) bytes text writes = record { is = writes; every = all seed tags }
+text_counts complete counted all (Run mode) bytes text writes = record {
   reports = writes;
   complete = λ before after spec operations is honest apart. complete writes.scenario before after spec operations writes.legal is honest apart;
   counted = λ before after spec operations is honest apart. counted writes.scenario before after spec operations writes.legal is honest apart;
 }
 
-pub says_inventory : RoundsAreComplete → RoundsAreCounted → (form : Form) (left left' written written' : Option (List ℕ))
+pub says_inventory : RoundsAreComplete → RoundsAreCounted → MadeRunsAreCounted → (form : Form) (left left' written written' : Option (List ℕ))
     → WritesWhole WritesOf form left left' written written' → WritesWhole InventoryOf form left left' written written'
-says_inventory complete counted = named_so WritesOf InventoryOf (text_counts complete counted)
+says_inventory complete counted all = named_so WritesOf InventoryOf (text_counts complete counted all)

@@ -11,3 +11,5 @@ pub mod OneText
 pub mod SomeAnswer
 pub mod NamedLines
 pub mod Waits
+pub mod ToldForms
+pub mod SummaryLines

@@ -4,6 +4,7 @@ pub mod Answer
 pub mod DecodeLines
 pub mod Reported
 pub mod Named
+pub mod Generated
 pub mod Waiting
 pub mod Defined
 pub mod Outcome

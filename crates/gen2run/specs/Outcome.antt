@@ -1,10 +1,10 @@
 -- Profile: what each status of the program says of the bytes that came in and of those that went out. A source
 -- may tell the bytes that it has left, and a sink those that were written; what is not told is left open.
-use Rattle.std.specs.Prelude.{◌≡◌, ℕ, ◌+◌, ◌≤◌, List, ◌++◌, length, Option, Result, Ok, Err, ◌⊎◌}
+use Rattle.std.specs.Prelude.{◌≡◌, ℕ, ◌+◌, ◌≤◌, List, [], ◌++◌, length, Option, Result, Ok, Err, ◌⊎◌}
 use Rattle.air_io.specs.Flow.{Reads, Adds, AtEnd, FaultsRose}
 use Rattle.gen2run.specs.Defined.{WritesOf, RefusesOf, DefinesOf}
 use Rattle.gen2run.specs.declared.forms.Form.{Form}
-use Rattle.gen2run.specs.declared.forms.Form.TheVariants.{Decode, Run, Names}
+use Rattle.gen2run.specs.declared.forms.Form.TheVariants.{Decode, Run, Names, Gen}
 use Rattle.gen2run.specs.declared.ending.Wrote.{Wrote}
 use Rattle.gen2run.specs.declared.ending.Wrote.TheVariants.{Text, FaultLine}
 use Rattle.gen2run.specs.declared.ending.WriteEnd.{WriteEnd}
@@ -22,11 +22,17 @@ pub record ReadsAll (old new : Option (List ℕ)) (bytes : List ℕ) : Type 0 wh
   pub end : AtEnd new
   pub limit : length bytes ≤ input_limit
 
+-- nothing was read
+pub record ReadsNothing (old new : Option (List ℕ)) (bytes : List ℕ) : Type 0 where
+  pub none : bytes ≡ []
+  pub same : new ≡ old
+
 -- the bytes are the input of the form, and were taken from what was left of the source
 abbrev pub TakesInput : Form → (left left' : Option (List ℕ)) → List ℕ → Type 0
 TakesInput Decode left left' bytes = ReadsAll left left' bytes
 TakesInput (Run mode) left left' bytes = ReadsAll left left' bytes
 TakesInput Names left left' bytes = ReadsAll left left' bytes
+TakesInput (Gen seed tags) left left' bytes = ReadsNothing left left' bytes
 
 -- a text that T names was added whole
 pub record AddsWhole (T : List ℕ → Type 0) (written written' : Option (List ℕ)) : Type 0 where
@@ -84,3 +90,17 @@ Tells form left left' written written' reads reads' writes writes' untouched Too
 Tells form left left' written written' reads reads' writes writes' untouched OutOfMemory =
     (ReadsWithin left left' × (written' ≡ written)) ⊎ WritesFront DefinesOf form left left' written written'
 Tells form left left' written written' reads reads' writes writes' untouched BadWords = ⊥
+
+-- the status of an end of the writing
+abbrev pub status_of : Result Wrote WriteEnd → Status
+status_of (Ok Text) = Done
+status_of (Ok FaultLine) = BadInput
+status_of (Err ends.Fault) = WriteFault
+status_of (Err ends.OutOfMemory) = OutOfMemory
+
+-- the statuses that speak of an input don't come
+abbrev pub SpeaksOfNoInput : Status → Type 0
+SpeaksOfNoInput ReadFault = ⊥
+SpeaksOfNoInput TooLong = ⊥
+SpeaksOfNoInput BadInput = ⊥
+SpeaksOfNoInput status = Unit {0}

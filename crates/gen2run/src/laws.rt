@@ -2,7 +2,7 @@
 ghost use Rattle.std.specs.Prelude.{◌≡◌, ℕ, List};
 ghost use Rattle.air_world.specs.declared.mode.Mode.{Mode};
 ghost use Rattle.gen2run.specs.declared.forms.Form.{Form};
-ghost use Rattle.gen2run.specs.Form.{words_of};
+ghost use Rattle.gen2run.specs.Form.{AskFor};
 ghost use Rattle.gen2run.specs.Defined.{IsGrammaticalOf, WritesOf, RefusesOf, DefinesOf};
 
 use crate::decode::laws::decode_lines_have_one_text;
@@ -13,9 +13,9 @@ use scenario::{
 };
 use sgtin_text::lines_have_names;
 
-/// A list of words is the spelling of one form at most.
+/// A list of words asks for one form at most.
 pub fn forms_are_told_apart()
-    ensures { (one other : Form) → words_of one ≡ words_of other → one ≡ other }
+    ensures { (words : List (List ℕ)) (one other : Form) → AskFor words one → AskFor words other → one ≡ other }
 {}
 
 /// Under each form an input that the grammar allows has no fault line.

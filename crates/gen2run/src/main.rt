@@ -4,11 +4,13 @@
 mod decode;
 mod ending;
 mod forms;
+mod generated;
 mod laws;
 mod names;
 mod page;
 mod program;
 mod run;
+mod short_text;
 mod status;
 #[cfg(test)]
 mod tests;

@@ -13,6 +13,7 @@ use crate::decode::request::FaultReason;
 use crate::ending::{WriteEnd, Wrote};
 use crate::forms::Form;
 use crate::page::Page;
+use crate::short_text::push_bytes;
 use air_io::{Sink, WriteFailed, write_all};
 use arrayvec::ArrayVec;
 use epc_sgtin::{Sgtin, Uri};
@@ -114,14 +115,4 @@ fn text_behind(sgtin: &Sgtin) -> ArrayVec<u8, 67>
     push_bytes(&mut text, uri.as_slice());
     push_bytes(&mut text, b"\n");
     text
-}
-
-/// Adds bytes to a text that has room for them.
-fn push_bytes<const N: usize>(text: &mut ArrayVec<u8, N>, more: &[u8])
-    requires { length text.old.items + length more.now ≤ N }
-    ensures bytes { text.new.items ≡ text.old.items ++ more.now }
-    ensures count { length text.new.items ≡ length text.old.items + length more.now }
-{
-    // There is room.
-    let _ = text.try_extend_from_slice(more);
 }

@@ -6,6 +6,7 @@ use std::alloc::{AllocError, Global};
 use std::process::Abort;
 use std::test::Fail;
 
+mod generated;
 mod names;
 mod runs;
 
@@ -251,10 +252,31 @@ fn other_words(rt: HostRuntime) -> Result<(), Fail> {
     let input = "fm0 0 1101001000110011\n";
     let nothing = (Status::BadWords, "");
     expect(&rt, &[], input, None, None, nothing)?;
-    for word in ["Run", "Decode", "decode ", "", "--help", "-"] {
+    for word in ["Run", "Decode", "decode ", "", "--help", "-", "gen"] {
         expect(&rt, &[word], input, None, None, nothing)?;
     }
-    expect(&rt, &["decode", "decode"], input, None, None, nothing)?;
+    for words in [
+        ["decode", "decode"],
+        ["run", "fast"],
+        ["run", ""],
+        ["run", "Trace"],
+        ["trace", "run"],
+        ["decode", "trace"],
+        ["gen", "7"],
+    ] {
+        expect(&rt, &words, input, None, None, nothing)?;
+    }
+    for words in [
+        ["run", "trace", "trace"],
+        ["gen", "7", "257"],
+        ["gen", "07", "0"],
+        ["gen", "7", "00"],
+        ["gen", "+7", "0"],
+        ["gen", "", "0"],
+        ["gen", "18446744073709551616", "0"],
+    ] {
+        expect(&rt, &words, input, None, None, nothing)?;
+    }
     Ok(())
 }
 

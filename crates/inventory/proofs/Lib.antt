@@ -14,3 +14,4 @@ pub mod Totals
 pub mod Turns
 pub mod WholeRound
 pub mod ListLines
+pub mod MadeRuns

@@ -89,15 +89,15 @@ entries-here : (sent : Record) (past : List Item) (round : ℕ) → Lists (liste
     → AllZip (IsEntryOf (exchanged sent ∷ past) round) (of_round round (listed_by sent)) (if is_of_round round sent then sender_listed_by sent else [])
 entries-here sent past round (nobody none no_sender) =
     subst (λ (entries : List Listed). AllZip (IsEntryOf (exchanged sent ∷ past) round) entries (if is_of_round round sent then sender_listed_by sent else []))
-        (sym (ap (of_round round) none))
+    (sym (ap (of_round round) none))
     (subst (λ (senders : List ℕ). AllZip (IsEntryOf (exchanged sent ∷ past) round) [] senders) (sym (if-none (is_of_round round sent) (sender_listed_by sent) no_sender)) tt)
 entries-here sent past round (somebody one number listed_one sender) =
     let history = exchanged sent ∷ past in
     let same : (one.round == round) ≡ is_of_round round sent = ap (λ (r : ℕ). r == round) (entry-round sent one listed_one) in
     let entry : is_of_round round sent ≡ true → IsEntryOf history round one number =
-        (λ passes. record { sent = sent; earlier = past; recorded = record { later = []; is = refl }; round_is = eqb-true sent.round round passes; entry = listed_one; sender = sender }) in
+    (λ passes. record { sent = sent; earlier = past; recorded = record { later = []; is = refl }; round_is = eqb-true sent.round round passes; entry = listed_one; sender = sender }) in
     subst (λ (entries : List Listed). AllZip (IsEntryOf history round) entries (if is_of_round round sent then sender_listed_by sent else []))
-        (sym (ap (of_round round) listed_one))
+    (sym (ap (of_round round) listed_one))
     (subst (λ (senders : List ℕ). AllZip (IsEntryOf history round) (of_round round (one ∷ [])) (if is_of_round round sent then senders else [])) (sym sender)
     (zip-one history round (one.round == round) (is_of_round round sent) one number same entry))
 
@@ -107,9 +107,9 @@ entries-listed round (befell event number ∷ past) = later-entries (befell even
 entries-listed round (exchanged sent ∷ past) =
     let history = exchanged sent ∷ past in
     subst (λ (entries : List Listed). AllZip (IsEntryOf history round) entries (tags_listed_in round history))
-        (sym (filter-append (λ (listed : Listed). listed.round == round) (listing_of past) (listed_by sent)))
+    (sym (filter-append (λ (listed : Listed). listed.round == round) (listing_of past) (listed_by sent)))
     (zip-append (IsEntryOf history round) (entries_in round past) (tags_listed_in round past) (of_round round (listed_by sent)) (if is_of_round round sent then sender_listed_by sent else [])
-        (later-entries (exchanged sent) past round (entries-listed round past))
-        (entries-here sent past round (lists sent)))
+    (later-entries (exchanged sent) past round (entries-listed round past))
+    (entries-here sent past round (lists sent)))
 entries-listed round (operated at slot index result ∷ past) = later-entries (operated at slot index result) past round (entries-listed round past)
 entries-listed round (ended number end slots ∷ past) = later-entries (ended number end slots) past round (entries-listed round past)

@@ -7,3 +7,4 @@ pub mod Honest
 pub mod Listed
 pub mod Moments
 pub mod ListLines
+pub mod MadeRuns

@@ -1,6 +1,6 @@
 //! What an honest round of a run says of the tags that it lists.
 ghost use Rattle.std.specs.List.{AllZip};
-ghost use Rattle.std.specs.Prelude.{◌≡◌, ℕ, ◌+◌, List, [], ◌∷◌, ◌++◌, Some};
+ghost use Rattle.std.specs.Prelude.{◌≡◌, ℕ, ◌+◌, true, List, [], ◌∷◌, ◌++◌, Some};
 ghost use Rattle.access_ops.specs.declared.OpList.{OpList};
 ghost use Rattle.air_channel.specs.Past.{Start, Record, Item};
 ghost use Rattle.air_events.specs.Entries.{no_entry, entry_at};
@@ -8,13 +8,16 @@ ghost use Rattle.air_events.specs.declared.Several.TheVariants as severals;
 ghost use Rattle.air_world.specs.Headline.{AreLegalSteps, IsLegalRound, IsRecordOf, rounds_of};
 ghost use Rattle.air_world.specs.History.{history_of};
 ghost use Rattle.air_world.specs.ScenarioStart.{history, start_of};
+ghost use Rattle.air_world.specs.Summary.{summary_of};
 ghost use Rattle.inventory.specs.Complete.{CompleteInventory};
 ghost use Rattle.inventory.specs.Counted.{CountedRound};
 ghost use Rattle.inventory.specs.EveryTag.{AllTakePart, HaveOwnEpcs, ListsEveryTag};
 ghost use Rattle.inventory.specs.Honest.{IsHonest, IsApart};
 ghost use Rattle.inventory.specs.ListLines.{IsEntryOf, entries_in};
 ghost use Rattle.inventory.specs.Listed.{tags_listed_in};
+ghost use Rattle.inventory.specs.MadeRuns.{CountsAll};
 ghost use Rattle.inventory.specs.Moments.{Ending, ending_of};
+ghost use Rattle.made_scenario.specs.Made.{made};
 ghost use Rattle.q_round.specs.SpecValue.{SpecValue};
 ghost use Rattle.q_round.specs.declared.round.RoundEnd.TheVariants as ends;
 ghost use Rattle.scenario.specs.Limits.{IsScenario};
@@ -98,3 +101,13 @@ pub fn quiet_runs_list_every_tag()
 pub fn list_lines_are_of_listed_tags()
     ensures { (history : List Item) (round : ℕ) → AllZip (IsEntryOf history round) (entries_in round history) (tags_listed_in round history) }
 {}
+
+/// The run of a scenario that is made of a seed: where its summary says that the round ended quiet, a tag was
+/// listed as often as there are tags, and as many different pairs of PC and EPC were.
+pub fn quiet_made_runs_list_every_tag()
+    ensures { (seed tags : ℕ) → (summary_of (made seed tags)).quiet ≡ true → CountsAll (summary_of (made seed tags)) tags }
+{
+    honest_rounds_count_tags();
+    rounds_are_honest_where_nothing_is_said();
+    quiet_runs_list_every_tag();
+}

@@ -5,6 +5,7 @@
 mod laws;
 
 pub use laws::{
-    complete_inventory, honest_rounds_count_tags, list_lines_are_of_listed_tags, quiet_runs_list_every_tag,
+    complete_inventory, honest_rounds_count_tags, list_lines_are_of_listed_tags,
+    quiet_made_runs_list_every_tag, quiet_runs_list_every_tag,
     rounds_are_honest_where_nothing_is_said,
 };

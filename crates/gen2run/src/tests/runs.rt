@@ -390,46 +390,15 @@ fn faulty_texts(rt: HostRuntime) -> Result<(), Fail> {
     Ok(())
 }
 
-/// Words that begin as those of a run and ask for nothing.
-#[test]
-fn other_words(rt: HostRuntime) -> Result<(), Fail> {
-    let scenario = scenario_of(rt.alloc(), &[ONE_TAG, ONE_ROUND])?;
-    let nothing = (Status::BadWords, "");
-    for words in [
-        ["run", "fast"],
-        ["run", ""],
-        ["run", "Trace"],
-        ["trace", "run"],
-        ["decode", "trace"],
-    ] {
-        expect(&rt, &words, scenario.as_str(), None, None, nothing)?;
-    }
-    expect(
-        &rt,
-        &["run", "trace", "trace"],
-        scenario.as_str(),
-        None,
-        None,
-        nothing,
-    )?;
-    Ok(())
-}
-
-#[test]
-fn failing_reads_and_first_writes(rt: HostRuntime) -> Result<(), Fail> {
-    let scenario = scenario_of(rt.alloc(), &[ONE_TAG, ONE_ROUND])?;
-    let text = scenario.as_str();
-    expect(&rt, &["run"], text, Some(1), None, (Status::ReadFault, ""))?;
-    expect(&rt, &["run"], text, None, Some(1), (Status::WriteFault, ""))?;
-    Ok(())
-}
-
 /// A report is written line by line: where the third write fails, two lines are there.
 #[test]
-fn failing_third_write(rt: HostRuntime) -> Result<(), Fail> {
+fn failing_reads_and_writes(rt: HostRuntime) -> Result<(), Fail> {
     let scenario = scenario_of(rt.alloc(), &[ONE_TAG, ONE_ROUND])?;
+    let text = scenario.as_str();
     let two_lines = (Status::WriteFault, "list 1 1 0800 1234\nround 1 quiet 2\n");
-    expect(&rt, &["run"], scenario.as_str(), None, Some(3), two_lines)?;
+    expect(&rt, &["run"], text, Some(1), None, (Status::ReadFault, ""))?;
+    expect(&rt, &["run"], text, None, Some(1), (Status::WriteFault, ""))?;
+    expect(&rt, &["run"], text, None, Some(3), two_lines)?;
     Ok(())
 }
 

@@ -7,4 +7,7 @@ one_word (w ∷ []) word text a b e f = ap (λ t. t ∷ []) (ap string_bytes (sy
 one_word (w ∷ v ∷ ws) word text a b e f = absurd (omega arith)
 
 pub returns-in-len1-clause-found : goal.returns-in-len1-clause-found
-returns-in-len1-clause-found c = one_word c.args.words.now c.word-item.result _ c.in-len1.len_at_least c.in-len1.len_below c.word-item.is (sym c.as_str.ensures.value ∙ c.is_word.ensures.0 c.if-is_word.true)
+returns-in-len1-clause-found c = record {
+  spelled = one_word c.args.words.now c.word-item.result _ c.in-len1.len_at_least c.in-len1.len_below c.word-item.is (sym c.as_str.ensures.value ∙ c.is_word.ensures.0 c.if-is_word.true);
+  legal = tt;
+}

@@ -1,7 +1,7 @@
-use Rattle.std.proofs.Common.{◌≡◌, ℕ, List, inl, inr}
+use Rattle.std.proofs.Common.{◌≡◌, sym, ◌∙◌, ℕ, List, inl, inr}
 use Rattle.gen2run.specs.Defined.{IsGrammaticalOf, WritesOf, RefusesOf, DefinesOf}
 use Rattle.gen2run.specs.declared.forms.Form.{Form}
-use Rattle.gen2run.specs.declared.forms.Form.TheVariants.{Decode, Run, Names}
+use Rattle.gen2run.specs.declared.forms.Form.TheVariants.{Decode, Run, Names, Gen}
 use Rattle.gen2run.proofs.NamedLines.{same_named, same_cut_line}
 use Rattle.gen2run.proofs.Ends.{AllowedAreNotRefused}
 use Rattle.gen2run.proofs.RunEnds.{same_report, same_refusal}
@@ -12,6 +12,7 @@ allowed_of : (form : Form) (bytes text : List ℕ) → WritesOf form bytes text 
 allowed_of Decode bytes text writes = (writes.requests, writes.asks)
 allowed_of (Run mode) bytes text writes = (writes.scenario, writes.legal, writes.spelled)
 allowed_of Names bytes text writes = (writes.lines, writes.cut)
+allowed_of (Gen seed tags) bytes text writes = tt
 
 -- what is defined is one text, where it is one in each of its two cases, and no input has both
 defined_once : AllowedAreNotRefused → (form : Form) → ((bytes one other : List ℕ) → WritesOf form bytes one → WritesOf form bytes other → one ≡ other)
@@ -29,6 +30,8 @@ returns-clause-one c (Run mode) =
     defined_once c.grammatical_inputs_are_not_refused.ensures (Run mode) (same_report c.scenarios_are_told_apart.ensures mode) (same_refusal c.texts_have_one_fault.ensures)
 returns-clause-one c Names =
     defined_once c.grammatical_inputs_are_not_refused.ensures Names (same_named c.lines_have_names.ensures.one) same_cut_line
+returns-clause-one c (Gen seed tags) =
+    defined_once c.grammatical_inputs_are_not_refused.ensures (Gen seed tags) (λ bytes one other left right. left ∙ sym right) (λ bytes one other left right. absurd left)
 
 pub returns-clause-apart : goal.returns-clause-apart
 returns-clause-apart c form bytes one other writes refused = c.grammatical_inputs_are_not_refused.ensures form bytes other (allowed_of form bytes one writes) refused

@@ -1,0 +1,11 @@
+//! Scenarios made of a seed: tags with numbered EPCs, whose random words come from a generator, and one
+//! round. All of it is profile.
+#![tactic(auto)]
+
+mod making;
+mod parts;
+
+pub use making::made_scenario;
+
+#[cfg(test)]
+mod tests;
