@@ -1,6 +1,8 @@
 -- What a run writes says its headline, and what its honest rounds prove.
 use Rattle.std.proofs.Common.{◌≡◌, ℕ, true, ◌+◌, List, ◌∷◌, ◌++◌, Option}
+use Rattle.std.specs.List.{AllZip}
 use Rattle.access_ops.specs.declared.OpList.{OpList}
+use Rattle.air_channel.specs.Past.{Item}
 use Rattle.air_events.specs.declared.Several.TheVariants as severals
 use Rattle.air_world.specs.Headline.{Headline, rounds_of}
 use Rattle.air_world.specs.Report.{report_of}
@@ -15,6 +17,8 @@ use Rattle.inventory.specs.Complete.{CompleteInventory}
 use Rattle.inventory.specs.Counted.{CountedRound}
 use Rattle.inventory.specs.MadeRuns.{CountsAll}
 use Rattle.inventory.specs.Honest.{IsHonest, IsApart}
+use Rattle.inventory.specs.ListLines.{IsEntryOf, entries_in}
+use Rattle.inventory.specs.Listed.{tags_listed_in}
 use Rattle.made_scenario.specs.Made.{made}
 use Rattle.q_round.specs.SpecValue.{SpecValue}
 use Rattle.scenario.specs.Limits.{IsScenario}
@@ -67,16 +71,21 @@ RoundsAreCounted = (scenario : Scenario) (before after : List Step) (spec : Spec
 abbrev pub MadeRunsAreCounted : Type 0
 MadeRunsAreCounted = (seed tags : ℕ) → (summary_of (made seed tags)).quiet ≡ true → CountsAll (summary_of (made seed tags)) tags
 
-text_counts : RoundsAreComplete → RoundsAreCounted → MadeRunsAreCounted → (form : Form) (bytes text : List ℕ) → WritesOf form bytes text → InventoryOf form bytes text
-text_counts complete counted all Decode bytes text writes = tt
-text_counts complete counted all Names bytes text writes = tt
-text_counts complete counted all (Gen seed tags) bytes text writes = record { is = writes; every = all seed tags }
-text_counts complete counted all (Run mode) bytes text writes = record {
+-- what the law of list lines says
+abbrev pub LinesAreOfTags : Type 0
+LinesAreOfTags = (history : List Item) (round : ℕ) → AllZip (IsEntryOf history round) (entries_in round history) (tags_listed_in round history)
+
+text_counts : RoundsAreComplete → RoundsAreCounted → LinesAreOfTags → MadeRunsAreCounted → (form : Form) (bytes text : List ℕ) → WritesOf form bytes text → InventoryOf form bytes text
+text_counts complete counted lines all Decode bytes text writes = tt
+text_counts complete counted lines all Names bytes text writes = tt
+text_counts complete counted lines all (Gen seed tags) bytes text writes = record { is = writes; every = all seed tags }
+text_counts complete counted lines all (Run mode) bytes text writes = record {
   reports = writes;
   complete = λ before after spec operations is honest apart. complete writes.scenario before after spec operations writes.legal is honest apart;
   counted = λ before after spec operations is honest apart. counted writes.scenario before after spec operations writes.legal is honest apart;
+  lines = lines (history writes.scenario);
 }
 
-pub says_inventory : RoundsAreComplete → RoundsAreCounted → MadeRunsAreCounted → (form : Form) (left left' written written' : Option (List ℕ))
+pub says_inventory : RoundsAreComplete → RoundsAreCounted → LinesAreOfTags → MadeRunsAreCounted → (form : Form) (left left' written written' : Option (List ℕ))
     → WritesWhole WritesOf form left left' written written' → WritesWhole InventoryOf form left left' written written'
-says_inventory complete counted all = named_so WritesOf InventoryOf (text_counts complete counted all)
+says_inventory complete counted lines all = named_so WritesOf InventoryOf (text_counts complete counted lines all)

@@ -1,10 +1,13 @@
 -- Profile: what `run` and `run trace` write for the bytes that they read. The whole input is read before a line is written.
 use Rattle.std.specs.Prelude.{◌≡◌, ℕ, ◌+◌, List, ◌∷◌, ◌++◌}
+use Rattle.std.specs.List.{AllZip}
 use Rattle.access_ops.specs.declared.OpList.{OpList}
 use Rattle.air_events.specs.declared.Several.TheVariants as severals
 use Rattle.inventory.specs.Complete.{CompleteInventory}
 use Rattle.inventory.specs.Counted.{CountedRound}
 use Rattle.inventory.specs.Honest.{IsHonest, IsApart}
+use Rattle.inventory.specs.ListLines.{IsEntryOf, entries_in}
+use Rattle.inventory.specs.Listed.{tags_listed_in}
 use Rattle.q_round.specs.SpecValue.{SpecValue}
 use Rattle.scenario.specs.declared.values.Scenario.{Scenario}
 use Rattle.scenario.specs.declared.values.Step.{Step}
@@ -51,3 +54,5 @@ pub record SaysInventory (mode : Mode) (bytes text : List ℕ) : Type 0 where
       → IsHonest (history reports.scenario) (rounds_of before + 1) operations
       → ((start_of reports.scenario).several ≡ severals.Capture → IsApart (history reports.scenario) (rounds_of before + 1))
       → CountedRound (start_of reports.scenario) (history reports.scenario) (rounds_of before + 1) spec
+  -- the list lines of a round are those of the tags that are listed in it
+  pub lines : (round : ℕ) → AllZip (IsEntryOf (history reports.scenario) round) (entries_in round (history reports.scenario)) (tags_listed_in round (history reports.scenario))

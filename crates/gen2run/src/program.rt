@@ -16,7 +16,10 @@ use crate::run::run_input;
 use crate::status::Status;
 use air_io::{ReadEnd, Sink, Source, read_to_end};
 use air_world::headline;
-use inventory::{complete_inventory, honest_rounds_count_tags, quiet_made_runs_list_every_tag};
+use inventory::{
+    complete_inventory, honest_rounds_count_tags, list_lines_are_of_listed_tags,
+    quiet_made_runs_list_every_tag,
+};
 use std::alloc::Global;
 
 /// How many bytes of input are read at most.
@@ -50,6 +53,7 @@ pub fn gen2run<I: Source, O: Sink>(
         → WritesWhole HeadlineOf form (I.left input.old) (I.left input.new) (O.written output.old) (O.written output.new) }
     // Done, of a run: a round without operations, of whose exchanges the scenario says nothing, lists no tag twice. Where it ended
     // quiet it lists exactly the tags that its Query matched; and what every flag of every tag is afterwards is known.
+    // The list lines of a round are those of the tags that are listed in it.
     // Done, of a generated scenario: where its round ended quiet, each of its tags was listed.
     ensures inventory { (form : Form) → AskFor (texts words.now) form → result ≡ Status.Done
         → WritesWhole InventoryOf form (I.left input.old) (I.left input.new) (O.written output.old) (O.written output.new) }
@@ -85,6 +89,7 @@ pub fn gen2run<I: Source, O: Sink>(
     headline();
     complete_inventory();
     honest_rounds_count_tags();
+    list_lines_are_of_listed_tags();
     quiet_made_runs_list_every_tag();
     grammatical_inputs_are_not_refused();
     match form_of(words) {

@@ -16,7 +16,7 @@ returns-in-Some-clause-headline g c form spelled done =
 pub returns-in-Some-clause-inventory : goal.returns-in-Some-clause-inventory
 returns-in-Some-clause-inventory g c form spelled done =
     let same : c.in-Some.form ≡ form = cc (c.in-Some.ensures.only form spelled) in
-    says_inventory c.complete_inventory.ensures.scenario c.honest_rounds_count_tags.ensures.scenario c.quiet_made_runs_list_every_tag.ensures form _ _ _ _ (rw (done, same) at c.answer_input.ensures.tells)
+    says_inventory c.complete_inventory.ensures.scenario c.honest_rounds_count_tags.ensures.scenario c.list_lines_are_of_listed_tags.ensures c.quiet_made_runs_list_every_tag.ensures form _ _ _ _ (rw (done, same) at c.answer_input.ensures.tells)
 
 pub returns-in-Some-clause-unread : goal.returns-in-Some-clause-unread
 returns-in-Some-clause-unread g c form spelled none =
