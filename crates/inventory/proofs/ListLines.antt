@@ -24,14 +24,14 @@ zip-map R S [] (y ∷ ys) more all = absurd all
 zip-map R S (x ∷ xs) [] more all = absurd all
 zip-map R S (x ∷ xs) (y ∷ ys) more all = (more x y all.0, zip-map R S xs ys more all.1)
 
-filter-append : {A : Type 0} (test : A → Bool) (xs ys : List A) → filter test (xs ++ ys) ≡ filter test xs ++ filter test ys
-filter-append test [] ys = refl
-filter-append test (x ∷ xs) ys = filter-one test x (test x) xs ys (filter-append test xs ys)
-
 filter-one : {A : Type 0} (test : A → Bool) (x : A) (passes : Bool) (xs ys : List A) → filter test (xs ++ ys) ≡ filter test xs ++ filter test ys
     → (if passes then x ∷ filter test (xs ++ ys) else filter test (xs ++ ys)) ≡ (if passes then x ∷ filter test xs else filter test xs) ++ filter test ys
 filter-one test x true xs ys same = ap (λ tail. x ∷ tail) same
 filter-one test x false xs ys same = same
+
+filter-append : {A : Type 0} (test : A → Bool) (xs ys : List A) → filter test (xs ++ ys) ≡ filter test xs ++ filter test ys
+filter-append test [] ys = refl
+filter-append test (x ∷ xs) ys = filter-one test x (test x) xs ys (filter-append test xs ys)
 
 -- a record of a history that grew is one of it still
 later-record : (item : Item) (history : List Item) (sent : Record) (earlier : List Item) → IsRecordOf history sent earlier → IsRecordOf (item ∷ history) sent earlier
