@@ -234,6 +234,3 @@ impl Locks {
         })
     }
 }
-
-#[cfg(test)]
-mod tests;

@@ -10,6 +10,3 @@ mod mask;
 pub use draw_words::DrawWords;
 pub use flags::Flags;
 pub use mask::mask_matches;
-
-#[cfg(test)]
-mod tests;

@@ -108,10 +108,19 @@ read bank pointer count rn (SecuredState held) body = read_held levels.Secured b
 read bank pointer count rn KilledState body = silent KilledState body
 read bank pointer count rn UnpoweredState body = silent UnpoweredState body
 
+-- what is asked to change is changed, and the answer is the header; or it is refused, and the answer is an error
+abbrev pub change_answer : {T : Type 0} → Result T ErrorCode → Reply
+change_answer (Ok new) = Header
+change_answer (Err code) = Error (code_of code)
+
+abbrev pub changed_or : {T : Type 0} → T → Result T ErrorCode → T
+changed_or old (Ok new) = new
+changed_or old (Err code) = old
+
 -- what a change of the memory gives: the new memory and the header, or an error and the memory as it was
 abbrev pub memory_outcome : Level → Held → BodyValue → Result Banks ErrorCode → Outcome
-memory_outcome level held body (Ok memory) = extended (held_state level held) (record body { memory = memory }) Header held.handle
-memory_outcome level held body (Err code) = refuse level held body code
+memory_outcome level held body change =
+    extended (held_state level held) (record body { memory = changed_or body.memory change }) (change_answer change) held.handle
 
 -- 6.3.2.11.3.3 Write
 abbrev pub write_held : Level → Bank → ℕ → ℕ → ℕ → Held → BodyValue → Outcome
@@ -171,8 +180,8 @@ abbrev pub has_user : BodyValue → Bool
 has_user body = nat_lt 0 (length body.memory.user)
 
 abbrev pub locks_outcome : Held → BodyValue → Result Locks ErrorCode → Outcome
-locks_outcome held body (Ok locks) = extended (SecuredState held) (record body { locks = locks }) Header held.handle
-locks_outcome held body (Err code) = refuse levels.Secured held body code
+locks_outcome held body change =
+    extended (SecuredState held) (record body { locks = changed_or body.locks change }) (change_answer change) held.handle
 
 abbrev pub lock : ℕ → ℕ → StateValue → BodyValue → Outcome
 lock payload rn ReadyState body = silent ReadyState body

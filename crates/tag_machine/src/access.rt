@@ -4,5 +4,7 @@ mod lock;
 mod password;
 mod read;
 mod req_rn;
-mod tag_with_handle;
+mod with_handle;
 mod write;
+
+pub use with_handle::WithHandle;

@@ -7,7 +7,7 @@ ghost use Rattle.tag_machine.specs.Hearing.{tag_value_of};
 
 use crate::any_tag::AnyTag;
 use crate::body::Body;
-use crate::states::{Ready, Unpowered};
+use crate::states::{Ready, State, Unpowered};
 use crate::tag::Tag;
 use air_events::Event;
 use command_grammar::FlagName;
@@ -33,14 +33,16 @@ impl Body {
         body.power_on();
         AnyTag::Ready(Tag { state: Ready, body })
     }
+}
 
-    /// The body after the persistence of a flag ended.
-    fn with_expired(self, flag: FlagName, powered: bool, takes_part: bool) -> Body
-        ensures { result ≡ body_after_expiry flag powered takes_part self }
+impl<S: State> Tag<S> {
+    /// The tag after the persistence of a flag ended.
+    fn with_expired(self, flag: FlagName, powered: bool, takes_part: bool) -> Tag<S>
+        ensures { result ≡ record self { body = body_after_expiry flag powered takes_part self.body } }
     {
-        let mut body = self;
+        let Tag { state, mut body } = self;
         body.expire(flag, powered, takes_part);
-        body
+        Tag { state, body }
     }
 }
 
@@ -50,18 +52,13 @@ impl AnyTag {
         ensures { tag_value_of result ≡ after_timeout (tag_value_of self).state (tag_value_of self).body }
     {
         match self {
-            AnyTag::Ready(Tag { state, body }) => AnyTag::Ready(Tag { state, body }),
-            AnyTag::Arbitrate(Tag { state, body }) => AnyTag::Arbitrate(Tag { state, body }),
             AnyTag::InReply(Tag { state, body }) => {
                 AnyTag::Arbitrate(body.back(state.session, state.q))
             }
             AnyTag::Acknowledged(Tag { state, body }) => {
                 AnyTag::Arbitrate(body.back(state.session, state.q))
             }
-            AnyTag::Opened(Tag { state, body }) => AnyTag::Opened(Tag { state, body }),
-            AnyTag::Secured(Tag { state, body }) => AnyTag::Secured(Tag { state, body }),
-            AnyTag::Killed(Tag { state, body }) => AnyTag::Killed(Tag { state, body }),
-            AnyTag::Unpowered(Tag { state, body }) => AnyTag::Unpowered(Tag { state, body }),
+            other => other,
         }
     }
 
@@ -70,14 +67,14 @@ impl AnyTag {
         ensures { tag_value_of result ≡ after_off (tag_value_of self).state (tag_value_of self).body }
     {
         match self {
-            AnyTag::Ready(Tag { state: _, body }) => body.without_power(),
-            AnyTag::Arbitrate(Tag { state: _, body }) => body.without_power(),
-            AnyTag::InReply(Tag { state: _, body }) => body.without_power(),
-            AnyTag::Acknowledged(Tag { state: _, body }) => body.without_power(),
-            AnyTag::Opened(Tag { state: _, body }) => body.without_power(),
-            AnyTag::Secured(Tag { state: _, body }) => body.without_power(),
-            AnyTag::Killed(Tag { state, body }) => AnyTag::Killed(Tag { state, body }),
-            AnyTag::Unpowered(Tag { state: _, body }) => body.without_power(),
+            AnyTag::Killed(tag) => AnyTag::Killed(tag),
+            AnyTag::Ready(Tag { state: _, body })
+            | AnyTag::Arbitrate(Tag { state: _, body })
+            | AnyTag::InReply(Tag { state: _, body })
+            | AnyTag::Acknowledged(Tag { state: _, body })
+            | AnyTag::Opened(Tag { state: _, body })
+            | AnyTag::Secured(Tag { state: _, body })
+            | AnyTag::Unpowered(Tag { state: _, body }) => body.without_power(),
         }
     }
 
@@ -86,14 +83,8 @@ impl AnyTag {
         ensures { tag_value_of result ≡ after_on (tag_value_of self).state (tag_value_of self).body }
     {
         match self {
-            AnyTag::Ready(Tag { state, body }) => AnyTag::Ready(Tag { state, body }),
-            AnyTag::Arbitrate(Tag { state, body }) => AnyTag::Arbitrate(Tag { state, body }),
-            AnyTag::InReply(Tag { state, body }) => AnyTag::InReply(Tag { state, body }),
-            AnyTag::Acknowledged(Tag { state, body }) => AnyTag::Acknowledged(Tag { state, body }),
-            AnyTag::Opened(Tag { state, body }) => AnyTag::Opened(Tag { state, body }),
-            AnyTag::Secured(Tag { state, body }) => AnyTag::Secured(Tag { state, body }),
-            AnyTag::Killed(Tag { state, body }) => AnyTag::Killed(Tag { state, body }),
             AnyTag::Unpowered(Tag { state: _, body }) => body.with_power(),
+            other => other,
         }
     }
 
@@ -102,35 +93,14 @@ impl AnyTag {
         ensures { tag_value_of result ≡ after_expiry flag (tag_value_of self).state (tag_value_of self).body }
     {
         match self {
-            AnyTag::Ready(Tag { state, body }) => {
-                let body = body.with_expired(flag, true, false);
-                AnyTag::Ready(Tag { state, body })
-            }
-            AnyTag::Arbitrate(Tag { state, body }) => {
-                let body = body.with_expired(flag, true, true);
-                AnyTag::Arbitrate(Tag { state, body })
-            }
-            AnyTag::InReply(Tag { state, body }) => {
-                let body = body.with_expired(flag, true, true);
-                AnyTag::InReply(Tag { state, body })
-            }
-            AnyTag::Acknowledged(Tag { state, body }) => {
-                let body = body.with_expired(flag, true, true);
-                AnyTag::Acknowledged(Tag { state, body })
-            }
-            AnyTag::Opened(Tag { state, body }) => {
-                let body = body.with_expired(flag, true, true);
-                AnyTag::Opened(Tag { state, body })
-            }
-            AnyTag::Secured(Tag { state, body }) => {
-                let body = body.with_expired(flag, true, true);
-                AnyTag::Secured(Tag { state, body })
-            }
-            AnyTag::Killed(Tag { state, body }) => AnyTag::Killed(Tag { state, body }),
-            AnyTag::Unpowered(Tag { state, body }) => {
-                let body = body.with_expired(flag, false, false);
-                AnyTag::Unpowered(Tag { state, body })
-            }
+            AnyTag::Ready(tag) => AnyTag::Ready(tag.with_expired(flag, true, false)),
+            AnyTag::Arbitrate(tag) => AnyTag::Arbitrate(tag.with_expired(flag, true, true)),
+            AnyTag::InReply(tag) => AnyTag::InReply(tag.with_expired(flag, true, true)),
+            AnyTag::Acknowledged(tag) => AnyTag::Acknowledged(tag.with_expired(flag, true, true)),
+            AnyTag::Opened(tag) => AnyTag::Opened(tag.with_expired(flag, true, true)),
+            AnyTag::Secured(tag) => AnyTag::Secured(tag.with_expired(flag, true, true)),
+            AnyTag::Killed(tag) => AnyTag::Killed(tag),
+            AnyTag::Unpowered(tag) => AnyTag::Unpowered(tag.with_expired(flag, false, false)),
         }
     }
 

@@ -9,9 +9,10 @@ ghost use Rattle.tag_machine.specs.Step.{step};
 ghost use Rattle.tag_machine.specs.Isolation.{IsIsolated};
 ghost use Rattle.reply_grammar.specs.Table.{reply_room};
 
+use crate::access::WithHandle;
 use crate::any_tag::{Answered, AnyTag, Heard};
 use crate::moves::unanswered;
-use crate::states::{Acknowledged, Arbitrate, InReply, Killed, Opened, Ready, Secured, Unpowered};
+use crate::states::{Acknowledged, Arbitrate, InReply, Killed, Ready, Unpowered};
 use crate::steps::Steps;
 use crate::tag::Tag;
 use bit_strings::Bits;
@@ -179,8 +180,8 @@ impl Tag<Acknowledged> {
     }
 }
 
-impl Tag<Opened> {
-    /// A tag in open hears every command, but heeds no Lock.
+impl<S: WithHandle> Tag<S> {
+    /// A tag with a handle hears every command.
     fn hear<L: Ledger>(self, command: &Command, out: &mut Bits, steps: &mut Steps<L>) -> Heard
         requires room { reply_room ≤ out.old.capacity }
         ensures step { GivesOutcome (step command.now self.state self.body) result out.old out.new }
@@ -223,69 +224,11 @@ impl Tag<Opened> {
                 rn,
             } => self.write(*bank, *pointer, *covered, *rn, out, steps),
             Command::Kill { covered, rn } => self.kill(*covered, *rn, out, steps),
-            Command::Lock { rn, .. } => self.ignore_lock(*rn, out, steps),
-            Command::Access { covered, rn } => self.access(*covered, *rn, out, steps),
-            Command::BlockWrite {
-                bank,
-                pointer,
-                words,
-                rn,
-            } => self.block_write(*bank, *pointer, words, *rn, out, steps),
-            Command::BlockErase {
-                bank,
-                pointer,
-                count,
-                rn,
-            } => self.block_erase(*bank, *pointer, *count, *rn, out, steps),
-        }
-    }
-}
-
-impl Tag<Secured> {
-    /// A tag in secured hears every command.
-    fn hear<L: Ledger>(self, command: &Command, out: &mut Bits, steps: &mut Steps<L>) -> Heard
-        requires room { reply_room ≤ out.old.capacity }
-        ensures step { GivesOutcome (step command.now self.state self.body) result out.old out.new }
-        ensures counted { steps.new ≡ steps.old + 1 }
-    {
-        match command {
-            Command::Query {
-                dr,
-                code,
-                trext,
-                sel,
-                session,
-                target,
-                q,
-            } => self.query(*dr, *code, *trext, *sel, *session, *target, *q, out, steps),
-            Command::Select {
-                target,
-                action,
-                bank,
-                pointer,
-                mask,
-            } => self.select(*target, *action, *bank, *pointer, mask, out, steps),
-            Command::QueryRep { session } => self.query_rep(*session, out, steps),
-            Command::QueryAdjust { session, updn } => self.query_adjust(
-                *session, *updn, out, steps,
-            ),
-            Command::Ack { rn } => self.ack(*rn, out, steps),
-            Command::Nak => self.nak(out, steps),
-            Command::ReqRn { rn } => self.req_rn(*rn, out, steps),
-            Command::Read {
-                bank,
-                pointer,
-                count,
-                rn,
-            } => self.read(*bank, *pointer, *count, *rn, out, steps),
-            Command::Write {
-                bank,
-                pointer,
-                covered,
-                rn,
-            } => self.write(*bank, *pointer, *covered, *rn, out, steps),
-            Command::Kill { covered, rn } => self.kill(*covered, *rn, out, steps),
-            Command::Lock { payload, rn } => self.lock(*payload, *rn, out, steps),
+            Command::Lock { payload, rn } => {
+                steps.tick();
+                let Tag { state, body } = self;
+                state.hear_lock(body, *payload, *rn, out)
+            }
             Command::Access { covered, rn } => self.access(*covered, *rn, out, steps),
             Command::BlockWrite {
                 bank,

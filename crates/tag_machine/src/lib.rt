@@ -28,8 +28,3 @@ pub use states::{
 };
 pub use steps::Steps;
 pub use tag::Tag;
-
-#[cfg(test)]
-mod access_tests;
-#[cfg(test)]
-mod tests;

@@ -7,6 +7,3 @@ mod memory;
 
 pub use image::{BankImage, ImageRefusal};
 pub use memory::Memory;
-
-#[cfg(test)]
-mod tests;

@@ -1,39 +1,28 @@
 //! Req_RN (6.3.2.11.3.1).
 ghost use Rattle.std.specs.Prelude.{◌≡◌, ◌+◌, ◌≤◌};
-ghost use Rattle.tag_machine.specs.Access.{first_level, give_handle, req_rn_held, req_rn};
+ghost use Rattle.tag_machine.specs.Access.{give_handle, req_rn};
 ghost use Rattle.tag_machine.specs.Hearing.{GivesOutcome};
 ghost use Rattle.reply_grammar.specs.Table.{reply_room};
 
-use super::tag_with_handle::TagWithHandle;
+use super::with_handle::WithHandle;
 use crate::any_tag::{AnyTag, Heard};
 use crate::body::Body;
-use crate::moves::unanswered;
+use crate::moves::{answer, unanswered};
 use crate::states::{Acknowledged, Held, InReply, Opened, Secured};
 use crate::steps::Steps;
 use crate::tag::Tag;
 use bit_strings::{Bits, QValue, Session};
-use lock_rules::Level;
+use reply_grammar::Reply;
 use std::sync::ledger::Ledger;
 
 impl Body {
-    /// The level that a tag is in when it gets its handle: secured where the access password is 0.
-    fn first_level(&self) -> Level
-        ensures { result ≡ first_level self.now }
-    {
-        if self.access_word() == 0 {
-            Level::Secured
-        } else {
-            Level::Opened
-        }
-    }
-
-    /// Draws a handle and answers it.
+    /// Draws a handle and answers it: the tag is in secured where the access password is 0, else in open.
     fn give_handle(self, session: Session, q: QValue, out: &mut Bits) -> Heard
         requires { reply_room ≤ out.old.capacity }
         ensures { GivesOutcome (give_handle session q self) result out.old out.new }
     {
         let mut body = self;
-        let level = body.first_level();
+        let secured = body.access_word() == 0;
         let handle = body.draw();
         let held = Held {
             session,
@@ -42,30 +31,12 @@ impl Body {
             cover: None,
             half: None,
         };
-        TagWithHandle { level, held, body }.answer_number(handle, out)
-    }
-}
-
-impl TagWithHandle {
-    /// With the handle the tag draws a cover and answers it; a first half stays.
-    fn req_rn(self, rn: u16, out: &mut Bits) -> Heard
-        requires { reply_room ≤ out.old.capacity }
-        ensures { GivesOutcome (req_rn_held self.level rn self.held self.body) result out.old out.new }
-    {
-        if self.held.handle != rn {
-            return self.stay(out);
-        }
-        let TagWithHandle {
-            level,
-            held,
-            mut body,
-        } = self;
-        let cover = body.draw();
-        let held = Held {
-            cover: Some(cover),
-            ..held
+        let tag = if secured {
+            Secured::tag_of(held, body)
+        } else {
+            Opened::tag_of(held, body)
         };
-        TagWithHandle { level, held, body }.answer_number(cover, out)
+        answer(tag, &Reply::Handle(handle), 0, out)
     }
 }
 
@@ -99,7 +70,7 @@ impl Tag<Acknowledged> {
     }
 }
 
-impl Tag<Opened> {
+impl<S: WithHandle> Tag<S> {
     /// With the handle the tag draws a cover and answers it; a first half stays. Another number changes nothing.
     pub fn req_rn<L: Ledger>(self, rn: u16, out: &mut Bits, steps: &mut Steps<L>) -> Heard
         requires room { reply_room ≤ out.old.capacity }
@@ -107,18 +78,16 @@ impl Tag<Opened> {
         ensures counted { steps.new ≡ steps.old + 1 }
     {
         steps.tick();
-        TagWithHandle::from(self).req_rn(rn, out)
-    }
-}
-
-impl Tag<Secured> {
-    /// With the handle the tag draws a cover and answers it; a first half stays. Another number changes nothing.
-    pub fn req_rn<L: Ledger>(self, rn: u16, out: &mut Bits, steps: &mut Steps<L>) -> Heard
-        requires room { reply_room ≤ out.old.capacity }
-        ensures step { GivesOutcome (req_rn rn self.state self.body) result out.old out.new }
-        ensures counted { steps.new ≡ steps.old + 1 }
-    {
-        steps.tick();
-        TagWithHandle::from(self).req_rn(rn, out)
+        let Tag { state, mut body } = self;
+        let held = state.held();
+        if held.handle != rn {
+            return unanswered(S::tag_of(held, body), out);
+        }
+        let cover = body.draw();
+        let held = Held {
+            cover: Some(cover),
+            ..held
+        };
+        answer(S::tag_of(held, body), &Reply::Handle(cover), 0, out)
     }
 }

@@ -1,15 +1,15 @@
 //! What the access commands do with a tag's memory and locks.
-ghost use Rattle.std.specs.Prelude.{◌≡◌, ◌==◌, Ok, Err, [], ◌∷◌, OnOk, IfErr};
+ghost use Rattle.std.specs.Prelude.{◌≡◌, [], ◌∷◌};
 ghost use Rattle.reply_grammar.specs.Table.{CanBeSent};
 ghost use Rattle.lock_rules.specs.Lock.{locks_after};
 ghost use Rattle.tag_memory.specs.Memory.{kill_word_of, access_word_of};
 ghost use Rattle.tag_memory.specs.Access.{words_read, banks_after_write, banks_after_erase};
-ghost use Rattle.tag_machine.specs.Access.{has_user, read_answer};
+ghost use Rattle.tag_machine.specs.Access.{has_user, read_answer, change_answer, changed_or};
 
 use super::Body;
 use bit_strings::{Count1, Payload, Pointer};
 use command_grammar::{Bank, BlockWords};
-use lock_rules::{ErrorCode, Level};
+use lock_rules::Level;
 use reply_grammar::{ReadWords, Reply};
 
 impl Body {
@@ -42,61 +42,73 @@ impl Body {
         }
     }
 
-    /// Writes a word, or refuses and changes nothing.
-    pub fn write(
-        &mut self,
-        level: Level,
-        bank: Bank,
-        pointer: Pointer,
-        word: u16,
-    ) -> Result<(), ErrorCode>
-        ensures ok { OnOk result (banks_after_write self.old.memory self.old.locks level bank pointer (word ∷ []) ≡ Ok self.new.memory) }
-        ensures rest { OnOk result (self.new ≡ record self.old { memory = self.new.memory }) }
-        ensures err { IfErr result (λ code. (banks_after_write self.old.memory self.old.locks level bank pointer (word ∷ []) ≡ Err code) × (self.new ≡ self.old)) }
+    /// Writes a word, or refuses and changes nothing; and what the tag answers.
+    pub fn write(&mut self, level: Level, bank: Bank, pointer: Pointer, word: u16) -> Reply
+        ensures answer { result ≡ change_answer (banks_after_write self.old.memory self.old.locks level bank pointer (word ∷ [])) }
+        ensures after { self.new ≡ record self.old { memory = changed_or self.old.memory (banks_after_write self.old.memory self.old.locks level bank pointer (word ∷ [])) } }
+        ensures sendable { CanBeSent result }
     {
-        self.memory.write(bank, pointer, word, level, &self.locks)
+        match self.memory.write(bank, pointer, word, level, &self.locks) {
+            Ok(()) => Reply::Header,
+            Err(code) => Reply::Error(code.code()),
+        }
     }
 
-    /// Writes words, all of them, or refuses and changes nothing.
+    /// Writes words, all of them, or refuses and changes nothing; and what the tag answers.
     pub fn block_write(
         &mut self,
         level: Level,
         bank: Bank,
         pointer: Pointer,
         words: &BlockWords,
-    ) -> Result<(), ErrorCode>
-        ensures ok { OnOk result (banks_after_write self.old.memory self.old.locks level bank pointer words.now ≡ Ok self.new.memory) }
-        ensures rest { OnOk result (self.new ≡ record self.old { memory = self.new.memory }) }
-        ensures err { IfErr result (λ code. (banks_after_write self.old.memory self.old.locks level bank pointer words.now ≡ Err code) × (self.new ≡ self.old)) }
+    ) -> Reply
+        ensures answer { result ≡ change_answer (banks_after_write self.old.memory self.old.locks level bank pointer words.now) }
+        ensures after { self.new ≡ record self.old { memory = changed_or self.old.memory (banks_after_write self.old.memory self.old.locks level bank pointer words.now) } }
+        ensures sendable { CanBeSent result }
     {
-        self.memory
+        match self
+            .memory
             .block_write(bank, pointer, words, level, &self.locks)
+        {
+            Ok(()) => Reply::Header,
+            Err(code) => Reply::Error(code.code()),
+        }
     }
 
-    /// Erases so many words, or refuses and changes nothing.
+    /// Erases so many words, or refuses and changes nothing; and what the tag answers.
     pub fn block_erase(
         &mut self,
         level: Level,
         bank: Bank,
         pointer: Pointer,
         count: Count1,
-    ) -> Result<(), ErrorCode>
-        ensures ok { OnOk result (banks_after_erase self.old.memory self.old.locks level bank pointer count ≡ Ok self.new.memory) }
-        ensures rest { OnOk result (self.new ≡ record self.old { memory = self.new.memory }) }
-        ensures err { IfErr result (λ code. (banks_after_erase self.old.memory self.old.locks level bank pointer count ≡ Err code) × (self.new ≡ self.old)) }
+    ) -> Reply
+        ensures answer { result ≡ change_answer (banks_after_erase self.old.memory self.old.locks level bank pointer count) }
+        ensures after { self.new ≡ record self.old { memory = changed_or self.old.memory (banks_after_erase self.old.memory self.old.locks level bank pointer count) } }
+        ensures sendable { CanBeSent result }
     {
-        self.memory
+        match self
+            .memory
             .block_erase(bank, pointer, count, level, &self.locks)
+        {
+            Ok(()) => Reply::Header,
+            Err(code) => Reply::Error(code.code()),
+        }
     }
 
-    /// Changes the pairs of lock bits by a Lock payload, or refuses and changes nothing.
-    pub fn lock(&mut self, payload: Payload) -> Result<(), ErrorCode>
-        ensures ok { OnOk result (locks_after self.old.locks payload (has_user self.old) ≡ Ok self.new.locks) }
-        ensures rest { OnOk result (self.new ≡ record self.old { locks = self.new.locks }) }
-        ensures err { IfErr result (λ code. (locks_after self.old.locks payload (has_user self.old) ≡ Err code) × (self.new ≡ self.old)) }
+    /// Changes the pairs of lock bits by a Lock payload, or refuses and changes nothing; and what the tag answers.
+    pub fn lock(&mut self, payload: Payload) -> Reply
+        ensures answer { result ≡ change_answer (locks_after self.old.locks payload (has_user self.old)) }
+        ensures after { self.new ≡ record self.old { locks = changed_or self.old.locks (locks_after self.old.locks payload (has_user self.old)) } }
+        ensures sendable { CanBeSent result }
     {
         let has_user = self.memory.size(Bank::User) > 0;
-        self.locks = self.locks.apply(payload, has_user)?;
-        Ok(())
+        match self.locks.apply(payload, has_user) {
+            Ok(locks) => {
+                self.locks = locks;
+                Reply::Header
+            }
+            Err(code) => Reply::Error(code.code()),
+        }
     }
 }

@@ -6,9 +6,10 @@ ghost use Rattle.tag_machine.specs.Answers.{plain};
 ghost use Rattle.tag_machine.specs.Hearing.{GivesOutcome};
 ghost use Rattle.reply_grammar.specs.Table.{reply_room};
 
+use crate::access::WithHandle;
 use crate::any_tag::{AnyTag, Heard};
 use crate::moves::answer;
-use crate::states::{Acknowledged, InReply, Opened, Secured};
+use crate::states::{Acknowledged, InReply};
 use crate::steps::Steps;
 use crate::tag::Tag;
 use bit_strings::Bits;
@@ -60,7 +61,7 @@ impl Tag<Acknowledged> {
     }
 }
 
-impl Tag<Opened> {
+impl<S: WithHandle> Tag<S> {
     /// With the handle the tag answers PC and its EPC. With another number, or with an unfinished Kill or Access,
     /// it goes back to arbitrate.
     pub fn ack<L: Ledger>(self, rn: u16, out: &mut Bits, steps: &mut Steps<L>) -> Heard
@@ -70,30 +71,11 @@ impl Tag<Opened> {
     {
         steps.tick();
         let Tag { state, body } = self;
-        let held = state.held;
+        let held = state.held();
         if held.half.is_some() || held.handle != rn {
             return body.go_back(held.session, held.q, out);
         }
         let reply = body.epc_reply();
-        answer(AnyTag::Opened(Tag { state, body }), &reply, 0, out)
-    }
-}
-
-impl Tag<Secured> {
-    /// With the handle the tag answers PC and its EPC. With another number, or with an unfinished Kill or Access,
-    /// it goes back to arbitrate.
-    pub fn ack<L: Ledger>(self, rn: u16, out: &mut Bits, steps: &mut Steps<L>) -> Heard
-        requires room { reply_room ≤ out.old.capacity }
-        ensures step { GivesOutcome (ack rn self.state self.body) result out.old out.new }
-        ensures counted { steps.new ≡ steps.old + 1 }
-    {
-        steps.tick();
-        let Tag { state, body } = self;
-        let held = state.held;
-        if held.half.is_some() || held.handle != rn {
-            return body.go_back(held.session, held.q, out);
-        }
-        let reply = body.epc_reply();
-        answer(AnyTag::Secured(Tag { state, body }), &reply, 0, out)
+        answer(S::tag_of(held, body), &reply, 0, out)
     }
 }

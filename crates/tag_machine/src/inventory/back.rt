@@ -2,7 +2,8 @@
 ghost use Rattle.std.specs.Prelude.{◌≡◌, ◌+◌};
 ghost use Rattle.tag_machine.specs.Draws.{tag_gone_back};
 
-use crate::states::{Acknowledged, Arbitrate, InReply, Opened, Secured};
+use crate::access::WithHandle;
+use crate::states::{Acknowledged, Arbitrate, InReply};
 use crate::steps::Steps;
 use crate::tag::Tag;
 use std::sync::ledger::Ledger;
@@ -31,7 +32,7 @@ impl Tag<Acknowledged> {
     }
 }
 
-impl Tag<Opened> {
+impl<S: WithHandle> Tag<S> {
     /// The tag is in arbitrate with slot 0, in its session and with its Q.
     pub fn back<L: Ledger>(self, steps: &mut Steps<L>) -> Tag<Arbitrate>
         ensures step { result ≡ tag_gone_back self.state self.body }
@@ -39,18 +40,7 @@ impl Tag<Opened> {
     {
         steps.tick();
         let Tag { state, body } = self;
-        body.back(state.held.session, state.held.q)
-    }
-}
-
-impl Tag<Secured> {
-    /// The tag is in arbitrate with slot 0, in its session and with its Q.
-    pub fn back<L: Ledger>(self, steps: &mut Steps<L>) -> Tag<Arbitrate>
-        ensures step { result ≡ tag_gone_back self.state self.body }
-        ensures counted { steps.new ≡ steps.old + 1 }
-    {
-        steps.tick();
-        let Tag { state, body } = self;
-        body.back(state.held.session, state.held.q)
+        let held = state.held();
+        body.back(held.session, held.q)
     }
 }

@@ -4,9 +4,10 @@ ghost use Rattle.tag_machine.specs.Inventory.{nak};
 ghost use Rattle.tag_machine.specs.Hearing.{GivesOutcome};
 ghost use Rattle.reply_grammar.specs.Table.{reply_room};
 
+use crate::access::WithHandle;
 use crate::any_tag::{AnyTag, Heard};
 use crate::moves::unanswered;
-use crate::states::{Acknowledged, Arbitrate, InReply, Opened, Secured};
+use crate::states::{Acknowledged, Arbitrate, InReply};
 use crate::steps::Steps;
 use crate::tag::Tag;
 use bit_strings::Bits;
@@ -51,7 +52,7 @@ impl Tag<Acknowledged> {
     }
 }
 
-impl Tag<Opened> {
+impl<S: WithHandle> Tag<S> {
     /// The tag goes back to arbitrate.
     pub fn nak<L: Ledger>(self, out: &mut Bits, steps: &mut Steps<L>) -> Heard
         requires room { reply_room ≤ out.old.capacity }
@@ -60,19 +61,7 @@ impl Tag<Opened> {
     {
         steps.tick();
         let Tag { state, body } = self;
-        body.go_back(state.held.session, state.held.q, out)
-    }
-}
-
-impl Tag<Secured> {
-    /// The tag goes back to arbitrate.
-    pub fn nak<L: Ledger>(self, out: &mut Bits, steps: &mut Steps<L>) -> Heard
-        requires room { reply_room ≤ out.old.capacity }
-        ensures step { GivesOutcome (nak self.state self.body) result out.old out.new }
-        ensures counted { steps.new ≡ steps.old + 1 }
-    {
-        steps.tick();
-        let Tag { state, body } = self;
-        body.go_back(state.held.session, state.held.q, out)
+        let held = state.held();
+        body.go_back(held.session, held.q, out)
     }
 }

@@ -4,10 +4,11 @@ ghost use Rattle.tag_machine.specs.Inventory.{query, take_part, body_after_close
 ghost use Rattle.tag_machine.specs.Hearing.{GivesOutcome};
 ghost use Rattle.reply_grammar.specs.Table.{reply_room};
 
+use crate::access::WithHandle;
 use crate::any_tag::{AnyTag, Heard};
 use crate::body::Body;
 use crate::moves::unanswered;
-use crate::states::{Acknowledged, Arbitrate, InReply, Opened, Ready, Secured};
+use crate::states::{Acknowledged, Arbitrate, InReply, Ready};
 use crate::steps::Steps;
 use crate::tag::Tag;
 use bit_strings::{Bits, Code, QValue, Session};
@@ -144,7 +145,7 @@ impl Tag<Acknowledged> {
     }
 }
 
-impl Tag<Opened> {
+impl<S: WithHandle> Tag<S> {
     /// Where the session is the tag's, its flag is inverted first. Then a tag that matches takes part in the
     /// new round, and another is ready.
     pub fn query<L: Ledger>(
@@ -165,33 +166,8 @@ impl Tag<Opened> {
     {
         steps.tick();
         let Tag { state, body } = self;
-        let body = body.closed_before(state.held.session, session);
-        body.take_part(sel, session, target, q, out)
-    }
-}
-
-impl Tag<Secured> {
-    /// Where the session is the tag's, its flag is inverted first. Then a tag that matches takes part in the
-    /// new round, and another is ready.
-    pub fn query<L: Ledger>(
-        self,
-        _dr: bool,
-        _code: Code,
-        _trext: bool,
-        sel: Sel,
-        session: Session,
-        target: Side,
-        q: QValue,
-        out: &mut Bits,
-        steps: &mut Steps<L>,
-    ) -> Heard
-        requires room { reply_room ≤ out.old.capacity }
-        ensures step { GivesOutcome (query sel session target q self.state self.body) result out.old out.new }
-        ensures counted { steps.new ≡ steps.old + 1 }
-    {
-        steps.tick();
-        let Tag { state, body } = self;
-        let body = body.closed_before(state.held.session, session);
+        let held = state.held();
+        let body = body.closed_before(held.session, session);
         body.take_part(sel, session, target, q, out)
     }
 }

@@ -4,9 +4,10 @@ ghost use Rattle.tag_machine.specs.Inventory.{query_adjust, q_after_adjust};
 ghost use Rattle.tag_machine.specs.Hearing.{GivesOutcome};
 ghost use Rattle.reply_grammar.specs.Table.{reply_room};
 
+use crate::access::WithHandle;
 use crate::any_tag::{AnyTag, Heard};
 use crate::moves::unanswered;
-use crate::states::{Acknowledged, Arbitrate, InReply, Opened, Secured};
+use crate::states::{Acknowledged, Arbitrate, InReply};
 use crate::steps::Steps;
 use crate::tag::Tag;
 use bit_strings::{Bits, QValue, Session};
@@ -95,7 +96,7 @@ impl Tag<Acknowledged> {
     }
 }
 
-impl Tag<Opened> {
+impl<S: WithHandle> Tag<S> {
     /// The tag was inventoried: its flag is inverted, and it is ready; with an unfinished Kill or Access it goes
     /// back to arbitrate. A QueryAdjust of another session changes nothing.
     pub fn query_adjust<L: Ledger>(
@@ -111,32 +112,10 @@ impl Tag<Opened> {
     {
         steps.tick();
         let Tag { state, body } = self;
-        if state.held.session != session {
-            return unanswered(AnyTag::Opened(Tag { state, body }), out);
+        let held = state.held();
+        if held.session != session {
+            return unanswered(S::tag_of(held, body), out);
         }
-        body.end_turn(session, state.held, out)
-    }
-}
-
-impl Tag<Secured> {
-    /// The tag was inventoried: its flag is inverted, and it is ready; with an unfinished Kill or Access it goes
-    /// back to arbitrate. A QueryAdjust of another session changes nothing.
-    pub fn query_adjust<L: Ledger>(
-        self,
-        session: Session,
-        _updn: UpDn,
-        out: &mut Bits,
-        steps: &mut Steps<L>,
-    ) -> Heard
-        requires room { reply_room ≤ out.old.capacity }
-        ensures step { GivesOutcome (query_adjust session _updn self.state self.body) result out.old out.new }
-        ensures counted { steps.new ≡ steps.old + 1 }
-    {
-        steps.tick();
-        let Tag { state, body } = self;
-        if state.held.session != session {
-            return unanswered(AnyTag::Secured(Tag { state, body }), out);
-        }
-        body.end_turn(session, state.held, out)
+        body.end_turn(session, held, out)
     }
 }

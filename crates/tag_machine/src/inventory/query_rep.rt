@@ -4,10 +4,11 @@ ghost use Rattle.tag_machine.specs.Inventory.{query_rep, slot_below, count_down,
 ghost use Rattle.tag_machine.specs.Hearing.{GivesOutcome};
 ghost use Rattle.reply_grammar.specs.Table.{reply_room};
 
+use crate::access::WithHandle;
 use crate::any_tag::{AnyTag, Heard};
 use crate::body::Body;
 use crate::moves::unanswered;
-use crate::states::{Acknowledged, Arbitrate, Held, InReply, Opened, Secured, Slot};
+use crate::states::{Acknowledged, Arbitrate, Held, InReply, Slot};
 use crate::steps::Steps;
 use crate::tag::Tag;
 use bit_strings::{Bits, QValue, Session};
@@ -126,7 +127,7 @@ impl Tag<Acknowledged> {
     }
 }
 
-impl Tag<Opened> {
+impl<S: WithHandle> Tag<S> {
     /// The tag was inventoried: its flag is inverted, and it is ready; with an unfinished Kill or Access it goes
     /// back to arbitrate. A QueryRep of another session changes nothing.
     pub fn query_rep<L: Ledger>(
@@ -141,31 +142,10 @@ impl Tag<Opened> {
     {
         steps.tick();
         let Tag { state, body } = self;
-        if state.held.session != session {
-            return unanswered(AnyTag::Opened(Tag { state, body }), out);
+        let held = state.held();
+        if held.session != session {
+            return unanswered(S::tag_of(held, body), out);
         }
-        body.end_turn(session, state.held, out)
-    }
-}
-
-impl Tag<Secured> {
-    /// The tag was inventoried: its flag is inverted, and it is ready; with an unfinished Kill or Access it goes
-    /// back to arbitrate. A QueryRep of another session changes nothing.
-    pub fn query_rep<L: Ledger>(
-        self,
-        session: Session,
-        out: &mut Bits,
-        steps: &mut Steps<L>,
-    ) -> Heard
-        requires room { reply_room ≤ out.old.capacity }
-        ensures step { GivesOutcome (query_rep session self.state self.body) result out.old out.new }
-        ensures counted { steps.new ≡ steps.old + 1 }
-    {
-        steps.tick();
-        let Tag { state, body } = self;
-        if state.held.session != session {
-            return unanswered(AnyTag::Secured(Tag { state, body }), out);
-        }
-        body.end_turn(session, state.held, out)
+        body.end_turn(session, held, out)
     }
 }

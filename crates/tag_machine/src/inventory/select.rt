@@ -5,10 +5,11 @@ ghost use Rattle.tag_machine.specs.Inventory.{select, selected_ready, unless_hal
 ghost use Rattle.tag_machine.specs.Hearing.{GivesOutcome};
 ghost use Rattle.reply_grammar.specs.Table.{reply_room};
 
+use crate::access::WithHandle;
 use crate::any_tag::{AnyTag, Heard};
 use crate::body::Body;
 use crate::moves::unanswered;
-use crate::states::{Acknowledged, Arbitrate, Held, InReply, Opened, Ready, Secured};
+use crate::states::{Acknowledged, Arbitrate, Held, InReply, Ready};
 use crate::steps::Steps;
 use crate::tag::Tag;
 use bit_strings::{Action, Bits, Pointer};
@@ -141,7 +142,7 @@ impl Tag<Acknowledged> {
     }
 }
 
-impl Tag<Opened> {
+impl<S: WithHandle> Tag<S> {
     /// The flag changes by the action, and the tag is ready. With an unfinished Kill or Access no flag changes,
     /// and the tag goes back to arbitrate.
     pub fn select<L: Ledger>(
@@ -160,29 +161,7 @@ impl Tag<Opened> {
     {
         steps.tick();
         let Tag { state, body } = self;
-        body.select_held(state.held, target, action, bank, pointer, mask, out)
-    }
-}
-
-impl Tag<Secured> {
-    /// The flag changes by the action, and the tag is ready. With an unfinished Kill or Access no flag changes,
-    /// and the tag goes back to arbitrate.
-    pub fn select<L: Ledger>(
-        self,
-        target: FlagName,
-        action: Action,
-        bank: MaskBank,
-        pointer: Pointer,
-        mask: &Mask,
-        out: &mut Bits,
-        steps: &mut Steps<L>,
-    ) -> Heard
-        requires room { reply_room ≤ out.old.capacity }
-        ensures step { GivesOutcome (select target action bank pointer mask.now self.state self.body) result out.old out.new }
-        ensures counted { steps.new ≡ steps.old + 1 }
-    {
-        steps.tick();
-        let Tag { state, body } = self;
-        body.select_held(state.held, target, action, bank, pointer, mask, out)
+        let held = state.held();
+        body.select_held(held, target, action, bank, pointer, mask, out)
     }
 }

@@ -1,7 +1,8 @@
 //! The table of pairs, and the three rules of Lock, against values written out by hand.
 ghost use Rattle.std.specs.Prelude.{◌<◌};
 
-use super::*;
+use bit_strings::Payload;
+use lock_rules::{ErrorCode, Field, Level, Locks};
 use std::test::Fail;
 
 /// The bit of a number at a place, counted from the last bit as 0.

@@ -1,7 +1,7 @@
 //! The table of actions, the ends of persistence, and masks, against values written out by hand.
-use crate::{DrawWords, Flags, mask_matches};
 use bit_strings::{Action, Pointer, Session};
 use command_grammar::{FlagName, Mask, Sel, Side};
+use session_flags::{DrawWords, Flags, mask_matches};
 use std::test::Fail;
 
 /// What an action does, in the words of the standard's table.

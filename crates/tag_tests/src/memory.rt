@@ -1,13 +1,13 @@
 //! Memories of a few tags, and reads and writes at the edges of their banks.
 ghost use Rattle.std.specs.Prelude.{◌^◌, ◌<◌, length};
 
-use crate::{BankImage, ImageRefusal, Memory};
 use bit_strings::{Count1, List, Pointer};
 use command_grammar::{Bank, BlockWords, MaskBank};
 use lock_rules::{ErrorCode, Level, Locks};
 use reply_grammar::ReadWords;
 use std::alloc::{AllocError, Global};
 use std::test::Fail;
+use tag_memory::{BankImage, ImageRefusal, Memory};
 
 fn list(alloc: Global, words: &[u16]) -> Result<List<u16>, AllocError>
     requires { length words.now < 2 ^ 32 }

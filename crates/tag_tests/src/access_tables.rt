@@ -1,38 +1,42 @@
 //! The tables: lists of commands with the answer, the state, and what changes of the flags, the locks and the memory.
 
-use super::rows::Says::{
-    Access, Ack, BlockErase, BlockWrite, Kill, Lock, Nak, Query, QueryAdjust, QueryRep, Read,
-    ReqRn, Select, Write,
+use crate::holds::Then::{FlagsAre, LocksAre, PairIs, Same, WordIs};
+use crate::rows::Is::{
+    Acknowledged, Arbitrate, InReply, Killed, Opened, Ready, Secured, Unpowered,
 };
-use super::rows::Then::{FlagsAre, LocksAre, PairIs, Same, WordIs};
-use super::rows::Want::{Error, Handle, Header, Nothing, One, PcEpc, ReadError, Rn16, Two};
-use super::rows::{H, RN, Row, S0_B};
-use crate::StateName::{Acknowledged, Arbitrate, InReply, Killed, Opened, Ready, Secured};
+use crate::rows::{H, QUERY, RN, Row, SELECT};
+use crate::says::Says::{
+    Access, Ack, Befalls, BlockErase, BlockWrite, Kill, Lock, Nak, QueryAdjust, QueryRep, Read,
+    ReqRn, Write,
+};
+use crate::wants::Want::{Error, Handle, Header, Nothing, One, PcEpc, ReadError, Rn16, Two};
+use air_events::Event::Off;
 use command_grammar::Bank::{Epc, Reserved, Tid, User};
+use command_grammar::UpDn::Up;
 
 /// A tag in acknowledged.
 pub const ACKNOWLEDGED: [Row; 2] = [
-    (Query, Rn16(RN), InReply, Same),
+    (QUERY, Rn16(RN), InReply, Same),
     (Ack(RN), PcEpc, Acknowledged, Same),
 ];
 
 /// A tag with an access password, singulated and given its handle.
 pub const OPENED: [Row; 3] = [
-    (Query, Rn16(RN), InReply, Same),
+    (QUERY, Rn16(RN), InReply, Same),
     (Ack(RN), PcEpc, Acknowledged, Same),
     (ReqRn(RN), Handle(H), Opened, Same),
 ];
 
 /// ... and one without.
 pub const SECURED: [Row; 3] = [
-    (Query, Rn16(RN), InReply, Same),
+    (QUERY, Rn16(RN), InReply, Same),
     (Ack(RN), PcEpc, Acknowledged, Same),
     (ReqRn(RN), Handle(H), Secured, Same),
 ];
 
 /// A tag whose draws are all A1B2: its locks are changed, and the pair of the EPC bank is permalocked.
 pub const PERMALOCK: [Row; 8] = [
-    (Query, Rn16(RN), InReply, Same),
+    (QUERY, Rn16(RN), InReply, Same),
     (Ack(RN), PcEpc, Acknowledged, Same),
     (ReqRn(RN), Handle(RN), Secured, Same),
     (
@@ -44,12 +48,12 @@ pub const PERMALOCK: [Row; 8] = [
     (ReqRn(RN), Handle(RN), Secured, Same),
     (Write(Epc, 2, 0x9999 ^ RN, RN), Error(0x04), Secured, Same),
     (Lock(0x0C000, RN), Error(0x04), Secured, Same),
-    (QueryAdjust(0), Nothing, Ready, FlagsAre(S0_B)),
+    (QueryAdjust(0, Up), Nothing, Ready, FlagsAre("BAAA0")),
 ];
 
 /// A Kill of a tag whose kill password is 0, and an Access with a wrong password.
 pub const WRONG_PASSWORDS: [Row; 11] = [
-    (Query, Rn16(RN), InReply, Same),
+    (QUERY, Rn16(RN), InReply, Same),
     (Ack(RN), PcEpc, Acknowledged, Same),
     (ReqRn(RN), Handle(RN), Opened, Same),
     (ReqRn(RN), Handle(RN), Opened, Same),
@@ -59,22 +63,22 @@ pub const WRONG_PASSWORDS: [Row; 11] = [
     (ReqRn(RN), Handle(RN), Opened, Same),
     (Access(0x1234 ^ RN, RN), Handle(RN), Opened, Same),
     (ReqRn(RN), Handle(RN), Opened, Same),
-    (Access(RN, RN), Nothing, Arbitrate, Same),
+    (Access(RN, RN), Nothing, Arbitrate(0), Same),
 ];
 
 /// A Kill by the kill password, and what a killed tag does with further commands.
 pub const KILL: [Row; 11] = [
-    (Query, Rn16(RN), InReply, Same),
+    (QUERY, Rn16(RN), InReply, Same),
     (Ack(RN), PcEpc, Acknowledged, Same),
     (ReqRn(RN), Handle(RN), Secured, Same),
     (ReqRn(RN), Handle(RN), Secured, Same),
     (Kill(0xAABB ^ RN, RN), Handle(RN), Secured, Same),
     (ReqRn(RN), Handle(RN), Secured, Same),
     (Kill(0xCCDD ^ RN, RN), Header, Killed, Same),
-    (QueryAdjust(0), Nothing, Killed, Same),
-    (Query, Nothing, Killed, Same),
+    (QueryAdjust(0, Up), Nothing, Killed, Same),
+    (QUERY, Nothing, Killed, Same),
     (ReqRn(RN), Nothing, Killed, Same),
-    (Select, Nothing, Killed, Same),
+    (SELECT, Nothing, Killed, Same),
 ];
 
 /// Writes with and without a cover, and blocks. The covers are 00FF, 1234, 8001, 7FFE and C0DE, and then 0000.
@@ -137,7 +141,7 @@ pub const WRITES: [Row; 22] = [
     ),
     (Read(User, 2, 0, H), ReadError(0x03), Secured, Same),
     (Read(Epc, 2, 0, H), One(0x1234), Secured, Same),
-    (Nak, Nothing, Arbitrate, Same),
+    (Nak, Nothing, Arbitrate(0), Same),
 ];
 
 /// In open nothing comes of a Lock, a field that wants secured isn't written, and a password can be written away.
@@ -206,7 +210,7 @@ pub const ACCESS_SWAPPED: [Row; 4] = [
     (ReqRn(H), Handle(0x00FF), Opened, Same),
     (Access(0x5687, H), Handle(H), Opened, Same),
     (ReqRn(H), Handle(0x1234), Opened, Same),
-    (Access(0x0000, H), Nothing, Arbitrate, Same),
+    (Access(0x0000, H), Nothing, Arbitrate(0), Same),
 ];
 
 /// The access password 0, and then a wrong second half.
@@ -218,7 +222,7 @@ pub const ACCESS_ZERO: [Row; 8] = [
     (ReqRn(H), Handle(0x8001), Secured, Same),
     (Access(0x8001, H), Handle(H), Secured, Same),
     (ReqRn(H), Handle(0x7FFE), Secured, Same),
-    (Access(0x7FFF, H), Nothing, Arbitrate, Same),
+    (Access(0x7FFF, H), Nothing, Arbitrate(0), Same),
 ];
 
 pub const KILL_IN_OPEN: [Row; 4] = [
@@ -232,7 +236,7 @@ pub const KILL_WRONG: [Row; 4] = [
     (ReqRn(H), Handle(0x00FF), Opened, Same),
     (Kill(0xAA44, H), Handle(H), Opened, Same),
     (ReqRn(H), Handle(0x1234), Opened, Same),
-    (Kill(0xDEE8, H), Nothing, Arbitrate, Same),
+    (Kill(0xDEE8, H), Nothing, Arbitrate(0), Same),
 ];
 
 /// The kill password 0: an error, after which the next Kill is a first half again.
@@ -253,21 +257,21 @@ pub const KILL_THEN_ACCESS: [Row; 4] = [
     (ReqRn(H), Handle(0x00FF), Opened, Same),
     (Kill(0xAA44, H), Handle(H), Opened, Same),
     (ReqRn(H), Handle(0x1234), Opened, Same),
-    (Access(0x444C, H), Nothing, Arbitrate, Same),
+    (Access(0x444C, H), Nothing, Arbitrate(0), Same),
 ];
 
 /// ... and then of the other without a cover.
 pub const KILL_THEN_BARE_ACCESS: [Row; 3] = [
     (ReqRn(H), Handle(0x00FF), Opened, Same),
     (Kill(0xAA44, H), Handle(H), Opened, Same),
-    (Access(0x444C, H), Nothing, Arbitrate, Same),
+    (Access(0x444C, H), Nothing, Arbitrate(0), Same),
 ];
 
 pub const ACCESS_THEN_KILL: [Row; 4] = [
     (ReqRn(H), Handle(0x00FF), Opened, Same),
     (Access(0x12CB, H), Handle(H), Opened, Same),
     (ReqRn(H), Handle(0x1234), Opened, Same),
-    (Kill(0xDEE9, H), Nothing, Arbitrate, Same),
+    (Kill(0xDEE9, H), Nothing, Arbitrate(0), Same),
 ];
 
 /// A number that isn't the handle leaves all as it is, a cover and a first half too, in open and in secured.
@@ -305,12 +309,12 @@ pub const OTHER_HANDLES: [Row; 22] = [
 /// another; all draws are A1B2.
 pub const REQ_RN: [Row; 11] = [
     (ReqRn(RN), Nothing, Ready, Same),
-    (Query, Rn16(RN), InReply, Same),
-    (ReqRn(RN), Nothing, Arbitrate, Same),
-    (ReqRn(RN), Nothing, Arbitrate, Same),
-    (Query, Rn16(RN), InReply, Same),
-    (ReqRn(0), Nothing, Arbitrate, Same),
-    (Query, Rn16(RN), InReply, Same),
+    (QUERY, Rn16(RN), InReply, Same),
+    (ReqRn(RN), Nothing, Arbitrate(0), Same),
+    (ReqRn(RN), Nothing, Arbitrate(0), Same),
+    (QUERY, Rn16(RN), InReply, Same),
+    (ReqRn(0), Nothing, Arbitrate(0), Same),
+    (QUERY, Rn16(RN), InReply, Same),
     (Ack(RN), PcEpc, Acknowledged, Same),
     (ReqRn(0), Nothing, Acknowledged, Same),
     (ReqRn(RN), Handle(RN), Secured, Same),
@@ -328,36 +332,45 @@ pub const SECOND_COVER: Row = (ReqRn(H), Handle(0x1234), Opened, Same);
 
 /// What comes between the halves, and ends the Access.
 pub const BETWEEN_HALVES: [Row; 3] = [
-    (Ack(H), Nothing, Arbitrate, Same),
-    (QueryRep(0), Nothing, Arbitrate, Same),
-    (Select, Nothing, Arbitrate, Same),
+    (Ack(H), Nothing, Arbitrate(0), Same),
+    (QueryRep(0), Nothing, Arbitrate(0), Same),
+    (SELECT, Nothing, Arbitrate(0), Same),
 ];
 
 /// The second half, which comes too late.
-pub const LATE_HALF: Row = (Access(0x444C, H), Nothing, Arbitrate, Same);
+pub const LATE_HALF: Row = (Access(0x444C, H), Nothing, Arbitrate(0), Same);
 
 /// What each other command does after a first half.
 pub const AFTER_HALF: [Row; 22] = [
-    (Ack(H), Nothing, Arbitrate, Same),
-    (Ack(RN), Nothing, Arbitrate, Same),
-    (QueryRep(0), Nothing, Arbitrate, Same),
+    (Ack(H), Nothing, Arbitrate(0), Same),
+    (Ack(RN), Nothing, Arbitrate(0), Same),
+    (QueryRep(0), Nothing, Arbitrate(0), Same),
     (QueryRep(1), Nothing, Opened, Same),
-    (QueryAdjust(0), Nothing, Arbitrate, Same),
-    (QueryAdjust(1), Nothing, Opened, Same),
-    (Query, Nothing, Ready, FlagsAre(S0_B)),
-    (Nak, Nothing, Arbitrate, Same),
-    (Select, Nothing, Arbitrate, Same),
+    (QueryAdjust(0, Up), Nothing, Arbitrate(0), Same),
+    (QueryAdjust(1, Up), Nothing, Opened, Same),
+    (QUERY, Nothing, Ready, FlagsAre("BAAA0")),
+    (Nak, Nothing, Arbitrate(0), Same),
+    (SELECT, Nothing, Arbitrate(0), Same),
     (ReqRn(H), Handle(0x1234), Opened, Same),
-    (Read(User, 0, 1, H), Nothing, Arbitrate, Same),
-    (Write(User, 0, 0, H), Nothing, Arbitrate, Same),
-    (Kill(0xDEE9, H), Nothing, Arbitrate, Same),
-    (Lock(0x0C030, H), Nothing, Arbitrate, Same),
+    (Read(User, 0, 1, H), Nothing, Arbitrate(0), Same),
+    (Write(User, 0, 0, H), Nothing, Arbitrate(0), Same),
+    (Kill(0xDEE9, H), Nothing, Arbitrate(0), Same),
+    (Lock(0x0C030, H), Nothing, Arbitrate(0), Same),
     (Access(0x444C, H), Nothing, Opened, Same),
-    (BlockWrite(User, 0, [0, 0], H), Nothing, Arbitrate, Same),
-    (BlockErase(User, 0, 1, H), Nothing, Arbitrate, Same),
+    (BlockWrite(User, 0, [0, 0], H), Nothing, Arbitrate(0), Same),
+    (BlockErase(User, 0, 1, H), Nothing, Arbitrate(0), Same),
     (Read(User, 0, 1, RN), Nothing, Opened, Same),
     (Write(User, 0, 0, RN), Nothing, Opened, Same),
     (Kill(0xDEE9, RN), Nothing, Opened, Same),
     (BlockWrite(User, 0, [0, 0], RN), Nothing, Opened, Same),
     (BlockErase(User, 0, 1, RN), Nothing, Opened, Same),
+];
+
+/// A tag that loses its power hears nothing.
+pub const WITHOUT_POWER: [Row; 5] = [
+    (Befalls(Off), Nothing, Unpowered, Same),
+    (QUERY, Nothing, Unpowered, Same),
+    (SELECT, Nothing, Unpowered, Same),
+    (ReqRn(RN), Nothing, Unpowered, Same),
+    (Read(Tid, 0, 1, RN), Nothing, Unpowered, Same),
 ];

@@ -1,0 +1,86 @@
+//! Lists of commands of the inventory.
+
+use crate::holds::Then::{FlagsAre, Same};
+use crate::rows::Is::{Acknowledged, Arbitrate, InReply, Ready};
+use crate::rows::Row;
+use crate::says::Says::{Ack, Nak, Query, QueryAdjust, QueryRep, QuerySel, Select, SelectOthers};
+use crate::wants::Want::{Nothing, PcEpc, Rn16};
+use command_grammar::FlagName::Sl;
+use command_grammar::Sel::{All01, NotSl, Sl as OnlySl};
+use command_grammar::Side::{A, B};
+use command_grammar::UpDn::{Down, Same as Stays, Up};
+
+/// A tag that draws 0000 and 1111 in turn, so that it replies at once with Q 0 and with Q 1. In the middle a Query of
+/// the tag's own session, and one of another, come to a tag in acknowledged.
+pub const ROUND: [Row; 40] = [
+    (Query(0, A, 1), Rn16(0x1111), InReply, Same),
+    (QueryRep(1), Nothing, InReply, Same),
+    (QueryRep(0), Nothing, Arbitrate(32767), Same),
+    (QueryRep(0), Nothing, Arbitrate(32766), Same),
+    (Nak, Nothing, Arbitrate(32766), Same),
+    (Query(0, A, 0), Rn16(0x1111), InReply, Same),
+    (Ack(0x1111), PcEpc, Acknowledged, Same),
+    (Ack(0x1111), PcEpc, Acknowledged, Same),
+    (QueryRep(1), Nothing, Acknowledged, Same),
+    (QueryAdjust(2, Up), Nothing, Acknowledged, Same),
+    (QueryRep(0), Nothing, Ready, FlagsAre("BAAA0")),
+    (QueryRep(0), Nothing, Ready, Same),
+    (QueryAdjust(0, Stays), Nothing, Ready, Same),
+    (Ack(0x1111), Nothing, Ready, Same),
+    (Nak, Nothing, Ready, Same),
+    (Query(0, A, 0), Nothing, Ready, Same),
+    (Query(0, B, 0), Rn16(0x1111), InReply, Same),
+    (Ack(0x1111), PcEpc, Acknowledged, Same),
+    (Query(0, A, 0), Rn16(0x1111), InReply, FlagsAre("AAAA0")),
+    (Ack(0x1111), PcEpc, Acknowledged, Same),
+    (Query(3, A, 0), Rn16(0x1111), InReply, Same),
+    (Ack(0x1111), PcEpc, Acknowledged, Same),
+    (Query(3, A, 0), Nothing, Ready, FlagsAre("AAAB0")),
+    (Query(3, B, 0), Rn16(0x1111), InReply, Same),
+    (Ack(0x1110), Nothing, Arbitrate(0), Same),
+    (Ack(0x1111), Nothing, Arbitrate(0), Same),
+    (QueryRep(3), Nothing, Arbitrate(32767), Same),
+    (QueryAdjust(3, Down), Rn16(0x1111), InReply, Same),
+    (QueryAdjust(3, Stays), Rn16(0x1111), InReply, Same),
+    (QueryAdjust(0, Stays), Nothing, InReply, Same),
+    (Nak, Nothing, Arbitrate(0), Same),
+    (QueryAdjust(3, Up), Rn16(0x1111), InReply, Same),
+    (Ack(0x1111), PcEpc, Acknowledged, Same),
+    (Ack(0x1112), Nothing, Arbitrate(0), Same),
+    (QueryAdjust(3, Stays), Rn16(0x1111), InReply, Same),
+    (Ack(0x1111), PcEpc, Acknowledged, Same),
+    (Nak, Nothing, Arbitrate(0), Same),
+    (QueryAdjust(3, Stays), Rn16(0x1111), InReply, Same),
+    (Ack(0x1111), PcEpc, Acknowledged, Same),
+    (QueryAdjust(3, Down), Nothing, Ready, FlagsAre("AAAA0")),
+];
+
+/// A tag that draws 0002, 5555, 9234, 8001, 4003, 0006, FFF8 and 0007. Q is 2; then 15, where it stays at an Up, 14 and
+/// 13; then 3 and 4.
+pub const SLOTS: [Row; 13] = [
+    (Query(2, A, 2), Nothing, Arbitrate(2), Same),
+    (QueryRep(1), Nothing, Arbitrate(2), Same),
+    (QueryAdjust(3, Up), Nothing, Arbitrate(2), Same),
+    (Ack(0x5555), Nothing, Arbitrate(2), Same),
+    (QueryRep(2), Nothing, Arbitrate(1), Same),
+    (QueryRep(2), Rn16(0x5555), InReply, Same),
+    (Query(2, A, 15), Nothing, Arbitrate(0x1234), Same),
+    (QueryAdjust(2, Up), Nothing, Arbitrate(0x0001), Same),
+    (QueryAdjust(2, Down), Nothing, Arbitrate(0x0003), Same),
+    (QueryAdjust(2, Down), Nothing, Arbitrate(0x0006), Same),
+    (Query(2, A, 3), Rn16(0x0007), InReply, Same),
+    (QueryAdjust(2, Up), Nothing, Arbitrate(2), Same),
+    (QueryAdjust(2, Stays), Nothing, Arbitrate(5), Same),
+];
+
+/// A tag that draws 0000 and 1111, and Queries that go by SL.
+pub const SELECTED: [Row; 8] = [
+    (QuerySel(OnlySl), Nothing, Ready, Same),
+    (QuerySel(NotSl), Rn16(0x1111), InReply, Same),
+    (Select(Sl, 0), Nothing, Ready, FlagsAre("AAAA1")),
+    (QuerySel(NotSl), Nothing, Ready, Same),
+    (QuerySel(OnlySl), Rn16(0x1111), InReply, Same),
+    (QuerySel(All01), Rn16(0x1111), InReply, Same),
+    (SelectOthers(Sl, 4), Nothing, Ready, Same),
+    (SelectOthers(Sl, 0), Nothing, Ready, FlagsAre("AAAA0")),
+];
