@@ -24,6 +24,8 @@ mod rows;
 #[cfg(test)]
 mod says;
 #[cfg(test)]
+mod single_tag;
+#[cfg(test)]
 mod state_tables;
 #[cfg(test)]
 mod states;

@@ -8,8 +8,6 @@ mod play;
 #[cfg(test)]
 mod report;
 #[cfg(test)]
-mod single_tag;
-#[cfg(test)]
 mod summary;
 #[cfg(test)]
 mod tag_lines;
