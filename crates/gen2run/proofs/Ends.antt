@@ -1,5 +1,5 @@
 -- How a run ends: what a failed write left, and which status an input that the grammar allows has.
-use Rattle.std.proofs.Common.{◌≡◌, ◌⊎◌, ℕ, ◌≤◌, List, ◌++◌, length, take, drop, Option, Some, None, Result, Ok, Err, Bool, true, false, [], ◌∷◌, refl, sym, ◌∙◌, ap, subst, arith, inl, inr, length-append}
+use Rattle.std.proofs.Common.{◌≡◌, ◌⊎◌, ℕ, ◌≤◌, List, ◌++◌, length, take, drop, Option, Some, None, Result, Ok, Err, true, false, [], refl, sym, ◌∙◌, ap, subst, arith, inl, inr, length-append}
 use Rattle.std.proofs.lemmas.List.{take-append-drop, append-nil}
 use Rattle.air_io.specs.Flow.{Reads, Adds, AtEnd, FaultsRose}
 use Rattle.gen2run.specs.Defined.{IsGrammaticalOf, RefusesOf, DefinesOf}

@@ -1,5 +1,5 @@
 -- The lines before a place of the input, with their names.
-use Rattle.std.proofs.Common.{◌≡◌, ◌≢◌, ℕ, suc, ◌+◌, ◌≤◌, List, [], ◌∷◌, ◌++◌, length, refl, sym, ◌∙◌, ap, subst, arith, append_assoc, length-append, Option, Result, Err, inl, inr}
+use Rattle.std.proofs.Common.{◌≡◌, ◌≢◌, ℕ, ◌+◌, ◌≤◌, List, [], ◌∷◌, ◌++◌, length, refl, sym, ◌∙◌, ap, subst, arith, append_assoc, length-append, Option, Result, Err, inl, inr}
 use Rattle.std.specs.List.{AllZip, flat_map}
 use Rattle.std.proofs.lemmas.List.{append_cancel_right, append-nil}
 use Rattle.text_fields.specs.Lines.{lines_of, line_feed, text_with}
@@ -15,7 +15,7 @@ use Rattle.gen2run.specs.declared.ending.Wrote.{Wrote}
 use Rattle.gen2run.specs.declared.ending.WriteEnd.{WriteEnd}
 use Rattle.gen2run.specs.declared.ending.WriteEnd.TheVariants.{Fault}
 use Rattle.gen2run.specs.DecodeLines.{fault_line}
-use Rattle.gen2run.specs.Named.{AreLines, IsOfLines, AddsNames, IsCutAt, RefusesCutLine}
+use Rattle.gen2run.specs.Named.{IsOfLines, AddsNames, IsCutAt, RefusesCutLine}
 use Rattle.gen2run.specs.declared.decode.request.FaultReason.TheVariants.{End}
 use Rattle.gen2run.proofs.CheckedLines.{some_line, zip_push}
 use Rattle.gen2run.proofs.AnsweredLines.{flat_map_push}

@@ -1,7 +1,6 @@
 -- A list of words asks for one form at most.
-use Rattle.std.proofs.Common.{◌≡◌, ◌<◌, ◌^◌, ℕ, List, [], ◌∷◌, get_or, refl, ap, sym, ◌∙◌, arith}
+use Rattle.std.proofs.Common.{◌≡◌, ℕ, List, [], get_or, refl, ap, sym, ◌∙◌, arith}
 use Rattle.std.proofs.lemmas.Fmt.{decimal_injective}
-use Rattle.std.specs.Fmt.{decimal}
 use Rattle.air_world.specs.declared.mode.Mode.TheVariants.{Plain, Trace}
 use Rattle.gen2run.specs.Form.{words_of, IsForm, AskFor}
 use Rattle.gen2run.specs.declared.forms.Form.{Form}

@@ -1,5 +1,5 @@
 -- Profile: the text that the program defines for its input, one case a form.
-use Rattle.std.specs.Prelude.{◌≡◌, ℕ, List, ◌⊎◌}
+use Rattle.std.specs.Prelude.{ℕ, List, ◌⊎◌}
 use Rattle.scenario.specs.Limits.{IsText}
 use Rattle.gen2run.specs.declared.forms.Form.{Form}
 use Rattle.gen2run.specs.declared.forms.Form.TheVariants.{Decode, Run, Names, Gen}

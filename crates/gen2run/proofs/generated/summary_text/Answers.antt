@@ -1,4 +1,4 @@
-use Rattle.std.proofs.Common.{◌≡◌, ◌∷◌, ◌++◌, ◌∙◌, [], ℕ, List, codes}
+use Rattle.std.proofs.Common.{◌∷◌, ◌++◌, [], codes}
 use Rattle.std.specs.Fmt.{decimal}
 use Rattle.gen2run.specs.Generated.{end_line}
 use Rattle.gen2run.proofs.SummaryLines.{six_joined}

@@ -1,11 +1,10 @@
 -- What a failed write left is a front of the summary.
-use Rattle.std.proofs.Common.{◌≡◌, ◌∙◌, ap, inl, rules}
+use Rattle.std.proofs.Common.{◌∙◌, ap, inl, rules}
 use Rattle.air_world.specs.Summary.{summary_of}
 use Rattle.gen2run.specs.Generated.{summary_text}
 use Rattle.gen2run.specs.declared.forms.Form.TheVariants.{Gen}
 use Rattle.gen2run.proofs.Ends.{write_failed}
 use Rattle.gen2run.proofs.generated.write_summary.Goals as goal
-use Rattle.scenario.specs.declared.values.Scenario.{Scenario}
 
 pub returns-in_err-write_all : goal.returns-in_err-write_all
 returns-in_err-write_all g c bytes =

@@ -1,5 +1,5 @@
 -- The report of the scenario, or the line of the first fault.
-use Rattle.std.proofs.Common.{◌≡◌, ◌⊎◌, ℕ, List, refl, inl, inr}
+use Rattle.std.proofs.Common.{◌⊎◌, ℕ, List, refl, inl, inr}
 use Rattle.air_world.specs.declared.mode.Mode.{Mode}
 use Rattle.air_world.specs.Report.{report_text_of}
 use Rattle.scenario.specs.declared.fault.Fault.{Fault}

@@ -1,7 +1,6 @@
 -- The first piece waits or is written, and then the second.
-use Rattle.std.proofs.Common.{◌++◌, List, ℕ, sym, subst, append_assoc}
+use Rattle.std.proofs.Common.{sym, append_assoc}
 use Rattle.std.proofs.lemmas.Result.{on_ok_weaker, on_err_weaker}
-use Rattle.gen2run.specs.Waiting.{Sends, Loses}
 use Rattle.gen2run.proofs.Waits.{loses_more, sends_more, loses_later, on_failure}
 use Rattle.gen2run.proofs.page.Page.put_both.Goals as goal
 
