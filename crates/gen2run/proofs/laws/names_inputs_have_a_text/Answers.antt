@@ -3,6 +3,7 @@ use Rattle.std.proofs.Common.{◌≡◌, ℕ, ◌+◌, ◌≤◌, List, [], ◌�
 use Rattle.text_fields.specs.Lines.{lines_of}
 use Rattle.gen2run.specs.DecodeLines.{fault_line}
 use Rattle.gen2run.specs.Defined.{DefinesOf}
+use Rattle.gen2run.specs.Named.{IsCutAt}
 use Rattle.gen2run.specs.declared.forms.Form.TheVariants.{Names}
 use Rattle.gen2run.specs.declared.decode.request.FaultReason.TheVariants.{End}
 use Rattle.gen2run.proofs.CheckedLines.{some_line}
@@ -23,7 +24,7 @@ text_behind become bytes before [] cut =
     let named = some_names before become in
     (named.0, inl (record { lines = before; cut = cut; names = named.1 }))
 text_behind become bytes before (byte ∷ others) cut =
-    let at = record { before = before; last = byte ∷ others; cut = cut; filled = λ none. cc; count = refl } in
+    let at : IsCutAt bytes (length before + 1) = record { before = before; last = byte ∷ others; cut = cut; filled = λ none. cc; count = refl } in
     (fault_line (record { line = length before + 1; reason = End }), inr (record { number = length before + 1; at = at; line = refl }))
 
 pub returns : goal.returns
