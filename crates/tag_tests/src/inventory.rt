@@ -68,7 +68,8 @@ fn power_on_computes_the_stored_crc(rt: HostRuntime) -> Result<(), Fail> {
 
 /// A tag in arbitrate with session 1 and slot 2.
 fn waiting(alloc: Global) -> Result<Tag<Arbitrate>, Fail> {
-    match after(alloc, made(alloc, &GUARDED_RN)?, Query(1, Side::A, 3))?.0 {
+    let (tag, _, _) = after(alloc, made(alloc, &GUARDED_RN)?, Query(1, Side::A, 3))?;
+    match tag {
         AnyTag::Arbitrate(tag) => Ok(tag),
         _ => Err(Fail::from("a tag in arbitrate")),
     }
