@@ -1,5 +1,5 @@
 //! Bits to frames.
-ghost use Rattle.std.specs.Prelude.{◌≡◌, ◌+◌, ◌-◌, ◌*◌, ◌<◌, ◌≤◌, ◌++◌, ◌∷◌, [], length, All, slice_get, if◌then◌else◌};
+ghost use Rattle.std.specs.Prelude.{◌≡◌, ◌+◌, ◌-◌, ◌*◌, ◌<◌, ◌≤◌, ◌++◌, ◌∷◌, [], length, All, slice_get, IfSome, if◌then◌else◌};
 ghost use Rattle.pie_line.specs.Link.{IsLegalLink};
 ghost use Rattle.pie_line.specs.Pie.{IsFrame, pair_of, sum_of, header_of, wave_of, kind_of, longest_interval};
 
@@ -9,8 +9,8 @@ use bit_strings::Bits;
 /// How long a delimiter lasts that is written, in nanoseconds.
 const DELIMITER: u32 = 12_500;
 
-/// How many intervals the longest header has: the delimiter, and a pair each for Tari, RTcal and TRcal.
-const LONGEST_HEADER: u32 = 7;
+/// How many intervals the longest header has: the delimiter, and a pair each for Tari, RTcal and TRcal (6.3.1.2.8).
+pub const LONGEST_HEADER: u32 = 7;
 
 /// Writes the one frame of these bits (6.3.1.2.3, 6.3.1.2.8) in place of what `out` had: the delimiter,
 /// the header, and a symbol for each bit. Each low lasts PW.
@@ -36,6 +36,7 @@ pub fn encode_frame(link: &Link, lead: Lead, bits: &Bits, out: &mut Intervals)
 /// the header.
 pub fn header_interval(link: &Link, lead: Lead, place: u32) -> Option<u32>
     ensures interval { result ≡ slice_get (12500 ∷ header_of link.now lead) place }
+    ensures bounded { IfSome result (λ interval. interval ≤ longest_interval) }
     ensures legal { IsLegalLink link.now }
 {
     let low = link.pw();
@@ -52,7 +53,8 @@ pub fn header_interval(link: &Link, lead: Lead, place: u32) -> Option<u32>
 
 /// The high and the low of the symbol of a bit, in nanoseconds (6.3.1.2.3).
 pub fn symbol_intervals(link: &Link, bit: bool) -> (u32, u32)
-    ensures { result.0 ∷ result.1 ∷ [] ≡ pair_of link.now (sum_of link.now bit) }
+    ensures pair { result.0 ∷ result.1 ∷ [] ≡ pair_of link.now (sum_of link.now bit) }
+    ensures bounded { (result.0 ≤ longest_interval) × (result.1 ≤ longest_interval) }
 {
     let sum = if bit {
         link.rtcal() - link.tari()

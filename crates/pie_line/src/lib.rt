@@ -15,7 +15,7 @@ mod ranges;
 pub use bit_strings::Code;
 pub use decoder::decode_frame;
 pub use edges::{Edge, Edges};
-pub use encoder::{encode_frame, header_interval, symbol_intervals};
+pub use encoder::{LONGEST_HEADER, encode_frame, header_interval, symbol_intervals};
 pub use frame::{FrameKind, Lead, PieRefusal};
 pub use intervals::Intervals;
 pub use laws::{one_answer, standing_decoders_begin_frames, written_frame};
