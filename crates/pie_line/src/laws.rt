@@ -1,11 +1,11 @@
 //! Laws of frames, over all lists of intervals.
-ghost use Rattle.std.specs.Prelude.{◌≡◌, ◌↔◌, ℕ, Bool, List, IsOk};
+ghost use Rattle.std.specs.Prelude.{◌≡◌, ◌≤◌, ◌↔◌, ℕ, Bool, List, All, IsOk};
 ghost use Rattle.bit_strings.specs.Family.{Begins};
 ghost use Rattle.pie_line.specs.declared.frame.FrameKind.{FrameKind};
 ghost use Rattle.pie_line.specs.declared.frame.Lead.{Lead};
 ghost use Rattle.pie_line.specs.Edges.{EdgesValue, EdgesStandFor};
 ghost use Rattle.pie_line.specs.Link.{LinkValue, IsLegalLink};
-ghost use Rattle.pie_line.specs.Pie.{Frames, IsFrame, wave_of, kind_of};
+ghost use Rattle.pie_line.specs.Pie.{Frames, IsFrame, wave_of, kind_of, longest_interval};
 ghost use Rattle.pie_line.specs.FrameAnswer.{HasOneAnswer};
 
 /// Each list of intervals is exactly one of three: a frame, a list that begins no frame from one place
@@ -16,10 +16,13 @@ pub fn one_answer()
         IsFrame kind bits intervals → IsFrame other others intervals → (kind ≡ other) × (bits ≡ others) }
 {}
 
-/// What is written over any link is a frame of the link's durations and of the bits.
+/// What is written over any link is a frame of the link's durations and of the bits, and none of its
+/// intervals is too long to be read.
 pub fn written_frame()
-    ensures { (link : LinkValue) (lead : Lead) (bits : List Bool) → IsLegalLink link →
+    ensures frame { (link : LinkValue) (lead : Lead) (bits : List Bool) → IsLegalLink link →
         IsFrame (kind_of link lead) bits (wave_of link lead bits) }
+    ensures each { (link : LinkValue) (lead : Lead) (bits : List Bool) → IsLegalLink link →
+        All (λ interval. interval ≤ longest_interval) (wave_of link lead bits) }
 {}
 
 /// A decoder that takes one interval at a time still stands exactly where the intervals that it was given

@@ -1,0 +1,10 @@
+-- Profile: a tag's receiver, which is given the intervals of a frame one by one and reads a command from them bit by bit.
+use Rattle.std.specs.Prelude.{ℕ, Bool, List}
+use Rattle.command_grammar.specs.Framing.{FramerValue, FramerStandsFor}
+use Rattle.pie_line.specs.Edges.{EdgesValue, EdgesStandFor}
+
+-- the receiver was given these intervals, and its framer the bits that were read from them
+pub record HasTaken (edges : EdgesValue) (framer : FramerValue) (intervals : List ℕ) : Type 0 where
+  pub bits : List Bool
+  pub read : EdgesStandFor edges bits intervals
+  pub framed : FramerStandsFor framer bits
