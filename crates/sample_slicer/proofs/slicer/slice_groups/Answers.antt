@@ -1,12 +1,7 @@
-use Rattle.std.proofs.Common.{◌+◌, ◌≤◌, ◌<◌, length, arith, refl}
-use Rattle.sample_slicer.proofs.SlicedSoFar.{sliced_none, sliced_more, pure_before, mixed_here}
-use Rattle.sample_slicer.proofs.slicer.slice_levels.Goals as goal
-
-pub loop-place-init : goal.loop-place-init
-loop-place-init c = rw c.clear.ensures (record { so_far = sliced_none _ _ _; capacity = refl })
-
-pub overflow_sub-samples : goal.overflow_sub-samples
-overflow_sub-samples c = c.loop-place.invariant.so_far.within
+-- Each group that is left is taken as a whole.
+use Rattle.std.proofs.Common.{◌+◌, ◌≤◌, ◌<◌, length, arith}
+use Rattle.sample_slicer.proofs.SlicedSoFar.{sliced_more, pure_before, mixed_here}
+use Rattle.sample_slicer.proofs.slicer.slice_groups.Goals as goal
 
 pub returns-in_default-clause-refused : goal.returns-in_default-clause-refused
 returns-in_default-clause-refused c =
@@ -16,7 +11,7 @@ returns-in_default-clause-refused c =
 pub loop-place-preserved : goal.loop-place-preserved
 loop-place-preserved c =
     let so_far = c.loop-place.invariant.so_far in
-    let room : c.loop-place.place + c.args.per_level ≤ length c.args.samples.now = omega (arith, so_far.within) in
+    let room : c.loop-place.place + c.args.per ≤ length c.args.samples.now = omega (arith, so_far.within) in
     let free : length c.loop-place.out.items < c.loop-place.out.capacity = omega (arith, so_far.few, c.loop-place.invariant.capacity) in
     rw (c.push.ensures.room free) (record {
       so_far = sliced_more _ _ _ _ _ _ c.requires.least so_far room c.in-Some.ensures.pure;
@@ -33,8 +28,3 @@ returns-then-place-samples-clause-refused c =
       short = omega (arith, so_far.within);
       before = pure_before _ _ _ _ _ so_far;
     }
-
-pub returns-clause-ok : goal.returns-clause-ok
-returns-clause-ok c =
-    let so_far = c.loop-place.invariant.so_far in
-    record { whole = omega (arith, so_far.within, so_far.stands); each = so_far.each }
