@@ -1,9 +1,7 @@
 -- What it means that a reader reads one field, and that two fields may stand one behind the other.
 use Rattle.std.proofs.Common.{◌≡◌, ℕ, ◌+◌, Bool, true, false, List, [], ◌∷◌, ◌++◌, length, Result, Ok, Err, refl, sym, ap, subst, ◌∙◌, append_assoc, append-nil, length-append, arith, cond}
 use Rattle.command_grammar.specs.declared.refusal.Reason.{Reason}
-use Rattle.command_grammar.specs.declared.reader.Stop.{Stop}
-use Rattle.command_grammar.specs.declared.reader.Stop.TheVariants.{Short, Bad}
-use Rattle.command_grammar.specs.Reading.{Reading, ◌>>=◌}
+use Rattle.command_grammar.specs.Reading.{Stop, Short, Bad, Reading, ◌>>=◌}
 use Rattle.std.specs.Prelude.{Option, Some, None}
 
 -- ---- a step after another
