@@ -2,16 +2,18 @@
 //! standard, version 1.2.0).
 #![tactic(auto)]
 
-mod bodies;
 mod choices;
 mod command_lists;
 mod commands;
 mod field_values;
+mod fields;
 mod framer;
 mod laws;
-mod reader;
 mod refusal;
+mod running_crc5;
 mod spelling;
+mod stage;
+mod state;
 
 pub use bit_strings::{Action, Code, Count1, Payload, Pointer, QValue, Session};
 pub use command_lists::{BlockWords, Mask};

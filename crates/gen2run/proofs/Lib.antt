@@ -1,14 +1,7 @@
-pub mod CheckedLines
-pub mod AnsweredLines
-pub mod OneReading
+pub mod LineLists
 pub mod Ends
 pub mod Headlined
 pub mod RunEnds
-pub mod RightAnswers
-pub mod OneRequest
-pub mod OneAnswer
-pub mod OneText
-pub mod SomeAnswer
 pub mod NamedLines
 pub mod Waits
 pub mod ToldForms

@@ -14,11 +14,10 @@ use Rattle.gen2run.specs.declared.forms.Form.TheVariants.{Names}
 use Rattle.gen2run.specs.declared.ending.Wrote.{Wrote}
 use Rattle.gen2run.specs.declared.ending.WriteEnd.{WriteEnd}
 use Rattle.gen2run.specs.declared.ending.WriteEnd.TheVariants.{Fault}
-use Rattle.gen2run.specs.DecodeLines.{fault_line}
+use Rattle.decode_lines.specs.DecodeLines.{fault_line}
 use Rattle.gen2run.specs.Named.{IsOfLines, AddsNames, IsCutAt, RefusesCutLine}
-use Rattle.gen2run.specs.declared.decode.request.FaultReason.TheVariants.{End}
-use Rattle.gen2run.proofs.CheckedLines.{some_line, zip_push}
-use Rattle.gen2run.proofs.AnsweredLines.{flat_map_push}
+use Rattle.decode_lines.specs.declared.fault.FaultReason.TheVariants.{End}
+use Rattle.gen2run.proofs.LineLists.{flat_map_push, some_line, zip_push}
 use Rattle.gen2run.proofs.Waits.{sends_whole, loses_later, loses_last}
 
 -- two ways to cut a last line off agree

@@ -3,7 +3,7 @@ use Rattle.std.specs.Prelude.{ℕ, List, ◌⊎◌}
 use Rattle.scenario.specs.Limits.{IsText}
 use Rattle.gen2run.specs.declared.forms.Form.{Form}
 use Rattle.gen2run.specs.declared.forms.Form.TheVariants.{Decode, Run, Names, Gen}
-use Rattle.gen2run.specs.DecodeLines.{Decodes, IsFaultText, IsGrammatical}
+use Rattle.decode_lines.specs.DecodeLines.{Decodes, IsFaultText, IsGrammatical}
 use Rattle.gen2run.specs.Generated.{IsSummaryOfMade, CountsEveryTag}
 use Rattle.gen2run.specs.Reported.{Reports, RefusesScenario, SaysHeadline, SaysInventory}
 use Rattle.gen2run.specs.Named.{IsOfLines, AddsNames, RefusesCutLine}

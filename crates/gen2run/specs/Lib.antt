@@ -1,7 +1,4 @@
 pub mod Form
-pub mod Request
-pub mod Answer
-pub mod DecodeLines
 pub mod Reported
 pub mod Named
 pub mod Generated

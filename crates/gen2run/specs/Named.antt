@@ -2,8 +2,8 @@
 use Rattle.std.specs.Prelude.{◌≡◌, ◌≢◌, ℕ, ◌+◌, List, [], ◌∷◌, ◌++◌, length}
 use Rattle.text_fields.specs.Lines.{lines_of}
 use Rattle.sgtin_text.specs.Names.{AreWithNames}
-use Rattle.gen2run.specs.DecodeLines.{fault_line}
-use Rattle.gen2run.specs.declared.decode.request.FaultReason.TheVariants.{End}
+use Rattle.decode_lines.specs.DecodeLines.{fault_line}
+use Rattle.decode_lines.specs.declared.fault.FaultReason.TheVariants.{End}
 
 -- the bytes are these lines, and nothing stands behind the last line feed
 abbrev pub AreLines : List ℕ → List (List ℕ) → Type 0

@@ -5,8 +5,8 @@ ghost use Rattle.gen2run.specs.declared.forms.Form.{Form};
 ghost use Rattle.gen2run.specs.Form.{AskFor};
 ghost use Rattle.gen2run.specs.Defined.{IsGrammaticalOf, WritesOf, RefusesOf, DefinesOf};
 
-use crate::decode::laws::decode_lines_have_one_text;
 use crate::forms::Form;
+use decode_lines::{decode_lines_are_not_faulty, decode_lines_have_one_text};
 use scenario::{
     scenario_texts_are_not_faulty, scenarios_are_told_apart, texts_are_scenarios_or_faulty,
     texts_have_one_fault,
@@ -22,6 +22,7 @@ pub fn forms_are_told_apart()
 pub fn grammatical_inputs_are_not_refused()
     ensures { (form : Form) (bytes text : List ℕ) → IsGrammaticalOf form bytes → RefusesOf form bytes text → ⊥ }
 {
+    decode_lines_are_not_faulty();
     scenario_texts_are_not_faulty();
 }
 

@@ -6,7 +6,7 @@ ghost use Rattle.gen2run.specs.Form.{texts, has_input, AskFor, HasForm, IsForm};
 ghost use Rattle.gen2run.specs.Defined.{IsGrammaticalOf, WritesOf, RefusesOf, DefinesOf, HeadlineOf, InventoryOf};
 ghost use Rattle.gen2run.specs.Outcome.{input_limit, status_of, WritesWhole, WritesFront, ReadsWithin, ReadsTooMuch, EndsSo, SpeaksOfNoInput, Tells};
 
-use crate::decode::lines::decode_input;
+use crate::decode::decode_input;
 use crate::ending::{WriteEnd, Wrote};
 use crate::forms::{Form, form_of};
 use crate::generated::write_summary;

@@ -31,6 +31,10 @@ spelling_is_number most number field small within spells =
     let back : number_of field ≡ number = ap number_of spells ∙ number_back most number small within in
     record { spelling = spells ∙ ap decimal (sym back); within = omega arith }
 
+-- and the number is the field's
+pub spelling_number : (most number : ℕ) (field : List ℕ) → most < 2 ^ 32 → number ≤ most → field ≡ decimal number → number ≡ number_of field
+spelling_number most number field small within spells = sym (ap number_of spells ∙ number_back most number small within)
+
 -- a field of which a number is read spells a number
 pub read_is_number : (most : ℕ) (field : List ℕ) (answer : Option ℕ) → most < 2 ^ 32
     → IfSome answer (λ number. (field ≡ decimal number) × (number ≤ most)) → IsSome answer → IsNumber most field
@@ -91,18 +95,20 @@ pub spelled_numbers : (most : ℕ) (fields : List (List ℕ)) (numbers : List �
 spelled_numbers most fields numbers small within spells = rw spells (digits_are_numbers most numbers small within)
 
 -- fields spell the numbers of the fields
-pub numbers_spelled : (most_items most : ℕ) (fields : List (List ℕ)) → HasShape most_items fields → All (IsNumber most) fields
+pub fields_spell : (most_items most : ℕ) (fields : List (List ℕ)) → 1 ≤ length fields → length fields ≤ most_items → All (IsNumber most) fields
     → SpellsNumbers most_items most fields (map number_of fields)
-numbers_spelled most_items most fields shape are =
+fields_spell most_items most fields some room are =
     let count : length (map number_of fields) ≡ length fields = rw length-map refl in
-    let some = shape.some in
-    let room = shape.room in
     record {
       spelling = digits_of_values most fields are;
       some = omega arith;
       room = omega arith;
       within = values_within most fields are;
     }
+
+pub numbers_spelled : (most_items most : ℕ) (fields : List (List ℕ)) → HasShape most_items fields → All (IsNumber most) fields
+    → SpellsNumbers most_items most fields (map number_of fields)
+numbers_spelled most_items most fields shape are = fields_spell most_items most fields shape.some shape.room are
 
 -- fields spell no other numbers
 pub one_spelling : (most_items most : ℕ) (fields : List (List ℕ)) (numbers : List ℕ) → most < 2 ^ 32

@@ -8,4 +8,4 @@ mod numbers;
 mod tests;
 
 pub use frames::{push_frame, push_pie_refusal};
-pub use numbers::{NotNumbers, Numbers};
+pub use numbers::{NotNumbers, Numbers, read_numbers};

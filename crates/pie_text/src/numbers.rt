@@ -1,5 +1,5 @@
 //! A list of numbers that the fields of a line spell.
-ghost use Rattle.std.specs.Prelude.{◌≡◌, ◌≢◌, ◌≤◌, ◌↔◌, ℕ, List, [], length, All, IfOk, IfErr, IsOkAnd, IsTrue};
+ghost use Rattle.std.specs.Prelude.{◌≡◌, ◌≢◌, ◌≤◌, ◌↔◌, ℕ, List, [], length, map, All, IfOk, IfErr, OnOk, IsOk, IsOkAnd, IsTrue};
 ghost use Rattle.text_fields.specs.Lines.{fields_of};
 ghost use Rattle.pie_text.specs.Numbers.{HasShape, RefusesNumbers, SpellsNumbers};
 ghost use Rattle.pie_text.specs.Spelling.{IsNumber, number_of};
@@ -77,6 +77,61 @@ fn are_numbers(line: &[u8], most: u32) -> bool
     ensures { IsTrue result ↔ All (IsNumber most) (fields_of line.now) }
 {
     Fields::new(line).all(|field| is_number(field, most))
+}
+
+/// Adds the numbers that the fields of a line spell to an empty list, up to the first field that spells
+/// no number up to `most` or for which the list has `most_items` numbers already. Whether there is none
+/// such.
+fn push_numbers(line: &[u8], most_items: u32, most: u32, out: &mut Intervals) -> bool
+    requires empty { out.old.items ≡ [] }
+    requires room { most_items ≤ out.old.capacity }
+    ensures all { IsTrue result ↔ ((length (fields_of line.now) ≤ most_items) × All (IsNumber most) (fields_of line.now)) }
+    ensures values { IsTrue result → out.new.items ≡ map number_of (fields_of line.now) }
+    ensures capacity { out.new.capacity ≡ out.old.capacity }
+{
+    for field in Fields::new(line) {
+        if out.len() == most_items {
+            return false;
+        }
+        let Some(number) = number(field, most) else {
+            return false;
+        };
+        // There is room for each number.
+        let _ = out.push(number);
+    }
+    true
+}
+
+/// Reads the numbers that all the fields that are left spell, from 1 to `most_items` numbers, none of them
+/// greater than `most`, in place of what the list holds. After a refusal it holds some of them.
+///
+/// `Shape` comes exactly where the number of fields isn't from 1 to `most_items` or a field is empty, and
+/// `Number` exactly where they have this shape and a field is no number up to `most`.
+pub fn read_numbers(
+    fields: Fields,
+    most_items: u32,
+    most: u32,
+    out: &mut Intervals,
+) -> Result<(), NotNumbers>
+    requires { most_items ≤ out.old.capacity }
+    ensures ok { OnOk result (SpellsNumbers most_items most fields.entry out.new.items) }
+    ensures refused { IfErr result (λ reason. RefusesNumbers reason most_items most fields.entry) }
+    ensures only { (numbers : List ℕ) → SpellsNumbers most_items most fields.entry numbers → IsOk result × (out.new.items ≡ numbers) }
+    ensures capacity { out.new.capacity ≡ out.old.capacity }
+{
+    out.clear();
+    let Some(line) = fields.into_rest() else {
+        return Err(NotNumbers::Shape);
+    };
+    if push_numbers(line, most_items, most, out) {
+        return Ok(());
+    }
+    // They are none: for which reason is looked at only then.
+    if has_shape(line, most_items) {
+        Err(NotNumbers::Number)
+    } else {
+        Err(NotNumbers::Shape)
+    }
 }
 
 /// The number that a field spells.

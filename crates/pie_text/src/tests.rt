@@ -1,4 +1,4 @@
-use crate::{NotNumbers, Numbers, push_frame, push_pie_refusal};
+use crate::{NotNumbers, Numbers, push_frame, push_pie_refusal, read_numbers};
 use bit_strings::Bits;
 use pie_line::{FrameKind, Intervals, PieRefusal};
 use std::test::Fail;
@@ -30,6 +30,9 @@ fn numbers_are_read(rt: HostRuntime) -> Result<(), Fail> {
             Err(reason) => Err(reason),
         };
         assert_eq!(rt; read, wanted);
+        assert!(rt; intervals.capacity() == 3);
+        let at_once = read_numbers(Fields::new(line), 3, 999_999, &mut intervals);
+        assert_eq!(rt; at_once.map(|()| intervals.as_slice()), wanted);
     }
     let mut none = Fields::new(b"1");
     assert!(rt; none.next().is_some());

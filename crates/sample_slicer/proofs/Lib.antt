@@ -1,2 +1,4 @@
+pub mod Masks
+pub mod PureGroups
 pub mod SlicedSoFar
 pub mod SomeAnswer

@@ -1,15 +1,9 @@
--- What the slicer has done when it stands at a place: one level for each group before it.
+-- How the slicer goes on from the place where it stands.
 use Rattle.std.proofs.Common.{◌≡◌, ◌⊎◌, ℕ, zero, suc, ◌+◌, ◌-◌, ◌*◌, ◌<◌, ◌≤◌, Bool, List, [], ◌∷◌, ◌++◌, length, take, drop, Some, refl, sym, ◌∙◌, ap, subst, arith, inl, inr, ⊎_elim, length-append, zero-mul}
 use Rattle.std.proofs.Math.Nat.{suc-mul}
 use Rattle.std.specs.List.{slice_get, slice_range}
 use Rattle.sample_slicer.specs.Samples.{group_of, IsPure, ArePureBefore, IsMixedAt}
-
--- the levels are those of the groups before the place
-pub record SlicedTo (threshold per : ℕ) (samples : List ℕ) (levels : List Bool) (place : ℕ) : Type 0 where
-  pub stands : place ≡ length levels * per
-  pub within : place ≤ length samples
-  pub few : length levels ≤ place
-  pub each : (group : ℕ) (level : Bool) → slice_get levels group ≡ Some level → IsPure threshold level (group_of samples per group)
+use Rattle.sample_slicer.specs.SlicedTo.{SlicedTo}
 
 pub sliced_none : (threshold per : ℕ) (samples : List ℕ) → SlicedTo threshold per samples [] 0
 sliced_none threshold per samples = record { stands = sym (zero-mul per); within = omega arith; few = omega arith; each = λ group level e. cc }

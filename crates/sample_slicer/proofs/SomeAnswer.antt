@@ -5,7 +5,9 @@ use Rattle.std.specs.List.{slice_range}
 use Rattle.sample_slicer.specs.Samples.{IsOnSide, IsPure, AreLevels, IsRestAt, IsSliceAnswer}
 use Rattle.sample_slicer.specs.declared.slicer.SliceRefusal.{SliceRefusal}
 use Rattle.sample_slicer.specs.declared.slicer.SliceRefusal.TheVariants.{Mixed, Rest}
-use Rattle.sample_slicer.proofs.SlicedSoFar.{SlicedTo, sliced_none, sliced_more, pure_before, mixed_here}
+use Rattle.sample_slicer.specs.SlicedTo.{SlicedTo}
+use Rattle.sample_slicer.proofs.PureGroups.{pure_none, pure_more, pure_first, pure_rest}
+use Rattle.sample_slicer.proofs.SlicedSoFar.{sliced_none, sliced_more, pure_before, mixed_here}
 
 -- a fact holds, or it does not
 abbrev Decided : Type 0 → Type 0
@@ -14,19 +16,6 @@ Decided P = P ⊎ (¬ P)
 sided : (threshold : ℕ) (level : Bool) (sample : ℕ) → Decided (IsOnSide threshold level sample)
 sided threshold true sample = elim (cases_lt sample threshold) [ inl below ↦ inr (λ above. omega arith) | inr above ↦ inl above ]
 sided threshold false sample = elim (cases_lt sample threshold) [ inl below ↦ inl below | inr above ↦ inr (λ below. omega arith) ]
-
-pure_none : (threshold : ℕ) (level : Bool) → IsPure threshold level []
-pure_none threshold level place default below = absurd (omega (arith, below))
-
-pure_more : (threshold : ℕ) (level : Bool) (sample : ℕ) (group : List ℕ) → IsOnSide threshold level sample → IsPure threshold level group → IsPure threshold level (sample ∷ group)
-pure_more threshold level sample group side pure zero default below = side
-pure_more threshold level sample group side pure (suc place) default below = pure place default (omega (arith, below))
-
-pure_first : (threshold : ℕ) (level : Bool) (sample : ℕ) (group : List ℕ) → IsPure threshold level (sample ∷ group) → IsOnSide threshold level sample
-pure_first threshold level sample group pure = pure zero 0 (omega arith)
-
-pure_rest : (threshold : ℕ) (level : Bool) (sample : ℕ) (group : List ℕ) → IsPure threshold level (sample ∷ group) → IsPure threshold level group
-pure_rest threshold level sample group pure place default below = pure (suc place) default (omega (arith, below))
 
 pure_decided : (threshold : ℕ) (level : Bool) (group : List ℕ) → Decided (IsPure threshold level group)
 pure_decided threshold level [] = inl (pure_none threshold level)

@@ -1,3 +1,4 @@
 pub mod DecimalDigits
+pub mod EachByte
 pub mod HexText
 pub mod WordDigits

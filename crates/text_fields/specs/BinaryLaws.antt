@@ -1,9 +1,7 @@
 -- Bits and their digits.
-use Rattle.std.proofs.Common.{◌≡◌, ◌≢◌, ℕ, zero, suc, ◌+◌, ◌<◌, Bool, true, false, ◌&&◌, List, [], ◌∷◌, length, take, get_or, slice_index, map, refl, ap, arith, ◌∙◌, sym, lit<}
-use Rattle.std.specs.List.{AllPass, list_all}
+use Rattle.std.proofs.Common.{◌≡◌, ◌≢◌, ℕ, zero, suc, ◌<◌, Bool, true, false, List, [], ◌∷◌, get_or, slice_index, map, refl, ap, arith, ◌∙◌, sym, lit<}
+use Rattle.std.specs.List.{AllPass}
 use Rattle.std.specs.Str.{IsAscii}
-use Rattle.std.proofs.lemmas.List.{take_more}
-use Rattle.std.proofs.lemmas.List.Folds.{list_all-append}
 use Rattle.std.proofs.lemmas.Bool.Decides.{nat_tests}
 use Rattle.std.proofs.lemmas.List.Elements.{All-nil, All-cons, All-head, All-tail}
 use Rattle.text_fields.specs.Binary.{binary, binary_digit, bit_of_digit, bits_of_digits, hyphen, is_binary_digit, or_hyphen}
@@ -48,19 +46,6 @@ no_hyphen (true ∷ bits) e = let first = ap (λ (digits : List ℕ). get_or dig
 -- a field of digits spells their bits
 pub spells_bits : (field digits : List ℕ) → AllPass is_binary_digit digits → field ≡ or_hyphen digits → field ≡ binary (bits_of_digits digits)
 spells_bits field digits are e = e ∙ ap or_hyphen (sym (map-bits_of_digits digits are))
-
--- one byte more
-and_last : (front last : Bool) → (front && last) ≡ (front && (last && true))
-and_last false last = refl
-and_last true false = refl
-and_last true true = refl
-
-pub list_all-more : (digits : List ℕ) (i : ℕ) (front last : Bool) → i < length digits → front ≡ list_all is_binary_digit (take i digits)
-    → last ≡ is_binary_digit (get_or digits i 0) → (front && last) ≡ list_all is_binary_digit (take (i + 1) digits)
-list_all-more digits i front last within so_far at =
-    and_last front last
-    ∙ rw (so_far, at) (sym (list_all-append is_binary_digit (take i digits) (get_or digits i 0 ∷ [])))
-    ∙ ap (list_all is_binary_digit) (sym (take_more digits i 0 within))
 
 -- the digits of bits are ASCII
 digit_below : (bits : List Bool) (i : ℕ) → slice_index (map binary_digit bits) i < 128

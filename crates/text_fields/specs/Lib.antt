@@ -1,5 +1,4 @@
 pub mod Lines
-pub mod Decimal
 pub mod Binary
 pub mod Hexadecimal
 pub mod WordLists

@@ -25,11 +25,23 @@ impl<'a> Model for HexBytes<'a> {
     ghost invariant = { λ a. IsHexText a.digits.now };
 }
 
+/// Whether a byte is a hexadecimal digit of either case.
+fn is_hex_digit(byte: u8) -> bool
+    ensures { result ≡ is_hex_digit byte }
+{
+    matches!(byte, b'0'..=b'9' | b'A'..=b'F' | b'a'..=b'f')
+}
+
 /// Whether each byte is a hexadecimal digit of either case.
 fn is_hexadecimal(digits: &[u8]) -> bool
     ensures { IsTrue result ↔ AllPass is_hex_digit digits.now }
 {
-    digits.iter().all(|digit| matches!(*digit, b'0'..=b'9' | b'A'..=b'F' | b'a'..=b'f'))
+    // The loop goes on to the end, so that the compiler can look at many digits at once.
+    let mut hexadecimal = true;
+    for digit in digits {
+        hexadecimal &= is_hex_digit(*digit);
+    }
+    hexadecimal
 }
 
 impl<'a> HexBytes<'a> {
@@ -55,7 +67,17 @@ impl<'a> HexBytes<'a> {
         (self.digits.len() / 2) as u32
     }
 
-    /// The bytes.
+    /// Writes the bytes over `out`, which has room for exactly these.
+    #[tactic(auto, using(crate::proofs::HexText::text))]
+    pub fn decode_to(&self, out: &mut [u8])
+        requires { length out.old ≡ length self.now }
+        ensures { out.new ≡ self.now }
+    {
+        // The digits were checked, and they are twice as many as the bytes.
+        let _ = hex::decode_to_slice(self.digits, out);
+    }
+
+    /// The bytes, in memory of their own.
     #[tactic(auto, using(crate::proofs::HexText::text))]
     pub fn decode(&self, alloc: Global) -> Result<Vec<u8>, OutOfMemory>
         ensures { IfOk result (λ bytes. bytes.items ≡ self.now) }

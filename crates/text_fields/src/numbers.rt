@@ -2,7 +2,6 @@
 ghost use Rattle.std.specs.Prelude.{◌≡◌, ◌≢◌, ◌≤◌, ◌<◌, ◌^◌, ℕ, ◌++◌, length, slice_index, IsTrue, IfSome, OnOk};
 ghost use Rattle.std.specs.String.{string_bytes};
 ghost use Rattle.std.specs.Fmt.{decimal};
-ghost use Rattle.text_fields.specs.Decimal.{ParsesTo};
 
 use bit_strings::OutOfMemory;
 use std::fmt::Write;
@@ -10,22 +9,11 @@ use std::fmt::Write;
 /// Whether a field begins as a number does: with a digit that is not a leading zero.
 #[tactic(auto, using(crate::proofs::DecimalDigits::decimal_starts))]
 fn begins_as_number(field: &[u8]) -> bool
-    ensures sign { IsTrue result → slice_index field.now 0 ≢ 43 }
+    ensures filled { IsTrue result → 0 < length field.now }
     ensures zero { IsTrue result → slice_index field.now 0 ≡ 48 → length field.now ≡ 1 }
     ensures only { (n : ℕ) → n < 2 ^ 32 → field.now ≡ decimal n → IsTrue result }
 {
     matches!(field, [b'0'] | [b'1'..=b'9', ..])
-}
-
-/// What std reads from a field. It takes a leading plus and leading zeros.
-fn parsed(field: &[u8]) -> Option<u32>
-    ensures value { IfSome result (ParsesTo field.now) }
-    ensures only { (n : ℕ) → n < 2 ^ 32 → field.now ≡ decimal n → result ≡ Some n }
-{
-    let Ok(text) = str::from_utf8(field) else {
-        return None;
-    };
-    text.parse().ok()
 }
 
 /// The number that a field spells in decimal digits, without a sign and without leading zeros; none
@@ -37,8 +25,17 @@ pub fn number(field: &[u8], most: u32) -> Option<u32>
     if !begins_as_number(field) {
         return None;
     }
-    let number = parsed(field)?;
-    if number <= most { Some(number) } else { None }
+    let mut number = 0;
+    for digit in field {
+        if !digit.is_ascii_digit() {
+            return None;
+        }
+        number = 10 * number + (*digit - b'0') as u64;
+        if number > most as u64 {
+            return None;
+        }
+    }
+    Some(number as u32)
 }
 
 /// Writes a number in decimal digits, without leading zeros, at the end of the text. After an error

@@ -1,12 +1,12 @@
 -- The lines with their names where nothing stands behind the last line feed, else the fault line.
-use Rattle.std.proofs.Common.{◌≡◌, ℕ, ◌+◌, ◌≤◌, List, [], ◌∷◌, ◌++◌, length, refl, sym, ◌∙◌, ap, arith, inl, inr}
+use Rattle.std.proofs.Common.{◌≡◌, ℕ, ◌+◌, ◌≤◌, List, [], ◌∷◌, ◌++◌, length, refl, ap, arith, inl, inr}
 use Rattle.text_fields.specs.Lines.{lines_of}
-use Rattle.gen2run.specs.DecodeLines.{fault_line}
+use Rattle.decode_lines.specs.DecodeLines.{fault_line}
 use Rattle.gen2run.specs.Defined.{DefinesOf}
 use Rattle.gen2run.specs.Named.{IsCutAt}
 use Rattle.gen2run.specs.declared.forms.Form.TheVariants.{Names}
-use Rattle.gen2run.specs.declared.decode.request.FaultReason.TheVariants.{End}
-use Rattle.gen2run.proofs.CheckedLines.{some_line}
+use Rattle.decode_lines.specs.declared.fault.FaultReason.TheVariants.{End}
+use Rattle.gen2run.proofs.LineLists.{some_line}
 use Rattle.gen2run.proofs.NamedLines.{BecomeSome, some_names}
 use Rattle.gen2run.proofs.laws.names_inputs_have_a_text.Goals as goal
 

@@ -1,0 +1,9 @@
+pub mod CheckedLines
+pub mod AnsweredLines
+pub mod OneReading
+pub mod RightAnswers
+pub mod OneRequest
+pub mod OneAnswer
+pub mod OneText
+pub mod SomeAnswer
+pub mod SomeText

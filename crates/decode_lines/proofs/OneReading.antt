@@ -1,0 +1,171 @@
+-- A line that asks for something is not faulty, and a grammatical input has no faulty line.
+use Rattle.std.proofs.Common.{◌≡◌, ◌≢◌, ℕ, List, [], ◌∷◌, ◌++◌, length, map, Option, Some, None, refl, sym, ◌∙◌, ap, arith, subst, ◌≤◌, Ok, if◌then◌else◌}
+use Rattle.std.specs.Prelude.{codes}
+use Rattle.std.specs.Str.{bytes_eq}
+use Rattle.std.proofs.lemmas.List.Elements.{All-nil, All-cons, All-head, All-tail}
+use Rattle.std.proofs.lemmas.List.{length-map}
+use Rattle.reply_text.specs.ReplyText.{expect_word}
+use Rattle.reply_text.specs.FieldTextLaws.{expect_word_is_field_text}
+use Rattle.std.specs.List.{AllZip, All}
+use Rattle.text_fields.specs.Lines.{fields_of}
+use Rattle.text_fields.specs.Binary.{binary, binary_digit}
+use Rattle.text_fields.specs.CodeNames.{code_word}
+use Rattle.bit_strings.specs.declared.code.Code.{Code}
+use Rattle.bit_strings.specs.declared.code.Code.TheVariants.{Fm0, M2, M4, M8}
+use Rattle.hex.specs.Hex.{decode_of}
+use Rattle.hex.proofs.OnLiterals.{hex_on_literals}
+use Rattle.std.specs.Fmt.{decimal}
+use Rattle.text_fields.specs.FieldTextLaws.{IsFieldText-decimal, IsFieldText-binary, IsFieldText-hex_words}
+use Rattle.text_fields.specs.Hexadecimal.{hex_words}
+use Rattle.decode_lines.specs.Request.{request_word, HasShape, request_kind, AreSpelled, IsWithinLimits, AsksBehind, AsksForRequest, AreFaulty, IsFaultyRequest}
+use Rattle.decode_lines.specs.DecodeLines.{IsGrammatical, IsFaultyBefore, IsFirstFault}
+use Rattle.decode_lines.specs.declared.request.RequestKind.{RequestKind}
+use Rattle.decode_lines.specs.declared.request.RequestKind.TheVariants.{Stream as StreamKind, Samples as SamplesKind, Reply as ReplyKind, Heard as HeardKind, Pie as PieKind, Command as CommandKind, Sgtin as SgtinKind, Uri as UriKind}
+use Rattle.decode_lines.specs.declared.request.Request.{Request}
+use Rattle.decode_lines.specs.declared.request.Request.TheVariants.{Stream, Samples, Reply, Heard, Pie, Command, Sgtin, Uri}
+use Rattle.decode_lines.specs.declared.fault.FaultReason.{FaultReason}
+use Rattle.decode_lines.specs.declared.fault.FaultReason.TheVariants.{End, Word, Shape, Number}
+use Rattle.decode_lines.specs.declared.fault.DecodeFault.{DecodeFault}
+use Rattle.pie_line.specs.Pie.{longest_interval}
+
+-- the kind that a first field says
+kind_read : List ℕ → Option RequestKind
+kind_read word =
+    (if bytes_eq word (codes "fm0") then Some (StreamKind Fm0)
+    else (if bytes_eq word (codes "m2") then Some (StreamKind M2)
+    else (if bytes_eq word (codes "m4") then Some (StreamKind M4)
+    else (if bytes_eq word (codes "m8") then Some (StreamKind M8)
+    else (if bytes_eq word (codes "samples") then Some SamplesKind
+    else (if bytes_eq word (codes "reply") then Some ReplyKind
+    else (if bytes_eq word (codes "heard") then Some HeardKind
+    else (if bytes_eq word (codes "pie") then Some PieKind
+    else (if bytes_eq word (codes "command") then Some CommandKind
+    else (if bytes_eq word (codes "sgtin") then Some SgtinKind
+    else (if bytes_eq word (codes "uri") then Some UriKind else None)))))))))))
+
+kind_read_word : (kind : RequestKind) → kind_read (request_word kind) ≡ Some kind
+unfolding kind_read
+kind_read_word (StreamKind Fm0) = refl
+kind_read_word (StreamKind M2) = refl
+kind_read_word (StreamKind M4) = refl
+kind_read_word (StreamKind M8) = refl
+kind_read_word SamplesKind = refl
+kind_read_word ReplyKind = refl
+kind_read_word HeardKind = refl
+kind_read_word PieKind = refl
+kind_read_word CommandKind = refl
+kind_read_word SgtinKind = refl
+kind_read_word UriKind = refl
+
+-- a first field says one kind
+pub kind_word-injective : (a b : RequestKind) → request_word a ≡ request_word b → a ≡ b
+kind_word-injective a b same = let e : Some a ≡ Some b = sym (kind_read_word a) ∙ ap kind_read same ∙ kind_read_word b in cc
+
+abbrev Filled : List ℕ → Type 0
+Filled field = field ≢ []
+
+two_filled : (a b : List ℕ) → Filled a → Filled b → All Filled (a ∷ b ∷ [])
+two_filled a b p q = All-cons Filled a (b ∷ []) p (All-cons Filled b [] q (All-nil Filled))
+
+three_filled : (a b c : List ℕ) → Filled a → Filled b → Filled c → All Filled (a ∷ b ∷ c ∷ [])
+three_filled a b c p q r = All-cons Filled a (b ∷ c ∷ []) p (two_filled b c q r)
+
+code_filled : (code : Code) → Filled (code_word code)
+code_filled Fm0 e = cc
+code_filled M2 e = cc
+code_filled M4 e = cc
+code_filled M8 e = cc
+
+numbers_filled : (numbers : List ℕ) → All (λ number. number ≤ longest_interval) numbers → All Filled (map decimal numbers)
+numbers_filled [] within = All-nil Filled
+numbers_filled (n ∷ numbers) within =
+    let Small : ℕ → Type 0 = λ number. number ≤ longest_interval in
+    All-cons Filled (decimal n) (map decimal numbers) (IsFieldText-decimal n (omega (arith, All-head Small n numbers within))).filled
+    (numbers_filled numbers (All-tail Small n numbers within))
+
+-- no digits spell no bytes
+no_samples : (digits samples : List ℕ) → digits ≡ [] → decode_of digits ≡ Ok samples → 1 ≤ length samples → ⊥
+unfolding hex_on_literals
+no_samples digits [] none spelled some = omega arith
+no_samples digits (s ∷ samples) none spelled some =
+    let e : decode_of [] ≡ Ok (s ∷ samples) = subst (λ d. decode_of d ≡ Ok (s ∷ samples)) none spelled in cc
+
+-- the fields of a request have the shape that its kind wants
+request_shape : (request : Request) (others : List (List ℕ)) → AreSpelled request others → IsWithinLimits request → HasShape (request_kind request) others
+request_shape (Stream code trext levels) others spelling limits =
+    let digit : Filled (binary_digit trext ∷ []) = λ e. cc in
+    rw spelling (refl, two_filled (binary_digit trext ∷ []) (binary levels) digit (IsFieldText-binary levels).filled)
+request_shape (Samples threshold per_level samples) others spelling limits =
+    let digits : Filled spelling.0 = λ e. no_samples spelling.0 samples e spelling.2 limits.3 in
+    rw spelling.1 (
+      refl,
+      three_filled (decimal threshold) (decimal per_level) spelling.0
+          (IsFieldText-decimal threshold (omega (arith, limits.0))).filled (IsFieldText-decimal per_level (omega (arith, limits.2))).filled digits,
+    )
+request_shape (Reply expect bits) others spelling limits =
+    rw spelling (refl, two_filled (expect_word expect) (binary bits) (expect_word_is_field_text expect limits.0).filled (IsFieldText-binary bits).filled)
+request_shape (Heard code trext expect levels) others spelling limits =
+    let digit : Filled (binary_digit trext ∷ []) = λ e. cc in
+    rw spelling (
+      refl,
+      All-cons Filled (code_word code) ((binary_digit trext ∷ []) ∷ expect_word expect ∷ binary levels ∷ []) (code_filled code)
+          (three_filled (binary_digit trext ∷ []) (expect_word expect) (binary levels) digit (expect_word_is_field_text expect limits.0).filled (IsFieldText-binary levels).filled),
+    )
+request_shape (Pie intervals) others spelling limits =
+    let some : 1 ≤ length (map decimal intervals) = rw length-map limits.0 in
+    let room : length (map decimal intervals) ≤ 20000 = rw length-map limits.1 in
+    rw spelling ((some, room), numbers_filled intervals limits.2)
+request_shape (Command bits) others spelling limits =
+    rw spelling (refl, All-cons Filled (binary bits) [] (IsFieldText-binary bits).filled (All-nil Filled))
+request_shape (Sgtin words) others spelling limits =
+    rw spelling (refl, All-cons Filled (hex_words words) [] (IsFieldText-hex_words words).filled (All-nil Filled))
+request_shape (Uri text) others spelling limits = rw spelling (refl, All-cons Filled text [] limits (All-nil Filled))
+
+-- fields that ask for something are not faulty
+asked_not_faulty : (request : Request) (kind : RequestKind) (others : List (List ℕ)) (reason : FaultReason) → AsksBehind kind others request → AreFaulty kind others reason → ⊥
+asked_not_faulty request kind others End asks faulty = faulty
+asked_not_faulty request kind others Word asks faulty = faulty
+asked_not_faulty request kind others Number asks faulty = faulty.1 request asks
+asked_not_faulty request kind others Shape asks faulty =
+    faulty (subst (λ k. HasShape k others) (sym asks.same_kind) (request_shape request others asks.spelling asks.limits))
+
+-- two lists of fields that are equal have equal first fields and equal others
+pub same_fields : (a b : List ℕ) (xs ys : List (List ℕ)) → a ∷ xs ≡ b ∷ ys → (a ≡ b) × (xs ≡ ys)
+same_fields a b xs ys e = (cc, cc)
+
+-- a line that asks for something is not faulty behind another reading of its first field
+behind_not_faulty : (line : List ℕ) (request : Request) (reason : FaultReason) (kind : RequestKind) (others : List (List ℕ)) → AsksForRequest line request → fields_of line ≡ request_word kind ∷ others → AreFaulty kind others reason → ⊥
+behind_not_faulty line request reason kind others spells fields faulty =
+    let parts = same_fields _ _ _ _ (sym spells.fields ∙ fields) in
+    let same_kind = kind_word-injective spells.kind kind parts.0 in
+    asked_not_faulty request kind others reason
+    (subst (λ k. AsksBehind k others request) same_kind (subst (λ o. AsksBehind spells.kind o request) parts.1 spells.asks)) faulty
+
+-- a line that asks for something is not faulty
+pub spelled_not_faulty : (line : List ℕ) (request : Request) (reason : FaultReason) → AsksForRequest line request → IsFaultyRequest (fields_of line) reason → ⊥
+spelled_not_faulty line request Word spells faulty = faulty spells.kind spells.others spells.fields
+spelled_not_faulty line request End spells faulty = faulty.3
+spelled_not_faulty line request Shape spells faulty = behind_not_faulty line request Shape faulty.0 faulty.1 spells faulty.2 faulty.3
+spelled_not_faulty line request Number spells faulty = behind_not_faulty line request Number faulty.0 faulty.1 spells faulty.2 faulty.3
+
+-- a line that asks for something stands in no faulty place
+clash : (lines : List (List ℕ)) (asked : List Request) (before : List (List ℕ)) (line : List ℕ) (behind : List (List ℕ)) (reason : FaultReason) → AllZip AsksForRequest lines asked → lines ++ [] ∷ [] ≡ before ++ line ∷ behind → IsFaultyBefore behind line reason → ⊥
+clash [] [] [] line [] reason each cut faulty = let e : line ≡ [] = cc in faulty.0 e
+clash [] [] [] line (next ∷ more) reason each cut faulty = cc
+clash [] [] (b ∷ []) line behind reason each cut faulty = cc
+clash [] [] (b ∷ c ∷ before) line behind reason each cut faulty = cc
+clash [] (r ∷ asked) before line behind reason each cut faulty = each
+clash (l ∷ lines) [] before line behind reason each cut faulty = each
+clash (l ∷ []) (r ∷ asked) [] line [] reason each cut faulty = cc
+clash (l ∷ m ∷ lines) (r ∷ asked) [] line [] reason each cut faulty = cc
+clash (l ∷ lines) (r ∷ asked) [] line (next ∷ more) reason each cut faulty =
+    let e : line ≡ l = cc in
+    spelled_not_faulty l r reason each.0 (subst (λ x. IsFaultyRequest (fields_of x) reason) e faulty)
+clash (l ∷ lines) (r ∷ asked) (b ∷ before) line behind reason each cut faulty =
+    let e : lines ++ [] ∷ [] ≡ before ++ line ∷ behind = cc in
+    clash lines asked before line behind reason each.1 e faulty
+
+-- a grammatical input has no faulty line
+pub grammatical_not_faulty : (bytes : List ℕ) (fault : DecodeFault) → IsGrammatical bytes → IsFirstFault bytes fault → ⊥
+grammatical_not_faulty bytes fault asks first =
+    clash asks.1.lines asks.0 first.before first.line first.behind fault.reason asks.1.each (sym asks.1.cut ∙ first.cut) first.faulty

@@ -1,0 +1,115 @@
+-- Profile: what is answered to a decode line.
+use Rattle.std.specs.Prelude.{◌≡◌, ℕ, Bool, List, [], ◌∷◌, ◌++◌, codes, Result, Ok, Err}
+use Rattle.std.specs.List.{AllZip, flat_map}
+use Rattle.line_code.specs.declared.refusal.LineRefusal.{LineRefusal}
+use Rattle.line_code.specs.declared.refusal.LineRefusal.TheVariants.{Invalid, Unfinished}
+use Rattle.line_code.specs.Stream.{IsStream, Streams}
+use Rattle.line_code.specs.Refusal.{RefusesStream}
+use Rattle.text_fields.specs.Lines.{line_feed}
+use Rattle.std.specs.Fmt.{decimal}
+use Rattle.text_fields.specs.Binary.{binary}
+use Rattle.line_codes.specs.Codes.{table_of}
+use Rattle.sample_slicer.specs.Samples.{AreLevels, RefusesSamples}
+use Rattle.sample_slicer.specs.declared.slicer.SliceRefusal.{SliceRefusal}
+use Rattle.sample_slicer.specs.declared.slicer.SliceRefusal.TheVariants.{Mixed, Rest}
+use Rattle.reply_grammar.specs.Table.{AnswersExpected}
+use Rattle.reply_grammar.specs.Refusals.{RefusesReply}
+use Rattle.reply_grammar.specs.declared.expected.Reply.{Reply}
+use Rattle.reply_grammar.specs.declared.expected.ReplyRefusal.{ReplyRefusal}
+use Rattle.reply_grammar.specs.declared.expected.Received.{Received}
+use Rattle.reply_grammar.specs.declared.expected.Received.TheVariants.{Whole, Refused}
+use Rattle.reply_text.specs.ReplyText.{reply_line, refusal_line}
+use Rattle.air_channel.specs.Received.{IsReceived}
+use Rattle.pie_line.specs.Pie.{IsFrame}
+use Rattle.pie_line.specs.Refusal.{RefusesFrame}
+use Rattle.pie_line.specs.declared.frame.FrameKind.{FrameKind}
+use Rattle.pie_line.specs.declared.frame.PieRefusal.{PieRefusal}
+use Rattle.pie_text.specs.PieText.{frame_line, pie_refusal_line}
+use Rattle.command_grammar.specs.Commands.{IsFinishAnswer}
+use Rattle.command_grammar.specs.declared.commands.Command.{Command}
+use Rattle.command_grammar.specs.declared.refusal.CommandRefusal.{CommandRefusal}
+use Rattle.command_text.specs.CommandText.{command_line, command_refusal_line}
+use Rattle.epc_sgtin.specs.SgtinValue.{SgtinValue}
+use Rattle.epc_sgtin.specs.Epc.{IsSgtin}
+use Rattle.epc_sgtin.specs.EpcFaults.{RefusesEpc}
+use Rattle.epc_sgtin.specs.Uri.{IsUriOf}
+use Rattle.epc_sgtin.specs.UriFaults.{RefusesUri}
+use Rattle.epc_sgtin.specs.declared.encoding.EpcFault.{EpcFault}
+use Rattle.epc_sgtin.specs.declared.tag_uri.UriFault.{UriFault}
+use Rattle.sgtin_text.specs.SgtinText.{name_line, sgtin_words_line, epc_fault_line, uri_fault_line}
+use Rattle.decode_lines.specs.declared.request.Request.{Request}
+use Rattle.decode_lines.specs.declared.request.Request.TheVariants.{Stream, Samples, Reply as ReplyLine, Heard as HeardLine, Pie as PieLine, Command as CommandLine, Sgtin as SgtinLine, Uri as UriLine}
+
+pub data Answer : Type 0 where
+  -- the levels are the stream of these bits, or are none
+  streamed : Result (List Bool) LineRefusal → Answer
+  -- the samples stand for these levels, or for none
+  sliced : Result (List Bool) SliceRefusal → Answer
+  -- the bits are this reply, or are none that is expected
+  replied : Result Reply ReplyRefusal → Answer
+  -- what is heard in the levels
+  heard : Received → Answer
+  -- the intervals are such a frame with these bits, or are none
+  framed : Result (FrameKind × List Bool) PieRefusal → Answer
+  -- the bits are this command, or are none
+  commanded : Result Command CommandRefusal → Answer
+  -- the words are those of this SGTIN, or of none
+  named : Result SgtinValue EpcFault → Answer
+  -- the text is the URI of the SGTIN that has these words, or of none
+  worded : Result (List ℕ) UriFault → Answer
+
+-- the answer is the one to the request
+abbrev pub IsLineAnswer : Request → Answer → Type 0
+IsLineAnswer (Stream code trext levels) (streamed (Ok bits)) = IsStream (table_of code) trext bits levels
+IsLineAnswer (Stream code trext levels) (streamed (Err refusal)) = RefusesStream (Streams (table_of code) trext) levels refusal
+IsLineAnswer (Samples threshold per_level samples) (sliced (Ok levels)) = AreLevels threshold per_level samples levels
+IsLineAnswer (Samples threshold per_level samples) (sliced (Err refusal)) = RefusesSamples threshold per_level samples refusal
+IsLineAnswer (ReplyLine expect bits) (replied (Ok reply)) = AnswersExpected reply expect bits
+IsLineAnswer (ReplyLine expect bits) (replied (Err refusal)) = RefusesReply refusal expect bits
+IsLineAnswer (HeardLine code trext expect levels) (heard received) = IsReceived (table_of code) trext expect levels received
+IsLineAnswer (PieLine intervals) (framed (Ok frame)) = IsFrame frame.0 frame.1 intervals
+IsLineAnswer (PieLine intervals) (framed (Err refusal)) = RefusesFrame refusal intervals
+IsLineAnswer (CommandLine bits) (commanded outcome) = IsFinishAnswer outcome bits
+IsLineAnswer (SgtinLine words) (named (Ok sgtin)) = IsSgtin sgtin words
+IsLineAnswer (SgtinLine words) (named (Err fault)) = RefusesEpc fault words
+IsLineAnswer (UriLine text) (worded (Ok words)) = (sgtin : SgtinValue) × IsUriOf sgtin text × IsSgtin sgtin words
+IsLineAnswer (UriLine text) (worded (Err fault)) = RefusesUri fault text
+IsLineAnswer request answer = ⊥
+
+-- an outcome with what its call left, where that was no refusal
+abbrev pub with_left : {A B E : Type 0} → (A → B) → Result A E → Result B E
+with_left left (Ok done) = Ok (left done)
+with_left left (Err refusal) = Err refusal
+
+-- an answer as a line, with its line feed
+abbrev pub answer_line : Answer → List ℕ
+answer_line (streamed (Ok bits)) = codes "bits " ++ binary bits ++ line_feed ∷ []
+answer_line (streamed (Err (Invalid place))) = codes "invalid " ++ decimal place ++ line_feed ∷ []
+answer_line (streamed (Err (Unfinished count))) = codes "unfinished " ++ decimal count ++ line_feed ∷ []
+answer_line (sliced (Ok levels)) = codes "levels " ++ binary levels ++ line_feed ∷ []
+answer_line (sliced (Err (Mixed place))) = codes "mixed " ++ decimal place ++ line_feed ∷ []
+answer_line (sliced (Err (Rest place))) = codes "rest " ++ decimal place ++ line_feed ∷ []
+answer_line (replied (Ok reply)) = reply_line reply ++ line_feed ∷ []
+answer_line (replied (Err refusal)) = refusal_line refusal ++ line_feed ∷ []
+answer_line (heard (Whole reply)) = reply_line reply ++ line_feed ∷ []
+answer_line (heard (Refused place)) = codes "refused " ++ decimal place ++ line_feed ∷ []
+answer_line (framed (Ok frame)) = frame_line frame.0 frame.1 ++ line_feed ∷ []
+answer_line (framed (Err refusal)) = pie_refusal_line refusal ++ line_feed ∷ []
+answer_line (commanded (Ok command)) = command_line command ++ line_feed ∷ []
+answer_line (commanded (Err refusal)) = command_refusal_line refusal ++ line_feed ∷ []
+answer_line (named (Ok sgtin)) = name_line sgtin ++ line_feed ∷ []
+answer_line (named (Err fault)) = epc_fault_line fault ++ line_feed ∷ []
+answer_line (worded (Ok words)) = sgtin_words_line words ++ line_feed ∷ []
+answer_line (worded (Err fault)) = uri_fault_line fault ++ line_feed ∷ []
+
+-- the text is the answers to the requests, each on a line of its own, in order
+pub record AreAnswers (requests : List Request) (text : List ℕ) : Type 0 where
+  pub answers : List Answer
+  pub each : AllZip IsLineAnswer requests answers
+  pub lines : text ≡ flat_map answer_line answers
+
+-- the text is the one before with the line of the request's answer at its end
+pub record AddsAnswer (request : Request) (old new : List ℕ) : Type 0 where
+  pub answer : Answer
+  pub right : IsLineAnswer request answer
+  pub line : new ≡ old ++ answer_line answer

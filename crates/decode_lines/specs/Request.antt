@@ -1,0 +1,122 @@
+-- Profile: the decode lines. A line is a list of fields; the first says what is asked for.
+use Rattle.std.specs.Prelude.{◌≡◌, ◌≢◌, ℕ, ◌^◌, ◌<◌, ◌≤◌, List, [], ◌∷◌, length, map, codes, Ok}
+use Rattle.std.specs.List.{All}
+use Rattle.std.specs.Fmt.{decimal}
+use Rattle.hex.specs.Hex.{decode_of}
+use Rattle.text_fields.specs.Lines.{fields_of}
+use Rattle.text_fields.specs.Binary.{binary, binary_digit}
+use Rattle.text_fields.specs.Hexadecimal.{hex_words}
+use Rattle.text_fields.specs.CodeNames.{code_word}
+use Rattle.reply_text.specs.ReplyText.{expect_word, IsExpect}
+use Rattle.decode_lines.specs.declared.request.RequestKind.{RequestKind}
+use Rattle.decode_lines.specs.declared.request.RequestKind.TheVariants.{Stream as StreamKind, Samples as SamplesKind, Reply as ReplyKind, Heard as HeardKind, Pie as PieKind, Command as CommandKind, Sgtin as SgtinKind, Uri as UriKind}
+use Rattle.decode_lines.specs.declared.request.Request.{Request}
+use Rattle.decode_lines.specs.declared.request.Request.TheVariants.{Stream, Samples, Reply, Heard, Pie, Command, Sgtin, Uri}
+use Rattle.decode_lines.specs.declared.fault.FaultReason.{FaultReason}
+use Rattle.decode_lines.specs.declared.fault.FaultReason.TheVariants.{End, Word, Shape, Number}
+use Rattle.pie_line.specs.Pie.{longest_interval}
+use Rattle.sample_slicer.specs.Samples.{most_samples}
+
+-- the most bits of a reply or a command
+abbrev pub most_bits : ℕ
+most_bits = 8240
+
+-- the most levels of a stream
+abbrev pub most_levels : ℕ
+most_levels = 132000
+
+-- the first field of a line
+abbrev pub request_word : RequestKind → List ℕ
+request_word (StreamKind code) = code_word code
+request_word SamplesKind = codes "samples"
+request_word ReplyKind = codes "reply"
+request_word HeardKind = codes "heard"
+request_word PieKind = codes "pie"
+request_word CommandKind = codes "command"
+request_word SgtinKind = codes "sgtin"
+request_word UriKind = codes "uri"
+
+-- the first field is no name of a line code
+abbrev pub NamesNoCode : RequestKind → Type 0
+NamesNoCode (StreamKind code) = ⊥
+NamesNoCode kind = Unit {0}
+
+-- how many fields may stand behind the first
+abbrev pub MayHave : RequestKind → ℕ → Type 0
+MayHave (StreamKind code) count = count ≡ 2
+MayHave SamplesKind count = count ≡ 3
+MayHave ReplyKind count = count ≡ 2
+MayHave HeardKind count = count ≡ 4
+MayHave PieKind count = (1 ≤ count) × (count ≤ 20000)
+MayHave CommandKind count = count ≡ 1
+MayHave SgtinKind count = count ≡ 1
+MayHave UriKind count = count ≡ 1
+
+-- the fields behind the first: their number is right, and none is empty
+abbrev pub HasShape : RequestKind → List (List ℕ) → Type 0
+HasShape kind others = MayHave kind (length others) × All (λ field. field ≢ []) others
+
+-- what the first field of a request's line says
+abbrev pub request_kind : Request → RequestKind
+request_kind (Stream code trext levels) = StreamKind code
+request_kind (Samples threshold per_level samples) = SamplesKind
+request_kind (Reply expect bits) = ReplyKind
+request_kind (Heard code trext expect levels) = HeardKind
+request_kind (Pie intervals) = PieKind
+request_kind (Command bits) = CommandKind
+request_kind (Sgtin words) = SgtinKind
+request_kind (Uri text) = UriKind
+
+-- The fields behind the first spell the request. Sample bytes are hexadecimal digits of either case; all else has one
+-- spelling.
+abbrev pub AreSpelled : Request → List (List ℕ) → Type 0
+AreSpelled (Stream code trext levels) others = others ≡ (binary_digit trext ∷ []) ∷ binary levels ∷ []
+AreSpelled (Samples threshold per_level samples) others =
+    (digits : List ℕ) × (others ≡ decimal threshold ∷ decimal per_level ∷ digits ∷ []) × (decode_of digits ≡ Ok samples)
+AreSpelled (Reply expect bits) others = others ≡ expect_word expect ∷ binary bits ∷ []
+AreSpelled (Heard code trext expect levels) others = others ≡ code_word code ∷ (binary_digit trext ∷ []) ∷ expect_word expect ∷ binary levels ∷ []
+AreSpelled (Pie intervals) others = others ≡ map decimal intervals
+AreSpelled (Command bits) others = others ≡ binary bits ∷ []
+AreSpelled (Sgtin words) others = others ≡ hex_words words ∷ []
+AreSpelled (Uri text) others = others ≡ text ∷ []
+
+-- the limits on the numbers and lists of a line
+abbrev pub IsWithinLimits : Request → Type 0
+IsWithinLimits (Stream code trext levels) = length levels ≤ most_levels
+IsWithinLimits (Samples threshold per_level samples) =
+    (threshold ≤ 255) × (1 ≤ per_level) × (per_level ≤ 64) × (1 ≤ length samples) × (length samples ≤ most_samples)
+IsWithinLimits (Reply expect bits) = IsExpect expect × (length bits ≤ most_bits)
+IsWithinLimits (Heard code trext expect levels) = IsExpect expect × (length levels ≤ most_levels)
+IsWithinLimits (Pie intervals) = (1 ≤ length intervals) × (length intervals ≤ 20000) × All (λ interval. interval ≤ longest_interval) intervals
+IsWithinLimits (Command bits) = length bits ≤ most_bits
+IsWithinLimits (Sgtin words) = (1 ≤ length words) × (length words ≤ 31) × All (λ word. word < 2 ^ 16) words
+IsWithinLimits (Uri text) = text ≢ []
+
+-- behind a first field of this kind, these fields ask for this
+pub record AsksBehind (kind : RequestKind) (others : List (List ℕ)) (request : Request) : Type 0 where
+  pub same_kind : kind ≡ request_kind request
+  pub spelling : AreSpelled request others
+  pub limits : IsWithinLimits request
+
+-- the line asks for this
+pub record AsksForRequest (line : List ℕ) (request : Request) : Type 0 where
+  pub kind : RequestKind
+  pub others : List (List ℕ)
+  pub fields : fields_of line ≡ request_word kind ∷ others
+  pub asks : AsksBehind kind others request
+
+-- the first reason for which the fields behind the first ask for nothing
+abbrev pub AreFaulty : RequestKind → List (List ℕ) → FaultReason → Type 0
+-- their number is wrong, or one is empty
+AreFaulty kind others Shape = ¬ HasShape kind others
+-- they are there, and one of them isn't of its form, range or length: they ask for nothing
+AreFaulty kind others Number = HasShape kind others × ((request : Request) → ¬ AsksBehind kind others request)
+AreFaulty kind others End = ⊥
+AreFaulty kind others Word = ⊥
+
+-- the first reason for which the fields of a line that has its line feed ask for nothing
+abbrev pub IsFaultyRequest : List (List ℕ) → FaultReason → Type 0
+-- the first field is none that a line may begin with
+IsFaultyRequest fields Word = (kind : RequestKind) (others : List (List ℕ)) → fields ≢ request_word kind ∷ others
+IsFaultyRequest fields reason =
+    (kind : RequestKind) × (others : List (List ℕ)) × (fields ≡ request_word kind ∷ others) × AreFaulty kind others reason

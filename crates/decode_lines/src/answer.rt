@@ -1,0 +1,332 @@
+//! The answer to a decode line.
+ghost use Rattle.std.specs.Prelude.{◌≡◌, ◌≤◌, ◌++◌, length, IfOk, IfErr, OnOk};
+ghost use Rattle.std.specs.String.{string_bytes};
+ghost use Rattle.decode_lines.specs.Answer.{AddsAnswer, answer_line, streamed, sliced, replied, heard, framed, commanded, named, worded, with_left};
+ghost use Rattle.decode_lines.specs.Request.{IsWithinLimits, most_levels};
+ghost use Rattle.command_grammar.specs.Commands.{IsFinishAnswer};
+ghost use Rattle.epc_sgtin.specs.SgtinValue.{SgtinValue};
+ghost use Rattle.epc_sgtin.specs.Epc.{IsSgtin};
+ghost use Rattle.epc_sgtin.specs.Uri.{IsUriOf};
+ghost use Rattle.epc_sgtin.specs.UriFaults.{RefusesUri};
+
+use crate::raw_field::RawField;
+use crate::request::{MOST_INTERVALS, MOST_LEVELS, Request};
+use air_channel::receive;
+use bit_strings::{Bits, Code, Levels, OutOfMemory};
+use command_grammar::{Command, CommandRefusal, Framer};
+use command_text::{push_command, push_command_refusal};
+use epc_sgtin::{EpcFault, Sgtin, UriFault};
+use line_codes::{LineRefusal, decode_levels};
+use pie_line::{FrameKind, Intervals, PieRefusal, decode_frame};
+use pie_text::{Numbers, push_frame, push_pie_refusal};
+use reply_grammar::{Expect, Received, Reply, ReplyRefusal, decode_reply};
+use reply_text::{push_reply, push_reply_refusal};
+use sample_slicer::{SliceRefusal, slice_levels};
+use sgtin_text::{push_epc_fault, push_name, push_sgtin_words, push_uri_fault};
+use std::alloc::Global;
+use text_fields::{Digits, HexBytes, Words, push_bits, push_number};
+
+/// Room for the levels, bits and intervals of the longest line, taken once for all lines. The samples of
+/// a line and the text of the answers take memory of their own.
+#[derive(Drop)]
+pub struct Workspace {
+    alloc: Global,
+    levels: Levels,
+    bits: Bits,
+    intervals: Intervals,
+    ghost levels_room: { levels.capacity ≡ most_levels },
+    ghost bits_room: { bits.capacity ≡ most_levels },
+    ghost intervals_room: { intervals.capacity ≡ 20000 },
+}
+
+impl Workspace {
+    /// Takes the room for levels, bits and intervals.
+    pub fn new(alloc: Global) -> Result<Workspace, OutOfMemory> {
+        let levels = Levels::new(alloc, MOST_LEVELS)?;
+        let bits = Bits::new(alloc, MOST_LEVELS)?;
+        let intervals = Intervals::new(alloc, MOST_INTERVALS)?;
+        Ok(Workspace {
+            alloc,
+            levels,
+            bits,
+            intervals,
+        })
+    }
+
+    /// Adds the answer to a request at the end of the text, as a line.
+    pub fn answer(&mut self, request: &Request, text: &mut String) -> Result<(), OutOfMemory>
+        requires { IsWithinLimits request.now }
+        ensures { OnOk result (AddsAnswer request.now (string_bytes text.old) (string_bytes text.new)) }
+    {
+        match request {
+            Request::Stream {
+                code,
+                trext,
+                levels,
+            } => self.answer_stream(*code, *trext, levels, text),
+            Request::Samples {
+                threshold,
+                per_level,
+                samples,
+            } => self.answer_samples(*threshold, *per_level, samples, text),
+            Request::Reply { expect, bits } => self.answer_reply(expect, bits, text),
+            Request::Heard {
+                code,
+                trext,
+                expect,
+                levels,
+            } => self.answer_heard(*code, *trext, expect, levels, text),
+            Request::Pie { intervals } => self.answer_pie(intervals, text),
+            Request::Command { bits } => self.answer_command(bits, text),
+            Request::Sgtin { words } => self.answer_sgtin(words, text),
+            Request::Uri { text: uri } => answer_uri(uri, text),
+        }
+    }
+
+    /// Adds the bits of a stream of levels, or the place at which it is none.
+    fn answer_stream(
+        &mut self,
+        code: Code,
+        trext: bool,
+        levels: &Digits,
+        text: &mut String,
+    ) -> Result<(), OutOfMemory>
+        requires { length levels.now ≤ MOST_LEVELS }
+        ensures { OnOk result (AddsAnswer (Request.Stream code trext levels.now) (string_bytes text.old) (string_bytes text.new)) }
+    {
+        levels.copy_to(&mut self.levels);
+        let outcome = decode_levels(code, trext, &self.levels, &mut self.bits);
+        push_outcome(text, outcome, &self.bits)
+    }
+
+    /// Adds the levels of samples, or the place at which they are none. Each line takes memory for its samples.
+    fn answer_samples(
+        &mut self,
+        threshold: u8,
+        per_level: u32,
+        samples: &HexBytes,
+        text: &mut String,
+    ) -> Result<(), OutOfMemory>
+        requires { IsWithinLimits (Request.Samples threshold per_level samples.now) }
+        ensures { OnOk result (AddsAnswer (Request.Samples threshold per_level samples.now) (string_bytes text.old) (string_bytes text.new)) }
+    {
+        let samples = samples.decode(self.alloc)?;
+        let outcome = slice_levels(&samples, threshold, per_level, &mut self.levels);
+        push_slicing(text, outcome, &self.levels)
+    }
+
+    /// Adds the reply that bits are, or why they are none that is expected.
+    fn answer_reply(
+        &mut self,
+        expect: &Expect,
+        bits: &Digits,
+        text: &mut String,
+    ) -> Result<(), OutOfMemory>
+        requires { IsWithinLimits (Request.Reply expect.now bits.now) }
+        ensures { OnOk result (AddsAnswer (Request.Reply expect.now bits.now) (string_bytes text.old) (string_bytes text.new)) }
+    {
+        bits.copy_to(&mut self.bits);
+        let outcome = decode_reply(&self.bits, expect);
+        push_replied(text, &outcome)
+    }
+
+    /// Adds the reply that is heard in levels, or the place at which none can be.
+    fn answer_heard(
+        &mut self,
+        code: Code,
+        trext: bool,
+        expect: &Expect,
+        levels: &Digits,
+        text: &mut String,
+    ) -> Result<(), OutOfMemory>
+        requires { IsWithinLimits (Request.Heard code trext expect.now levels.now) }
+        ensures { OnOk result (AddsAnswer (Request.Heard code trext expect.now levels.now) (string_bytes text.old) (string_bytes text.new)) }
+    {
+        levels.copy_to(&mut self.levels);
+        let received = receive(&self.levels, code, trext, expect, &mut self.bits);
+        push_received(text, &received)
+    }
+
+    /// Adds the frame that intervals are, or why they are none.
+    fn answer_pie(&mut self, intervals: &Numbers, text: &mut String) -> Result<(), OutOfMemory>
+        requires { IsWithinLimits (Request.Pie intervals.now) }
+        ensures { OnOk result (AddsAnswer (Request.Pie intervals.now) (string_bytes text.old) (string_bytes text.new)) }
+    {
+        intervals.copy_to(&mut self.intervals);
+        let outcome = decode_frame(&self.intervals, &mut self.bits);
+        push_framed(text, &outcome, &self.bits)
+    }
+
+    /// Adds the command that bits are, or why they are none.
+    fn answer_command(&mut self, bits: &Digits, text: &mut String) -> Result<(), OutOfMemory>
+        requires { IsWithinLimits (Request.Command bits.now) }
+        ensures { OnOk result (AddsAnswer (Request.Command bits.now) (string_bytes text.old) (string_bytes text.new)) }
+    {
+        bits.copy_to(&mut self.bits);
+        let outcome = command_of(self.bits.as_slice());
+        push_commanded(text, &outcome)
+    }
+
+    /// Adds the trade item number that words carry, or why they carry none. Each line takes memory for its words.
+    fn answer_sgtin(&self, words: &Words, text: &mut String) -> Result<(), OutOfMemory>
+        ensures { OnOk result (AddsAnswer (Request.Sgtin words.now) (string_bytes text.old) (string_bytes text.new)) }
+    {
+        let words = words.to_vec(self.alloc)?;
+        let outcome = Sgtin::decode(&words);
+        push_named(text, &outcome)
+    }
+}
+
+/// Adds the words of the trade item number that a URI names, or why it names none.
+fn answer_uri(uri: &RawField, text: &mut String) -> Result<(), OutOfMemory>
+    ensures { OnOk result (AddsAnswer (Request.Uri uri.now) (string_bytes text.old) (string_bytes text.new)) }
+{
+    let outcome = words_of_uri(uri.as_slice());
+    push_worded(text, &outcome)
+}
+
+/// The words of the trade item number that a URI names, or why it names none.
+fn words_of_uri(uri: &[u8]) -> Result<[u16; 6], UriFault>
+    ensures ok { IfOk result (λ words. (sgtin : SgtinValue) × IsUriOf sgtin uri.now × IsSgtin sgtin words) }
+    ensures refused { IfErr result (λ fault. RefusesUri fault uri.now) }
+{
+    let sgtin = Sgtin::read_uri(uri)?;
+    Ok(sgtin.encode())
+}
+
+/// Adds what a line decoder answered, as a line.
+fn push_outcome(
+    text: &mut String,
+    outcome: Result<(), LineRefusal>,
+    bits: &Bits,
+) -> Result<(), OutOfMemory>
+    ensures { OnOk result (string_bytes text.new ≡ string_bytes text.old ++ answer_line (streamed (with_left (λ done. bits.now.items) outcome))) }
+{
+    match outcome {
+        Ok(()) => {
+            text.push_str("bits ")?;
+            push_bits(text, bits.as_slice())?;
+        }
+        Err(LineRefusal::Invalid(place)) => {
+            text.push_str("invalid ")?;
+            push_number(text, place)?;
+        }
+        Err(LineRefusal::Unfinished(count)) => {
+            text.push_str("unfinished ")?;
+            push_number(text, count)?;
+        }
+    }
+    text.push_str("\n")
+}
+
+/// Adds what the slicer answered, as a line.
+fn push_slicing(
+    text: &mut String,
+    outcome: Result<(), SliceRefusal>,
+    levels: &Levels,
+) -> Result<(), OutOfMemory>
+    ensures { OnOk result (string_bytes text.new ≡ string_bytes text.old ++ answer_line (sliced (with_left (λ done. levels.now.items) outcome))) }
+{
+    match outcome {
+        Ok(()) => {
+            text.push_str("levels ")?;
+            push_bits(text, levels.as_slice())?;
+        }
+        Err(SliceRefusal::Mixed(place)) => {
+            text.push_str("mixed ")?;
+            push_number(text, place)?;
+        }
+        Err(SliceRefusal::Rest(place)) => {
+            text.push_str("rest ")?;
+            push_number(text, place)?;
+        }
+    }
+    text.push_str("\n")
+}
+
+/// Adds what the reply grammar answered, as a line.
+fn push_replied(text: &mut String, outcome: &Result<Reply, ReplyRefusal>) -> Result<(), OutOfMemory>
+    ensures { OnOk result (string_bytes text.new ≡ string_bytes text.old ++ answer_line (replied outcome.now)) }
+{
+    match outcome {
+        Ok(reply) => push_reply(text, reply)?,
+        Err(refusal) => push_reply_refusal(text, *refusal)?,
+    }
+    text.push_str("\n")
+}
+
+/// Adds what was received, as a line.
+fn push_received(text: &mut String, received: &Received) -> Result<(), OutOfMemory>
+    ensures { OnOk result (string_bytes text.new ≡ string_bytes text.old ++ answer_line (heard received.now)) }
+{
+    match received {
+        Received::Whole(reply) => push_reply(text, reply)?,
+        Received::Refused(place) => {
+            text.push_str("refused ")?;
+            push_number(text, *place)?;
+        }
+    }
+    text.push_str("\n")
+}
+
+/// Adds what the decoder of frames answered, as a line.
+fn push_framed(
+    text: &mut String,
+    outcome: &Result<FrameKind, PieRefusal>,
+    bits: &Bits,
+) -> Result<(), OutOfMemory>
+    ensures { OnOk result (string_bytes text.new ≡ string_bytes text.old ++ answer_line (framed (with_left (λ kind. (kind, bits.now.items)) outcome.now))) }
+{
+    match outcome {
+        Ok(kind) => push_frame(text, kind, bits)?,
+        Err(refusal) => push_pie_refusal(text, *refusal)?,
+    }
+    text.push_str("\n")
+}
+
+/// Adds what the framer answered, as a line.
+fn push_commanded(
+    text: &mut String,
+    outcome: &Result<Command, CommandRefusal>,
+) -> Result<(), OutOfMemory>
+    ensures { OnOk result (string_bytes text.new ≡ string_bytes text.old ++ answer_line (commanded outcome.now)) }
+{
+    match outcome {
+        Ok(command) => push_command(text, command)?,
+        Err(refusal) => push_command_refusal(text, *refusal)?,
+    }
+    text.push_str("\n")
+}
+
+/// Adds what words carry, as a line.
+fn push_named(text: &mut String, outcome: &Result<Sgtin, EpcFault>) -> Result<(), OutOfMemory>
+    ensures { OnOk result (string_bytes text.new ≡ string_bytes text.old ++ answer_line (named outcome.now)) }
+{
+    match outcome {
+        Ok(sgtin) => push_name(text, sgtin)?,
+        Err(fault) => push_epc_fault(text, *fault)?,
+    }
+    text.push_str("\n")
+}
+
+/// Adds what a URI names, as a line.
+fn push_worded(text: &mut String, outcome: &Result<[u16; 6], UriFault>) -> Result<(), OutOfMemory>
+    ensures { OnOk result (string_bytes text.new ≡ string_bytes text.old ++ answer_line (worded outcome.now)) }
+{
+    match outcome {
+        Ok(words) => push_sgtin_words(text, words)?,
+        Err(fault) => push_uri_fault(text, *fault)?,
+    }
+    text.push_str("\n")
+}
+
+/// The command that bits are, or why they are none.
+fn command_of(bits: &[bool]) -> Result<Command, CommandRefusal>
+    ensures { IsFinishAnswer result bits.now }
+{
+    let mut framer = Framer::new();
+    for bit in bits {
+        framer.push(*bit);
+    }
+    framer.finish()
+}

@@ -1,0 +1,58 @@
+//! The laws of decode lines and their texts.
+ghost use Rattle.std.specs.Prelude.{◌≡◌, ◌⊎◌, ℕ, List};
+ghost use Rattle.decode_lines.specs.declared.request.Request.{Request};
+ghost use Rattle.decode_lines.specs.declared.fault.DecodeFault.{DecodeFault};
+ghost use Rattle.decode_lines.specs.Request.{IsWithinLimits};
+ghost use Rattle.decode_lines.specs.Answer.{Answer, IsLineAnswer};
+ghost use Rattle.decode_lines.specs.DecodeLines.{Decodes, IsFaultText, IsFirstFault, IsGrammatical};
+
+use crate::request::{Request, request_of};
+use air_channel::one_received;
+use command_grammar::one_outcome;
+use epc_sgtin::{sgtin_laws, uri_laws};
+use line_codes::code_laws;
+use reply_grammar::reply_laws;
+use text_fields::split_line;
+
+/// Decode lines have at most one text of answers, and at most one fault line.
+pub fn decode_lines_have_one_text()
+    ensures answers { (bytes one other : List ℕ) → Decodes bytes one → Decodes bytes other → one ≡ other }
+    ensures fault_line { (bytes one other : List ℕ) → IsFaultText bytes one → IsFaultText bytes other → one ≡ other }
+{
+    // The bits of a command line have one outcome, and so have words and URIs.
+    one_outcome();
+    sgtin_laws();
+    uri_laws();
+}
+
+/// Where each line asks for something there is no faulty line.
+pub fn decode_lines_are_not_faulty()
+    ensures { (bytes : List ℕ) (fault : DecodeFault) → IsGrammatical bytes → IsFirstFault bytes fault → ⊥ }
+{}
+
+/// Each request within its limits has an answer.
+pub fn requests_have_an_answer()
+    ensures { (request : Request) → IsWithinLimits request → (answer : Answer) × IsLineAnswer request answer }
+{
+    code_laws();
+    line_code::one_answer();
+    sample_slicer::one_answer();
+    reply_laws();
+    one_received();
+    pie_line::one_answer();
+    one_outcome();
+    sgtin_laws();
+    uri_laws();
+}
+
+/// An input has a defined text: the answers to its lines, or its fault line.
+pub fn decode_lines_have_a_text(input: &[u8])
+    ensures { (text : List ℕ) × (Decodes input.now text ⊎ IsFaultText input.now text) }
+{
+    requests_have_an_answer();
+    if let Some((line, behind)) = split_line(input) {
+        // The first line asks for something or is faulty, and what stands behind it has a text.
+        let _ = request_of(line);
+        decode_lines_have_a_text(behind);
+    }
+}

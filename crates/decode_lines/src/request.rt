@@ -1,0 +1,302 @@
+//! A decode line, read.
+ghost use Rattle.std.specs.Prelude.{◌≡◌, ◌≢◌, ℕ, List, ◌∷◌, IfOk, IfErr, IfSome, IfNone};
+ghost use Rattle.text_fields.specs.Lines.{fields_of};
+ghost use Rattle.decode_lines.specs.Request.{request_word, NamesNoCode, AsksForRequest, AsksBehind, AreFaulty, IsFaultyRequest};
+
+use crate::fault::FaultReason;
+use crate::raw_field::RawField;
+use bit_strings::Code;
+use pie_text::{NotNumbers, Numbers};
+use reply_grammar::Expect;
+use reply_text::expect_of;
+use text_fields::{
+    Digits, Fields, HexBytes, Words, code_named, four_fields, number, one_bit, one_field,
+    three_fields, two_fields,
+};
+
+/// The greatest number of levels in a line.
+pub const MOST_LEVELS: u32 = 132_000;
+
+/// The greatest number of samples in a line.
+pub const MOST_SAMPLES: u32 = 132_000;
+
+/// The greatest number of samples to a level.
+const MOST_PER_LEVEL: u32 = 64;
+
+/// The greatest number of bits in a line.
+pub const MOST_BITS: u32 = 8_240;
+
+/// The greatest number of intervals in a line.
+pub const MOST_INTERVALS: u32 = 20_000;
+
+/// The greatest number of an EPC's words in a line.
+const MOST_WORDS: u32 = 31;
+
+/// The greatest interval in a line, in nanoseconds.
+const MOST_NANOSECONDS: u32 = 999_999;
+
+/// What a line is, by its first field.
+#[derive(Clone, Copy, Debug, PartialEq, Eq)]
+pub enum RequestKind {
+    /// Levels of a tag's reply in this code.
+    Stream(Code),
+    /// Samples of a captured wave.
+    Samples,
+    /// Bits of a tag's reply.
+    Reply,
+    /// Levels in which a tag's reply is expected.
+    Heard,
+    /// Intervals of an interrogator's frame.
+    Pie,
+    /// Bits of an interrogator's command.
+    Command,
+    /// Words of a trade item number's EPC.
+    Sgtin,
+    /// URI of a trade item number.
+    Uri,
+}
+
+/// What a line asks for.
+#[derive(Drop)]
+pub enum Request<'a> {
+    /// The bits of a stream of levels: `CODE TREXT LEVELS`.
+    Stream {
+        code: Code,
+        trext: bool,
+        levels: Digits<'a>,
+    },
+    /// The levels of samples: `samples THRESHOLD PER HEX`.
+    Samples {
+        threshold: u8,
+        per_level: u32,
+        samples: HexBytes<'a>,
+    },
+    /// The reply that bits are: `reply EXPECT BITS`.
+    Reply {
+        expect: Expect,
+        bits: Digits<'a>,
+    },
+    /// The reply that is heard in levels: `heard CODE TREXT EXPECT LEVELS`.
+    Heard {
+        code: Code,
+        trext: bool,
+        expect: Expect,
+        levels: Digits<'a>,
+    },
+    /// The frame that intervals are: `pie INTERVALS`.
+    Pie {
+        intervals: Numbers<'a>,
+    },
+    /// The command that bits are: `command BITS`.
+    Command {
+        bits: Digits<'a>,
+    },
+    /// The trade item number that an EPC carries: `sgtin WORDS`.
+    Sgtin {
+        words: Words<'a>,
+    },
+    /// The EPC that carries what a URI names: `uri TEXT`.
+    Uri {
+        text: RawField<'a>,
+    },
+}
+
+/// What a first field says; none exactly where no line begins with it.
+fn kind_of(word: &[u8]) -> Option<RequestKind>
+    ensures found { IfSome result (λ kind. word.now ≡ request_word kind) }
+    ensures none { IfNone result ((kind : RequestKind) → word.now ≢ request_word kind) }
+{
+    match code_named(word) {
+        Some(code) => Some(RequestKind::Stream(code)),
+        None => other_kind(word),
+    }
+}
+
+/// What a first field says that names no line code.
+fn other_kind(word: &[u8]) -> Option<RequestKind>
+    ensures found { IfSome result (λ kind. word.now ≡ request_word kind) }
+    ensures none { IfNone result ((kind : RequestKind) → NamesNoCode kind → word.now ≢ request_word kind) }
+{
+    match word {
+        b"samples" => Some(RequestKind::Samples),
+        b"reply" => Some(RequestKind::Reply),
+        b"heard" => Some(RequestKind::Heard),
+        b"pie" => Some(RequestKind::Pie),
+        b"command" => Some(RequestKind::Command),
+        b"sgtin" => Some(RequestKind::Sgtin),
+        b"uri" => Some(RequestKind::Uri),
+        _ => None,
+    }
+}
+
+/// What a line asks for, or the first reason for which it asks for nothing. The line is given without
+/// its line feed.
+pub fn request_of(line: &[u8]) -> Result<Request<'_>, FaultReason>
+    ensures ok { IfOk result (AsksForRequest line.now) }
+    ensures refused { IfErr result (IsFaultyRequest (fields_of line.now)) }
+{
+    let mut fields = Fields::new(line);
+    let Some(word) = fields.next() else {
+        return Err(FaultReason::Word);
+    };
+    match kind_of(word) {
+        Some(RequestKind::Stream(code)) => stream_of(code, fields),
+        Some(RequestKind::Samples) => samples_of(fields),
+        Some(RequestKind::Reply) => reply_of(fields),
+        Some(RequestKind::Heard) => heard_of(fields),
+        Some(RequestKind::Pie) => pie_of(fields),
+        Some(RequestKind::Command) => command_of(fields),
+        Some(RequestKind::Sgtin) => sgtin_of(fields),
+        Some(RequestKind::Uri) => uri_of(fields),
+        None => Err(FaultReason::Word),
+    }
+}
+
+/// The request of a line that begins with a code's name, by its other fields.
+fn stream_of<'a>(code: Code, others: Fields<'a>) -> Result<Request<'a>, FaultReason>
+    ensures ok { IfOk result (AsksBehind (RequestKind.Stream code) others.entry) }
+    ensures refused { IfErr result (AreFaulty (RequestKind.Stream code) others.entry) }
+{
+    let Some((trext, levels)) = two_fields(others) else {
+        return Err(FaultReason::Shape);
+    };
+    let Some(trext) = one_bit(trext) else {
+        return Err(FaultReason::Number);
+    };
+    let Some(levels) = Digits::new(levels, MOST_LEVELS) else {
+        return Err(FaultReason::Number);
+    };
+    Ok(Request::Stream {
+        code,
+        trext,
+        levels,
+    })
+}
+
+/// The request of a line that begins with `samples`, by its other fields.
+fn samples_of<'a>(others: Fields<'a>) -> Result<Request<'a>, FaultReason>
+    ensures ok { IfOk result (AsksBehind RequestKind.Samples others.entry) }
+    ensures refused { IfErr result (AreFaulty RequestKind.Samples others.entry) }
+{
+    let Some((threshold, per_level, samples)) = three_fields(others) else {
+        return Err(FaultReason::Shape);
+    };
+    let Some(threshold) = number(threshold, 255) else {
+        return Err(FaultReason::Number);
+    };
+    let Some(per_level) = number(per_level, MOST_PER_LEVEL) else {
+        return Err(FaultReason::Number);
+    };
+    if per_level == 0 {
+        return Err(FaultReason::Number);
+    }
+    let Some(samples) = HexBytes::new(samples, MOST_SAMPLES) else {
+        return Err(FaultReason::Number);
+    };
+    Ok(Request::Samples {
+        threshold: threshold as u8,
+        per_level,
+        samples,
+    })
+}
+
+/// The request of a line that begins with `reply`, by its other fields.
+fn reply_of<'a>(others: Fields<'a>) -> Result<Request<'a>, FaultReason>
+    ensures ok { IfOk result (AsksBehind RequestKind.Reply others.entry) }
+    ensures refused { IfErr result (AreFaulty RequestKind.Reply others.entry) }
+{
+    let Some((expect, bits)) = two_fields(others) else {
+        return Err(FaultReason::Shape);
+    };
+    let Some(expect) = expect_of(expect) else {
+        return Err(FaultReason::Number);
+    };
+    let Some(bits) = Digits::new(bits, MOST_BITS) else {
+        return Err(FaultReason::Number);
+    };
+    Ok(Request::Reply { expect, bits })
+}
+
+/// The request of a line that begins with `heard`, by its other fields.
+fn heard_of<'a>(others: Fields<'a>) -> Result<Request<'a>, FaultReason>
+    ensures ok { IfOk result (AsksBehind RequestKind.Heard others.entry) }
+    ensures refused { IfErr result (AreFaulty RequestKind.Heard others.entry) }
+{
+    let Some((code, trext, expect, levels)) = four_fields(others) else {
+        return Err(FaultReason::Shape);
+    };
+    let Some(code) = code_named(code) else {
+        return Err(FaultReason::Number);
+    };
+    let Some(trext) = one_bit(trext) else {
+        return Err(FaultReason::Number);
+    };
+    let Some(expect) = expect_of(expect) else {
+        return Err(FaultReason::Number);
+    };
+    let Some(levels) = Digits::new(levels, MOST_LEVELS) else {
+        return Err(FaultReason::Number);
+    };
+    Ok(Request::Heard {
+        code,
+        trext,
+        expect,
+        levels,
+    })
+}
+
+/// The request of a line that begins with `pie`, by its other fields.
+fn pie_of<'a>(others: Fields<'a>) -> Result<Request<'a>, FaultReason>
+    ensures ok { IfOk result (AsksBehind RequestKind.Pie others.entry) }
+    ensures refused { IfErr result (AreFaulty RequestKind.Pie others.entry) }
+{
+    match Numbers::new(others, MOST_INTERVALS, MOST_NANOSECONDS) {
+        Ok(intervals) => Ok(Request::Pie { intervals }),
+        Err(NotNumbers::Shape) => Err(FaultReason::Shape),
+        Err(NotNumbers::Number) => Err(FaultReason::Number),
+    }
+}
+
+/// The request of a line that begins with `command`, by its other field.
+fn command_of<'a>(others: Fields<'a>) -> Result<Request<'a>, FaultReason>
+    ensures ok { IfOk result (AsksBehind RequestKind.Command others.entry) }
+    ensures refused { IfErr result (AreFaulty RequestKind.Command others.entry) }
+{
+    let Some(bits) = one_field(others) else {
+        return Err(FaultReason::Shape);
+    };
+    let Some(bits) = Digits::new(bits, MOST_BITS) else {
+        return Err(FaultReason::Number);
+    };
+    Ok(Request::Command { bits })
+}
+
+/// The request of a line that begins with `sgtin`, by its other field.
+fn sgtin_of<'a>(others: Fields<'a>) -> Result<Request<'a>, FaultReason>
+    ensures ok { IfOk result (AsksBehind RequestKind.Sgtin others.entry) }
+    ensures refused { IfErr result (AreFaulty RequestKind.Sgtin others.entry) }
+{
+    let Some(words) = one_field(others) else {
+        return Err(FaultReason::Shape);
+    };
+    let Some(words) = Words::new(words, MOST_WORDS) else {
+        return Err(FaultReason::Number);
+    };
+    if words.is_empty() {
+        return Err(FaultReason::Number);
+    }
+    Ok(Request::Sgtin { words })
+}
+
+/// The request of a line that begins with `uri`, by its other field.
+fn uri_of<'a>(others: Fields<'a>) -> Result<Request<'a>, FaultReason>
+    ensures ok { IfOk result (AsksBehind RequestKind.Uri others.entry) }
+    ensures refused { IfErr result (AreFaulty RequestKind.Uri others.entry) }
+{
+    match one_field(others) {
+        Some(text) => Ok(Request::Uri {
+            text: RawField::new(text),
+        }),
+        None => Err(FaultReason::Shape),
+    }
+}
