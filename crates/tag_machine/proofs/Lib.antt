@@ -1,7 +1,7 @@
 pub mod Absent
+pub mod Acting
 pub mod AnswerLaws
 pub mod FlagsAfter
-pub mod HandleRules
 pub mod InRange
 pub mod Isolated
 pub mod KeepsLegal

@@ -1,6 +1,5 @@
--- 6.3.2.11.3 Access commands; Annex B and Annex C: what each of these commands does in each state. A state that a command
--- doesn't name stays as it is, without a reply. In open and secured a command with another handle changes nothing and
--- gets no reply. How an unfinished Kill or Access ends, and what becomes of a cover, is profile.
+-- 6.3.2.11.3 Access commands; Annex B and Annex C: what each of these commands does in each state. How an unfinished Kill or
+-- Access ends, and what becomes of a cover, is profile.
 use Rattle.std.specs.Prelude.{ℕ, ◌+◌, ◌*◌, ◌^◌, ◌==◌, nat_lt, Bool, true, false, List, [], ◌∷◌, length, Option, Some, None, Result, Ok, Err, bit_xor, if◌then◌else◌}
 use Rattle.command_grammar.specs.declared.field_values.Bank.{Bank}
 use Rattle.lock_rules.specs.declared.locks.Locks.{Locks}
@@ -18,6 +17,8 @@ use Rattle.tag_machine.specs.declared.states.Half.{Half}
 use Rattle.tag_machine.specs.declared.states.Password.{Password}
 use Rattle.tag_machine.specs.declared.states.Password.TheVariants as passwords
 use Rattle.tag_machine.specs.declared.states.Held.{Held}
+use Rattle.tag_machine.specs.declared.access.rules.Follows.{Follows}
+use Rattle.tag_machine.specs.declared.access.rules.Follows.TheVariants.{AnyHalf, HalfOf, NoHalf}
 use Rattle.tag_machine.specs.TagValue.{StateValue, ReadyState, ArbitrateState, ReplyState, AcknowledgedState, OpenState, SecuredState, KilledState, UnpoweredState, BodyValue}
 use Rattle.tag_machine.specs.Answers.{Outcome, silent, plain, extended}
 use Rattle.tag_machine.specs.Draws.{draw_of, body_after_draw, back}
@@ -27,6 +28,59 @@ use Rattle.tag_machine.specs.Inventory.{unless_half}
 abbrev pub held_state : Level → Held → StateValue
 held_state levels.Opened held = OpenState held
 held_state levels.Secured held = SecuredState held
+
+-- The rules that stand before an access command, in their order.
+-- 1. It comes to a tag in open or secured. In reply and acknowledged the tag goes back, and in the other states nothing changes.
+abbrev pub with_level : (Level → Held → BodyValue → Outcome) → StateValue → BodyValue → Outcome
+with_level acts ReadyState body = silent ReadyState body
+with_level acts (ArbitrateState session q slot) body = silent (ArbitrateState session q slot) body
+with_level acts (ReplyState session q own) body = back session q body
+with_level acts (AcknowledgedState session q own) body = back session q body
+with_level acts (OpenState held) body = acts levels.Opened held body
+with_level acts (SecuredState held) body = acts levels.Secured held body
+with_level acts KilledState body = silent KilledState body
+with_level acts UnpoweredState body = silent UnpoweredState body
+
+-- 2. Its number is the handle; else nothing changes.
+abbrev pub with_handle : Level → ℕ → Held → BodyValue → Outcome → Outcome
+with_handle level rn held body outcome =
+    (if held.handle == rn then outcome else silent (held_state level held) body)
+
+-- 3. It may follow the first half that the tag holds: a Req_RN follows each, a Kill one of the kill password, an Access one of
+-- the access password, and each other command none. Else the tag goes back, without a reply.
+abbrev pub unless_any_half : Held → BodyValue → Outcome → Outcome
+unless_any_half held body outcome = unless_half held.half (back held.session held.q body) outcome
+
+abbrev pub is_password : Password → Password → Bool
+is_password passwords.Kill passwords.Kill = true
+is_password passwords.Kill passwords.Access = false
+is_password passwords.Access passwords.Kill = false
+is_password passwords.Access passwords.Access = true
+
+abbrev pub unless_other_half : Password → Option Half → Outcome → Outcome → Outcome
+unless_other_half password None instead outcome = outcome
+unless_other_half password (Some half) instead outcome = (if is_password password half.password then outcome else instead)
+
+abbrev pub unless_ended : Follows → Held → BodyValue → Outcome → Outcome
+unless_ended AnyHalf held body outcome = outcome
+unless_ended (HalfOf password) held body outcome = unless_other_half password held.half (back held.session held.q body) outcome
+unless_ended NoHalf held body outcome = unless_any_half held body outcome
+
+abbrev pub heeded : ℕ → Follows → Level → Held → BodyValue → Outcome → Outcome
+heeded rn follows level held body outcome = with_handle level rn held body (unless_ended follows held body outcome)
+
+abbrev pub in_access : ℕ → Follows → (Level → Held → BodyValue → Outcome) → StateValue → BodyValue → Outcome
+in_access rn follows acts state body = with_level (λ level held rest. heeded rn follows level held rest (acts level held rest)) state body
+
+-- 4. A Write, Kill or Access has a cover; without one nothing changes, and there is no reply. With one, the cover is used up,
+-- whatever follows, and the value is the covered number XOR the cover.
+abbrev pub uncover : Level → Held → BodyValue → ℕ → Option ℕ → (Held → ℕ → Outcome) → Outcome
+uncover level held body covered None follows = silent (held_state level held) body
+uncover level held body covered (Some cover) follows = follows (record held { cover = None }) (bit_xor covered cover)
+
+-- the error that a tag answers in place of a delayed reply, and nothing else changes
+abbrev pub refuse : Level → Held → BodyValue → ErrorCode → Outcome
+refuse level held body code = extended (held_state level held) body (Error (code_of code)) held.handle
 
 -- 6.3.2.11.3.1 Req_RN in acknowledged: what is drawn is the handle; secured where the access password is 0, else open
 abbrev pub new_held : ℕ → ℕ → ℕ → Held
@@ -45,8 +99,7 @@ give_cover level held body =
     plain (held_state level (record held { cover = Some (draw_of body) })) (body_after_draw body) (Handle (draw_of body)) 0
 
 abbrev pub req_rn_held : Level → ℕ → Held → BodyValue → Outcome
-req_rn_held level rn held body =
-    (if held.handle == rn then give_cover level held body else silent (held_state level held) body)
+req_rn_held level rn held body = heeded rn AnyHalf level held body (give_cover level held body)
 
 abbrev pub req_rn : ℕ → StateValue → BodyValue → Outcome
 req_rn rn ReadyState body = silent ReadyState body
@@ -59,35 +112,6 @@ req_rn rn (SecuredState held) body = req_rn_held levels.Secured rn held body
 req_rn rn KilledState body = silent KilledState body
 req_rn rn UnpoweredState body = silent UnpoweredState body
 
--- where the number is the handle: the outcome of the rules below, else nothing changes
-abbrev pub with_handle : Level → ℕ → Held → BodyValue → Outcome → Outcome
-with_handle level rn held body outcome =
-    (if held.handle == rn then outcome else silent (held_state level held) body)
-
--- the first rule of all: with a first half and a command of another kind the tag goes back, without a reply
-abbrev pub unless_any_half : Held → BodyValue → Outcome → Outcome
-unless_any_half held body outcome = unless_half held.half (back held.session held.q body) outcome
-
-abbrev pub is_password : Password → Password → Bool
-is_password passwords.Kill passwords.Kill = true
-is_password passwords.Kill passwords.Access = false
-is_password passwords.Access passwords.Kill = false
-is_password passwords.Access passwords.Access = true
-
-abbrev pub unless_other_half : Password → Option Half → Outcome → Outcome → Outcome
-unless_other_half password None instead outcome = outcome
-unless_other_half password (Some half) instead outcome = (if is_password password half.password then outcome else instead)
-
--- a Write, Kill or Access without a cover changes nothing and gets no reply. With one, the cover is used up, whatever
--- follows, and the value is the covered number XOR the cover.
-abbrev pub uncover : Level → Held → BodyValue → ℕ → Option ℕ → (Held → ℕ → Outcome) → Outcome
-uncover level held body covered None follows = silent (held_state level held) body
-uncover level held body covered (Some cover) follows = follows (record held { cover = None }) (bit_xor covered cover)
-
--- the error that a tag answers in place of a delayed reply, and nothing else changes
-abbrev pub refuse : Level → Held → BodyValue → ErrorCode → Outcome
-refuse level held body code = extended (held_state level held) body (Error (code_of code)) held.handle
-
 -- 6.3.2.11.3.2 Read: the words, or an error
 abbrev pub read_answer : Result (List ℕ) ErrorCode → Reply
 read_answer (Ok words) = Words words
@@ -95,18 +119,11 @@ read_answer (Err code) = Error (code_of code)
 
 abbrev pub read_held : Level → Bank → ℕ → ℕ → ℕ → Held → BodyValue → Outcome
 read_held level bank pointer count rn held body =
-    with_handle level rn held body (unless_any_half held body
-    (plain (held_state level held) body (read_answer (words_read body.memory body.locks level bank pointer count)) held.handle))
+    heeded rn NoHalf level held body
+    (plain (held_state level held) body (read_answer (words_read body.memory body.locks level bank pointer count)) held.handle)
 
 abbrev pub read : Bank → ℕ → ℕ → ℕ → StateValue → BodyValue → Outcome
-read bank pointer count rn ReadyState body = silent ReadyState body
-read bank pointer count rn (ArbitrateState session q slot) body = silent (ArbitrateState session q slot) body
-read bank pointer count rn (ReplyState session q own) body = back session q body
-read bank pointer count rn (AcknowledgedState session q own) body = back session q body
-read bank pointer count rn (OpenState held) body = read_held levels.Opened bank pointer count rn held body
-read bank pointer count rn (SecuredState held) body = read_held levels.Secured bank pointer count rn held body
-read bank pointer count rn KilledState body = silent KilledState body
-read bank pointer count rn UnpoweredState body = silent UnpoweredState body
+read bank pointer count rn state body = with_level (λ level held rest. read_held level bank pointer count rn held rest) state body
 
 -- what is asked to change is changed, and the answer is the header; or it is refused, and the answer is an error
 abbrev pub change_answer : {T : Type 0} → Result T ErrorCode → Reply
@@ -125,18 +142,11 @@ memory_outcome level held body change =
 -- 6.3.2.11.3.3 Write
 abbrev pub write_held : Level → Bank → ℕ → ℕ → ℕ → Held → BodyValue → Outcome
 write_held level bank pointer covered rn held body =
-    with_handle level rn held body (unless_any_half held body (uncover level held body covered held.cover
-    (λ bare word. memory_outcome level bare body (banks_after_write body.memory body.locks level bank pointer (word ∷ [])))))
+    heeded rn NoHalf level held body (uncover level held body covered held.cover
+    (λ bare word. memory_outcome level bare body (banks_after_write body.memory body.locks level bank pointer (word ∷ []))))
 
 abbrev pub write : Bank → ℕ → ℕ → ℕ → StateValue → BodyValue → Outcome
-write bank pointer covered rn ReadyState body = silent ReadyState body
-write bank pointer covered rn (ArbitrateState session q slot) body = silent (ArbitrateState session q slot) body
-write bank pointer covered rn (ReplyState session q own) body = back session q body
-write bank pointer covered rn (AcknowledgedState session q own) body = back session q body
-write bank pointer covered rn (OpenState held) body = write_held levels.Opened bank pointer covered rn held body
-write bank pointer covered rn (SecuredState held) body = write_held levels.Secured bank pointer covered rn held body
-write bank pointer covered rn KilledState body = silent KilledState body
-write bank pointer covered rn UnpoweredState body = silent UnpoweredState body
+write bank pointer covered rn state body = with_level (λ level held rest. write_held level bank pointer covered rn held rest) state body
 
 -- both halves of a password, the upper one first
 abbrev pub whole_of : ℕ → ℕ → ℕ
@@ -162,18 +172,11 @@ kill_half level (Some half) value held body = kill_whole level (whole_of half.va
 
 abbrev pub kill_held : Level → ℕ → ℕ → Held → BodyValue → Outcome
 kill_held level covered rn held body =
-    with_handle level rn held body (unless_other_half passwords.Kill held.half (back held.session held.q body)
-    (uncover level held body covered held.cover (λ bare value. kill_half level bare.half value bare body)))
+    heeded rn (HalfOf passwords.Kill) level held body
+    (uncover level held body covered held.cover (λ bare value. kill_half level bare.half value bare body))
 
 abbrev pub kill : ℕ → ℕ → StateValue → BodyValue → Outcome
-kill covered rn ReadyState body = silent ReadyState body
-kill covered rn (ArbitrateState session q slot) body = silent (ArbitrateState session q slot) body
-kill covered rn (ReplyState session q own) body = back session q body
-kill covered rn (AcknowledgedState session q own) body = back session q body
-kill covered rn (OpenState held) body = kill_held levels.Opened covered rn held body
-kill covered rn (SecuredState held) body = kill_held levels.Secured covered rn held body
-kill covered rn KilledState body = silent KilledState body
-kill covered rn UnpoweredState body = silent UnpoweredState body
+kill covered rn state body = with_level (λ level held rest. kill_held level covered rn held rest) state body
 
 -- 6.3.2.11.3.5 Lock: in open nothing changes, and there is no reply. In secured: the new pairs and the header, or an error.
 abbrev pub has_user : BodyValue → Bool
@@ -183,18 +186,12 @@ abbrev pub locks_outcome : Held → BodyValue → Result Locks ErrorCode → Out
 locks_outcome held body change =
     extended (SecuredState held) (record body { locks = changed_or body.locks change }) (change_answer change) held.handle
 
+abbrev pub lock_outcome : Level → ℕ → Held → BodyValue → Outcome
+lock_outcome levels.Opened payload held body = silent (OpenState held) body
+lock_outcome levels.Secured payload held body = locks_outcome held body (locks_after body.locks payload (has_user body))
+
 abbrev pub lock : ℕ → ℕ → StateValue → BodyValue → Outcome
-lock payload rn ReadyState body = silent ReadyState body
-lock payload rn (ArbitrateState session q slot) body = silent (ArbitrateState session q slot) body
-lock payload rn (ReplyState session q own) body = back session q body
-lock payload rn (AcknowledgedState session q own) body = back session q body
-lock payload rn (OpenState held) body =
-    with_handle levels.Opened rn held body (unless_any_half held body (silent (OpenState held) body))
-lock payload rn (SecuredState held) body =
-    with_handle levels.Secured rn held body (unless_any_half held body
-    (locks_outcome held body (locks_after body.locks payload (has_user body))))
-lock payload rn KilledState body = silent KilledState body
-lock payload rn UnpoweredState body = silent UnpoweredState body
+lock payload rn state body = with_level (λ level held rest. heeded rn NoHalf level held rest (lock_outcome level payload held rest)) state body
 
 -- 6.3.2.11.3.6 Access: what both halves give. With the access password the tag is secured; with another value it goes
 -- back, without a reply.
@@ -210,47 +207,26 @@ access_half level (Some half) value held body = access_whole (whole_of half.valu
 
 abbrev pub access_held : Level → ℕ → ℕ → Held → BodyValue → Outcome
 access_held level covered rn held body =
-    with_handle level rn held body (unless_other_half passwords.Access held.half (back held.session held.q body)
-    (uncover level held body covered held.cover (λ bare value. access_half level bare.half value bare body)))
+    heeded rn (HalfOf passwords.Access) level held body
+    (uncover level held body covered held.cover (λ bare value. access_half level bare.half value bare body))
 
 abbrev pub access : ℕ → ℕ → StateValue → BodyValue → Outcome
-access covered rn ReadyState body = silent ReadyState body
-access covered rn (ArbitrateState session q slot) body = silent (ArbitrateState session q slot) body
-access covered rn (ReplyState session q own) body = back session q body
-access covered rn (AcknowledgedState session q own) body = back session q body
-access covered rn (OpenState held) body = access_held levels.Opened covered rn held body
-access covered rn (SecuredState held) body = access_held levels.Secured covered rn held body
-access covered rn KilledState body = silent KilledState body
-access covered rn UnpoweredState body = silent UnpoweredState body
+access covered rn state body = with_level (λ level held rest. access_held level covered rn held rest) state body
 
 -- 6.3.2.11.3.7 BlockWrite
 abbrev pub block_write_held : Level → Bank → ℕ → List ℕ → ℕ → Held → BodyValue → Outcome
 block_write_held level bank pointer words rn held body =
-    with_handle level rn held body (unless_any_half held body
-    (memory_outcome level held body (banks_after_write body.memory body.locks level bank pointer words)))
+    heeded rn NoHalf level held body
+    (memory_outcome level held body (banks_after_write body.memory body.locks level bank pointer words))
 
 abbrev pub block_write : Bank → ℕ → List ℕ → ℕ → StateValue → BodyValue → Outcome
-block_write bank pointer words rn ReadyState body = silent ReadyState body
-block_write bank pointer words rn (ArbitrateState session q slot) body = silent (ArbitrateState session q slot) body
-block_write bank pointer words rn (ReplyState session q own) body = back session q body
-block_write bank pointer words rn (AcknowledgedState session q own) body = back session q body
-block_write bank pointer words rn (OpenState held) body = block_write_held levels.Opened bank pointer words rn held body
-block_write bank pointer words rn (SecuredState held) body = block_write_held levels.Secured bank pointer words rn held body
-block_write bank pointer words rn KilledState body = silent KilledState body
-block_write bank pointer words rn UnpoweredState body = silent UnpoweredState body
+block_write bank pointer words rn state body = with_level (λ level held rest. block_write_held level bank pointer words rn held rest) state body
 
 -- 6.3.2.11.3.8 BlockErase
 abbrev pub block_erase_held : Level → Bank → ℕ → ℕ → ℕ → Held → BodyValue → Outcome
 block_erase_held level bank pointer count rn held body =
-    with_handle level rn held body (unless_any_half held body
-    (memory_outcome level held body (banks_after_erase body.memory body.locks level bank pointer count)))
+    heeded rn NoHalf level held body
+    (memory_outcome level held body (banks_after_erase body.memory body.locks level bank pointer count))
 
 abbrev pub block_erase : Bank → ℕ → ℕ → ℕ → StateValue → BodyValue → Outcome
-block_erase bank pointer count rn ReadyState body = silent ReadyState body
-block_erase bank pointer count rn (ArbitrateState session q slot) body = silent (ArbitrateState session q slot) body
-block_erase bank pointer count rn (ReplyState session q own) body = back session q body
-block_erase bank pointer count rn (AcknowledgedState session q own) body = back session q body
-block_erase bank pointer count rn (OpenState held) body = block_erase_held levels.Opened bank pointer count rn held body
-block_erase bank pointer count rn (SecuredState held) body = block_erase_held levels.Secured bank pointer count rn held body
-block_erase bank pointer count rn KilledState body = silent KilledState body
-block_erase bank pointer count rn UnpoweredState body = silent UnpoweredState body
+block_erase bank pointer count rn state body = with_level (λ level held rest. block_erase_held level bank pointer count rn held rest) state body

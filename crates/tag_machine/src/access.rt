@@ -1,10 +1,8 @@
-//! Req_RN and the access commands, on the states that hear them (6.3.2.11.3 Access commands).
+//! Req_RN and the access commands (6.3.2.11.3 Access commands), each with its rule for all states.
 
 mod lock;
 mod password;
 mod read;
 mod req_rn;
-mod with_handle;
+mod rules;
 mod write;
-
-pub use with_handle::WithHandle;

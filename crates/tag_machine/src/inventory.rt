@@ -1,4 +1,4 @@
-//! The inventory commands and Select, on the states that hear them.
+//! Select and the inventory commands (6.3.2.11.1 and 6.3.2.11.2), each with its rule for all states.
 
 mod ack;
 mod back;

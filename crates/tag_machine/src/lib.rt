@@ -3,6 +3,7 @@
 //! and what events do to it.
 #![tactic(auto)]
 
+mod abilities;
 mod access;
 mod any_tag;
 mod body;

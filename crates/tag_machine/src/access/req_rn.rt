@@ -1,17 +1,19 @@
 //! Req_RN (6.3.2.11.3.1).
 ghost use Rattle.std.specs.Prelude.{◌≡◌, ◌+◌, ◌≤◌};
-ghost use Rattle.tag_machine.specs.Access.{give_handle, req_rn};
-ghost use Rattle.tag_machine.specs.Hearing.{GivesOutcome};
+ghost use Rattle.tag_machine.specs.Access.{give_cover, give_handle, req_rn, req_rn_held};
+ghost use Rattle.tag_machine.specs.Hearing.{GivesOutcome, tag_value_of};
 ghost use Rattle.reply_grammar.specs.Table.{reply_room};
 
-use super::with_handle::WithHandle;
+use super::rules::{Follows, TagWithHandle};
+use crate::abilities::{InTurn, Present};
 use crate::any_tag::{AnyTag, Heard};
 use crate::body::Body;
 use crate::moves::{answer, unanswered};
-use crate::states::{Acknowledged, Held, InReply, Opened, Secured};
+use crate::states::Held;
 use crate::steps::Steps;
 use crate::tag::Tag;
 use bit_strings::{Bits, QValue, Session};
+use lock_rules::Level;
 use reply_grammar::Reply;
 use std::sync::ledger::Ledger;
 
@@ -22,7 +24,11 @@ impl Body {
         ensures { GivesOutcome (give_handle session q self) result out.old out.new }
     {
         let mut body = self;
-        let secured = body.access_word() == 0;
+        let level = if body.access_word() == 0 {
+            Level::Secured
+        } else {
+            Level::Opened
+        };
         let handle = body.draw();
         let held = Held {
             session,
@@ -31,63 +37,88 @@ impl Body {
             cover: None,
             half: None,
         };
-        let tag = if secured {
-            Secured::tag_of(held, body)
-        } else {
-            Opened::tag_of(held, body)
-        };
-        answer(tag, &Reply::Handle(handle), 0, out)
+        let tag = TagWithHandle { level, held, body };
+        answer(tag.tag(), &Reply::Handle(handle), 0, out)
     }
 }
 
-impl Tag<InReply> {
-    /// The tag goes back to arbitrate, whatever the number.
-    pub fn req_rn<L: Ledger>(self, _rn: u16, out: &mut Bits, steps: &mut Steps<L>) -> Heard
-        requires room { reply_room ≤ out.old.capacity }
-        ensures step { GivesOutcome (req_rn _rn self.state self.body) result out.old out.new }
-        ensures counted { steps.new ≡ steps.old + 1 }
+impl TagWithHandle {
+    /// Draws a cover and answers it.
+    fn give_cover(self, out: &mut Bits) -> Heard
+        requires { reply_room ≤ out.old.capacity }
+        ensures { GivesOutcome (give_cover self.level self.held self.body) result out.old out.new }
     {
-        steps.tick();
-        let Tag { state, body } = self;
-        body.go_back(state.session, state.q, out)
-    }
-}
-
-impl Tag<Acknowledged> {
-    /// With the RN16 that was acknowledged the tag draws a handle and answers it. It is then in secured where the access
-    /// password is 0, else in open. Another number changes nothing.
-    pub fn req_rn<L: Ledger>(self, rn: u16, out: &mut Bits, steps: &mut Steps<L>) -> Heard
-        requires room { reply_room ≤ out.old.capacity }
-        ensures step { GivesOutcome (req_rn rn self.state self.body) result out.old out.new }
-        ensures counted { steps.new ≡ steps.old + 1 }
-    {
-        steps.tick();
-        let Tag { state, body } = self;
-        if state.rn != rn {
-            return unanswered(AnyTag::Acknowledged(Tag { state, body }), out);
-        }
-        body.give_handle(state.session, state.q, out)
-    }
-}
-
-impl<S: WithHandle> Tag<S> {
-    /// With the handle the tag draws a cover and answers it; a first half stays. Another number changes nothing.
-    pub fn req_rn<L: Ledger>(self, rn: u16, out: &mut Bits, steps: &mut Steps<L>) -> Heard
-        requires room { reply_room ≤ out.old.capacity }
-        ensures step { GivesOutcome (req_rn rn self.state self.body) result out.old out.new }
-        ensures counted { steps.new ≡ steps.old + 1 }
-    {
-        steps.tick();
-        let Tag { state, mut body } = self;
-        let held = state.held();
-        if held.handle != rn {
-            return unanswered(S::tag_of(held, body), out);
-        }
+        let TagWithHandle {
+            level,
+            held,
+            mut body,
+        } = self;
         let cover = body.draw();
         let held = Held {
             cover: Some(cover),
             ..held
         };
-        answer(S::tag_of(held, body), &Reply::Handle(cover), 0, out)
+        let tag = TagWithHandle { level, held, body };
+        answer(tag.tag(), &Reply::Handle(cover), 0, out)
+    }
+}
+
+impl TagWithHandle {
+    /// Req_RN in open and secured, which may follow each first half.
+    fn req_rn(self, rn: u16, out: &mut Bits) -> Heard
+        requires { reply_room ≤ out.old.capacity }
+        ensures { GivesOutcome (req_rn_held self.level rn self.held self.body) result out.old out.new }
+    {
+        match self.heeding(rn, Follows::AnyHalf, out) {
+            Ok(tag) => tag.give_cover(out),
+            Err(heard) => heard,
+        }
+    }
+}
+
+impl AnyTag {
+    /// Req_RN, in each state.
+    pub(crate) fn req_rn(self, rn: u16, out: &mut Bits) -> Heard
+        requires room { reply_room ≤ out.old.capacity }
+        ensures { GivesOutcome (req_rn rn (tag_value_of self).state (tag_value_of self).body) result out.old out.new }
+    {
+        match self {
+            AnyTag::InReply(Tag { state, body }) => body.go_back(state.session, state.q, out),
+            AnyTag::Acknowledged(Tag { state, body }) => {
+                if state.rn != rn {
+                    return unanswered(state.tag(body), out);
+                }
+                body.give_handle(state.session, state.q, out)
+            }
+            AnyTag::Opened(Tag { state, body }) => {
+                let held = state.held;
+                let level = Level::Opened;
+                TagWithHandle { level, held, body }.req_rn(rn, out)
+            }
+            AnyTag::Secured(Tag { state, body }) => {
+                let held = state.held;
+                let level = Level::Secured;
+                TagWithHandle { level, held, body }.req_rn(rn, out)
+            }
+            AnyTag::Ready(tag) => unanswered(AnyTag::Ready(tag), out),
+            AnyTag::Arbitrate(tag) => unanswered(AnyTag::Arbitrate(tag), out),
+            AnyTag::Killed(tag) => unanswered(AnyTag::Killed(tag), out),
+            AnyTag::Unpowered(tag) => unanswered(AnyTag::Unpowered(tag), out),
+        }
+    }
+}
+
+impl<S: InTurn> Tag<S> {
+    /// In reply the tag goes back to arbitrate, whatever the number. In acknowledged, with the RN16 that was acknowledged, it
+    /// draws a handle and answers it, and is in secured where the access password is 0, else in open. With the handle in open
+    /// and secured it draws a cover and answers it; a first half stays. Another number changes nothing.
+    pub fn req_rn<L: Ledger>(self, rn: u16, out: &mut Bits, steps: &mut Steps<L>) -> Heard
+        requires room { reply_room ≤ out.old.capacity }
+        ensures step { GivesOutcome (req_rn rn self.state self.body) result out.old out.new }
+        ensures counted { steps.new ≡ steps.old + 1 }
+    {
+        steps.tick();
+        let Tag { state, body } = self;
+        state.tag(body).req_rn(rn, out)
     }
 }

@@ -1,18 +1,87 @@
 //! Write, BlockWrite and BlockErase (6.3.2.11.3.3, 6.3.2.11.3.7 and 6.3.2.11.3.8).
 ghost use Rattle.std.specs.Prelude.{◌≡◌, ◌+◌, ◌≤◌};
 ghost use Rattle.tag_machine.specs.Access.{write, block_write, block_erase};
-ghost use Rattle.tag_machine.specs.Hearing.{GivesOutcome};
+ghost use Rattle.tag_machine.specs.Hearing.{GivesOutcome, tag_value_of};
 ghost use Rattle.reply_grammar.specs.Table.{reply_room};
 
-use super::with_handle::WithHandle;
-use crate::any_tag::Heard;
-use crate::moves::{answer_extended, unanswered};
-use crate::states::Held;
+use super::rules::Follows;
+use crate::abilities::WithHandle;
+use crate::any_tag::{AnyTag, Heard};
+use crate::moves::answer_extended;
 use crate::steps::Steps;
 use crate::tag::Tag;
-use bit_strings::{Bits, Count1, Pointer, xor16};
+use bit_strings::{Bits, Count1, Pointer};
 use command_grammar::{Bank, BlockWords};
 use std::sync::ledger::Ledger;
+
+impl AnyTag {
+    /// Write, in each state.
+    pub(crate) fn write(
+        self,
+        bank: Bank,
+        pointer: Pointer,
+        covered: u16,
+        rn: u16,
+        out: &mut Bits,
+    ) -> Heard
+        requires room { reply_room ≤ out.old.capacity }
+        ensures { GivesOutcome (write bank pointer covered rn (tag_value_of self).state (tag_value_of self).body) result out.old out.new }
+    {
+        let tag = match self.heeding(rn, Follows::NoHalf, out) {
+            Ok(tag) => tag,
+            Err(heard) => return heard,
+        };
+        let (mut tag, word) = match tag.uncover(covered, out) {
+            Ok(found) => found,
+            Err(heard) => return heard,
+        };
+        let handle = tag.held.handle;
+        let reply = tag.body.write(tag.level, bank, pointer, word);
+        answer_extended(tag.tag(), &reply, handle, out)
+    }
+
+    /// BlockWrite, in each state.
+    pub(crate) fn block_write(
+        self,
+        bank: Bank,
+        pointer: Pointer,
+        words: &BlockWords,
+        rn: u16,
+        out: &mut Bits,
+    ) -> Heard
+        requires room { reply_room ≤ out.old.capacity }
+        ensures { GivesOutcome (block_write bank pointer words.now rn (tag_value_of self).state (tag_value_of self).body) result out.old out.new }
+    {
+        let mut tag = match self.heeding(rn, Follows::NoHalf, out) {
+            Ok(tag) => tag,
+            Err(heard) => return heard,
+        };
+        let handle = tag.held.handle;
+        let reply = tag.body.block_write(tag.level, bank, pointer, words);
+        answer_extended(tag.tag(), &reply, handle, out)
+    }
+
+    /// BlockErase, in each state.
+    pub(crate) fn block_erase(
+        self,
+        bank: Bank,
+        pointer: Pointer,
+        count: Count1,
+        rn: u16,
+        out: &mut Bits,
+    ) -> Heard
+        requires room { reply_room ≤ out.old.capacity }
+        ensures { GivesOutcome (block_erase bank pointer count rn (tag_value_of self).state (tag_value_of self).body) result out.old out.new }
+    {
+        let mut tag = match self.heeding(rn, Follows::NoHalf, out) {
+            Ok(tag) => tag,
+            Err(heard) => return heard,
+        };
+        let handle = tag.held.handle;
+        let reply = tag.body.block_erase(tag.level, bank, pointer, count);
+        answer_extended(tag.tag(), &reply, handle, out)
+    }
+}
 
 impl<S: WithHandle> Tag<S> {
     /// With the handle and a cover the tag writes the covered number XOR the cover, and answers the header or an error. The
@@ -33,24 +102,7 @@ impl<S: WithHandle> Tag<S> {
     {
         steps.tick();
         let Tag { state, body } = self;
-        let held = state.held();
-        if held.handle != rn {
-            return unanswered(S::tag_of(held, body), out);
-        }
-        if held.half.is_some() {
-            return body.go_back(held.session, held.q, out);
-        }
-        let Some(cover) = held.cover else {
-            return unanswered(S::tag_of(held, body), out);
-        };
-        let mut body = body;
-        let reply = body.write(S::level(), bank, pointer, xor16(covered, cover));
-        let handle = held.handle;
-        let bare = Held {
-            cover: None,
-            ..held
-        };
-        answer_extended(S::tag_of(bare, body), &reply, handle, out)
+        state.tag(body).write(bank, pointer, covered, rn, out)
     }
 
     /// With the handle the tag writes all the words or none, and answers the header or an error. With another number nothing
@@ -70,16 +122,7 @@ impl<S: WithHandle> Tag<S> {
     {
         steps.tick();
         let Tag { state, body } = self;
-        let held = state.held();
-        if held.handle != rn {
-            return unanswered(S::tag_of(held, body), out);
-        }
-        if held.half.is_some() {
-            return body.go_back(held.session, held.q, out);
-        }
-        let mut body = body;
-        let reply = body.block_write(S::level(), bank, pointer, words);
-        answer_extended(S::tag_of(held, body), &reply, held.handle, out)
+        state.tag(body).block_write(bank, pointer, words, rn, out)
     }
 
     /// With the handle the tag erases so many words or none, and answers the header or an error. With another number nothing
@@ -99,15 +142,6 @@ impl<S: WithHandle> Tag<S> {
     {
         steps.tick();
         let Tag { state, body } = self;
-        let held = state.held();
-        if held.handle != rn {
-            return unanswered(S::tag_of(held, body), out);
-        }
-        if held.half.is_some() {
-            return body.go_back(held.session, held.q, out);
-        }
-        let mut body = body;
-        let reply = body.block_erase(S::level(), bank, pointer, count);
-        answer_extended(S::tag_of(held, body), &reply, held.handle, out)
+        state.tag(body).block_erase(bank, pointer, count, rn, out)
     }
 }

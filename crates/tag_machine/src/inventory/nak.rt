@@ -1,33 +1,38 @@
 //! NAK (6.3.2.11.2.5).
 ghost use Rattle.std.specs.Prelude.{◌≡◌, ◌+◌, ◌≤◌};
 ghost use Rattle.tag_machine.specs.Inventory.{nak};
-ghost use Rattle.tag_machine.specs.Hearing.{GivesOutcome};
+ghost use Rattle.tag_machine.specs.Hearing.{GivesOutcome, tag_value_of};
 ghost use Rattle.reply_grammar.specs.Table.{reply_room};
 
-use crate::access::WithHandle;
+use crate::abilities::InRound;
 use crate::any_tag::{AnyTag, Heard};
 use crate::moves::unanswered;
-use crate::states::{Acknowledged, Arbitrate, InReply};
 use crate::steps::Steps;
 use crate::tag::Tag;
 use bit_strings::Bits;
 use std::sync::ledger::Ledger;
 
-impl Tag<Arbitrate> {
-    /// Nothing changes.
-    pub fn nak<L: Ledger>(self, out: &mut Bits, steps: &mut Steps<L>) -> Heard
-        requires room { reply_room ≤ out.old.capacity }
-        ensures step { GivesOutcome (nak self.state self.body) result out.old out.new }
-        ensures counted { steps.new ≡ steps.old + 1 }
+impl AnyTag {
+    /// NAK, in each state.
+    pub(crate) fn nak(self, out: &mut Bits) -> Heard
+        ensures { GivesOutcome (nak (tag_value_of self).state (tag_value_of self).body) result out.old out.new }
     {
-        steps.tick();
-        let Tag { state, body } = self;
-        unanswered(AnyTag::Arbitrate(Tag { state, body }), out)
+        match self {
+            AnyTag::InReply(Tag { state, body }) => body.go_back(state.session, state.q, out),
+            AnyTag::Acknowledged(Tag { state, body }) => body.go_back(state.session, state.q, out),
+            AnyTag::Opened(Tag { state, body }) => {
+                body.go_back(state.held.session, state.held.q, out)
+            }
+            AnyTag::Secured(Tag { state, body }) => {
+                body.go_back(state.held.session, state.held.q, out)
+            }
+            other => unanswered(other, out),
+        }
     }
 }
 
-impl Tag<InReply> {
-    /// The tag goes back to arbitrate.
+impl<S: InRound> Tag<S> {
+    /// The tag goes back to arbitrate. In arbitrate nothing changes.
     pub fn nak<L: Ledger>(self, out: &mut Bits, steps: &mut Steps<L>) -> Heard
         requires room { reply_room ≤ out.old.capacity }
         ensures step { GivesOutcome (nak self.state self.body) result out.old out.new }
@@ -35,33 +40,6 @@ impl Tag<InReply> {
     {
         steps.tick();
         let Tag { state, body } = self;
-        body.go_back(state.session, state.q, out)
-    }
-}
-
-impl Tag<Acknowledged> {
-    /// The tag goes back to arbitrate.
-    pub fn nak<L: Ledger>(self, out: &mut Bits, steps: &mut Steps<L>) -> Heard
-        requires room { reply_room ≤ out.old.capacity }
-        ensures step { GivesOutcome (nak self.state self.body) result out.old out.new }
-        ensures counted { steps.new ≡ steps.old + 1 }
-    {
-        steps.tick();
-        let Tag { state, body } = self;
-        body.go_back(state.session, state.q, out)
-    }
-}
-
-impl<S: WithHandle> Tag<S> {
-    /// The tag goes back to arbitrate.
-    pub fn nak<L: Ledger>(self, out: &mut Bits, steps: &mut Steps<L>) -> Heard
-        requires room { reply_room ≤ out.old.capacity }
-        ensures step { GivesOutcome (nak self.state self.body) result out.old out.new }
-        ensures counted { steps.new ≡ steps.old + 1 }
-    {
-        steps.tick();
-        let Tag { state, body } = self;
-        let held = state.held();
-        body.go_back(held.session, held.q, out)
+        state.tag(body).nak(out)
     }
 }

@@ -1,14 +1,14 @@
 //! Query (6.3.2.11.2.1).
 ghost use Rattle.std.specs.Prelude.{◌≡◌, ◌+◌, ◌≤◌};
 ghost use Rattle.tag_machine.specs.Inventory.{query, take_part, body_after_close};
-ghost use Rattle.tag_machine.specs.Hearing.{GivesOutcome};
+ghost use Rattle.tag_machine.specs.Hearing.{GivesOutcome, tag_value_of};
 ghost use Rattle.reply_grammar.specs.Table.{reply_room};
 
-use crate::access::WithHandle;
+use crate::abilities::Present;
 use crate::any_tag::{AnyTag, Heard};
 use crate::body::Body;
 use crate::moves::unanswered;
-use crate::states::{Acknowledged, Arbitrate, InReply, Ready};
+use crate::states::Ready;
 use crate::steps::Steps;
 use crate::tag::Tag;
 use bit_strings::{Bits, Code, QValue, Session};
@@ -46,82 +46,47 @@ impl Body {
     }
 }
 
-impl Tag<Ready> {
-    /// A tag that matches takes part in the round: it draws its slot, and answers an RN16 where that is 0.
-    /// Another stays ready.
-    pub fn query<L: Ledger>(
+impl AnyTag {
+    /// Query, in each state.
+    pub(crate) fn query(
         self,
-        _dr: bool,
-        _code: Code,
-        _trext: bool,
         sel: Sel,
         session: Session,
         target: Side,
         q: QValue,
         out: &mut Bits,
-        steps: &mut Steps<L>,
     ) -> Heard
         requires room { reply_room ≤ out.old.capacity }
-        ensures step { GivesOutcome (query sel session target q self.state self.body) result out.old out.new }
-        ensures counted { steps.new ≡ steps.old + 1 }
+        ensures { GivesOutcome (query sel session target q (tag_value_of self).state (tag_value_of self).body) result out.old out.new }
     {
-        steps.tick();
-        let Tag { state: _, body } = self;
-        body.take_part(sel, session, target, q, out)
+        match self {
+            AnyTag::Ready(Tag { state: _, body })
+            | AnyTag::Arbitrate(Tag { state: _, body })
+            | AnyTag::InReply(Tag { state: _, body }) => {
+                body.take_part(sel, session, target, q, out)
+            }
+            AnyTag::Acknowledged(Tag { state, body }) => {
+                let body = body.closed_before(state.session, session);
+                body.take_part(sel, session, target, q, out)
+            }
+            AnyTag::Opened(Tag { state, body }) => {
+                let body = body.closed_before(state.held.session, session);
+                body.take_part(sel, session, target, q, out)
+            }
+            AnyTag::Secured(Tag { state, body }) => {
+                let body = body.closed_before(state.held.session, session);
+                body.take_part(sel, session, target, q, out)
+            }
+            AnyTag::Killed(tag) => unanswered(AnyTag::Killed(tag), out),
+            AnyTag::Unpowered(tag) => unanswered(AnyTag::Unpowered(tag), out),
+        }
     }
 }
 
-impl Tag<Arbitrate> {
-    /// A tag that matches takes part in the new round, as in [`Ready`]. Another is ready.
-    pub fn query<L: Ledger>(
-        self,
-        _dr: bool,
-        _code: Code,
-        _trext: bool,
-        sel: Sel,
-        session: Session,
-        target: Side,
-        q: QValue,
-        out: &mut Bits,
-        steps: &mut Steps<L>,
-    ) -> Heard
-        requires room { reply_room ≤ out.old.capacity }
-        ensures step { GivesOutcome (query sel session target q self.state self.body) result out.old out.new }
-        ensures counted { steps.new ≡ steps.old + 1 }
-    {
-        steps.tick();
-        let Tag { state: _, body } = self;
-        body.take_part(sel, session, target, q, out)
-    }
-}
-
-impl Tag<InReply> {
-    /// A tag that matches takes part in the new round, as in [`Ready`]. Another is ready.
-    pub fn query<L: Ledger>(
-        self,
-        _dr: bool,
-        _code: Code,
-        _trext: bool,
-        sel: Sel,
-        session: Session,
-        target: Side,
-        q: QValue,
-        out: &mut Bits,
-        steps: &mut Steps<L>,
-    ) -> Heard
-        requires room { reply_room ≤ out.old.capacity }
-        ensures step { GivesOutcome (query sel session target q self.state self.body) result out.old out.new }
-        ensures counted { steps.new ≡ steps.old + 1 }
-    {
-        steps.tick();
-        let Tag { state: _, body } = self;
-        body.take_part(sel, session, target, q, out)
-    }
-}
-
-impl Tag<Acknowledged> {
-    /// Where the session is the tag's, its flag is inverted first. Then a tag that matches takes part in the
-    /// new round, and another is ready.
+impl<S: Present> Tag<S> {
+    /// In acknowledged, open and secured the flag of the tag's session is inverted first, where it is the session of the
+    /// Query. Then a tag that matches takes part in the new round: it draws its slot, and answers an RN16 where that is 0.
+    /// Another is ready.
     pub fn query<L: Ledger>(
         self,
         _dr: bool,
@@ -140,34 +105,6 @@ impl Tag<Acknowledged> {
     {
         steps.tick();
         let Tag { state, body } = self;
-        let body = body.closed_before(state.session, session);
-        body.take_part(sel, session, target, q, out)
-    }
-}
-
-impl<S: WithHandle> Tag<S> {
-    /// Where the session is the tag's, its flag is inverted first. Then a tag that matches takes part in the
-    /// new round, and another is ready.
-    pub fn query<L: Ledger>(
-        self,
-        _dr: bool,
-        _code: Code,
-        _trext: bool,
-        sel: Sel,
-        session: Session,
-        target: Side,
-        q: QValue,
-        out: &mut Bits,
-        steps: &mut Steps<L>,
-    ) -> Heard
-        requires room { reply_room ≤ out.old.capacity }
-        ensures step { GivesOutcome (query sel session target q self.state self.body) result out.old out.new }
-        ensures counted { steps.new ≡ steps.old + 1 }
-    {
-        steps.tick();
-        let Tag { state, body } = self;
-        let held = state.held();
-        let body = body.closed_before(held.session, session);
-        body.take_part(sel, session, target, q, out)
+        state.tag(body).query(sel, session, target, q, out)
     }
 }

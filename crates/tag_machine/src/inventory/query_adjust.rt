@@ -1,13 +1,12 @@
 //! QueryAdjust (6.3.2.11.2.2).
 ghost use Rattle.std.specs.Prelude.{◌≡◌, ◌+◌, ◌≤◌};
 ghost use Rattle.tag_machine.specs.Inventory.{query_adjust, q_after_adjust};
-ghost use Rattle.tag_machine.specs.Hearing.{GivesOutcome};
+ghost use Rattle.tag_machine.specs.Hearing.{GivesOutcome, tag_value_of};
 ghost use Rattle.reply_grammar.specs.Table.{reply_room};
 
-use crate::access::WithHandle;
+use crate::abilities::{InRound, Present};
 use crate::any_tag::{AnyTag, Heard};
 use crate::moves::unanswered;
-use crate::states::{Acknowledged, Arbitrate, InReply};
 use crate::steps::Steps;
 use crate::tag::Tag;
 use bit_strings::{Bits, QValue, Session};
@@ -27,9 +26,40 @@ fn adjusted(updn: UpDn, q: QValue) -> QValue
     QValue::new(number).unwrap_or(q)
 }
 
-impl Tag<Arbitrate> {
-    /// Q rises or falls by one or stays, and the tag draws its slot again. A QueryAdjust of another session
-    /// changes nothing.
+impl AnyTag {
+    /// QueryAdjust, in each state.
+    pub(crate) fn query_adjust(self, session: Session, updn: UpDn, out: &mut Bits) -> Heard
+        requires room { reply_room ≤ out.old.capacity }
+        ensures { GivesOutcome (query_adjust session updn (tag_value_of self).state (tag_value_of self).body) result out.old out.new }
+    {
+        match self {
+            AnyTag::Arbitrate(Tag { state, body }) => {
+                if state.session != session {
+                    return unanswered(state.tag(body), out);
+                }
+                body.enter(session, adjusted(updn, state.q), out)
+            }
+            AnyTag::InReply(Tag { state, body }) => {
+                if state.session != session {
+                    return unanswered(state.tag(body), out);
+                }
+                body.enter(session, adjusted(updn, state.q), out)
+            }
+            // The turn of a tag that was inventoried ends as at a QueryRep.
+            AnyTag::Acknowledged(tag) => AnyTag::Acknowledged(tag).query_rep(session, out),
+            AnyTag::Opened(tag) => AnyTag::Opened(tag).query_rep(session, out),
+            AnyTag::Secured(tag) => AnyTag::Secured(tag).query_rep(session, out),
+            AnyTag::Ready(tag) => unanswered(AnyTag::Ready(tag), out),
+            AnyTag::Killed(tag) => unanswered(AnyTag::Killed(tag), out),
+            AnyTag::Unpowered(tag) => unanswered(AnyTag::Unpowered(tag), out),
+        }
+    }
+}
+
+impl<S: InRound> Tag<S> {
+    /// In arbitrate and reply Q rises or falls by one or stays, and the tag draws its slot again. In acknowledged, open and
+    /// secured the tag was inventoried: its flag is inverted, and it is ready; with an unfinished Kill or Access it goes back
+    /// to arbitrate. A QueryAdjust of another session changes nothing.
     pub fn query_adjust<L: Ledger>(
         self,
         session: Session,
@@ -43,79 +73,6 @@ impl Tag<Arbitrate> {
     {
         steps.tick();
         let Tag { state, body } = self;
-        if state.session != session {
-            return unanswered(AnyTag::Arbitrate(Tag { state, body }), out);
-        }
-        body.enter(session, adjusted(updn, state.q), out)
-    }
-}
-
-impl Tag<InReply> {
-    /// Q rises or falls by one or stays, and the tag draws its slot again. A QueryAdjust of another session
-    /// changes nothing.
-    pub fn query_adjust<L: Ledger>(
-        self,
-        session: Session,
-        updn: UpDn,
-        out: &mut Bits,
-        steps: &mut Steps<L>,
-    ) -> Heard
-        requires room { reply_room ≤ out.old.capacity }
-        ensures step { GivesOutcome (query_adjust session updn self.state self.body) result out.old out.new }
-        ensures counted { steps.new ≡ steps.old + 1 }
-    {
-        steps.tick();
-        let Tag { state, body } = self;
-        if state.session != session {
-            return unanswered(AnyTag::InReply(Tag { state, body }), out);
-        }
-        body.enter(session, adjusted(updn, state.q), out)
-    }
-}
-
-impl Tag<Acknowledged> {
-    /// The tag was inventoried: its flag is inverted, and it is ready. A QueryAdjust of another session changes
-    /// nothing.
-    pub fn query_adjust<L: Ledger>(
-        self,
-        session: Session,
-        _updn: UpDn,
-        out: &mut Bits,
-        steps: &mut Steps<L>,
-    ) -> Heard
-        requires room { reply_room ≤ out.old.capacity }
-        ensures step { GivesOutcome (query_adjust session _updn self.state self.body) result out.old out.new }
-        ensures counted { steps.new ≡ steps.old + 1 }
-    {
-        steps.tick();
-        let Tag { state, body } = self;
-        if state.session != session {
-            return unanswered(AnyTag::Acknowledged(Tag { state, body }), out);
-        }
-        body.close(session, out)
-    }
-}
-
-impl<S: WithHandle> Tag<S> {
-    /// The tag was inventoried: its flag is inverted, and it is ready; with an unfinished Kill or Access it goes
-    /// back to arbitrate. A QueryAdjust of another session changes nothing.
-    pub fn query_adjust<L: Ledger>(
-        self,
-        session: Session,
-        _updn: UpDn,
-        out: &mut Bits,
-        steps: &mut Steps<L>,
-    ) -> Heard
-        requires room { reply_room ≤ out.old.capacity }
-        ensures step { GivesOutcome (query_adjust session _updn self.state self.body) result out.old out.new }
-        ensures counted { steps.new ≡ steps.old + 1 }
-    {
-        steps.tick();
-        let Tag { state, body } = self;
-        let held = state.held();
-        if held.session != session {
-            return unanswered(S::tag_of(held, body), out);
-        }
-        body.end_turn(session, held, out)
+        state.tag(body).query_adjust(session, updn, out)
     }
 }

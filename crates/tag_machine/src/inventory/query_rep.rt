@@ -1,14 +1,14 @@
 //! QueryRep (6.3.2.11.2.3).
 ghost use Rattle.std.specs.Prelude.{◌≡◌, ◌+◌, ◌≤◌};
 ghost use Rattle.tag_machine.specs.Inventory.{query_rep, slot_below, count_down, end_turn};
-ghost use Rattle.tag_machine.specs.Hearing.{GivesOutcome};
+ghost use Rattle.tag_machine.specs.Hearing.{GivesOutcome, tag_value_of};
 ghost use Rattle.reply_grammar.specs.Table.{reply_room};
 
-use crate::access::WithHandle;
+use crate::abilities::{InRound, Present};
 use crate::any_tag::{AnyTag, Heard};
 use crate::body::Body;
 use crate::moves::unanswered;
-use crate::states::{Acknowledged, Arbitrate, Held, InReply, Slot};
+use crate::states::{Arbitrate, Held, Slot};
 use crate::steps::Steps;
 use crate::tag::Tag;
 use bit_strings::{Bits, QValue, Session};
@@ -56,31 +56,60 @@ impl Body {
     }
 }
 
-impl Tag<Arbitrate> {
-    /// The slot counter falls by one, and where it becomes 0 the tag answers an RN16. A QueryRep of another
-    /// session changes nothing.
-    pub fn query_rep<L: Ledger>(
-        self,
-        session: Session,
-        out: &mut Bits,
-        steps: &mut Steps<L>,
-    ) -> Heard
+impl AnyTag {
+    /// QueryRep, in each state.
+    pub(crate) fn query_rep(self, session: Session, out: &mut Bits) -> Heard
         requires room { reply_room ≤ out.old.capacity }
-        ensures step { GivesOutcome (query_rep session self.state self.body) result out.old out.new }
-        ensures counted { steps.new ≡ steps.old + 1 }
+        ensures { GivesOutcome (query_rep session (tag_value_of self).state (tag_value_of self).body) result out.old out.new }
     {
-        steps.tick();
-        let Tag { state, body } = self;
-        if state.session != session {
-            return unanswered(AnyTag::Arbitrate(Tag { state, body }), out);
+        match self {
+            AnyTag::Arbitrate(Tag { state, body }) => {
+                if state.session != session {
+                    return unanswered(state.tag(body), out);
+                }
+                body.count_down(session, state.q, state.slot, out)
+            }
+            AnyTag::InReply(Tag { state, body }) => {
+                if state.session != session {
+                    return unanswered(state.tag(body), out);
+                }
+                let state = Arbitrate {
+                    session,
+                    q: state.q,
+                    slot: Slot::new(0x7FFF),
+                };
+                unanswered(state.tag(body), out)
+            }
+            AnyTag::Acknowledged(Tag { state, body }) => {
+                if state.session != session {
+                    return unanswered(state.tag(body), out);
+                }
+                body.close(session, out)
+            }
+            AnyTag::Opened(Tag { state, body }) => {
+                if state.held.session != session {
+                    return unanswered(state.tag(body), out);
+                }
+                body.end_turn(session, state.held, out)
+            }
+            AnyTag::Secured(Tag { state, body }) => {
+                if state.held.session != session {
+                    return unanswered(state.tag(body), out);
+                }
+                body.end_turn(session, state.held, out)
+            }
+            AnyTag::Ready(tag) => unanswered(AnyTag::Ready(tag), out),
+            AnyTag::Killed(tag) => unanswered(AnyTag::Killed(tag), out),
+            AnyTag::Unpowered(tag) => unanswered(AnyTag::Unpowered(tag), out),
         }
-        body.count_down(session, state.q, state.slot, out)
     }
 }
 
-impl Tag<InReply> {
-    /// The RN16 was not acknowledged: the tag is in arbitrate with slot 7FFFh. A QueryRep of another session
-    /// changes nothing.
+impl<S: InRound> Tag<S> {
+    /// In arbitrate the slot counter falls by one, and where it becomes 0 the tag answers an RN16. In reply the RN16 was not
+    /// acknowledged, and the tag is in arbitrate with slot 7FFFh. In acknowledged, open and secured the tag was inventoried:
+    /// its flag is inverted, and it is ready; with an unfinished Kill or Access it goes back to arbitrate. A QueryRep of
+    /// another session changes nothing.
     pub fn query_rep<L: Ledger>(
         self,
         session: Session,
@@ -93,59 +122,6 @@ impl Tag<InReply> {
     {
         steps.tick();
         let Tag { state, body } = self;
-        if state.session != session {
-            return unanswered(AnyTag::InReply(Tag { state, body }), out);
-        }
-        let state = Arbitrate {
-            session,
-            q: state.q,
-            slot: Slot::new(0x7FFF),
-        };
-        unanswered(AnyTag::Arbitrate(Tag { state, body }), out)
-    }
-}
-
-impl Tag<Acknowledged> {
-    /// The tag was inventoried: its flag is inverted, and it is ready. A QueryRep of another session changes
-    /// nothing.
-    pub fn query_rep<L: Ledger>(
-        self,
-        session: Session,
-        out: &mut Bits,
-        steps: &mut Steps<L>,
-    ) -> Heard
-        requires room { reply_room ≤ out.old.capacity }
-        ensures step { GivesOutcome (query_rep session self.state self.body) result out.old out.new }
-        ensures counted { steps.new ≡ steps.old + 1 }
-    {
-        steps.tick();
-        let Tag { state, body } = self;
-        if state.session != session {
-            return unanswered(AnyTag::Acknowledged(Tag { state, body }), out);
-        }
-        body.close(session, out)
-    }
-}
-
-impl<S: WithHandle> Tag<S> {
-    /// The tag was inventoried: its flag is inverted, and it is ready; with an unfinished Kill or Access it goes
-    /// back to arbitrate. A QueryRep of another session changes nothing.
-    pub fn query_rep<L: Ledger>(
-        self,
-        session: Session,
-        out: &mut Bits,
-        steps: &mut Steps<L>,
-    ) -> Heard
-        requires room { reply_room ≤ out.old.capacity }
-        ensures step { GivesOutcome (query_rep session self.state self.body) result out.old out.new }
-        ensures counted { steps.new ≡ steps.old + 1 }
-    {
-        steps.tick();
-        let Tag { state, body } = self;
-        let held = state.held();
-        if held.session != session {
-            return unanswered(S::tag_of(held, body), out);
-        }
-        body.end_turn(session, held, out)
+        state.tag(body).query_rep(session, out)
     }
 }

@@ -2,14 +2,14 @@
 ghost use Rattle.std.specs.Prelude.{◌≡◌, ◌+◌, ◌≤◌};
 ghost use Rattle.tag_machine.specs.Draws.{back};
 ghost use Rattle.tag_machine.specs.Inventory.{select, selected_ready, unless_half};
-ghost use Rattle.tag_machine.specs.Hearing.{GivesOutcome};
+ghost use Rattle.tag_machine.specs.Hearing.{GivesOutcome, tag_value_of};
 ghost use Rattle.reply_grammar.specs.Table.{reply_room};
 
-use crate::access::WithHandle;
+use crate::abilities::Present;
 use crate::any_tag::{AnyTag, Heard};
 use crate::body::Body;
 use crate::moves::unanswered;
-use crate::states::{Acknowledged, Arbitrate, Held, InReply, Ready};
+use crate::states::{Held, Ready};
 use crate::steps::Steps;
 use crate::tag::Tag;
 use bit_strings::{Action, Bits, Pointer};
@@ -54,9 +54,9 @@ impl Body {
     }
 }
 
-impl Tag<Ready> {
-    /// The flag changes by the action, and the tag is ready.
-    pub fn select<L: Ledger>(
+impl AnyTag {
+    /// Select, in each state.
+    pub(crate) fn select(
         self,
         target: FlagName,
         action: Action,
@@ -64,85 +64,29 @@ impl Tag<Ready> {
         pointer: Pointer,
         mask: &Mask,
         out: &mut Bits,
-        steps: &mut Steps<L>,
     ) -> Heard
-        requires room { reply_room ≤ out.old.capacity }
-        ensures step { GivesOutcome (select target action bank pointer mask.now self.state self.body) result out.old out.new }
-        ensures counted { steps.new ≡ steps.old + 1 }
+        ensures { GivesOutcome (select target action bank pointer mask.now (tag_value_of self).state (tag_value_of self).body) result out.old out.new }
     {
-        steps.tick();
-        let Tag { state: _, body } = self;
-        body.select_ready(target, action, bank, pointer, mask, out)
+        match self {
+            AnyTag::Ready(Tag { state: _, body })
+            | AnyTag::Arbitrate(Tag { state: _, body })
+            | AnyTag::InReply(Tag { state: _, body })
+            | AnyTag::Acknowledged(Tag { state: _, body }) => {
+                body.select_ready(target, action, bank, pointer, mask, out)
+            }
+            AnyTag::Opened(Tag { state, body }) => {
+                body.select_held(state.held, target, action, bank, pointer, mask, out)
+            }
+            AnyTag::Secured(Tag { state, body }) => {
+                body.select_held(state.held, target, action, bank, pointer, mask, out)
+            }
+            AnyTag::Killed(tag) => unanswered(AnyTag::Killed(tag), out),
+            AnyTag::Unpowered(tag) => unanswered(AnyTag::Unpowered(tag), out),
+        }
     }
 }
 
-impl Tag<Arbitrate> {
-    /// The flag changes by the action, and the tag is ready.
-    pub fn select<L: Ledger>(
-        self,
-        target: FlagName,
-        action: Action,
-        bank: MaskBank,
-        pointer: Pointer,
-        mask: &Mask,
-        out: &mut Bits,
-        steps: &mut Steps<L>,
-    ) -> Heard
-        requires room { reply_room ≤ out.old.capacity }
-        ensures step { GivesOutcome (select target action bank pointer mask.now self.state self.body) result out.old out.new }
-        ensures counted { steps.new ≡ steps.old + 1 }
-    {
-        steps.tick();
-        let Tag { state: _, body } = self;
-        body.select_ready(target, action, bank, pointer, mask, out)
-    }
-}
-
-impl Tag<InReply> {
-    /// The flag changes by the action, and the tag is ready.
-    pub fn select<L: Ledger>(
-        self,
-        target: FlagName,
-        action: Action,
-        bank: MaskBank,
-        pointer: Pointer,
-        mask: &Mask,
-        out: &mut Bits,
-        steps: &mut Steps<L>,
-    ) -> Heard
-        requires room { reply_room ≤ out.old.capacity }
-        ensures step { GivesOutcome (select target action bank pointer mask.now self.state self.body) result out.old out.new }
-        ensures counted { steps.new ≡ steps.old + 1 }
-    {
-        steps.tick();
-        let Tag { state: _, body } = self;
-        body.select_ready(target, action, bank, pointer, mask, out)
-    }
-}
-
-impl Tag<Acknowledged> {
-    /// The flag changes by the action, and the tag is ready.
-    pub fn select<L: Ledger>(
-        self,
-        target: FlagName,
-        action: Action,
-        bank: MaskBank,
-        pointer: Pointer,
-        mask: &Mask,
-        out: &mut Bits,
-        steps: &mut Steps<L>,
-    ) -> Heard
-        requires room { reply_room ≤ out.old.capacity }
-        ensures step { GivesOutcome (select target action bank pointer mask.now self.state self.body) result out.old out.new }
-        ensures counted { steps.new ≡ steps.old + 1 }
-    {
-        steps.tick();
-        let Tag { state: _, body } = self;
-        body.select_ready(target, action, bank, pointer, mask, out)
-    }
-}
-
-impl<S: WithHandle> Tag<S> {
+impl<S: Present> Tag<S> {
     /// The flag changes by the action, and the tag is ready. With an unfinished Kill or Access no flag changes,
     /// and the tag goes back to arbitrate.
     pub fn select<L: Ledger>(
@@ -161,7 +105,8 @@ impl<S: WithHandle> Tag<S> {
     {
         steps.tick();
         let Tag { state, body } = self;
-        let held = state.held();
-        body.select_held(held, target, action, bank, pointer, mask, out)
+        state
+            .tag(body)
+            .select(target, action, bank, pointer, mask, out)
     }
 }

@@ -1,0 +1,107 @@
+//! Which states hear which commands. A command that a state doesn't hear is no call of a tag in it.
+ghost use Rattle.std.specs.Prelude.{◌≡◌};
+
+use crate::any_tag::AnyTag;
+use crate::body::Body;
+use crate::states::{Acknowledged, Arbitrate, InReply, Opened, Ready, Secured, State};
+use crate::tag::Tag;
+use bit_strings::{QValue, Session};
+
+/// A state that hears Query and Select: each but killed and without power.
+pub trait Present: State {
+    ghost use Rattle.tag_machine.specs.Hearing.{tag_value_of};
+
+    /// The tag in this state.
+    fn tag(self, body: Body) -> AnyTag
+        ensures { tag_value_of result ≡ record { state = Self.value self; body = body } };
+}
+
+/// A state in which a tag takes part in a round, and hears QueryRep, QueryAdjust and NAK.
+pub trait InRound: Present {}
+
+/// A state in which a tag's slot has come, and it hears ACK and Req_RN: reply, acknowledged, open and secured.
+pub trait InTurn: InRound {
+    ghost use Rattle.tag_machine.specs.TagValue.{BodyValue};
+    ghost use Rattle.tag_machine.specs.Draws.{tag_back, tag_gone_back};
+
+    /// The session and Q of the round.
+    fn round(&self) -> (Session, QValue)
+        ensures { (body : BodyValue) → tag_gone_back (Self.value self.now) body ≡ tag_back result.0 result.1 body };
+}
+
+/// A state with a handle, in which a tag hears the access commands: open or secured.
+pub trait WithHandle: InTurn {}
+
+impl Present for Ready {
+    fn tag(self, body: Body) -> AnyTag {
+        AnyTag::Ready(Tag { state: self, body })
+    }
+}
+
+impl Present for Arbitrate {
+    fn tag(self, body: Body) -> AnyTag {
+        AnyTag::Arbitrate(Tag { state: self, body })
+    }
+}
+
+impl Present for InReply {
+    fn tag(self, body: Body) -> AnyTag {
+        AnyTag::InReply(Tag { state: self, body })
+    }
+}
+
+impl Present for Acknowledged {
+    fn tag(self, body: Body) -> AnyTag {
+        AnyTag::Acknowledged(Tag { state: self, body })
+    }
+}
+
+impl Present for Opened {
+    fn tag(self, body: Body) -> AnyTag {
+        AnyTag::Opened(Tag { state: self, body })
+    }
+}
+
+impl Present for Secured {
+    fn tag(self, body: Body) -> AnyTag {
+        AnyTag::Secured(Tag { state: self, body })
+    }
+}
+
+impl InRound for Arbitrate {}
+
+impl InRound for InReply {}
+
+impl InRound for Acknowledged {}
+
+impl InRound for Opened {}
+
+impl InRound for Secured {}
+
+impl InTurn for InReply {
+    fn round(&self) -> (Session, QValue) {
+        (self.session, self.q)
+    }
+}
+
+impl InTurn for Acknowledged {
+    fn round(&self) -> (Session, QValue) {
+        (self.session, self.q)
+    }
+}
+
+impl InTurn for Opened {
+    fn round(&self) -> (Session, QValue) {
+        (self.held.session, self.held.q)
+    }
+}
+
+impl InTurn for Secured {
+    fn round(&self) -> (Session, QValue) {
+        (self.held.session, self.held.q)
+    }
+}
+
+impl WithHandle for Opened {}
+
+impl WithHandle for Secured {}

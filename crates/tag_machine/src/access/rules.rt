@@ -1,0 +1,139 @@
+//! The rules that stand before an access command, in their order (6.3.2.11.3): the tag has a handle, the command carries it,
+//! an unfinished Kill or Access goes on, and the covered number of a Write, Kill or Access has a cover.
+ghost use Rattle.std.specs.Prelude.{◌≡◌, ℕ, IfOk, IfErr, OnOk, if◌then◌else◌};
+ghost use Rattle.lock_rules.specs.declared.terms.Level.{Level};
+ghost use Rattle.tag_machine.specs.declared.states.Held.{Held};
+ghost use Rattle.tag_machine.specs.TagValue.{BodyValue};
+ghost use Rattle.tag_machine.specs.Answers.{Outcome};
+ghost use Rattle.tag_machine.specs.Access.{held_state, heeded, in_access, uncover, unless_ended};
+ghost use Rattle.tag_machine.specs.Draws.{back};
+ghost use Rattle.tag_machine.specs.Hearing.{GivesOutcome, tag_value_of};
+
+use crate::abilities::Present;
+use crate::any_tag::{AnyTag, Heard};
+use crate::body::Body;
+use crate::moves::unanswered;
+use crate::states::{Held, Opened, Password, Secured};
+use crate::tag::Tag;
+use bit_strings::{Bits, xor16};
+use lock_rules::Level;
+
+/// The first half of a Kill or an Access that a command may follow. After another the tag goes back to arbitrate.
+#[derive(Clone, Copy, Debug, PartialEq, Eq)]
+pub enum Follows {
+    /// Each one.
+    AnyHalf,
+    /// One of this password.
+    HalfOf(Password),
+    /// None.
+    NoHalf,
+}
+
+/// A tag in open or secured. What it permits goes by the level.
+#[derive(Drop)]
+pub struct TagWithHandle {
+    /// Open or secured.
+    pub level: Level,
+    /// The numbers that the state holds.
+    pub held: Held,
+    /// What the tag holds in every state.
+    pub body: Body,
+}
+
+impl Held {
+    /// Whether an unfinished Kill or Access ends where a command comes.
+    fn ends(&self, follows: Follows) -> bool
+        ensures { (body : BodyValue) (outcome : Outcome) → unless_ended follows self.now body outcome ≡ (if result then back self.now.session self.now.q body else outcome) }
+    {
+        match (self.half, follows) {
+            (Some(_), Follows::NoHalf) => true,
+            (Some(half), Follows::HalfOf(password)) => half.password != password,
+            (Some(_), Follows::AnyHalf) | (None, _) => false,
+        }
+    }
+}
+
+impl TagWithHandle {
+    /// The tag.
+    pub fn tag(self) -> AnyTag
+        ensures { tag_value_of result ≡ record { state = held_state self.level self.held; body = self.body } }
+    {
+        let TagWithHandle { level, held, body } = self;
+        match level {
+            Level::Opened => Opened { held }.tag(body),
+            Level::Secured => Secured { held }.tag(body),
+        }
+    }
+
+    /// The tag where it heeds a command with this number, else what comes of the command: with another number than the handle
+    /// nothing changes, and after a first half that the command may not follow the tag goes back.
+    pub fn heeding(self, rn: u16, follows: Follows, out: &mut Bits) -> Result<TagWithHandle, Heard>
+        ensures ok { IfOk result (λ tag. (tag ≡ self) × ((outcome : Outcome) → heeded rn follows self.level self.held self.body outcome ≡ outcome)) }
+        ensures err { IfErr result (λ heard. (outcome : Outcome) → GivesOutcome (heeded rn follows self.level self.held self.body outcome) heard out.old out.new) }
+        ensures untouched { OnOk result (out.new ≡ out.old) }
+    {
+        if self.held.handle != rn {
+            return Err(unanswered(self.tag(), out));
+        }
+        if self.held.ends(follows) {
+            return Err(self.body.go_back(self.held.session, self.held.q, out));
+        }
+        Ok(self)
+    }
+
+    /// The number under a cover, and the tag, which uses the cover up. Without a cover nothing changes, and there is no reply.
+    pub fn uncover(self, covered: u16, out: &mut Bits) -> Result<(TagWithHandle, u16), Heard>
+        ensures ok { IfOk result (λ found. (found.0.level ≡ self.level) × (found.0.body ≡ self.body) × ((acts : Held → ℕ → Outcome) → uncover self.level self.held self.body covered self.held.cover acts ≡ acts found.0.held found.1)) }
+        ensures err { IfErr result (λ heard. (acts : Held → ℕ → Outcome) → GivesOutcome (uncover self.level self.held self.body covered self.held.cover acts) heard out.old out.new) }
+        ensures untouched { OnOk result (out.new ≡ out.old) }
+    {
+        let Some(cover) = self.held.cover else {
+            return Err(unanswered(self.tag(), out));
+        };
+        let TagWithHandle { level, held, body } = self;
+        let held = Held {
+            cover: None,
+            ..held
+        };
+        Ok((TagWithHandle { level, held, body }, xor16(covered, cover)))
+    }
+}
+
+impl AnyTag {
+    /// The tag where it heeds an access command with this number, else what comes of the command: in reply and acknowledged the
+    /// tag goes back, in the other states without a handle nothing changes, and in open and secured the rules of
+    /// [`TagWithHandle::heeding`] hold.
+    pub(crate) fn heeding(
+        self,
+        rn: u16,
+        follows: Follows,
+        out: &mut Bits,
+    ) -> Result<TagWithHandle, Heard>
+        ensures ok { IfOk result (λ tag. (acts : Level → Held → BodyValue → Outcome) → in_access rn follows acts (tag_value_of self).state (tag_value_of self).body ≡ acts tag.level tag.held tag.body) }
+        ensures err { IfErr result (λ heard. (acts : Level → Held → BodyValue → Outcome) → GivesOutcome (in_access rn follows acts (tag_value_of self).state (tag_value_of self).body) heard out.old out.new) }
+        ensures untouched { OnOk result (out.new ≡ out.old) }
+    {
+        match self {
+            AnyTag::InReply(Tag { state, body }) => {
+                Err(body.go_back(state.session, state.q, out))
+            }
+            AnyTag::Acknowledged(Tag { state, body }) => {
+                Err(body.go_back(state.session, state.q, out))
+            }
+            AnyTag::Opened(Tag { state, body }) => {
+                let held = state.held;
+                let level = Level::Opened;
+                TagWithHandle { level, held, body }.heeding(rn, follows, out)
+            }
+            AnyTag::Secured(Tag { state, body }) => {
+                let held = state.held;
+                let level = Level::Secured;
+                TagWithHandle { level, held, body }.heeding(rn, follows, out)
+            }
+            AnyTag::Ready(tag) => Err(unanswered(AnyTag::Ready(tag), out)),
+            AnyTag::Arbitrate(tag) => Err(unanswered(AnyTag::Arbitrate(tag), out)),
+            AnyTag::Killed(tag) => Err(unanswered(AnyTag::Killed(tag), out)),
+            AnyTag::Unpowered(tag) => Err(unanswered(AnyTag::Unpowered(tag), out)),
+        }
+    }
+}
