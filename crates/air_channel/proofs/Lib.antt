@@ -4,3 +4,5 @@ pub mod Givings
 pub mod Sending
 pub mod Populations
 pub mod Exchanging
+pub mod Links
+pub mod Slots

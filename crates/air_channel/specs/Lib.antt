@@ -13,3 +13,5 @@ pub mod Giving
 pub mod Hearing
 pub mod Rooms
 pub mod Lent
+pub mod Wheel
+pub mod Waiting

@@ -8,6 +8,8 @@ mod receive_reply;
 mod replies;
 mod seat;
 mod transmit;
+mod waiting;
+mod wheel;
 
 pub use air::{Air, Got};
 pub use laws::{kinds_received, one_received, reception_law, reply_received};
