@@ -5,3 +5,5 @@ pub mod Sending
 pub mod Taking
 pub mod Populations
 pub mod Exchanging
+pub mod Links
+pub mod Slots

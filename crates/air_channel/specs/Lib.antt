@@ -14,3 +14,5 @@ pub mod Hearing
 pub mod Taken
 pub mod Rooms
 pub mod Lent
+pub mod Wheel
+pub mod Waiting

@@ -9,6 +9,8 @@ mod receiver;
 mod replies;
 mod seat;
 mod transmit;
+mod waiting;
+mod wheel;
 
 pub use air::{Air, Got};
 pub use laws::{kinds_received, one_received, reception_law, reply_received};

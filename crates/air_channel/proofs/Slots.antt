@@ -1,0 +1,222 @@
+-- Places and slot counters.
+use Rattle.std.proofs.Common.{◌≡◌, ◌≢◌, ℕ, zero, suc, ◌+◌, ◌/◌, ◌%◌, ◌<◌, ◌≤◌, ◌⊎◌, inl, inr, Bool, List, [], ◌∷◌, length, map, Option, Some, None, get_or, set, replicate, refl, sym, ap, ◌∙◌, subst, arith, if◌then◌else◌}
+use Rattle.std.proofs.lemmas.Bool.Decides.{eqb_tells}
+use Rattle.std.proofs.lemmas.Bool.{ne_eqb}
+use Rattle.std.proofs.lemmas.List.{get_or-set_same, get_or-set_other, length-map, length-set}
+use Rattle.std.proofs.lemmas.Option.{same_Some}
+use Rattle.tag_machine.specs.Inventory.{slot_below}
+use Rattle.air_channel.specs.declared.waiting.Standing.{Standing}
+use Rattle.air_channel.specs.declared.waiting.Standing.TheVariants.{Waits, Called}
+use Rattle.air_channel.specs.Wheel.{place_of, IsNextTag}
+use Rattle.air_channel.specs.Waiting.{standing_at, IsLegalStanding, IsNextCalled, IsDue, counted_down, called_place, slot_place, slot_behind, standing_on, standings_on, AreBases}
+
+-- the standing of the tag on a place
+pub standing_of_place : (bases : List ℕ) (places : List (Option ℕ)) (number : ℕ) → standing_at (standings_on bases places) number ≡ standing_on bases (place_of places number)
+standing_of_place bases [] number = refl
+standing_of_place bases (place ∷ places) zero = refl
+standing_of_place bases (place ∷ places) (suc number) = standing_of_place bases places number
+
+pub standings-set : (bases : List ℕ) (places : List (Option ℕ)) (number : ℕ) (place : Option ℕ)
+    → standings_on bases (set places number place) ≡ set (standings_on bases places) number (standing_on bases place)
+standings-set bases [] number place = refl
+standings-set bases (first ∷ places) zero place = refl
+standings-set bases (first ∷ places) (suc number) place = ap (λ (l : List (Option Standing)). standing_on bases first ∷ l) (standings-set bases places number place)
+
+pub map-none : (f : Option ℕ → Option Standing) (count : ℕ) → f None ≡ None → map f (replicate count None) ≡ replicate count None
+map-none f zero none = refl
+map-none f (suc count) none = rw (none, map-none f count none) refl
+
+-- numbers of sessions, slots and places
+session_of_place : (base session slot : ℕ) → slot_place base session slot / 32768 ≡ session
+session_of_place base session slot = omega arith
+
+slot_of_place : (base session slot : ℕ) → base < 32768 → slot < 32768 → slot_behind base (slot_place base session slot) ≡ slot
+slot_of_place base session slot below range = omega arith
+
+-- a tag that is put on the place of its slot waits for it
+pub waits_there : (bases : List ℕ) (base session slot : ℕ) → AreBases bases → base ≡ get_or bases session 0 → session ≤ 3 → slot < 32768
+    → standing_on bases (Some (slot_place base session slot)) ≡ Some (Waits session slot)
+waits_there bases base session slot are is few range =
+    let own = session_of_place base session slot in
+    let apart : slot_place base session slot ≢ called_place = λ same. omega (arith, same, few) in
+    let counter : slot_behind (get_or bases (slot_place base session slot / 32768) 0) (slot_place base session slot) ≡ slot =
+    ap (λ n. slot_behind (get_or bases n 0) (slot_place base session slot)) own
+    ∙ ap (λ n. slot_behind n (slot_place base session slot)) (sym is)
+    ∙ slot_of_place base session slot (rw is (are.each session)) range in
+    rw (ne_eqb (slot_place base session slot) called_place apart, counter, own) refl
+
+-- the counter falls by 1 where the base rises by 1
+counter_falls : (base place : ℕ) → base < 32768 → slot_behind ((base + 1) % 32768) place ≡ slot_below (slot_behind base place)
+counter_falls base place below =
+    elim (eqb_tells (slot_behind base place) 0) [
+      | inl w ↦ rw w.0 (omega (arith, w.1))
+      | inr w ↦ rw w.0 (omega (arith, w.1))
+    ]
+
+raised : (bases : List ℕ) (session base : ℕ) → List ℕ
+raised bases session base = set bases session ((base + 1) % 32768)
+
+counted_place : (bases : List ℕ) (session : ℕ) (place : ℕ) → AreBases bases → session < length bases
+    → standing_on (set bases session ((get_or bases session 0 + 1) % 32768)) (Some place) ≡ counted_down session (standing_on bases (Some place))
+counted_place bases session place are within =
+    let after : List ℕ = set bases session ((get_or bases session 0 + 1) % 32768) in
+    elim (eqb_tells place called_place) [
+      | inl w ↦ rw w.0 refl
+      | inr w ↦
+          elim (eqb_tells (place / 32768) session) [
+            | inl own ↦
+                let base : get_or after (place / 32768) 0 ≡ (get_or bases session 0 + 1) % 32768 =
+                ap (λ n. get_or after n 0) own.1 ∙ get_or-set_same bases session ((get_or bases session 0 + 1) % 32768) 0 within in
+                let base_was : get_or bases (place / 32768) 0 ≡ get_or bases session 0 = ap (λ n. get_or bases n 0) own.1 in
+                rw (w.0, base, base_was, own.0, counter_falls (get_or bases session 0) place (are.each session)) refl
+            | inr other ↦
+                let base : get_or after (place / 32768) 0 ≡ get_or bases (place / 32768) 0 =
+                get_or-set_other bases session (place / 32768) ((get_or bases session 0 + 1) % 32768) 0 other.1 in
+                rw (w.0, base, other.0) refl
+          ]
+    ]
+
+pub counted_places : (bases : List ℕ) (session : ℕ) (places : List (Option ℕ)) → AreBases bases → session < length bases
+    → standings_on (set bases session ((get_or bases session 0 + 1) % 32768)) places ≡ map (counted_down session) (standings_on bases places)
+counted_places bases session [] are within = refl
+counted_places bases session (None ∷ places) are within = ap (λ (l : List (Option Standing)). None ∷ l) (counted_places bases session places are within)
+counted_places bases session (Some place ∷ places) are within =
+    rw (counted_place bases session place are within, counted_places bases session places are within) refl
+
+raised_below : (bases : List ℕ) (session own : ℕ) → AreBases bases → session < length bases → get_or (set bases session ((get_or bases session 0 + 1) % 32768)) own 0 < 32768
+raised_below bases session own are within =
+    elim (eqb_tells own session) [
+      | inl same ↦
+          rw (ap (λ n. get_or (set bases session ((get_or bases session 0 + 1) % 32768)) n 0) same.1 ∙ get_or-set_same bases session ((get_or bases session 0 + 1) % 32768) 0 within)
+          (omega arith)
+      | inr other ↦ rw (get_or-set_other bases session own ((get_or bases session 0 + 1) % 32768) 0 other.1) (are.each own)
+    ]
+
+pub bases_raised : (bases : List ℕ) (session raised : ℕ) → AreBases bases → session ≤ 3 → raised ≡ (get_or bases session 0 + 1) % 32768 → AreBases (set bases session raised)
+bases_raised bases session raised are few is = record {
+  count = length-set bases session raised ∙ are.count;
+  each = λ own. subst (λ n. get_or (set bases session n) own 0 < 32768) (sym is) (raised_below bases session own are (omega (arith, are.count, few)));
+}
+
+-- the calls of a waiting list
+pub counted_all : (bases : List ℕ) (places : List (Option ℕ)) (now : List (Option Standing)) (session at raised : ℕ) → AreBases bases → standings_on bases places ≡ now → at ≡ session → session ≤ 3
+    → raised ≡ (get_or bases at 0 + 1) % 32768 → standings_on (set bases at raised) places ≡ map (counted_down session) now
+counted_all bases places now session at raised are same here few is =
+    ap (λ n. standings_on (set bases n raised) places) here
+    ∙ ap (λ n. standings_on (set bases session n) places) (is ∙ ap (λ n. (get_or bases n 0 + 1) % 32768) here)
+    ∙ counted_places bases session places are (omega (arith, are.count, few))
+    ∙ ap (λ (l : List (Option Standing)). map (counted_down session) l) same
+
+pub put_waits : (bases : List ℕ) (places after : List (Option ℕ)) (now : List (Option Standing)) (number session slot place : ℕ) → AreBases bases → standings_on bases places ≡ now
+    → session ≤ 3 → slot < 32768 → place ≡ slot_place (get_or bases session 0) session slot → after ≡ set places number (Some place)
+    → standings_on bases after ≡ set now number (Some (Waits session slot))
+put_waits bases places after now number session slot place are same few range there put =
+    ap (λ (l : List (Option ℕ)). standings_on bases l) (put ∙ ap (λ n. set places number (Some n)) there)
+    ∙ standings-set bases places number (Some (slot_place (get_or bases session 0) session slot))
+    ∙ ap (λ (s : Option Standing). set (standings_on bases places) number s) (waits_there bases (get_or bases session 0) session slot are refl few range)
+    ∙ ap (λ (l : List (Option Standing)). set l number (Some (Waits session slot))) same
+
+pub put_called : (bases : List ℕ) (places after : List (Option ℕ)) (now : List (Option Standing)) (number : ℕ) → standings_on bases places ≡ now → after ≡ set places number (Some called_place)
+    → standings_on bases after ≡ set now number (Some Called)
+put_called bases places after now number same put =
+    ap (λ (l : List (Option ℕ)). standings_on bases l) put
+    ∙ standings-set bases places number (Some called_place)
+    ∙ ap (λ (l : List (Option Standing)). set l number (Some Called)) same
+
+pub put_none : (bases : List ℕ) (places after : List (Option ℕ)) (now : List (Option Standing)) (number : ℕ) → standings_on bases places ≡ now → after ≡ set places number None
+    → standings_on bases after ≡ set now number None
+put_none bases places after now number same put =
+    ap (λ (l : List (Option ℕ)). standings_on bases l) put
+    ∙ standings-set bases places number None
+    ∙ ap (λ (l : List (Option Standing)). set l number None) same
+
+pub put_waiting : (bases : List ℕ) (places after : List (Option ℕ)) (now : List (Option Standing)) (number session slot place : ℕ) (standing : Standing)
+    → AreBases bases → standings_on bases places ≡ now → standing ≡ Waits session slot → IsLegalStanding (Some standing)
+    → place ≡ slot_place (get_or bases session 0) session slot → after ≡ set places number (Some place) → standings_on bases after ≡ set now number (Some standing)
+put_waiting bases places after now number session slot place standing are same is legal there put =
+    let range : IsLegalStanding (Some (Waits session slot)) = subst (λ (s : Standing). IsLegalStanding (Some s)) is legal in
+    put_waits bases places after now number session slot place are same range.0 range.1 there put ∙ ap (λ (s : Standing). set now number (Some s)) (sym is)
+
+pub put_calling : (bases : List ℕ) (places after : List (Option ℕ)) (now : List (Option Standing)) (number : ℕ) (standing : Standing)
+    → standings_on bases places ≡ now → standing ≡ Called → after ≡ set places number (Some called_place) → standings_on bases after ≡ set now number (Some standing)
+put_calling bases places after now number standing same is put =
+    put_called bases places after now number same put ∙ ap (λ (s : Standing). set now number (Some s)) (sym is)
+
+pub length-standings : (bases : List ℕ) (places : List (Option ℕ)) (now : List (Option Standing)) → standings_on bases places ≡ now → length places ≡ length now
+length-standings bases places now same = sym (length-map places (λ place. standing_on bases place)) ∙ ap (λ (l : List (Option Standing)). length l) same
+
+-- a tag waits with a counter exactly where it stands on the place of it
+same_waits : (own slot session counter : ℕ) → Some (Waits own slot) ≡ Some (Waits session counter) → (own ≡ session) × (slot ≡ counter)
+same_waits own slot session counter same = (cc, cc)
+
+waits_called : (session slot : ℕ) → Some (Waits session slot) ≡ Some Called → ⊥
+waits_called session slot same = cc
+
+not_called : (session slot : ℕ) → Some Called ≡ Some (Waits session slot) → ⊥
+not_called session slot same = cc
+
+place_of_slot : (bases : List ℕ) (place session slot : ℕ) → AreBases bases → standing_on bases (Some place) ≡ Some (Waits session slot)
+    → place ≡ slot_place (get_or bases session 0) session slot
+place_of_slot bases place session slot are is =
+    elim (eqb_tells place called_place) [
+      | inl w ↦ absurd (not_called session slot (sym (ap (λ (b : Bool). Some (if b then Called else Waits (place / 32768) (slot_behind (get_or bases (place / 32768) 0) place))) w.0) ∙ is))
+      | inr w ↦
+          let same = same_waits (place / 32768) (slot_behind (get_or bases (place / 32768) 0) place) session slot
+          (sym (ap (λ (b : Bool). Some (if b then Called else Waits (place / 32768) (slot_behind (get_or bases (place / 32768) 0) place))) w.0) ∙ is) in
+          let counter : slot_behind (get_or bases session 0) place ≡ slot = sym (ap (λ n. slot_behind (get_or bases n 0) place) same.0) ∙ same.1 in
+          omega (arith, same.0, counter, are.each session)
+    ]
+
+not_due : (bases : List ℕ) (places : List (Option ℕ)) (session place number : ℕ) (stands : Option ℕ) → AreBases bases → place ≡ slot_place (get_or bases session 0) session 1
+    → IsNextTag places place 0 None → place_of places number ≡ stands → standing_on bases stands ≢ Some (Waits session 1)
+not_due bases places session place number None are there none is = λ same. cc
+not_due bases places session place number (Some own) are there none is = λ same.
+    none number (omega arith) (is ∙ ap (λ n. Some n) (place_of_slot bases own session 1 are same ∙ sym there))
+
+pub due_there : (bases : List ℕ) (places : List (Option ℕ)) (session place : ℕ) (found : Option ℕ) → AreBases bases → session ≤ 3
+    → place ≡ slot_place (get_or bases session 0) session 1 → IsNextTag places place 0 found → IsDue (standings_on bases places) session found
+due_there bases places session place None are few there none = λ number waits.
+    not_due bases places session place number (place_of places number) are there none refl (sym (standing_of_place bases places number) ∙ waits)
+due_there bases places session place (Some due) are few there next =
+    standing_of_place bases places due ∙ ap (λ p. standing_on bases p) (next.1 ∙ ap (λ n. Some n) there) ∙ waits_there bases (get_or bases session 0) session 1 are refl few (omega arith)
+
+-- the called tags
+called_there : (bases : List ℕ) (places : List (Option ℕ)) (number : ℕ) → place_of places number ≡ Some called_place → standing_at (standings_on bases places) number ≡ Some Called
+called_there bases places number is = standing_of_place bases places number ∙ ap (λ p. standing_on bases p) is
+
+not_there : (bases : List ℕ) (places : List (Option ℕ)) (number : ℕ) (stands : Option ℕ) → place_of places number ≡ stands → place_of places number ≢ Some called_place
+    → standing_on bases stands ≢ Some Called
+not_there bases places number None is apart = λ same. cc
+not_there bases places number (Some place) is apart =
+    elim (eqb_tells place called_place) [
+      | inl w ↦ absurd (apart (is ∙ ap (λ n. Some n) w.1))
+      | inr w ↦ λ same.
+          waits_called (place / 32768) (slot_behind (get_or bases (place / 32768) 0) place)
+          (sym (ap (λ (b : Bool). Some (if b then Called else Waits (place / 32768) (slot_behind (get_or bases (place / 32768) 0) place))) w.0) ∙ same)
+    ]
+
+not_called_there : (bases : List ℕ) (places : List (Option ℕ)) (number : ℕ) → place_of places number ≢ Some called_place → standing_at (standings_on bases places) number ≢ Some Called
+not_called_there bases places number apart = λ called.
+    not_there bases places number (place_of places number) refl apart (sym (standing_of_place bases places number) ∙ called)
+
+pub next_called : (bases : List ℕ) (places : List (Option ℕ)) (from : ℕ) (found : Option ℕ) → IsNextTag places called_place from found → IsNextCalled (standings_on bases places) from found
+next_called bases places from None none = λ number least. not_called_there bases places number (none number least)
+next_called bases places from (Some next) is =
+    (is.0, called_there bases places next is.1, λ number least most. not_called_there bases places number (is.2 number least most))
+
+-- ... a called tag stands on the place for them
+option_tells : (stands : Option ℕ) → (stands ≡ Some called_place) ⊎ (stands ≢ Some called_place)
+option_tells None = inr (λ e. cc)
+option_tells (Some place) =
+    elim (eqb_tells place called_place) [
+      | inl w ↦ inl (ap (λ n. Some n) w.1)
+      | inr w ↦ inr (λ e. w.1 (same_Some place called_place e))
+    ]
+
+pub called_place_of : (bases : List ℕ) (places : List (Option ℕ)) (number : ℕ)
+    → standing_at (standings_on bases places) number ≡ Some Called → place_of places number ≡ Some called_place
+called_place_of bases places number called =
+    elim (option_tells (place_of places number)) [
+      | inl w ↦ w
+      | inr w ↦ absurd (not_called_there bases places number w called)
+    ]

@@ -1,0 +1,6 @@
+use Rattle.std.proofs.Common.{refl}
+use Rattle.air_channel.proofs.Slots.{map-none}
+use Rattle.air_channel.proofs.waiting.Waiting.new.Goals as goal
+
+pub returns : goal.returns
+returns c = rw c.in_ok-wheel.ensures (map-none _ c.args.count refl)
