@@ -1,7 +1,8 @@
 -- Reading goes on from each state for the bits that are still to come.
-use Rattle.std.proofs.Common.{◌≡◌, ℕ, ◌+◌, ◌-◌, ◌≤◌, Bool, true, false, List, [], ◌∷◌, ◌++◌, length, Result, Ok, Err, refl, sym, ap, subst, ◌∙◌, append_assoc, append-nil, length-append, take, drop, slice_index_or, inl, inr, arith}
+use Rattle.std.proofs.Common.{◌≡◌, ℕ, suc, ◌+◌, ◌-◌, ◌≤◌, Bool, true, false, List, [], ◌∷◌, ◌++◌, length, Result, Ok, Err, refl, sym, ap, subst, ◌∙◌, append_assoc, append-nil, length-append, get_or, ◌<◌, take, drop, slice_index_or, inl, inr, arith}
 use Rattle.std.specs.Prelude.{◌⊎◌}
-use Rattle.std.proofs.lemmas.List.{take_all}
+use Rattle.std.proofs.lemmas.List.{take_all, take-append-drop}
+use Rattle.std.proofs.Math.Seq.{drop-cons}
 use Rattle.bit_strings.specs.Numbers.{field_of}
 use Rattle.bit_strings.specs.Family.{IsShortAt}
 use Rattle.command_grammar.specs.declared.commands.Command.{Command}
@@ -183,3 +184,13 @@ pub code_goes_on : (s : State) (bits : List Bool) (bit : Bool) (front more : Cod
 code_goes_on s bits bit front more here e stands =
     resumes_more s.kind s.kind (places.Code front) (places.Code more) s.behind.now s.behind.now s.fields s.fields bits bit (subst (λ (place : Place). Resumes s.kind place s.behind.now s.fields bits) here stands.reads)
     (λ rest. ap (λ (r : Reading CommandKind). r >>= λ x. run (fields_of x.0) x.0 s.fields ((bits ++ bit ∷ []) ++ rest) x.1) (code-more front more bit rest e))
+
+-- a refusal at a bit of a list
+pub refused_at : (bits : List Bool) (at : ℕ) (default : Bool) (place : ℕ) (reason : Reason) → at < length bits → place ≡ length (take at bits) → ((rest : List Bool) → all_of (take at bits ++ get_or bits at default ∷ rest) ≡ Err (Bad (length rest + 1) reason))
+    → IsCommandRefusedAt bits place reason
+refused_at bits at default place reason inside same stops =
+    let rest : List Bool = drop (suc at) bits in
+    let split : take at bits ++ get_or bits at default ∷ rest ≡ bits = ap (λ (l : List Bool). take at bits ++ l) (sym (drop-cons bits at default inside)) ∙ take-append-drop at bits in
+    let refused = (all_bad bits (length rest + 1) reason (ap all_of (sym split) ∙ stops rest)).1 in
+    let long : length (take at bits) + (length rest + 1) ≡ length bits = omega (arith, ap (λ (l : List Bool). length l) split, length-append (take at bits) (get_or bits at default ∷ rest)) in
+    subst (λ (n : ℕ). IsCommandRefusedAt bits n reason) (omega arith) refused

@@ -1,6 +1,7 @@
--- Reading from left to right, one field after another, with the first place at which no command goes on. The private
--- readers give this; what it has to do with spellings is what the laws in proofs/ say.
-use Rattle.std.specs.Prelude.{◌≡◌, ℕ, zero, suc, ◌+◌, ◌-◌, ◌*◌, Bool, false, List, [], ◌∷◌, length, take, drop, Result, Ok, Err, nat_lt, ◌==◌, if◌then◌else◌, ◌&&◌, not}
+-- Reading a list of bits from left to right, one field after another, with the first place at which no command goes on.
+-- Framing.antt says what is left of it once some bits were read; what it has to do with spellings is what the laws in
+-- proofs/ say.
+use Rattle.std.specs.Prelude.{ℕ, zero, suc, ◌+◌, ◌-◌, ◌*◌, Bool, false, List, [], ◌∷◌, length, take, drop, Result, Ok, Err, nat_lt, ◌==◌, if◌then◌else◌, ◌&&◌, not}
 use Rattle.bit_strings.specs.Numbers.{value_of}
 use Rattle.bit_strings.specs.declared.code.Code.{Code}
 use Rattle.bit_strings.specs.declared.code.Code.TheVariants.{Fm0, M2, M4, M8}
@@ -38,11 +39,6 @@ infixl 10 ◌>>=◌
 abbrev pub ◌>>=◌ : {A B : Type 0} → Result A Stop → (A → Result B Stop) → Result B Stop
 (Ok x) >>= f = f x
 (Err e) >>= f = Err e
-
--- what a function returned, seen by view, is what reading gives
-abbrev pub Gives : {X Y : Type 0} → (X → Y) → Result X Stop → Result Y Stop → Type 0
-Gives view (Ok x) read = read ≡ Ok (view x)
-Gives view (Err e) read = read ≡ Err e
 
 -- one bit
 abbrev pub bit_at : List Bool → Reading Bool

@@ -5,6 +5,7 @@
 mod choices;
 mod command_lists;
 mod commands;
+mod decoding;
 mod field_values;
 mod fields;
 mod framer;
@@ -18,6 +19,7 @@ mod state;
 pub use bit_strings::{Action, Code, Count1, Payload, Pointer, QValue, Session};
 pub use command_lists::{BlockWords, Mask};
 pub use commands::Command;
+pub use decoding::decode_command;
 pub use field_values::{Bank, FlagName, MaskBank, Sel, Side, UpDn};
 pub use framer::Framer;
 pub use laws::{one_outcome, one_refusal, spelling_laws};
