@@ -1,13 +1,14 @@
 -- One bit more in a field, and the beginning of each field.
-use Rattle.std.proofs.Common.{◌≡◌, ℕ, suc, ◌+◌, ◌-◌, ◌/◌, ◌%◌, ◌^◌, ◌<◌, ◌≤◌, Bool, true, false, not, List, [], ◌∷◌, ◌++◌, length, Result, Ok, Err, refl, sym, ap, ◌∙◌, append_assoc, append-nil, length-append, slice_index_or, inl, inr, arith, cond}
+use Rattle.std.proofs.Common.{◌≡◌, ℕ, suc, ◌+◌, ◌-◌, ◌/◌, ◌%◌, ◌^◌, ◌<◌, ◌≤◌, Bool, true, false, not, List, [], ◌∷◌, ◌++◌, length, Result, Ok, Err, refl, sym, ap, ◌∙◌, append_assoc, append-nil, length-append, inl, inr, arith, cond, leb, ◌*◌}
 use Rattle.std.specs.Prelude.{◌==◌, ◌&&◌, ◌⊎◌}
 use mathlib.Core.Bool.{beq}
+use Rattle.std.specs.Prelude.{bit_xor}
 use mir.Val.{bool_byte}
 use Rattle.std.proofs.lemmas.Bool.Decides.{nat_tests}
 use Rattle.std.proofs.lemmas.List.{take_at}
 use Rattle.std.proofs.lemmas.Nat.{pow_below}
 use Rattle.bit_strings.specs.Numbers.{value_of, field_of}
-use Rattle.gen2_crc.specs.Crc.{differ, divide, remainder_of, others5, preset5, crc5_of, crc16_of}
+use Rattle.gen2_crc.specs.Crc.{divide, remainder_of, others5, preset5, crc5_of, crc16_of}
 use Rattle.gen2_crc.specs.CrcLaws.{length-crc5_of}
 use Rattle.gen2_crc.specs.Division.{remainder_of-append}
 use Rattle.command_grammar.specs.declared.fields.Fields.{Fields}
@@ -250,31 +251,36 @@ count_start number v whole bits width nothing =
 
 -- ---- the register of CRC-5
 
-same_bit : (x : Bool) → differ x false ≡ x
-same_bit true = refl
-same_bit false = refl
+-- as the code moves it
+abbrev moved : ℕ → Bool → ℕ
+moved register bit = cond (not (beq (leb 16 register) bit)) (bit_xor (2 * (register % 16)) 9) (2 * (register % 16))
 
-unlike_true : (x : Bool) → not (beq x true) ≡ differ x true
-unlike_true true = refl
-unlike_true false = refl
+eight : (P : Bool → Bool → Bool → Type 0) → P false false false → P false false true → P false true false → P false true true → P true false false → P true false true → P true true false → P true true true → (b d e : Bool) → P b d e
+eight P p0 p1 p2 p3 p4 p5 p6 p7 false false false = p0
+eight P p0 p1 p2 p3 p4 p5 p6 p7 false false true = p1
+eight P p0 p1 p2 p3 p4 p5 p6 p7 false true false = p2
+eight P p0 p1 p2 p3 p4 p5 p6 p7 false true true = p3
+eight P p0 p1 p2 p3 p4 p5 p6 p7 true false false = p4
+eight P p0 p1 p2 p3 p4 p5 p6 p7 true false true = p5
+eight P p0 p1 p2 p3 p4 p5 p6 p7 true true false = p6
+eight P p0 p1 p2 p3 p4 p5 p6 p7 true true true = p7
 
-unlike_false : (x : Bool) → not (beq x false) ≡ x
-unlike_false true = refl
-unlike_false false = refl
+abbrev Moves : Bool → Bool → Bool → Bool → Bool → Bool → Type 0
+Moves a c bit b d e = moved (value_of (a ∷ b ∷ c ∷ d ∷ e ∷ [])) bit ≡ value_of (remainder_of (a ∷ b ∷ c ∷ d ∷ e ∷ []) others5 (bit ∷ []))
 
-abbrev moved : Bool → Bool → Bool → Bool → Bool → List Bool
-moved b c d e leaves = b ∷ not (beq c leaves) ∷ d ∷ e ∷ leaves ∷ []
-
-register-step : (a b c d e bit : Bool) → moved b c d e (not (beq a bit)) ≡ remainder_of (a ∷ b ∷ c ∷ d ∷ e ∷ []) others5 (bit ∷ [])
+register-step : (a c bit b d e : Bool) → Moves a c bit b d e
 unfolding divide
-register-step true b c d e true = rw (unlike_false c) refl
-register-step false b c d e false = rw (unlike_false c) refl
-register-step true b c d e false = rw (unlike_true c, same_bit b, same_bit d, same_bit e) refl
-register-step false b c d e true = rw (unlike_true c, same_bit b, same_bit d, same_bit e) refl
+register-step false false false = eight (Moves false false false) refl refl refl refl refl refl refl refl
+register-step false false true = eight (Moves false false true) refl refl refl refl refl refl refl refl
+register-step false true false = eight (Moves false true false) refl refl refl refl refl refl refl refl
+register-step false true true = eight (Moves false true true) refl refl refl refl refl refl refl refl
+register-step true false false = eight (Moves true false false) refl refl refl refl refl refl refl refl
+register-step true false true = eight (Moves true false true) refl refl refl refl refl refl refl refl
+register-step true true false = eight (Moves true true false) refl refl refl refl refl refl refl refl
+register-step true true true = eight (Moves true true true) refl refl refl refl refl refl refl refl
 
-five : (register : List Bool) (bit : Bool) → length register ≡ 5
-    → moved (slice_index_or register 1 false) (slice_index_or register 2 false) (slice_index_or register 3 false) (slice_index_or register 4 false) (not (beq (slice_index_or register 0 false) bit)) ≡ remainder_of register others5 (bit ∷ [])
-five (a ∷ b ∷ c ∷ d ∷ e ∷ []) bit wide = register-step a b c d e bit
+five : (register : List Bool) (bit : Bool) → length register ≡ 5 → moved (value_of register) bit ≡ value_of (remainder_of register others5 (bit ∷ []))
+five (a ∷ b ∷ c ∷ d ∷ e ∷ []) bit wide = register-step a c bit b d e
 five [] bit wide = absurd (omega arith)
 five (a ∷ []) bit wide = absurd (omega arith)
 five (a ∷ b ∷ []) bit wide = absurd (omega arith)
@@ -282,13 +288,12 @@ five (a ∷ b ∷ c ∷ []) bit wide = absurd (omega arith)
 five (a ∷ b ∷ c ∷ d ∷ []) bit wide = absurd (omega arith)
 five (a ∷ b ∷ c ∷ d ∷ e ∷ f ∷ more) bit wide = absurd (omega arith)
 
-pub crc5-more : (register bits : List Bool) (bit : Bool) → register ≡ crc5_of bits
-    → moved (slice_index_or register 1 false) (slice_index_or register 2 false) (slice_index_or register 3 false) (slice_index_or register 4 false) (not (beq (slice_index_or register 0 false) bit)) ≡ crc5_of (bits ++ bit ∷ [])
+pub crc5-more : (register : ℕ) (bits : List Bool) (bit : Bool) → register ≡ value_of (crc5_of bits) → moved register bit ≡ value_of (crc5_of (bits ++ bit ∷ []))
 unfolding crc5_of
 crc5-more register bits bit same =
-    five register bit (ap length same ∙ length-crc5_of bits) ∙ ap (λ (r : List Bool). remainder_of r others5 (bit ∷ [])) same
-    ∙ sym (remainder_of-append preset5 others5 bits (bit ∷ []) (omega arith) (omega arith))
+    ap (λ n. moved n bit) same ∙ five (crc5_of bits) bit (length-crc5_of bits)
+    ∙ ap value_of (sym (remainder_of-append preset5 others5 bits (bit ∷ []) (omega arith) (omega arith)))
 
-pub crc5-none : preset5 ≡ crc5_of []
+pub crc5-none : 9 ≡ value_of (crc5_of [])
 unfolding crc5_of divide
 crc5-none = refl

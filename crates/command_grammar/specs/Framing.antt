@@ -1,7 +1,7 @@
 -- Profile: what a contract sees of a Framer, and what reading gives from each of its states for the bits that are still to
 -- come. It keeps no bits but those of a mask and of words; what is pushed behind the first place of refusal changes nothing.
 use Rattle.std.specs.Prelude.{◌≡◌, ℕ, zero, suc, ◌+◌, ◌*◌, ◌^◌, ◌<◌, ◌≤◌, Bool, false, List, [], ◌∷◌, ◌++◌, length, Option, Some, None, Result, Ok, Err, ◌==◌, if◌then◌else◌, ◌&&◌}
-use Rattle.bit_strings.specs.Numbers.{digit_of, field_of}
+use Rattle.bit_strings.specs.Numbers.{digit_of, value_of, field_of}
 use Rattle.gen2_crc.specs.Crc.{crc5_of, RegisterStandsFor}
 use Rattle.command_grammar.specs.Commands.{IsCommandRefusedAt}
 use Rattle.command_grammar.specs.Reading.{Stop, Bad, Reading, ◌>>=◌, Choice, pick, none, child, bit_at, bits_at, field_at, choice_at, exactly_at, count_at, words_at, block_at, first_block_at, last_block_at, first_at, second_at, third_at, ebv_at, crc5_at, crc16_at, lines, chosen_of, sides, changes, targets, masked_banks, all_banks, kinds_10, kinds_11, kinds_11000, kinds_11001, all_kinds, all_of}
@@ -308,7 +308,7 @@ resume kind places.Whole behind v whole bits = only_whole (command_of kind v) bi
 -- the state stands for these bits: whatever comes behind them, reading goes on from the state
 pub record Stands (s : State) (bits : List Bool) : Type 0 where
   pub count : s.pushed ≡ length bits
-  pub crc5 : s.crc5 ≡ crc5_of bits
+  pub crc5 : s.crc5 ≡ value_of (crc5_of bits)
   pub crc16 : RegisterStandsFor s.crc16 bits
   pub reads : (rest : List Bool) → all_of (bits ++ rest) ≡ resume s.kind s.place s.behind.now s.fields (bits ++ rest) rest
 

@@ -1,5 +1,6 @@
 //! The field of a command that is being read.
 ghost use Rattle.std.specs.Prelude.{◌≡◌, ◌+◌, ◌≤◌, ◌<◌, ◌^◌, ◌∷◌, ◌++◌, ℕ, List, Bool, length, Some};
+ghost use Rattle.bit_strings.specs.Numbers.{value_of};
 ghost use Rattle.gen2_crc.specs.Crc.{crc5_of, RegisterStandsFor};
 ghost use Rattle.command_grammar.specs.Framing.{number_from, taken_from, IsFront, IsTaken, stage_from, next_from, field_from, pair_from, triple_from, bit_from, number_then, words_then, block_then, IsBefore, IsSound, IsSoundNumber, IsSoundNext, width_of};
 ghost use Rattle.command_grammar.specs.declared.fields.Fields.{Fields};
@@ -10,7 +11,6 @@ use crate::choices::{bank, line_code, mask_bank, sel, side, target, updn};
 use crate::command_lists::{BlockWords, Mask};
 use crate::fields::{Field, Fields, action_of, count_of, payload_of, pointer_of, q_of, session_of};
 use crate::refusal::Reason;
-use bit_strings::value_of_bits;
 use gen2_crc::Crc16;
 
 /// The bits of a number that were read before its next one.
@@ -154,8 +154,8 @@ pub(crate) enum Next {
 
 impl Stage {
     /// The beginning of a field, behind bits with these check numbers.
-    pub(crate) fn start(field: Field, crc5: [bool; 5], crc16: Crc16) -> Stage
-        ensures reads { (bits rest : List Bool) (fields : Fields) → crc5 ≡ crc5_of bits → RegisterStandsFor crc16 bits → stage_from result fields rest ≡ field_from field fields (bits ++ rest) rest }
+    pub(crate) fn start(field: Field, crc5: u8, crc16: Crc16) -> Stage
+        ensures reads { (bits rest : List Bool) (fields : Fields) → crc5 ≡ value_of (crc5_of bits) → RegisterStandsFor crc16 bits → stage_from result fields rest ≡ field_from field fields (bits ++ rest) rest }
         ensures sound { (fields : Fields) → IsSound result fields }
     {
         match field {
@@ -170,7 +170,7 @@ impl Stage {
                 Reason::Crc5,
                 Number {
                     behind: 4,
-                    value: value_of_bits(&crc5),
+                    value: u32::from(crc5),
                 },
             ),
             Field::UpDn => Stage::Triple(TripleField::UpDn, Front::Nothing),

@@ -1,5 +1,6 @@
 //! What was read of a command.
 ghost use Rattle.std.specs.Prelude.{◌≡◌, ◌++◌, ◌∷◌, [], ℕ, List, Bool, Ok, None};
+ghost use Rattle.bit_strings.specs.Numbers.{value_of};
 ghost use Rattle.gen2_crc.specs.Crc.{crc5_of, RegisterStandsFor};
 ghost use Rattle.command_grammar.specs.Commands.{Judges, IsFinishAnswer, SpellsCommand};
 ghost use Rattle.command_grammar.specs.Framing.{Stands, IsSoundPlace, IsOpen, Goes, refusal_in, resume, run};
@@ -31,7 +32,7 @@ pub(crate) struct State {
     /// How many bits were read.
     pub(crate) pushed: u32,
     /// The register of CRC-5.
-    crc5: [bool; 5],
+    crc5: u8,
     crc16: Crc16,
     /// The command, once its code was read.
     kind: CommandKind,
@@ -89,7 +90,7 @@ impl State {
 
     /// The next field begins, or the command is whole.
     fn begin(&mut self)
-        ensures reads { (bits rest : List Bool) → self.old.crc5 ≡ crc5_of bits → RegisterStandsFor self.old.crc16 bits → run self.old.behind.now self.old.kind self.old.fields (bits ++ rest) rest ≡ resume self.new.kind self.new.place self.new.behind.now self.new.fields (bits ++ rest) rest }
+        ensures reads { (bits rest : List Bool) → self.old.crc5 ≡ value_of (crc5_of bits) → RegisterStandsFor self.old.crc16 bits → run self.old.behind.now self.old.kind self.old.fields (bits ++ rest) rest ≡ resume self.new.kind self.new.place self.new.behind.now self.new.fields (bits ++ rest) rest }
         ensures sound { IsSoundPlace self.new.place self.new.fields }
         ensures pushed { self.new.pushed ≡ self.old.pushed }
         ensures crc5 { self.new.crc5 ≡ self.old.crc5 }

@@ -1,11 +1,10 @@
-use Rattle.std.proofs.Common.{◌++◌, ◌∙◌, ap}
-use Rattle.bit_strings.specs.Numbers.{value_of}
+use Rattle.std.proofs.Common.{◌++◌, ◌∙◌}
 use Rattle.command_grammar.specs.declared.stage.NumberField.TheVariants as number_fields
 use Rattle.command_grammar.proofs.Stages.{number_stage, truncate_start, kill_bits_start, crc5_start, crc16_start, pointer_start, words_start, count_start}
 use Rattle.command_grammar.proofs.stage.Stage.start.Goals as goal
 
 pub returns-in-Crc5-clause-reads : goal.returns-in-Crc5-clause-reads
-returns-in-Crc5-clause-reads c = λ bits rest fields same5 same16. rw c.in-Crc5.is (crc5_start c.value_of_bits.result fields bits rest (c.value_of_bits.ensures ∙ ap value_of same5))
+returns-in-Crc5-clause-reads c = λ bits rest fields same5 same16. rw c.in-Crc5.is (crc5_start c.from.result fields bits rest (c.from.ensures ∙ same5))
 
 pub returns-in-Pointer-clause-reads : goal.returns-in-Pointer-clause-reads
 returns-in-Pointer-clause-reads c = λ bits rest fields same5 same16. rw c.in-Pointer.is (pointer_start fields rest)
@@ -38,4 +37,4 @@ pub returns-in-Rn-clause-reads : goal.returns-in-Rn-clause-reads
 returns-in-Rn-clause-reads c = λ bits rest fields same5 same16. rw c.in-Rn.is (number_stage number_fields.Rn 16 c.of-in-Rn.result fields rest c.of-in-Rn.ensures.behind c.of-in-Rn.ensures.value)
 
 pub returns-in-Crc16-clause-reads : goal.returns-in-Crc16-clause-reads
-returns-in-Crc16-clause-reads c = λ bits rest fields same5 same16. rw c.in-Crc16.is (crc16_start c.from.result fields bits rest (c.from.ensures ∙ c.value.ensures bits same16))
+returns-in-Crc16-clause-reads c = λ bits rest fields same5 same16. rw c.in-Crc16.is (crc16_start c.from-in-Crc16.result fields bits rest (c.from-in-Crc16.ensures ∙ c.value.ensures bits same16))
