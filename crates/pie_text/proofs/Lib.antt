@@ -1,1 +1,2 @@
+pub mod LeadingNumbers
 pub mod Numerals

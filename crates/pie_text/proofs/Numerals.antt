@@ -31,10 +31,6 @@ spelling_is_number most number field small within spells =
     let back : number_of field ≡ number = ap number_of spells ∙ number_back most number small within in
     record { spelling = spells ∙ ap decimal (sym back); within = omega arith }
 
--- and the number is the field's
-pub spelling_number : (most number : ℕ) (field : List ℕ) → most < 2 ^ 32 → number ≤ most → field ≡ decimal number → number ≡ number_of field
-spelling_number most number field small within spells = sym (ap number_of spells ∙ number_back most number small within)
-
 -- a field of which a number is read spells a number
 pub read_is_number : (most : ℕ) (field : List ℕ) (answer : Option ℕ) → most < 2 ^ 32
     → IfSome answer (λ number. (field ≡ decimal number) × (number ≤ most)) → IsSome answer → IsNumber most field

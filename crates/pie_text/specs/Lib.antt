@@ -1,3 +1,4 @@
+pub mod FieldEnd
 pub mod Numbers
 pub mod PieText
 pub mod Spelling

@@ -3,6 +3,7 @@
 #![tactic(auto)]
 
 mod frames;
+mod leading;
 mod numbers;
 #[cfg(test)]
 mod tests;

@@ -4,6 +4,7 @@ ghost use Rattle.text_fields.specs.Lines.{fields_of};
 ghost use Rattle.pie_text.specs.Numbers.{HasShape, RefusesNumbers, SpellsNumbers};
 ghost use Rattle.pie_text.specs.Spelling.{IsNumber, number_of};
 
+use crate::leading::{behind_field, leading_number};
 use pie_line::Intervals;
 use std::marker::Model;
 use text_fields::{Fields, number};
@@ -89,15 +90,17 @@ fn push_numbers(line: &[u8], most_items: u32, most: u32, out: &mut Intervals) ->
     ensures values { IsTrue result → out.new.items ≡ map number_of (fields_of line.now) }
     ensures capacity { out.new.capacity ≡ out.old.capacity }
 {
-    for field in Fields::new(line) {
+    let mut rest = Some(line);
+    while let Some(text) = rest {
         if out.len() == most_items {
             return false;
         }
-        let Some(number) = number(field, most) else {
+        let Some((number, end)) = leading_number(text, most) else {
             return false;
         };
         // There is room for each number.
         let _ = out.push(number);
+        rest = behind_field(text, end);
     }
     true
 }

@@ -1,14 +1,15 @@
 -- What the mask of samples tells of them.
-use Rattle.std.proofs.Common.{◌≡◌, ◌≢◌, ℕ, ◌+◌, ◌-◌, ◌*◌, ◌/◌, ◌%◌, ◌^◌, ◌<◌, ◌≤◌, Bool, true, false, cond, leb, List, [], ◌∷◌, ◌++◌, length, take, drop, map, replicate, refl, sym, ◌∙◌, ap, subst, arith, w8, bit_and, get_or, IfNone, Option, Some, None, inl, inr}
+use Rattle.std.proofs.Common.{◌≡◌, ◌≢◌, ℕ, ◌+◌, ◌-◌, ◌*◌, ◌/◌, ◌%◌, ◌^◌, ◌<◌, ◌≤◌, Bool, true, false, cond, leb, List, [], ◌∷◌, ◌++◌, length, take, drop, map, replicate, refl, sym, ◌∙◌, ap, subst, arith, w8, bit_and, get_or, IfNone, Option, Some, None, inl, inr, ◌⊎◌, not, nat_eq}
 use Rattle.std.specs.Simd.Lanes.{mask_l, zip2, top}
 use Rattle.std.proofs.lemmas.Simd.{tops_compared, zip2_splat_left, mask_l-mod, mask_l-lt, get_or-chunk}
-use Rattle.std.proofs.lemmas.Bool.{leb-true, leb-false, le-leb, lt-leb}
+use Rattle.std.proofs.lemmas.Bool.{eqb-true, leb-true, leb-false, le-leb, lt-leb}
 use Rattle.std.specs.List.{slice_range}
 use Rattle.std.proofs.lemmas.List.{length-map, length-drop, length-take-le, take-append-drop, take-take, drop-take, drop-drop}
 use Rattle.std.proofs.lemmas.List.Elements.{All-take, All-drop}
 use Rattle.std.proofs.lemmas.Bool.{cases_lt}
 use Rattle.std.proofs.lemmas.Nat.{mod_low, shr_high, shl_whole, and_mask, pow_pos}
 use Rattle.std.proofs.Math.Nat.{pow-suc}
+use Rattle.std.proofs.lemmas.Bool.Decides.{nat_tests}
 use Rattle.sample_slicer.specs.Masks.{mask_of}
 use Rattle.sample_slicer.specs.Samples.{IsOnSide, IsPure}
 use Rattle.sample_slicer.proofs.PureGroups.{pure_none, pure_more, pure_first, pure_rest}
@@ -85,6 +86,17 @@ pub no_level : (threshold mask all : ℕ) (group : List ℕ) → mask ≢ 0 → 
     → (level : Bool) → ¬ IsPure threshold level group
 no_level threshold mask all group some not_all is all_is false pure = some (is ∙ mask_low threshold group pure)
 no_level threshold mask all group some not_all is all_is true pure = not_all (omega (arith, is, all_is, mask_high threshold group pure))
+
+-- samples whose mask is one of them have the level that it tells
+level_told : (threshold mask all : ℕ) (group : List ℕ) (none : Bool) → nat_eq mask 0 ≡ none → (mask ≡ 0) ⊎ (mask ≡ all) → mask ≡ mask_of threshold group
+    → all + 1 ≡ 2 ^ length group → IsPure threshold (not none) group
+level_told threshold mask all group true tells either is all_is = low_mask threshold group (sym is ∙ eqb-true mask 0 tells)
+level_told threshold mask all group false tells (inl low) is all_is = absurd (grind (arith, nat_tests))
+level_told threshold mask all group false tells (inr high) is all_is = high_mask threshold group (omega (arith, high, is, all_is))
+
+pub one_level : (threshold mask all : ℕ) (group : List ℕ) → (mask ≡ 0) ⊎ (mask ≡ all) → mask ≡ mask_of threshold group → all + 1 ≡ 2 ^ length group
+    → IsPure threshold (not (nat_eq mask 0)) group
+one_level threshold mask all group either is all_is = level_told threshold mask all group (nat_eq mask 0) refl either is all_is
 
 -- groups on one side have one mask
 same_mask : (threshold : ℕ) (left right : List ℕ) (level : Bool) → length left ≡ length right → IsPure threshold level left → IsPure threshold level right

@@ -37,12 +37,11 @@ fn level_of_mask(mask: u64, all_high: u64) -> Option<bool>
     ensures mixed { IfNone result ((threshold : ℕ) (group : List ℕ) → mask ≡ mask_of threshold group
         → all_high + 1 ≡ 2 ^ length group → (level : Bool) → ¬ IsPure threshold level group) }
 {
-    if mask == 0 {
-        Some(false)
-    } else if mask == all_high {
-        Some(true)
-    } else {
+    // Only whether they are mixed is a jump, so that none depends on the level.
+    if mask != 0 && mask != all_high {
         None
+    } else {
+        Some(mask != 0)
     }
 }
 

@@ -1,33 +1,57 @@
 -- The list holds one number more.
-use Rattle.std.proofs.Common.{◌≡◌, ◌<◌, ◌∷◌, [], length, arith, ap, rules, ◌∙◌, length-append}
+use Rattle.std.proofs.Common.{◌≡◌, ◌<◌, ◌∷◌, [], eqb, length, take, All, arith, ap, ◌∙◌, length-append}
+use Rattle.std.specs.Option.{option_map_or}
 use Rattle.std.proofs.lemmas.List.Elements.{All-cons, All-tail}
+use Rattle.std.proofs.lemmas.List.Splits.{length-slice_split}
 use Rattle.pie_line.specs.IntervalList.{IntervalList}
+use Rattle.text_fields.specs.Lines.{fields_of, space}
 use Rattle.pie_text.specs.Spelling.{IsNumber}
-use Rattle.pie_text.proofs.Numerals.{holds_next, spelling_is_number, spelling_number}
+use Rattle.pie_text.proofs.LeadingNumbers.{first_end, first_number, lacks_space}
+use Rattle.pie_text.proofs.Numerals.{holds_next}
 use Rattle.pie_text.proofs.numbers.push_numbers.Goals as goal
 
-pub loop-field-preserved : goal.loop-field-preserved
-loop-field-preserved c =
-    let so_far = c.loop-field.invariant in
-    let field = c.in-Some.field.now in
-    let rest = c.next.new.self in
-    let next : c.loop-field.field-iterator ≡ field ∷ rest = search rules in
+pub returns-then-len-most_items-clause-all : goal.returns-then-len-most_items-clause-all
+returns-then-len-most_items-clause-all c =
+    let so_far = c.loop-rest.invariant in
+    let left = ap (λ rest. option_map_or (λ text. fields_of text.now) rest []) c.in-Some.is in
+    let some = length-slice_split (λ each. eqb each space) c.in-Some.text.now in (
+      λ yes. absurd (cc),
+      λ both. absurd (omega (arith, both.0, so_far.count, ap length left, some, c.len.ensures.count, c.if-len-most_items.true)),
+    )
+
+pub returns-in_default-leading_number-clause-all : goal.returns-in_default-leading_number-clause-all
+returns-in_default-leading_number-clause-all c =
+    let so_far = c.loop-rest.invariant in
+    let left = ap (λ rest. option_map_or (λ text. fields_of text.now) rest []) c.in-Some.is in
+    let first = first_end c.in-Some.text.now in (
+      λ yes. absurd (cc),
+      λ both.
+          let are : All (IsNumber c.args.most) (fields_of c.in-Some.text.now) = rw left at (so_far.numbers.0 both.1) in
+          absurd (c.in_default-leading_number.ensures.none first.0 first.1 (first_number c.args.most first.0 c.in-Some.text.now first.1 first.2 are)),
+    )
+
+pub loop-rest-preserved : goal.loop-rest-preserved
+loop-rest-preserved c =
+    let so_far = c.loop-rest.invariant in
+    let reads = c.in-Some-leading_number.ensures.number in
+    let field = take c.in-Some-leading_number.end c.in-Some.text.now in
+    let rest = option_map_or (λ text. fields_of text.now) c.behind_field-rest.result [] in
+    let next : option_map_or (λ text. fields_of text.now) c.loop-rest.rest [] ≡ field ∷ rest =
+    ap (λ rest. option_map_or (λ text. fields_of text.now) rest []) c.in-Some.is
+    ∙ c.behind_field-rest.ensures.fields (lacks_space c.args.most field (omega arith) reads.0) in
     let count = ap length next in
-    let room : length c.loop-field.out.items < c.args.most_items = omega (arith, so_far.few, c.if-len-most_items.false, c.len.ensures.count) in
-    let free : length c.loop-field.out.items < c.loop-field.out.capacity = omega (arith, room, so_far.capacity, c.requires.room) in
+    let room : length c.loop-rest.out.items < c.args.most_items = omega (arith, so_far.few, c.if-len-most_items.false, c.len.ensures.count) in
+    let free : length c.loop-rest.out.items < c.loop-rest.out.capacity = omega (arith, room, so_far.capacity, c.requires.room) in
     let pushed = c.push.ensures.room free in
     let items = ap (λ (list : IntervalList). list.items) pushed in
-    let longer = ap length items ∙ length-append c.loop-field.out.items (c.in-Some-number.number ∷ []) in
-    let reads = c.in-Some-number.ensures.value in
-    let is = spelling_is_number c.args.most c.in-Some-number.number field (omega arith) reads.1 reads.0 in
+    let longer = ap length items ∙ length-append c.loop-rest.out.items (c.in-Some-leading_number.number ∷ []) in
     record {
       count = omega (arith, so_far.count, count, longer);
       few = omega (arith, longer, room);
-      values = holds_next _ c.loop-field.out.items c.push.new.self.items field _ rest c.in-Some-number.number so_far.values next
-          (spelling_number c.args.most c.in-Some-number.number field (omega arith) reads.1 reads.0) items;
+      values = holds_next _ c.loop-rest.out.items c.push.new.self.items field _ rest c.in-Some-leading_number.number so_far.values next reads.1 items;
       numbers = (
         λ all. All-tail (IsNumber c.args.most) field rest (rw next at (so_far.numbers.0 all)),
-        λ are. so_far.numbers.1 (rw next (All-cons (IsNumber c.args.most) field rest is are)),
+        λ are. so_far.numbers.1 (rw next (All-cons (IsNumber c.args.most) field rest reads.0 are)),
       );
       capacity = ap (λ (list : IntervalList). list.capacity) pushed ∙ so_far.capacity;
     }
