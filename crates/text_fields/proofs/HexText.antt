@@ -1,11 +1,12 @@
 -- Hexadecimal text of either case.
-use Rattle.std.proofs.Common.{◌≡◌, ℕ, ◌*◌, ◌%◌, List, [], length, ap, ◌∙◌, sym}
-use Rattle.std.specs.Prelude.{Result, Ok}
+use Rattle.std.proofs.Common.{◌≡◌, ◌≤◌, ℕ, ◌+◌, ◌*◌, ◌%◌, List, [], length, take, drop, ap, ◌∙◌, sym, arith, refl}
+use Rattle.std.specs.Prelude.{Result, Ok, Some}
 use Rattle.std.specs.List.{AllPass}
 use Rattle.std.specs.Result.{result_unwrap_or}
-use Rattle.hex.specs.Hex.{decode_of, is_hex_digit}
+use Rattle.hex.specs.Hex.{decode_of, decode_pairs, hex_digit_value, is_hex_digit, pair_value}
 use Rattle.hex.specs.declared.error.FromHexError.{FromHexError}
-use Rattle.hex.proofs.HexLemmas.{decode_of-digits, decode_of-ok}
+use Rattle.hex.proofs.HexLemmas.{decode_of-digits, decode_of-even, decode_of-ok}
+use Rattle.hex.proofs.Pairs.{decode_done, prepend}
 use Rattle.text_fields.specs.Hexadecimal.{bytes_of_hex}
 
 -- pairs of digits spell bytes
@@ -24,5 +25,17 @@ hex_from_ok text bytes spells =
 -- the bytes are half as many as the digits
 pub length-bytes_of_hex : (text : List ℕ) → length text % 2 ≡ 0 → AllPass is_hex_digit text → length text ≡ 2 * length (bytes_of_hex text)
 length-bytes_of_hex text even digits = (hex_from_ok text (bytes_of_hex text) (decode_of-hex text even digits)).1
+
+-- the byte of two digits
+pub pair_read : (a b i high low : ℕ) → hex_digit_value a ≡ Some high → hex_digit_value b ≡ Some low → pair_value a b i ≡ Ok (high * 16 + low)
+pair_read a b i high low a_is b_is = rw (a_is, b_is) refl
+
+-- the bytes of all digits
+pub all_read : (text out : List ℕ) (i : ℕ) → length text % 2 ≡ 0 → AllPass is_hex_digit text → length out ≡ length (bytes_of_hex text) → length out ≤ i
+    → decode_pairs 0 text ≡ prepend (take i out) (decode_pairs (2 * i) (drop (2 * i) text)) → out ≡ bytes_of_hex text
+all_read text out i even digits count behind so_far =
+    let twice : length text ≡ 2 * length out = omega (arith, length-bytes_of_hex text even digits, count) in
+    let read = decode_done text out i behind (omega (arith, twice, behind)) so_far in
+    sym (ap (λ (r : Result (List ℕ) FromHexError). result_unwrap_or r []) (decode_of-even text even ∙ read))
 
 pub ruleset text = (decode_of-hex, hex_from_ok, length-bytes_of_hex)

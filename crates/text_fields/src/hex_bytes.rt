@@ -1,7 +1,7 @@
 //! Bytes that are read as hexadecimal digits of either case.
-ghost use Rattle.std.specs.Prelude.{◌≡◌, ◌≤◌, ◌↔◌, ℕ, List, length, IsTrue, IfOk, IfSome, IsSomeAnd};
+ghost use Rattle.std.specs.Prelude.{◌≡◌, ◌≤◌, ◌<◌, ◌↔◌, ℕ, true, List, length, IsTrue, IfOk, IfSome, IsSomeAnd};
 ghost use Rattle.std.specs.List.{AllPass};
-ghost use Rattle.hex.specs.Hex.{decode_of, is_hex_digit};
+ghost use Rattle.hex.specs.Hex.{decode_of, hex_digit_value, is_hex_digit};
 
 use bit_strings::OutOfMemory;
 use std::alloc::{AllocError, Global};
@@ -44,6 +44,16 @@ fn is_hexadecimal(digits: &[u8]) -> bool
     hexadecimal
 }
 
+/// The number that a hexadecimal digit of either case stands for.
+fn digit_number(digit: u8) -> u8
+    requires { is_hex_digit digit ≡ true }
+    ensures number { hex_digit_value digit ≡ Some result }
+    ensures small { result < 16 }
+{
+    // The digits 0 to 9 are 48 to 57, and the letters are above 64: A and a leave 1 when they are divided by 16.
+    digit % 16 + 9 * (digit / 64)
+}
+
 impl<'a> HexBytes<'a> {
     /// The bytes that a field spells; none exactly where the field doesn't spell from 1 to `most`
     /// bytes.
@@ -68,13 +78,15 @@ impl<'a> HexBytes<'a> {
     }
 
     /// Writes the bytes over `out`, which has room for exactly these.
-    #[tactic(auto, using(crate::proofs::HexText::text))]
     pub fn decode_to(&self, out: &mut [u8])
         requires { length out.old ≡ length self.now }
         ensures { out.new ≡ self.now }
     {
-        // The digits were checked, and they are twice as many as the bytes.
-        let _ = hex::decode_to_slice(self.digits, out);
+        for at in 0..out.len() {
+            let high = digit_number(self.digits[2 * at]);
+            let low = digit_number(self.digits[2 * at + 1]);
+            out[at] = high * 16 + low;
+        }
     }
 
     /// The bytes, in memory of their own.
