@@ -7,10 +7,9 @@ use Rattle.gen2_crc.specs.Crc.{crc5_of, crc16_of}
 use Rattle.command_grammar.specs.declared.commands.Command.{Command}
 use Rattle.command_grammar.specs.declared.refusal.Reason.{Reason}
 use Rattle.command_grammar.specs.declared.refusal.Reason.TheVariants as reasons
-use Rattle.command_grammar.specs.declared.reader.Stop.TheVariants.{Short, Bad}
+use Rattle.command_grammar.specs.Reading.{Short, Bad, Reading, ◌>>=◌, exactly_at, before, crc5_at, crc16_at}
 use Rattle.command_grammar.specs.Commands.{Part, bits_of, parts_of, spelling_of, IsLegalCommand, StandsIn}
-use Rattle.command_grammar.specs.Reading.{Reading, ◌>>=◌, exactly_at, before, crc5_at, crc16_at}
-use Rattle.command_grammar.proofs.Fields.{Reads, bind_ok, bind_err, bind_to, bind_fails, at_first, at_second}
+use Rattle.command_grammar.proofs.Readers.{Reads, bind_ok, bind_err, bind_to, bind_fails, at_first, at_second}
 use Rattle.command_grammar.proofs.Exact.{reads_exactly}
 
 abbrev pub part : Option Reason → List Bool → Part

@@ -2,9 +2,8 @@
 use Rattle.std.proofs.Common.{◌≡◌, ℕ, ◌+◌, Bool, true, false, List, [], ◌∷◌, ◌++◌, length, Ok, Err, refl, sym, ap, ◌∙◌, append_assoc, append-nil}
 use Rattle.std.specs.Prelude.{Option, Some, ◌||◌, ◌&&◌}
 use Rattle.command_grammar.specs.declared.refusal.Reason.{Reason}
-use Rattle.command_grammar.specs.declared.reader.Stop.TheVariants.{Short, Bad}
-use Rattle.command_grammar.specs.Reading.{Choice, pick, none, fork, choice_at}
-use Rattle.command_grammar.proofs.Fields.{Reads, Stuck}
+use Rattle.command_grammar.specs.Reading.{Short, Bad, Choice, pick, none, fork, choice_at}
+use Rattle.command_grammar.proofs.Readers.{Reads, Stuck}
 
 -- some value is below
 abbrev is_live : {A : Type 0} → Choice A → Bool

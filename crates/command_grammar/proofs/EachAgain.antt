@@ -12,12 +12,13 @@ use Rattle.command_grammar.specs.declared.choices.CommandKind.TheVariants as kin
 use Rattle.command_grammar.specs.declared.refusal.Reason.{Reason}
 use Rattle.command_grammar.specs.declared.refusal.Reason.TheVariants as reasons
 use Rattle.command_grammar.specs.Commands.{Part, parts_of, IsLegalCommand, bits_of_code, bits_of_sel, bits_of_side, bits_of_updn, bits_of_target, bits_of_mask_bank, bits_of_bank}
-use Rattle.command_grammar.specs.Reading.{Reading, ◌>>=◌, bit_at, bits_at, field_at, choice_at, count_at, words_at, ebv_at, one_zero, three_zeros, lines, chosen_of, sides, changes, targets, masked_banks, all_banks, all_kinds, query_rep_at, ack_at, query_at, query_adjust_at, select_at, req_rn_at, read_at, write_at, kill_at, lock_at, access_at, block_write_at, block_erase_at, fields_at}
-use Rattle.command_grammar.proofs.Fields.{Reads}
+use Rattle.command_grammar.specs.Reading.{Reading, ◌>>=◌, bit_at, bits_at, field_at, choice_at, count_at, words_at, ebv_at, exactly_at, lines, chosen_of, sides, changes, targets, masked_banks, all_banks, all_kinds, query_rep_at, ack_at, query_at, query_adjust_at, select_at, req_rn_at, read_at, write_at, kill_at, lock_at, access_at, block_write_at, block_erase_at, fields_at}
+use Rattle.command_grammar.proofs.Readers.{Reads}
+use Rattle.command_grammar.proofs.Exact.{reads_exactly}
 use Rattle.command_grammar.proofs.Elements.{IsNumber, reads_bit, reads_bits, reads_field, reads_count}
 use Rattle.command_grammar.proofs.WordLaws.{AreWords, reads_words}
-use Rattle.command_grammar.proofs.Vectors.{IsPlace, reads_ebv, reads_zero}
-use Rattle.command_grammar.proofs.NamedFields.{bits_of_kind, reads_kind, reads_line, reads_sel, reads_side, reads_updn, reads_target, reads_mask_bank, reads_bank, reads_three_zeros}
+use Rattle.command_grammar.proofs.Vectors.{IsPlace, reads_ebv}
+use Rattle.command_grammar.proofs.NamedFields.{bits_of_kind, reads_kind, reads_line, reads_sel, reads_side, reads_updn, reads_target, reads_mask_bank, reads_bank}
 use Rattle.command_grammar.proofs.Behind.{part, Goes, goes_whole, goes_then, goes_crc5, goes_crc16}
 use Rattle.command_grammar.proofs.EachCommand.{reading}
 
@@ -72,7 +73,7 @@ goes_command (commands.Select target action bank pointer mask) legal =
     goes_place _ _ _ _ pointer legal.1 (
     goes_number 8 _ _ _ _ (length mask) (omega arith) (
     goes_then _ _ None None (λ value bits. (length value ≡ length mask) × (bits ≡ value)) (bits_at (length mask)) _ _ mask mask (reads_bits (length mask) None) (refl, refl) (
-    goes_same {A = Unit {0}} _ _ (Some reasons.Truncate) (λ value. false ∷ []) (choice_at one_zero reasons.Truncate) _ _ tt (reads_zero reasons.Truncate) (
+    goes_same {A = Unit {0}} _ _ (Some reasons.Truncate) (λ value. false ∷ []) (exactly_at (false ∷ []) reasons.Truncate) _ _ tt (reads_exactly reasons.Truncate (false ∷ [])) (
     goes_crc16 _ _ _ _ (goes_whole _ _)))))))))
 goes_command commands.Nak legal = with_code kinds.Nak _ _ (goes_whole _ _)
 goes_command (commands.ReqRn rn) legal = with_code kinds.ReqRn _ _ (goes_number 16 _ _ _ _ rn legal (goes_crc16 _ _ _ _ (goes_whole _ _)))
@@ -91,7 +92,7 @@ goes_command (commands.Write bank pointer covered rn) legal =
 goes_command (commands.Kill covered rn) legal =
     with_code kinds.Kill _ _ (
     goes_number 16 _ _ _ _ covered legal.0 (
-    goes_same {A = Unit {0}} _ _ (Some reasons.KillBits) (λ value. false ∷ false ∷ false ∷ []) (choice_at three_zeros reasons.KillBits) _ _ tt reads_three_zeros (
+    goes_same {A = Unit {0}} _ _ (Some reasons.KillBits) (λ value. false ∷ false ∷ false ∷ []) (exactly_at (false ∷ false ∷ false ∷ []) reasons.KillBits) _ _ tt (reads_exactly reasons.KillBits (false ∷ false ∷ false ∷ [])) (
     goes_number 16 _ _ _ _ rn legal.1 (goes_crc16 _ _ _ _ (goes_whole _ _)))))
 goes_command (commands.Lock payload rn) legal =
     with_code kinds.Lock _ _ (goes_number 20 _ _ _ _ payload legal.0 (goes_number 16 _ _ _ _ rn legal.1 (goes_crc16 _ _ _ _ (goes_whole _ _))))

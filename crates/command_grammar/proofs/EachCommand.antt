@@ -21,12 +21,13 @@ use Rattle.command_grammar.specs.declared.field_values.MaskBank.TheVariants as m
 use Rattle.command_grammar.specs.declared.field_values.FlagName.TheVariants as flags
 use Rattle.bit_strings.specs.declared.code.Code.TheVariants as lines_of
 use Rattle.command_grammar.specs.Commands.{Part, code, plain, named, with_crc16, IsWord, bits_of_code, bits_of_sel, bits_of_side, bits_of_updn, bits_of_target, bits_of_mask_bank, bits_of_bank}
-use Rattle.command_grammar.specs.Reading.{Reading, ◌>>=◌, bit_at, bits_at, field_at, choice_at, count_at, words_at, ebv_at, one_zero, three_zeros, lines, chosen_of, sides, changes, targets, masked_banks, all_banks, all_kinds, query_rep_at, ack_at, query_at, query_adjust_at, select_at, req_rn_at, read_at, write_at, kill_at, lock_at, access_at, block_write_at, block_erase_at, fields_at}
-use Rattle.command_grammar.proofs.Fields.{Reads}
+use Rattle.command_grammar.specs.Reading.{Reading, ◌>>=◌, bit_at, bits_at, field_at, choice_at, count_at, words_at, ebv_at, exactly_at, lines, chosen_of, sides, changes, targets, masked_banks, all_banks, all_kinds, query_rep_at, ack_at, query_at, query_adjust_at, select_at, req_rn_at, read_at, write_at, kill_at, lock_at, access_at, block_write_at, block_erase_at, fields_at}
+use Rattle.command_grammar.proofs.Readers.{Reads}
+use Rattle.command_grammar.proofs.Exact.{reads_exactly}
 use Rattle.command_grammar.proofs.Elements.{IsNumber, reads_bit, reads_bits, reads_field, reads_count}
 use Rattle.command_grammar.proofs.WordLaws.{AreWords, reads_words, some_words}
-use Rattle.command_grammar.proofs.Vectors.{IsPlace, reads_ebv, reads_zero}
-use Rattle.command_grammar.proofs.NamedFields.{bits_of_kind, reads_kind, reads_line, reads_sel, reads_side, reads_updn, reads_target, reads_mask_bank, reads_bank, reads_three_zeros}
+use Rattle.command_grammar.proofs.Vectors.{IsPlace, reads_ebv}
+use Rattle.command_grammar.proofs.NamedFields.{bits_of_kind, reads_kind, reads_line, reads_sel, reads_side, reads_updn, reads_target, reads_mask_bank, reads_bank}
 use Rattle.command_grammar.proofs.Behind.{part, ReadsOn, reads_whole, reads_field_then, reads_crc5_then, reads_crc16_then}
 
 positive : (width : ℕ) → 0 < 2 ^ width
@@ -114,7 +115,7 @@ select_reads =
     place_then _ _ (λ pointer small_pointer.
     number_then 8 _ _ (λ width small_width.
     mask_then width _ _ (λ mask wide.
-    same_then {A = Unit {0}} _ (Some reasons.Truncate) (λ value. false ∷ []) (choice_at one_zero reasons.Truncate) _ tt (reads_zero reasons.Truncate) (λ truncate.
+    same_then {A = Unit {0}} _ (Some reasons.Truncate) (λ value. false ∷ []) (exactly_at (false ∷ []) reasons.Truncate) _ tt (reads_exactly reasons.Truncate (false ∷ [])) (λ truncate.
     reads_crc16_then _ _ (reads_whole _ (commands.Select target action bank pointer mask) (omega arith, small_pointer, omega arith)
     (ap (λ n. with_crc16 (code (codes "1010") ++ named reasons.Target (bits_of_target target) ++ plain (field_of action 3) ++ named reasons.Bank (bits_of_mask_bank bank)
     ++ named reasons.Ebv (ebv_of pointer) ++ plain (field_of n 8) ++ plain mask ++ named reasons.Truncate (false ∷ []))) wide))))
@@ -145,7 +146,7 @@ kill_reads : ReadsOn (code (codes "11000100")) (λ whole bits. kill_at whole bit
 unfolding kill_at
 kill_reads =
     number_then 16 _ _ (λ covered small.
-    same_then {A = Unit {0}} _ (Some reasons.KillBits) (λ value. false ∷ false ∷ false ∷ []) (choice_at three_zeros reasons.KillBits) _ tt reads_three_zeros (λ zeros.
+    same_then {A = Unit {0}} _ (Some reasons.KillBits) (λ value. false ∷ false ∷ false ∷ []) (exactly_at (false ∷ false ∷ false ∷ []) reasons.KillBits) _ tt (reads_exactly reasons.KillBits (false ∷ false ∷ false ∷ [])) (λ zeros.
     number_then 16 _ _ (λ rn small_rn.
     reads_crc16_then _ _ (reads_whole _ (commands.Kill covered rn) (small, small_rn) refl))))
 

@@ -8,10 +8,8 @@ use Rattle.bit_strings.specs.Numbers.{value_of, field_of}
 use Rattle.bit_strings.specs.NumberLaws.{length-field_of, value_of-field, field_of-value_of, value_of-within}
 use Rattle.command_grammar.specs.declared.refusal.Reason.{Reason}
 use Rattle.command_grammar.specs.declared.refusal.Reason.TheVariants as reasons
-use Rattle.command_grammar.specs.declared.reader.Stop.{Stop}
-use Rattle.command_grammar.specs.declared.reader.Stop.TheVariants.{Short, Bad}
-use Rattle.command_grammar.specs.Reading.{Reading, ◌>>=◌, bit_at, bits_at, field_at, count_at}
-use Rattle.command_grammar.proofs.Fields.{Reads, Stuck, reads_map, reads_but}
+use Rattle.command_grammar.specs.Reading.{Stop, Short, Bad, Reading, ◌>>=◌, bit_at, bits_at, field_at, count_at}
+use Rattle.command_grammar.proofs.Readers.{Reads, Stuck, reads_map, reads_but}
 
 -- ---- one bit
 

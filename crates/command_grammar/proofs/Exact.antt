@@ -2,9 +2,8 @@
 use Rattle.std.proofs.Common.{◌≡◌, ℕ, ◌+◌, Bool, true, false, List, [], ◌∷◌, ◌++◌, length, Ok, Err, refl, ap, ◌∙◌}
 use Rattle.std.specs.Prelude.{Some}
 use Rattle.command_grammar.specs.declared.refusal.Reason.{Reason}
-use Rattle.command_grammar.specs.declared.reader.Stop.TheVariants.{Short, Bad}
-use Rattle.command_grammar.specs.Reading.{exactly_at}
-use Rattle.command_grammar.proofs.Fields.{Reads, Stuck}
+use Rattle.command_grammar.specs.Reading.{Short, Bad, exactly_at}
+use Rattle.command_grammar.proofs.Readers.{Reads, Stuck}
 
 module _ (reason : Reason) where
   exactly-again : (wanted rest : List Bool) → exactly_at wanted reason (wanted ++ rest) ≡ Ok (tt, rest)

@@ -5,12 +5,15 @@ pub mod EachAgain
 pub mod EachCommand
 pub mod Elements
 pub mod Exact
-pub mod Fields
+pub mod Readers
 pub mod Lengths
 pub mod Loops
 pub mod NamedFields
 pub mod OneField
+pub mod Parts
+pub mod Resuming
 pub mod SpellingLaws
+pub mod Stages
 pub mod Vectors
 pub mod Verdict
 pub mod WordLaws

@@ -1,5 +1,5 @@
 -- The fields of a few bits, and the codes, are read as their tables say.
-use Rattle.std.proofs.Common.{◌≡◌, Bool, false, List, [], ◌∷◌, ◌++◌, Ok, refl}
+use Rattle.std.proofs.Common.{◌≡◌, Bool, List, ◌++◌, Ok, refl}
 use Rattle.std.specs.Prelude.{codes, Some, None}
 use Rattle.bit_strings.specs.declared.code.Code.{Code}
 use Rattle.bit_strings.specs.declared.code.Code.TheVariants as lines_of
@@ -19,8 +19,8 @@ use Rattle.command_grammar.specs.declared.field_values.FlagName.{FlagName}
 use Rattle.command_grammar.specs.declared.field_values.FlagName.TheVariants as flags
 use Rattle.command_grammar.specs.declared.refusal.Reason.TheVariants as reasons
 use Rattle.command_grammar.specs.Commands.{binary, bits_of_code, bits_of_sel, bits_of_side, bits_of_updn, bits_of_target, bits_of_mask_bank, bits_of_bank}
-use Rattle.command_grammar.specs.Reading.{choice_at, lines, chosen_of, sides, changes, targets, masked_banks, all_banks, three_zeros, all_kinds}
-use Rattle.command_grammar.proofs.Fields.{Reads}
+use Rattle.command_grammar.specs.Reading.{choice_at, lines, chosen_of, sides, changes, targets, masked_banks, all_banks, all_kinds}
+use Rattle.command_grammar.proofs.Readers.{Reads}
 use Rattle.command_grammar.proofs.ChoiceLaws.{reads_choice, reads_full}
 
 -- the code of each command
@@ -119,6 +119,3 @@ bank_again banks.User rest = refl
 
 pub reads_bank : Reads (λ bank bits. bits ≡ bits_of_bank bank) None (choice_at all_banks reasons.Code)
 reads_bank = reads_full bits_of_bank reasons.Code all_banks None ((refl, refl), (refl, refl)) refl refl bank_again
-
-pub reads_three_zeros : Reads {A = Unit {0}} (λ value bits. bits ≡ false ∷ false ∷ false ∷ []) (Some reasons.KillBits) (choice_at three_zeros reasons.KillBits)
-reads_three_zeros = reads_choice (λ (value : Unit {0}). false ∷ false ∷ false ∷ []) reasons.KillBits three_zeros (((refl, tt), tt), tt) refl refl (λ value rest. refl)

@@ -1,21 +1,17 @@
 -- One spelling a command, and one answer for each list of bits.
 use Rattle.std.proofs.Common.{◌≡◌, ℕ, suc, ◌+◌, ◌-◌, ◌<◌, ◌≤◌, Bool, true, List, [], ◌∷◌, ◌++◌, length, take, drop, get_or, take-suc, Result, Ok, Err, refl, sym, ap, subst, ◌∙◌, append_assoc, append-nil, length-append, inl, inr, arith}
-use Rattle.std.specs.Prelude.{◌⊎◌, Option, Some, None}
+use Rattle.std.specs.Prelude.{◌⊎◌, Option, Some}
 use Rattle.std.proofs.lemmas.Bool.{cases_lt}
 use Rattle.std.proofs.lemmas.List.{take-append-drop, take-take, take-append-le, take_at, take_all, length-take-le}
 use Rattle.command_grammar.specs.declared.refusal.Reason.{Reason}
 use Rattle.bit_strings.specs.Family.{Begins, IsBadAt, IsShortAt}
 use Rattle.command_grammar.specs.declared.commands.Command.{Command}
-use Rattle.command_grammar.specs.declared.commands.Command.TheVariants as commands
 use Rattle.command_grammar.specs.declared.refusal.CommandRefusal.{CommandRefusal}
 use Rattle.command_grammar.specs.declared.refusal.CommandRefusal.TheVariants as refusals
-use Rattle.command_grammar.specs.declared.refusal.Pushed.{Pushed}
-use Rattle.command_grammar.specs.declared.refusal.Pushed.TheVariants as pushed
-use Rattle.command_grammar.specs.Framing.{Keeps, refusal_in}
-use Rattle.command_grammar.specs.declared.reader.Stop.{Stop}
-use Rattle.command_grammar.specs.declared.reader.Stop.TheVariants.{Short, Bad}
-use Rattle.command_grammar.specs.Commands.{spelling_of, SpellsCommand, Spellings, IsCommandRefusedAt, Judges, IsFinishAnswer}
-use Rattle.command_grammar.specs.Reading.{all_of}
+use Rattle.command_grammar.specs.Framing.{Keeps}
+use Rattle.command_grammar.specs.declared.state.State.{State}
+use Rattle.command_grammar.specs.Reading.{Stop, Short, Bad, all_of}
+use Rattle.command_grammar.specs.Commands.{spelling_of, SpellsCommand, Spellings, IsCommandRefusedAt, IsFinishAnswer}
 use Rattle.command_grammar.proofs.Verdict.{same_command, all_whole, all_short, all_bad, all_named}
 
 pub one_command : (c d : Command) (bits : List Bool) → SpellsCommand c bits → SpellsCommand d bits → c ≡ d
@@ -149,40 +145,16 @@ some_outcome bits = outcome (all_of bits) refl
     outcome (Err Short) e = (Err (refusals.Short (length bits)), all_short bits e)
     outcome (Err (Bad left reason)) e = (Err (refusals.At (length bits - left) reason), (all_bad bits left reason e).1)
 
--- a NAK begins with no bits
-pub begins_nak : Begins Spellings []
-begins_nak = (spelling_of commands.Nak, (commands.Nak, record { legal = tt; spelled = refl }))
+-- ---- a Framer that was refused
 
--- ---- a Framer that takes one more bit
+pub stands_refused : (state : State) (refused : Option (ℕ × Reason)) (bit : Bool) (place : ℕ) (reason : Reason) → refused ≡ Some (place, reason) → (bits : List Bool) → Keeps state refused bits → Keeps state refused (bits ++ bit ∷ [])
+stands_refused state refused bit place reason is bits stands =
+    let h : IsCommandRefusedAt bits place reason = subst (λ (r : Option (ℕ × Reason)). Keeps state r bits) is stands in
+    subst (λ (r : Option (ℕ × Reason)). Keeps state r (bits ++ bit ∷ [])) (sym is) (still_refused bits bit place reason h)
 
-pub stands_more : (kept : List Bool) (refused : Option (ℕ × Reason)) (now : List Bool) (bit : Bool) (answer : Pushed) (after : Option (ℕ × Reason)) → refused ≡ None → now ≡ kept ++ bit ∷ [] → after ≡ refusal_in answer → Judges answer now
-    → (bits : List Bool) → Keeps kept refused bits → Keeps now after (bits ++ bit ∷ [])
-stands_more kept refused now bit answer after none pushed_one told judged bits stands =
-    let open_one : Keeps kept None bits = subst (λ (r : Option (ℕ × Reason)). Keeps kept r bits) none stands in
-    let same : bits ++ bit ∷ [] ≡ now = ap (λ (l : List Bool). l ++ bit ∷ []) open_one.0 ∙ sym pushed_one in
-    subst (λ (r : Option (ℕ × Reason)). Keeps now r (bits ++ bit ∷ [])) (sym told) (subst (λ (l : List Bool). Keeps now (refusal_in answer) l) (sym same) (keeps answer judged))
-  where
-    keeps : (told_answer : Pushed) → Judges told_answer now → Keeps now (refusal_in told_answer) now
-    keeps pushed.More h = (refl, h.begins)
-    keeps pushed.Whole h = (refl, begun Spellings now h)
-    keeps (pushed.Bad place reason) h = h
+pub judges_refused : (state : State) (refused : Option (ℕ × Reason)) (bit : Bool) (place : ℕ) (reason : Reason) → refused ≡ Some (place, reason) → (bits : List Bool) → Keeps state refused bits → IsCommandRefusedAt (bits ++ bit ∷ []) place reason
+judges_refused state refused bit place reason is bits stands =
+    still_refused bits bit place reason (subst (λ (r : Option (ℕ × Reason)). Keeps state r bits) is stands)
 
-pub judges_more : (kept : List Bool) (refused : Option (ℕ × Reason)) (now : List Bool) (bit : Bool) (answer : Pushed) → refused ≡ None → now ≡ kept ++ bit ∷ [] → Judges answer now
-    → (bits : List Bool) → Keeps kept refused bits → Judges answer (bits ++ bit ∷ [])
-judges_more kept refused now bit answer none pushed_one judged bits stands =
-    let open_one : Keeps kept None bits = subst (λ (r : Option (ℕ × Reason)). Keeps kept r bits) none stands in
-    let same : bits ++ bit ∷ [] ≡ now = ap (λ (l : List Bool). l ++ bit ∷ []) open_one.0 ∙ sym pushed_one in
-    subst (λ (l : List Bool). Judges answer l) (sym same) judged
-
--- ... and one that was refused
-pub stands_refused : (kept : List Bool) (refused : Option (ℕ × Reason)) (bit : Bool) (place : ℕ) (reason : Reason) → refused ≡ Some (place, reason) → (bits : List Bool) → Keeps kept refused bits → Keeps kept refused (bits ++ bit ∷ [])
-stands_refused kept refused bit place reason is bits stands =
-    let h : IsCommandRefusedAt bits place reason = subst (λ (r : Option (ℕ × Reason)). Keeps kept r bits) is stands in
-    subst (λ (r : Option (ℕ × Reason)). Keeps kept r (bits ++ bit ∷ [])) (sym is) (still_refused bits bit place reason h)
-
-pub judges_refused : (kept : List Bool) (refused : Option (ℕ × Reason)) (bit : Bool) (place : ℕ) (reason : Reason) → refused ≡ Some (place, reason) → (bits : List Bool) → Keeps kept refused bits → IsCommandRefusedAt (bits ++ bit ∷ []) place reason
-judges_refused kept refused bit place reason is bits stands =
-    still_refused bits bit place reason (subst (λ (r : Option (ℕ × Reason)). Keeps kept r bits) is stands)
-
-pub finishes_refused : (kept : List Bool) (refused : Option (ℕ × Reason)) (place : ℕ) (reason : Reason) → refused ≡ Some (place, reason) → (bits : List Bool) → Keeps kept refused bits → IsCommandRefusedAt bits place reason
-finishes_refused kept refused place reason is bits stands = subst (λ (r : Option (ℕ × Reason)). Keeps kept r bits) is stands
+pub finishes_refused : (state : State) (refused : Option (ℕ × Reason)) (place : ℕ) (reason : Reason) → refused ≡ Some (place, reason) → (bits : List Bool) → Keeps state refused bits → IsCommandRefusedAt bits place reason
+finishes_refused state refused place reason is bits stands = subst (λ (r : Option (ℕ × Reason)). Keeps state r bits) is stands

@@ -1,18 +1,17 @@
 -- Extensible bit vectors are read as they are spelled.
-use Rattle.std.proofs.Common.{◌≡◌, ◌≢◌, ℕ, ◌+◌, ◌*◌, ◌^◌, ◌<◌, ◌≤◌, Bool, true, false, cond, List, [], ◌∷◌, ◌++◌, length, Ok, refl, sym, ap, subst, ◌∙◌, append-nil, arith}
+use Rattle.std.proofs.Common.{◌≡◌, ◌≢◌, ℕ, ◌+◌, ◌*◌, ◌^◌, ◌<◌, ◌≤◌, Bool, true, false, List, [], ◌∷◌, ◌++◌, length, Ok, refl, sym, ap, subst, ◌∙◌, append-nil, arith}
 use Rattle.std.proofs.lemmas.Bool.Decides.{nat_tests}
-use Rattle.std.specs.Prelude.{Option, Some, None, All, ◌&&◌, not, ◌==◌}
+use Rattle.std.specs.Prelude.{Option, Some, None, All, ◌&&◌, ◌==◌}
 use Rattle.std.proofs.lemmas.List.Elements.{All-head, All-tail, All-cons, All-nil}
 use Rattle.bit_strings.specs.Numbers.{value_of, field_of}
 use Rattle.bit_strings.specs.NumberLaws.{length-field_of, value_of-within, value_of-field, field_of-value_of}
 use Rattle.bit_strings.specs.Ebv.{IsEbv, number_of, blocks_of, IsShortest, ebv_of}
 use Rattle.bit_strings.specs.EbvLaws.{IsEbv-ebv_of, same-ebv, below-ebv}
-use Rattle.command_grammar.specs.declared.reader.Block.{Block}
+use Rattle.command_grammar.specs.Reading.{Block, ◌>>=◌, bit_at, field_at, block_at, first_block_at, last_block_at, ebv_at, exactly_at, first_at, second_at, third_at}
 use Rattle.command_grammar.specs.declared.refusal.Reason.{Reason}
 use Rattle.command_grammar.specs.declared.refusal.Reason.TheVariants as reasons
-use Rattle.command_grammar.specs.Reading.{Reading, ◌>>=◌, bit_at, field_at, block_at, first_block_at, last_block_at, ebv_at, choice_at, one_zero}
-use Rattle.command_grammar.proofs.Fields.{Reads, Pair, reads_then, reads_as, reads_map, reads_nothing, reads_but}
-use Rattle.command_grammar.proofs.ChoiceLaws.{reads_choice}
+use Rattle.command_grammar.proofs.Exact.{reads_exactly}
+use Rattle.command_grammar.proofs.Readers.{Reads, Pair, reads_then, reads_as, reads_map, reads_nothing, reads_but}
 use Rattle.command_grammar.proofs.Elements.{IsNumber, reads_bit, reads_field, no_name, is_zero}
 
 -- ---- blocks
@@ -61,16 +60,13 @@ reads_first_block =
 abbrev IsLast : ℕ → List Bool → Type 0
 IsLast digit bits = (digit < 2 ^ 7) × (bits ≡ false ∷ field_of digit 7)
 
-pub reads_zero : (reason : Reason) → Reads {A = Unit {0}} (λ value bits. bits ≡ false ∷ []) (Some reason) (choice_at one_zero reason)
-reads_zero reason = reads_choice (λ (value : Unit {0}). false ∷ []) reason one_zero (refl, tt) refl refl (λ value rest. refl)
-
 reads_last_block : Reads IsLast (Some reasons.Ebv) last_block_at
 unfolding last_block_at
 reads_last_block =
     reads_as (Pair {A = Unit {0}} (λ value bits. bits ≡ false ∷ []) (λ value. IsNumber 7)) IsLast (Some reasons.Ebv) last_block_at
     (λ digit bits p. (p.right.0, p.whole ∙ ap (λ (l : List Bool). l ++ p.back) p.left ∙ ap (λ (l : List Bool). false ∷ l) p.right.1))
     (λ digit bits h. record { first = tt; front = false ∷ []; back = field_of digit 7; left = refl; right = (h.0, refl); whole = h.1 })
-    (reads_then {A = Unit {0}} (λ value bits. bits ≡ false ∷ []) (λ value. IsNumber 7) (Some reasons.Ebv) (choice_at one_zero reasons.Ebv) (λ value. field_at 7) (reads_zero reasons.Ebv)
+    (reads_then {A = Unit {0}} (λ value bits. bits ≡ false ∷ []) (λ value. IsNumber 7) (Some reasons.Ebv) (exactly_at (false ∷ []) reasons.Ebv) (λ value. field_at 7) (reads_exactly reasons.Ebv (false ∷ []))
     (λ value front h. reads_field 7 (Some reasons.Ebv)) (λ value front h. (0, field_of 0 7, (omega arith, refl))))
 
 -- ---- what follows a block, where the number so far is so
@@ -78,18 +74,12 @@ reads_last_block =
 abbrev Fourth : ℕ → ℕ → List Bool → Type 0
 Fourth value number bits = (digit : ℕ) × (number ≡ value * 128 + digit) × IsLast digit bits
 
-abbrev fourth_at : ℕ → List Bool → Reading ℕ
-fourth_at value bits = last_block_at bits >>= λ fourth. Ok (value * 128 + fourth.0, fourth.1)
-
 abbrev Done : ℕ → ℕ → List Bool → Type 0
 Done value number bits = (number ≡ value) × (bits ≡ [])
 
 abbrev Third : Bool → ℕ → ℕ → List Bool → Type 0
 Third true value = Fourth value
 Third false value = Done value
-
-abbrev third_at : Bool → ℕ → List Bool → Reading ℕ
-third_at more value bits = cond (not more) (Ok (value, bits)) (fourth_at value bits)
 
 reads_third : (more : Bool) (value : ℕ) → Reads (Third more value) (Some reasons.Ebv) (third_at more value)
 reads_third true value =
@@ -104,9 +94,6 @@ some_third false value = (value, [], (refl, refl))
 abbrev Second : Bool → ℕ → ℕ → List Bool → Type 0
 Second true value = Pair IsBlock (λ block. Third block.more (value * 128 + block.digit))
 Second false value = Done value
-
-abbrev second_at : Bool → ℕ → List Bool → Reading ℕ
-second_at more value bits = cond (not more) (Ok (value, bits)) (block_at bits >>= λ block. third_at block.0.more (value * 128 + block.0.digit) block.1)
 
 reads_second : (more : Bool) (value : ℕ) → Reads (Second more value) (Some reasons.Ebv) (second_at more value)
 reads_second true value =
@@ -124,9 +111,6 @@ some_second false value = (value, [], (refl, refl))
 abbrev First : Bool → ℕ → ℕ → List Bool → Type 0
 First true value = Pair IsBlock (λ block. Second block.more (value * 128 + block.digit))
 First false value = Done value
-
-abbrev first_at : Bool → ℕ → List Bool → Reading ℕ
-first_at more value bits = cond (not more) (Ok (value, bits)) (block_at bits >>= λ block. second_at block.0.more (value * 128 + block.0.digit) block.1)
 
 reads_first : (more : Bool) (value : ℕ) → Reads (First more value) (Some reasons.Ebv) (first_at more value)
 reads_first true value =

@@ -7,11 +7,9 @@ use Rattle.bit_strings.specs.Family.{IsShortAt}
 use Rattle.command_grammar.specs.declared.commands.Command.{Command}
 use Rattle.command_grammar.specs.declared.refusal.Reason.{Reason}
 use Rattle.command_grammar.specs.declared.refusal.Reason.TheVariants as reasons
-use Rattle.command_grammar.specs.declared.reader.Stop.{Stop}
-use Rattle.command_grammar.specs.declared.reader.Stop.TheVariants.{Short, Bad}
+use Rattle.command_grammar.specs.Reading.{Stop, Short, Bad, Reading, command_at, all_of}
 use Rattle.command_grammar.specs.Commands.{parts_of, spelling_of, IsLegalCommand, SpellsCommand, Spellings, StandsIn, IsField, IsCommandRefusedAt}
-use Rattle.command_grammar.specs.Reading.{Reading, command_at, all_of}
-use Rattle.command_grammar.proofs.Fields.{bind_ok, bind_err, bind_to, at_first, at_second}
+use Rattle.command_grammar.proofs.Readers.{bind_ok, bind_err, bind_to, at_first, at_second}
 use Rattle.command_grammar.proofs.Behind.{longer_front}
 use Rattle.command_grammar.proofs.OneField.{one_name, stands_inside}
 use Rattle.command_grammar.proofs.EachCommand.{reads_command}

@@ -7,7 +7,7 @@ use Rattle.bit_strings.specs.Words.{bits_of_words}
 use Rattle.command_grammar.specs.Commands.{IsWord}
 use Rattle.command_grammar.specs.declared.refusal.Reason.{Reason}
 use Rattle.command_grammar.specs.Reading.{◌>>=◌, field_at, words_at}
-use Rattle.command_grammar.proofs.Fields.{Reads, Pair, reads_then, reads_as, reads_map, reads_nothing}
+use Rattle.command_grammar.proofs.Readers.{Reads, Pair, reads_then, reads_as, reads_map, reads_nothing}
 use Rattle.command_grammar.proofs.Elements.{IsNumber, reads_field}
 
 -- so many words

@@ -1,6 +1,7 @@
--- Reading from left to right, one field after another, with the first place at which no command goes on. The private
--- readers give this; what it has to do with spellings is what the laws in proofs/ say.
-use Rattle.std.specs.Prelude.{◌≡◌, ℕ, zero, suc, ◌+◌, ◌-◌, ◌*◌, Bool, true, false, List, [], ◌∷◌, length, take, drop, Result, Ok, Err, nat_lt, ◌==◌, if◌then◌else◌, ◌&&◌, not}
+-- Reading a list of bits from left to right, one field after another, with the first place at which no command goes on.
+-- Framing.antt says what is left of it once some bits were read; what it has to do with spellings is what the laws in
+-- proofs/ say.
+use Rattle.std.specs.Prelude.{ℕ, zero, suc, ◌+◌, ◌-◌, ◌*◌, Bool, false, List, [], ◌∷◌, length, take, drop, Result, Ok, Err, nat_lt, ◌==◌, if◌then◌else◌, ◌&&◌, not}
 use Rattle.bit_strings.specs.Numbers.{value_of}
 use Rattle.bit_strings.specs.declared.code.Code.{Code}
 use Rattle.bit_strings.specs.declared.code.Code.TheVariants.{Fm0, M2, M4, M8}
@@ -19,13 +20,16 @@ use Rattle.command_grammar.specs.declared.field_values.FlagName.{FlagName}
 use Rattle.command_grammar.specs.declared.field_values.FlagName.TheVariants as flags
 use Rattle.command_grammar.specs.declared.commands.Command.{Command}
 use Rattle.command_grammar.specs.declared.commands.Command.TheVariants as commands
-use Rattle.command_grammar.specs.declared.reader.Block.{Block}
 use Rattle.command_grammar.specs.declared.choices.CommandKind.{CommandKind}
 use Rattle.command_grammar.specs.declared.choices.CommandKind.TheVariants as kinds
 use Rattle.command_grammar.specs.declared.refusal.Reason.{Reason}
 use Rattle.command_grammar.specs.declared.refusal.Reason.TheVariants as reasons
-use Rattle.command_grammar.specs.declared.reader.Stop.{Stop}
-use Rattle.command_grammar.specs.declared.reader.Stop.TheVariants.{Short, Bad}
+
+-- why a field can't be read: the bits end inside it, or no command goes on so, with the number of bits from the first one
+-- on with which none does and the field that it stands in
+pub data Stop : Type 0 where
+  Short : Stop
+  Bad : (left : ℕ) → (reason : Reason) → Stop
 
 -- what was read and the bits behind it
 abbrev pub Reading : Type 0 → Type 0
@@ -35,11 +39,6 @@ infixl 10 ◌>>=◌
 abbrev pub ◌>>=◌ : {A B : Type 0} → Result A Stop → (A → Result B Stop) → Result B Stop
 (Ok x) >>= f = f x
 (Err e) >>= f = Err e
-
--- what a function returned, seen by view, is what reading gives
-abbrev pub Gives : {X Y : Type 0} → (X → Y) → Result X Stop → Result Y Stop → Type 0
-Gives view (Ok x) read = read ≡ Ok (view x)
-Gives view (Err e) read = read ≡ Err e
 
 -- one bit
 abbrev pub bit_at : List Bool → Reading Bool
@@ -59,6 +58,12 @@ pub data Choice (A : Type 0) : Type 0 where
   pick : A → Choice A
   none : Choice A
   fork : Choice A → Choice A → Choice A
+
+-- what the next bit leaves of it
+abbrev pub child : {A : Type 0} → Choice A → Bool → Choice A
+child (pick a) bit = pick a
+child none bit = none
+child (fork zeros ones) bit = if bit then ones else zeros
 
 -- In a field where all bits are some value's the reason is never given.
 abbrev pub choice_at : {A : Type 0} → Choice A → Reason → List Bool → Reading A
@@ -86,12 +91,6 @@ masked_banks = fork (fork none (pick mask_banks.Epc)) (fork (pick mask_banks.Tid
 
 abbrev pub all_banks : Choice Bank
 all_banks = fork (fork (pick banks.Reserved) (pick banks.Epc)) (fork (pick banks.Tid) (pick banks.User))
-
-abbrev pub one_zero : Choice (Unit {0})
-one_zero = fork (pick tt) none
-
-abbrev pub three_zeros : Choice (Unit {0})
-three_zeros = fork (fork (fork (pick tt) none) none) none
 
 -- the kinds whose code begins with 10, 1100, 11000 and 11001
 abbrev pub kinds_10 : Choice CommandKind
@@ -129,6 +128,10 @@ words_at (suc count) bits = do
   Ok (word.0 ∷ words.0, words.1)
 
 -- Annex A: a block of an extensible bit vector says whether another follows, and has a digit
+pub record Block : Type 0 where
+  pub more : Bool
+  pub digit : ℕ
+
 unfoldable pub block_at : List Bool → Reading Block
 block_at bits = do
   more ← bit_at bits
@@ -143,16 +146,21 @@ first_block_at bits = block_at bits >>= λ block.
 -- the fourth block, which no other follows
 unfoldable pub last_block_at : List Bool → Reading ℕ
 last_block_at bits = do
-  more ← choice_at one_zero reasons.Ebv bits
+  more ← exactly_at (false ∷ []) reasons.Ebv bits
   field_at 7 more.1
 
+-- what follows the third, the second and the first block, where the number so far is this
+abbrev pub third_at : Bool → ℕ → List Bool → Reading ℕ
+third_at more value bits = if not more then Ok (value, bits) else last_block_at bits >>= λ fourth. Ok (value * 128 + fourth.0, fourth.1)
+
+abbrev pub second_at : Bool → ℕ → List Bool → Reading ℕ
+second_at more value bits = if not more then Ok (value, bits) else block_at bits >>= λ block. third_at block.0.more (value * 128 + block.0.digit) block.1
+
+abbrev pub first_at : Bool → ℕ → List Bool → Reading ℕ
+first_at more value bits = if not more then Ok (value, bits) else block_at bits >>= λ block. second_at block.0.more (value * 128 + block.0.digit) block.1
+
 unfoldable pub ebv_at : List Bool → Reading ℕ
-ebv_at bits = first_block_at bits >>= λ first.
-    (if not first.0.more then Ok (first.0.digit, first.1) else block_at first.1 >>= λ second.
-    (let two = first.0.digit * 128 + second.0.digit in
-    (if not second.0.more then Ok (two, second.1) else block_at second.1 >>= λ third.
-    (let three = two * 128 + third.0.digit in
-    (if not third.0.more then Ok (three, third.1) else last_block_at third.1 >>= λ fourth. Ok (three * 128 + fourth.0, fourth.1))))))
+ebv_at bits = first_block_at bits >>= λ first. first_at first.0.more first.0.digit first.1
 
 -- the check numbers of the bits of `whole` before `bits`
 abbrev pub before : List Bool → List Bool → List Bool
@@ -201,7 +209,7 @@ select_at whole bits = do
   pointer ← ebv_at bank.1
   count ← field_at 8 pointer.1
   mask ← bits_at count.0 count.1
-  truncate ← choice_at one_zero reasons.Truncate mask.1
+  truncate ← exactly_at (false ∷ []) reasons.Truncate mask.1
   check ← crc16_at whole truncate.1
   Ok (commands.Select target.0 action.0 bank.0 pointer.0 mask.0, check.1)
 
@@ -232,7 +240,7 @@ write_at whole bits = do
 unfoldable pub kill_at : List Bool → List Bool → Reading Command
 kill_at whole bits = do
   covered ← field_at 16 bits
-  zeros ← choice_at three_zeros reasons.KillBits covered.1
+  zeros ← exactly_at (false ∷ false ∷ false ∷ []) reasons.KillBits covered.1
   rn ← field_at 16 zeros.1
   check ← crc16_at whole rn.1
   Ok (commands.Kill covered.0 rn.0, check.1)

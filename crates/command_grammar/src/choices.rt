@@ -1,11 +1,9 @@
-//! The fields of a few bits whose values have names, and the command codes.
+//! The command codes, and the fields of a few bits whose values have names.
 ghost use Rattle.std.specs.Prelude.{◌≡◌};
-ghost use Rattle.command_grammar.specs.Reading.{Gives, choice_at, lines, chosen_of, sides, changes, targets, masked_banks, all_banks, three_zeros, kinds_10, kinds_11, kinds_11000, kinds_11001, all_kinds};
-ghost use Rattle.command_grammar.specs.declared.refusal.Reason.TheVariants as reasons;
+ghost use Rattle.command_grammar.specs.Reading.{lines, chosen_of, sides, changes, targets, masked_banks, all_banks, pick, child};
+ghost use Rattle.command_grammar.specs.Framing.{IsChosen, IsCodeStep};
 
 use crate::field_values::{Bank, FlagName, MaskBank, Sel, Side, UpDn};
-use crate::reader::{Stop, bit, refused};
-use crate::refusal::Reason;
 use bit_strings::Code;
 
 /// What the code of a command says: which command it is.
@@ -27,212 +25,153 @@ pub(crate) enum CommandKind {
     BlockErase,
 }
 
-/// M of a Query.
-pub(crate) fn line_code(bits: &[bool]) -> Result<(Code, &[bool]), Stop>
-    ensures { Gives (λ x. (x.0, x.1.now)) result (choice_at lines reasons.Code bits.now) }
+/// The bits of a command code that were read (6.3.2.11, Table 6.18). Some codes begin with them, and
+/// none is them.
+#[derive(Clone, Copy)]
+pub(crate) enum CodeFront {
+    Nothing,
+    First(bool),
+    Bits10,
+    Third(bool),
+    Bits11,
+    Bits110,
+    Bits1100,
+    Bits11000,
+    Sixth(bool),
+    Seventh(bool, bool),
+    Bits11001,
+    Bits110010,
+    Bits1100100,
+}
+
+/// What a command code says with its next bit.
+#[derive(Clone, Copy)]
+pub(crate) enum CodeStep {
+    /// Some codes begin so.
+    More(CodeFront),
+    /// It is the code of this command.
+    Is(CommandKind),
+    /// No code begins so.
+    Refused,
+}
+
+/// The code with its next bit.
+pub(crate) fn code_step(front: CodeFront, bit: bool) -> CodeStep
+    ensures { IsCodeStep result front bit }
 {
-    let (first, rest) = bit(bits)?;
-    let (second, rest) = bit(rest)?;
-    let code = match (first, second) {
+    match (front, bit) {
+        (CodeFront::Nothing, first) => CodeStep::More(CodeFront::First(first)),
+        (CodeFront::First(false), false) => CodeStep::Is(CommandKind::QueryRep),
+        (CodeFront::First(false), true) => CodeStep::Is(CommandKind::Ack),
+        (CodeFront::First(true), false) => CodeStep::More(CodeFront::Bits10),
+        (CodeFront::First(true), true) => CodeStep::More(CodeFront::Bits11),
+        (CodeFront::Bits10, third) => CodeStep::More(CodeFront::Third(third)),
+        (CodeFront::Third(false), false) => CodeStep::Is(CommandKind::Query),
+        (CodeFront::Third(false), true) => CodeStep::Is(CommandKind::QueryAdjust),
+        (CodeFront::Third(true), false) => CodeStep::Is(CommandKind::Select),
+        (CodeFront::Third(true), true) => CodeStep::Refused,
+        (CodeFront::Bits11, false) => CodeStep::More(CodeFront::Bits110),
+        (CodeFront::Bits11, true) => CodeStep::Refused,
+        (CodeFront::Bits110, false) => CodeStep::More(CodeFront::Bits1100),
+        (CodeFront::Bits110, true) => CodeStep::Refused,
+        (CodeFront::Bits1100, false) => CodeStep::More(CodeFront::Bits11000),
+        (CodeFront::Bits1100, true) => CodeStep::More(CodeFront::Bits11001),
+        (CodeFront::Bits11000, sixth) => CodeStep::More(CodeFront::Sixth(sixth)),
+        (CodeFront::Sixth(sixth), seventh) => CodeStep::More(CodeFront::Seventh(sixth, seventh)),
+        (CodeFront::Seventh(false, false), false) => CodeStep::Is(CommandKind::Nak),
+        (CodeFront::Seventh(false, false), true) => CodeStep::Is(CommandKind::ReqRn),
+        (CodeFront::Seventh(false, true), false) => CodeStep::Is(CommandKind::Read),
+        (CodeFront::Seventh(false, true), true) => CodeStep::Is(CommandKind::Write),
+        (CodeFront::Seventh(true, false), false) => CodeStep::Is(CommandKind::Kill),
+        (CodeFront::Seventh(true, false), true) => CodeStep::Is(CommandKind::Lock),
+        (CodeFront::Seventh(true, true), false) => CodeStep::Is(CommandKind::Access),
+        (CodeFront::Seventh(true, true), true) => CodeStep::Is(CommandKind::BlockWrite),
+        (CodeFront::Bits11001, false) => CodeStep::More(CodeFront::Bits110010),
+        (CodeFront::Bits11001, true) => CodeStep::Refused,
+        (CodeFront::Bits110010, false) => CodeStep::More(CodeFront::Bits1100100),
+        (CodeFront::Bits110010, true) => CodeStep::Refused,
+        (CodeFront::Bits1100100, false) => CodeStep::Is(CommandKind::BlockErase),
+        (CodeFront::Bits1100100, true) => CodeStep::Refused,
+    }
+}
+
+/// Target of a Query.
+pub(crate) fn side(bit: bool) -> Side
+    ensures { child sides bit ≡ pick result }
+{
+    if bit { Side::B } else { Side::A }
+}
+
+/// M of a Query.
+pub(crate) fn line_code(first: bool, second: bool) -> Code
+    ensures { child (child lines first) second ≡ pick result }
+{
+    match (first, second) {
         (false, false) => Code::Fm0,
         (false, true) => Code::M2,
         (true, false) => Code::M4,
         (true, true) => Code::M8,
-    };
-    Ok((code, rest))
+    }
 }
 
 /// Sel of a Query.
-pub(crate) fn sel(bits: &[bool]) -> Result<(Sel, &[bool]), Stop>
-    ensures { Gives (λ x. (x.0, x.1.now)) result (choice_at chosen_of reasons.Code bits.now) }
+pub(crate) fn sel(first: bool, second: bool) -> Sel
+    ensures { child (child chosen_of first) second ≡ pick result }
 {
-    let (first, rest) = bit(bits)?;
-    let (second, rest) = bit(rest)?;
-    let sel = match (first, second) {
+    match (first, second) {
         (false, false) => Sel::All00,
         (false, true) => Sel::All01,
         (true, false) => Sel::NotSl,
         (true, true) => Sel::Sl,
-    };
-    Ok((sel, rest))
-}
-
-/// Target of a Query.
-pub(crate) fn side(bits: &[bool]) -> Result<(Side, &[bool]), Stop>
-    ensures { Gives (λ x. (x.0, x.1.now)) result (choice_at sides reasons.Code bits.now) }
-{
-    let (second_side, rest) = bit(bits)?;
-    let side = if second_side { Side::B } else { Side::A };
-    Ok((side, rest))
-}
-
-/// UpDn of a QueryAdjust.
-pub(crate) fn updn(bits: &[bool]) -> Result<(UpDn, &[bool]), Stop>
-    ensures { Gives (λ x. (x.0, x.1.now)) result (choice_at changes reasons.UpDn bits.now) }
-{
-    let (first, rest) = bit(bits)?;
-    let (second, rest) = bit(rest)?;
-    if first && !second {
-        return Err(refused(rest, Reason::UpDn));
-    }
-    let (third, rest) = bit(rest)?;
-    match (first, second, third) {
-        (true, true, false) => Ok((UpDn::Up, rest)),
-        (false, false, false) => Ok((UpDn::Same, rest)),
-        (false, true, true) => Ok((UpDn::Down, rest)),
-        _ => Err(refused(rest, Reason::UpDn)),
-    }
-}
-
-/// Target of a Select.
-pub(crate) fn target(bits: &[bool]) -> Result<(FlagName, &[bool]), Stop>
-    ensures { Gives (λ x. (x.0, x.1.now)) result (choice_at targets reasons.Target bits.now) }
-{
-    let (first, rest) = bit(bits)?;
-    let (second, rest) = bit(rest)?;
-    if first && second {
-        return Err(refused(rest, Reason::Target));
-    }
-    let (third, rest) = bit(rest)?;
-    match (first, second, third) {
-        (false, false, false) => Ok((FlagName::S0, rest)),
-        (false, false, true) => Ok((FlagName::S1, rest)),
-        (false, true, false) => Ok((FlagName::S2, rest)),
-        (false, true, true) => Ok((FlagName::S3, rest)),
-        (true, _, false) => Ok((FlagName::Sl, rest)),
-        (true, _, true) => Err(refused(rest, Reason::Target)),
-    }
-}
-
-/// MemBank of a Select.
-pub(crate) fn mask_bank(bits: &[bool]) -> Result<(MaskBank, &[bool]), Stop>
-    ensures { Gives (λ x. (x.0, x.1.now)) result (choice_at masked_banks reasons.Bank bits.now) }
-{
-    let (first, rest) = bit(bits)?;
-    let (second, rest) = bit(rest)?;
-    match (first, second) {
-        (false, false) => Err(refused(rest, Reason::Bank)),
-        (false, true) => Ok((MaskBank::Epc, rest)),
-        (true, false) => Ok((MaskBank::Tid, rest)),
-        (true, true) => Ok((MaskBank::User, rest)),
     }
 }
 
 /// MemBank of a Read, Write, BlockWrite or BlockErase.
-pub(crate) fn bank(bits: &[bool]) -> Result<(Bank, &[bool]), Stop>
-    ensures { Gives (λ x. (x.0, x.1.now)) result (choice_at all_banks reasons.Code bits.now) }
+pub(crate) fn bank(first: bool, second: bool) -> Bank
+    ensures { child (child all_banks first) second ≡ pick result }
 {
-    let (first, rest) = bit(bits)?;
-    let (second, rest) = bit(rest)?;
-    let bank = match (first, second) {
+    match (first, second) {
         (false, false) => Bank::Reserved,
         (false, true) => Bank::Epc,
         (true, false) => Bank::Tid,
         (true, true) => Bank::User,
-    };
-    Ok((bank, rest))
+    }
 }
 
-/// The three bits of a Kill behind the covered half.
-pub(crate) fn three_zeros(bits: &[bool]) -> Result<&[bool], Stop>
-    ensures { Gives (λ rest. (tt, rest.now)) result (choice_at three_zeros reasons.KillBits bits.now) }
+/// MemBank of a Select.
+pub(crate) fn mask_bank(first: bool, second: bool) -> Option<MaskBank>
+    ensures { IsChosen result (child (child masked_banks first) second) }
 {
-    let (first, rest) = bit(bits)?;
-    if first {
-        return Err(refused(rest, Reason::KillBits));
-    }
-    let (second, rest) = bit(rest)?;
-    if second {
-        return Err(refused(rest, Reason::KillBits));
-    }
-    let (third, rest) = bit(rest)?;
-    if third {
-        return Err(refused(rest, Reason::KillBits));
-    }
-    Ok(rest)
-}
-
-/// The code of a command.
-pub(crate) fn command_kind(bits: &[bool]) -> Result<(CommandKind, &[bool]), Stop>
-    ensures { Gives (λ x. (x.0, x.1.now)) result (choice_at all_kinds reasons.Code bits.now) }
-{
-    let (first, rest) = bit(bits)?;
-    let (second, rest) = bit(rest)?;
     match (first, second) {
-        (false, false) => Ok((CommandKind::QueryRep, rest)),
-        (false, true) => Ok((CommandKind::Ack, rest)),
-        (true, false) => kind_of_four_bits(rest),
-        (true, true) => kind_of_eight_bits(rest),
+        (false, false) => None,
+        (false, true) => Some(MaskBank::Epc),
+        (true, false) => Some(MaskBank::Tid),
+        (true, true) => Some(MaskBank::User),
     }
 }
 
-/// The rest of a code that begins with 10.
-fn kind_of_four_bits(bits: &[bool]) -> Result<(CommandKind, &[bool]), Stop>
-    ensures { Gives (λ x. (x.0, x.1.now)) result (choice_at kinds_10 reasons.Code bits.now) }
+/// UpDn of a QueryAdjust.
+pub(crate) fn updn(first: bool, second: bool, third: bool) -> Option<UpDn>
+    ensures { IsChosen result (child (child (child changes first) second) third) }
 {
-    let (third, rest) = bit(bits)?;
-    let (fourth, rest) = bit(rest)?;
-    match (third, fourth) {
-        (false, false) => Ok((CommandKind::Query, rest)),
-        (false, true) => Ok((CommandKind::QueryAdjust, rest)),
-        (true, false) => Ok((CommandKind::Select, rest)),
-        (true, true) => Err(refused(rest, Reason::Code)),
+    match (first, second, third) {
+        (true, true, false) => Some(UpDn::Up),
+        (false, false, false) => Some(UpDn::Same),
+        (false, true, true) => Some(UpDn::Down),
+        _ => None,
     }
 }
 
-/// The rest of a code that begins with 11.
-fn kind_of_eight_bits(bits: &[bool]) -> Result<(CommandKind, &[bool]), Stop>
-    ensures { Gives (λ x. (x.0, x.1.now)) result (choice_at kinds_11 reasons.Code bits.now) }
+/// Target of a Select.
+pub(crate) fn target(first: bool, second: bool, third: bool) -> Option<FlagName>
+    ensures { IsChosen result (child (child (child targets first) second) third) }
 {
-    let (third, rest) = bit(bits)?;
-    if third {
-        return Err(refused(rest, Reason::Code));
+    match (first, second, third) {
+        (false, false, false) => Some(FlagName::S0),
+        (false, false, true) => Some(FlagName::S1),
+        (false, true, false) => Some(FlagName::S2),
+        (false, true, true) => Some(FlagName::S3),
+        (true, false, false) => Some(FlagName::Sl),
+        _ => None,
     }
-    let (fourth, rest) = bit(rest)?;
-    if fourth {
-        return Err(refused(rest, Reason::Code));
-    }
-    let (fifth, rest) = bit(rest)?;
-    if fifth {
-        kind_behind_11001(rest)
-    } else {
-        kind_behind_11000(rest)
-    }
-}
-
-fn kind_behind_11000(bits: &[bool]) -> Result<(CommandKind, &[bool]), Stop>
-    ensures { Gives (λ x. (x.0, x.1.now)) result (choice_at kinds_11000 reasons.Code bits.now) }
-{
-    let (sixth, rest) = bit(bits)?;
-    let (seventh, rest) = bit(rest)?;
-    let (eighth, rest) = bit(rest)?;
-    let kind = match (sixth, seventh, eighth) {
-        (false, false, false) => CommandKind::Nak,
-        (false, false, true) => CommandKind::ReqRn,
-        (false, true, false) => CommandKind::Read,
-        (false, true, true) => CommandKind::Write,
-        (true, false, false) => CommandKind::Kill,
-        (true, false, true) => CommandKind::Lock,
-        (true, true, false) => CommandKind::Access,
-        (true, true, true) => CommandKind::BlockWrite,
-    };
-    Ok((kind, rest))
-}
-
-fn kind_behind_11001(bits: &[bool]) -> Result<(CommandKind, &[bool]), Stop>
-    ensures { Gives (λ x. (x.0, x.1.now)) result (choice_at kinds_11001 reasons.Code bits.now) }
-{
-    let (sixth, rest) = bit(bits)?;
-    if sixth {
-        return Err(refused(rest, Reason::Code));
-    }
-    let (seventh, rest) = bit(rest)?;
-    if seventh {
-        return Err(refused(rest, Reason::Code));
-    }
-    let (eighth, rest) = bit(rest)?;
-    if eighth {
-        return Err(refused(rest, Reason::Code));
-    }
-    Ok((CommandKind::BlockErase, rest))
 }

@@ -65,8 +65,16 @@ impl Mask {
         if self.bits.is_full() {
             return Err(Full);
         }
-        self.bits.push(bit);
+        self.add(bit);
         Ok(())
+    }
+
+    /// Adds a bit at the end of a mask that has room.
+    pub(crate) fn add(&mut self, bit: bool)
+        requires { length self.old < 255 }
+        ensures { self.new ≡ self.old ++ bit ∷ [] }
+    {
+        self.bits.push(bit);
     }
 
     /// The whole mask.
@@ -133,8 +141,16 @@ impl BlockWords {
         if self.words.is_full() {
             return Err(Full);
         }
-        self.words.push(word);
+        self.add(word);
         Ok(())
+    }
+
+    /// Adds a word at the end of a block that has room.
+    pub(crate) fn add(&mut self, word: u16)
+        requires { length self.old < 255 }
+        ensures { self.new ≡ self.old ++ word ∷ [] }
+    {
+        self.words.push(word);
     }
 
     /// The whole block.

@@ -1,36 +1,35 @@
 //! Bits, one at a time, to a command.
-ghost use Rattle.std.specs.Prelude.{◌≡◌, ◌≤◌, ◌++◌, ◌∷◌, [], ℕ, List, Bool, Ok, Some, length};
-ghost use Rattle.command_grammar.specs.Commands.{Judges, IsFinishAnswer, SpellsCommand, command_room};
-ghost use Rattle.command_grammar.specs.Framing.{FramerStandsFor, refusal_in, HasRoom};
+ghost use Rattle.std.specs.Prelude.{◌≡◌, ◌++◌, ◌∷◌, [], ℕ, List, Bool, Ok, Some};
+ghost use Rattle.command_grammar.specs.Commands.{Judges, IsFinishAnswer, SpellsCommand};
+ghost use Rattle.command_grammar.specs.Framing.{FramerStandsFor, refusal_in};
 ghost use Rattle.command_grammar.specs.declared.commands.Command.{Command};
 ghost use Rattle.command_grammar.specs.declared.refusal.Pushed.TheVariants.{Bad};
 ghost use Rattle.command_grammar.specs.declared.refusal.Reason.{Reason};
 
-use crate::bodies::whole_command;
 use crate::commands::Command;
-use crate::reader::Stop;
 use crate::refusal::{CommandRefusal, Pushed, Reason};
-use arrayvec::ArrayVec;
+use crate::state::State;
 use std::marker::Model;
 
 /// Finds the end of a command in bits that come one at a time, and what the command is.
 ///
-/// A contract says which list of bits it stands for. It keeps these bits, which are at most the 4,162
-/// of the longest command, and one more that is refused.
+/// A contract says which list of bits it stands for. It keeps the field that it is in with the bits
+/// read of it, the check numbers of the bits so far, and the values of the fields before; no bits but
+/// those of a mask and of words. A bit is looked at once.
 #[derive(Drop)]
 pub struct Framer {
-    bits: ArrayVec<bool, 4170>,
+    state: State,
     refused: Option<(u32, Reason)>,
 }
 
 impl Model for Framer {
-    ghost use Rattle.command_grammar.specs.Framing.{FramerValue, HasRoom};
+    ghost use Rattle.command_grammar.specs.Framing.{FramerValue, IsOpen};
 
     ghost Value = { FramerValue };
 
-    ghost view = { λ a. record { kept = a.bits.items; refused = a.refused } };
+    ghost view = { λ a. record { state = a.state; refused = a.refused } };
 
-    ghost invariant = { λ a. HasRoom a.refused a.bits.items };
+    ghost invariant = { λ a. IsOpen a.state a.refused };
 }
 
 impl Framer {
@@ -39,7 +38,7 @@ impl Framer {
         ensures { FramerStandsFor result [] }
     {
         Framer {
-            bits: ArrayVec::new(),
+            state: State::new(),
             refused: None,
         }
     }
@@ -55,10 +54,14 @@ impl Framer {
         match self.refused {
             Some((place, reason)) => Pushed::Bad(place, reason),
             None => {
-                self.bits.push(bit);
-                let judged = judge(self.bits.as_slice());
-                self.refused = refusal_of(judged);
-                judged
+                let place = self.state.pushed;
+                match self.state.take(bit) {
+                    None => self.state.judge(),
+                    Some(reason) => {
+                        self.refused = Some((place, reason));
+                        Pushed::Bad(place, reason)
+                    }
+                }
             }
         }
     }
@@ -68,48 +71,10 @@ impl Framer {
         ensures finishes { (bits : List Bool) → FramerStandsFor self bits → IsFinishAnswer result bits }
         ensures only { (bits : List Bool) (command : Command) → FramerStandsFor self bits → SpellsCommand command bits → result ≡ Ok command }
     {
-        let Framer { bits, refused } = self;
+        let Framer { state, refused } = self;
         match refused {
             Some((place, reason)) => Err(CommandRefusal::At(place, reason)),
-            None => finished(bits.as_slice()),
-        }
-    }
-}
-
-/// The refusal that an answer tells.
-fn refusal_of(answer: Pushed) -> Option<(u32, Reason)>
-    ensures { result ≡ refusal_in answer }
-{
-    match answer {
-        Pushed::Bad(place, reason) => Some((place, reason)),
-        Pushed::More | Pushed::Whole => None,
-    }
-}
-
-/// What the bits are.
-fn judge(bits: &[bool]) -> Pushed
-    requires { length bits.now ≤ command_room }
-    ensures judges { Judges result bits.now }
-    ensures room { HasRoom (refusal_in result) bits.now }
-{
-    match whole_command(bits) {
-        Ok(_) => Pushed::Whole,
-        Err(Stop::Short) => Pushed::More,
-        Err(Stop::Bad { left, reason }) => Pushed::Bad((bits.len() - left) as u32, reason),
-    }
-}
-
-/// The command that the bits are, or why they are none.
-fn finished(bits: &[bool]) -> Result<Command, CommandRefusal>
-    requires { length bits.now ≤ command_room }
-    ensures finishes { IsFinishAnswer result bits.now }
-    ensures only { (command : Command) → SpellsCommand command bits.now → result ≡ Ok command }
-{
-    match whole_command(bits) {
-        Ok(command) => Ok(command),
-        Err(Stop::Short) => Err(CommandRefusal::Short(bits.len() as u32)),
-        Err(Stop::Bad { left, reason }) => {
-            Err(CommandRefusal::At((bits.len() - left) as u32, reason))
+            None => state.finish(),
         }
     }
 }

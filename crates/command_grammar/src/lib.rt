@@ -2,20 +2,24 @@
 //! standard, version 1.2.0).
 #![tactic(auto)]
 
-mod bodies;
 mod choices;
 mod command_lists;
 mod commands;
+mod decoding;
 mod field_values;
+mod fields;
 mod framer;
 mod laws;
-mod reader;
 mod refusal;
+mod running_crc5;
 mod spelling;
+mod stage;
+mod state;
 
 pub use bit_strings::{Action, Code, Count1, Payload, Pointer, QValue, Session};
 pub use command_lists::{BlockWords, Mask};
 pub use commands::Command;
+pub use decoding::decode_command;
 pub use field_values::{Bank, FlagName, MaskBank, Sel, Side, UpDn};
 pub use framer::Framer;
 pub use laws::{one_outcome, one_refusal, spelling_laws};

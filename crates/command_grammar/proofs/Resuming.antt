@@ -1,0 +1,196 @@
+-- Reading goes on from each state for the bits that are still to come.
+use Rattle.std.proofs.Common.{◌≡◌, ℕ, suc, ◌+◌, ◌-◌, ◌≤◌, Bool, true, false, List, [], ◌∷◌, ◌++◌, length, Result, Ok, Err, refl, sym, ap, subst, ◌∙◌, append_assoc, append-nil, length-append, get_or, ◌<◌, take, drop, slice_index_or, inl, inr, arith}
+use Rattle.std.specs.Prelude.{◌⊎◌}
+use Rattle.std.proofs.lemmas.List.{take_all, take-append-drop}
+use Rattle.std.proofs.Math.Seq.{drop-cons}
+use Rattle.bit_strings.specs.Numbers.{field_of}
+use Rattle.bit_strings.specs.Family.{IsShortAt}
+use Rattle.command_grammar.specs.declared.commands.Command.{Command}
+use Rattle.command_grammar.specs.declared.choices.CommandKind.{CommandKind}
+use Rattle.command_grammar.specs.declared.choices.CommandKind.TheVariants as kinds
+use Rattle.command_grammar.specs.declared.choices.CodeFront.{CodeFront}
+use Rattle.command_grammar.specs.declared.choices.CodeFront.TheVariants as fronts
+use Rattle.command_grammar.specs.declared.fields.Field.{Field}
+use Rattle.command_grammar.specs.declared.fields.Fields.{Fields}
+use Rattle.command_grammar.specs.declared.stage.BitField.TheVariants as bit_fields
+use Rattle.command_grammar.specs.declared.stage.PairField.TheVariants as pair_fields
+use Rattle.command_grammar.specs.declared.stage.TripleField.TheVariants as triple_fields
+use Rattle.command_grammar.specs.declared.stage.Block.TheVariants.{First, Second, Third, Fourth}
+use Rattle.command_grammar.specs.declared.stage.Stage.{Stage}
+use Rattle.command_grammar.specs.declared.stage.Stage.TheVariants as stages
+use Rattle.command_grammar.specs.declared.state.Place.{Place}
+use Rattle.command_grammar.specs.declared.state.Place.TheVariants as places
+use Rattle.command_grammar.specs.declared.state.State.{State}
+use Rattle.command_grammar.specs.declared.refusal.Reason.{Reason}
+use Rattle.command_grammar.specs.declared.refusal.Reason.TheVariants as reasons
+use Rattle.command_grammar.specs.Commands.{Spellings, SpellsCommand, IsCommandRefusedAt}
+use Rattle.command_grammar.specs.Reading.{Stop, Short, Bad, Reading, ◌>>=◌, Choice, child, all_kinds, lines, chosen_of, sides, changes, targets, masked_banks, all_banks, bit_at, bits_at, field_at, choice_at, exactly_at, count_at, words_at, ebv_at, crc5_at, crc16_at, block_at, first_block_at, last_block_at, query_rep_at, ack_at, query_at, query_adjust_at, select_at, req_rn_at, read_at, write_at, kill_at, lock_at, access_at, block_write_at, block_erase_at, fields_at, command_at, all_of}
+use Rattle.command_grammar.specs.Framing.{fields_of, command_of, only_whole, run, next_at, behind_code, number_then, stage_from, field_from, resume, Stands}
+use Rattle.command_grammar.proofs.Parts.{is_fork, fork-at, number-short, mask-short}
+use Rattle.command_grammar.proofs.SpellingLaws.{begun}
+use Rattle.command_grammar.proofs.Verdict.{all_whole, all_short, all_bad}
+use Rattle.command_grammar.proofs.Lengths.{length-begins}
+
+-- ---- a command is its fields, one behind the other
+
+abbrev whole_of : Command × List Bool → Result Command Stop
+whole_of read = only_whole read.0 read.1
+
+then : {A : Type 0} (r : Reading A) (k : A × List Bool → Reading Command) (h : A × List Bool → Fields × List Bool) (g : Fields × List Bool → Result Command Stop)
+    → ((x : A × List Bool) → (k x >>= whole_of) ≡ g (h x)) → ((r >>= k) >>= whole_of) ≡ ((r >>= λ x. Ok (h x)) >>= g)
+then (Ok x) k h g e = e x
+then (Err stop) k h g e = refl
+
+then_two : {A B : Type 0} (r : Reading A) (s : A × List Bool → Reading B) (k : A × List Bool → B × List Bool → Reading Command) (h : A × List Bool → B × List Bool → Fields × List Bool) (g : Fields × List Bool → Result Command Stop)
+    → ((x : A × List Bool) (y : B × List Bool) → (k x y >>= whole_of) ≡ g (h x y)) → ((r >>= λ x. (s x >>= λ y. k x y)) >>= whole_of) ≡ ((r >>= λ x. (s x >>= λ y. Ok (h x y))) >>= g)
+then_two (Ok x) s k h g e = then (s x) (k x) (h x) g (e x)
+then_two (Err stop) s k h g e = refl
+
+pub fields_run : (kind : CommandKind) (v : Fields) (whole bits : List Bool) → (fields_at kind whole bits >>= whole_of) ≡ run (fields_of kind) kind v whole bits
+unfolding query_rep_at ack_at query_at query_adjust_at select_at req_rn_at read_at write_at kill_at lock_at access_at block_write_at block_erase_at
+fields_run kinds.QueryRep v whole bits = then (field_at 2 bits) _ _ _ (λ session. refl)
+fields_run kinds.Ack v whole bits = then (field_at 16 bits) _ _ _ (λ rn. refl)
+fields_run kinds.Query v whole bits = then (bit_at bits) _ _ _ (λ dr. then (choice_at lines reasons.Code dr.1) _ _ _ (λ line_code. then (bit_at line_code.1) _ _ _ (λ trext. then (choice_at chosen_of reasons.Code trext.1) _ _ _ (λ sel. then (field_at 2 sel.1) _ _ _ (λ session. then (choice_at sides reasons.Code session.1) _ _ _ (λ target. then (field_at 4 target.1) _ _ _ (λ q. then (crc5_at whole q.1) _ _ _ (λ check. refl))))))))
+fields_run kinds.QueryAdjust v whole bits = then (field_at 2 bits) _ _ _ (λ session. then (choice_at changes reasons.UpDn session.1) _ _ _ (λ updn. refl))
+fields_run kinds.Select v whole bits = then (choice_at targets reasons.Target bits) _ _ _ (λ target. then (field_at 3 target.1) _ _ _ (λ action. then (choice_at masked_banks reasons.Bank action.1) _ _ _ (λ bank. then (ebv_at bank.1) _ _ _ (λ pointer. then_two (field_at 8 pointer.1) (λ count. bits_at count.0 count.1) _ _ _ (λ count mask. then (exactly_at (false ∷ []) reasons.Truncate mask.1) _ _ _ (λ truncate. then (crc16_at whole truncate.1) _ _ _ (λ check. refl)))))))
+fields_run kinds.Nak v whole bits = refl
+fields_run kinds.ReqRn v whole bits = then (field_at 16 bits) _ _ _ (λ rn. then (crc16_at whole rn.1) _ _ _ (λ check. refl))
+fields_run kinds.Read v whole bits = then (choice_at all_banks reasons.Code bits) _ _ _ (λ bank. then (ebv_at bank.1) _ _ _ (λ pointer. then (field_at 8 pointer.1) _ _ _ (λ count. then (field_at 16 count.1) _ _ _ (λ rn. then (crc16_at whole rn.1) _ _ _ (λ check. refl)))))
+fields_run kinds.Write v whole bits = then (choice_at all_banks reasons.Code bits) _ _ _ (λ bank. then (ebv_at bank.1) _ _ _ (λ pointer. then (field_at 16 pointer.1) _ _ _ (λ covered. then (field_at 16 covered.1) _ _ _ (λ rn. then (crc16_at whole rn.1) _ _ _ (λ check. refl)))))
+fields_run kinds.Kill v whole bits = then (field_at 16 bits) _ _ _ (λ covered. then (exactly_at (false ∷ false ∷ false ∷ []) reasons.KillBits covered.1) _ _ _ (λ zeros. then (field_at 16 zeros.1) _ _ _ (λ rn. then (crc16_at whole rn.1) _ _ _ (λ check. refl))))
+fields_run kinds.Lock v whole bits = then (field_at 20 bits) _ _ _ (λ payload. then (field_at 16 payload.1) _ _ _ (λ rn. then (crc16_at whole rn.1) _ _ _ (λ check. refl)))
+fields_run kinds.Access v whole bits = then (field_at 16 bits) _ _ _ (λ covered. then (field_at 16 covered.1) _ _ _ (λ rn. then (crc16_at whole rn.1) _ _ _ (λ check. refl)))
+fields_run kinds.BlockWrite v whole bits = then (choice_at all_banks reasons.Code bits) _ _ _ (λ bank. then (ebv_at bank.1) _ _ _ (λ pointer. then_two (count_at pointer.1) (λ count. words_at count.0 count.1) _ _ _ (λ count words. then (field_at 16 words.1) _ _ _ (λ rn. then (crc16_at whole rn.1) _ _ _ (λ check. refl)))))
+fields_run kinds.BlockErase v whole bits = then (choice_at all_banks reasons.Code bits) _ _ _ (λ bank. then (ebv_at bank.1) _ _ _ (λ pointer. then (count_at pointer.1) _ _ _ (λ count. then (field_at 16 count.1) _ _ _ (λ rn. then (crc16_at whole rn.1) _ _ _ (λ check. refl)))))
+
+-- ---- from no bits on
+
+pub code-forks : (front : CodeFront) → is_fork (behind_code front) ≡ true
+code-forks fronts.Nothing = refl
+code-forks (fronts.First true) = refl
+code-forks (fronts.First false) = refl
+code-forks fronts.Bits10 = refl
+code-forks (fronts.Third true) = refl
+code-forks (fronts.Third false) = refl
+code-forks fronts.Bits11 = refl
+code-forks fronts.Bits110 = refl
+code-forks fronts.Bits1100 = refl
+code-forks fronts.Bits11000 = refl
+code-forks (fronts.Sixth true) = refl
+code-forks (fronts.Sixth false) = refl
+code-forks (fronts.Seventh true true) = refl
+code-forks (fronts.Seventh true false) = refl
+code-forks (fronts.Seventh false true) = refl
+code-forks (fronts.Seventh false false) = refl
+code-forks fronts.Bits11001 = refl
+code-forks fronts.Bits110010 = refl
+code-forks fronts.Bits1100100 = refl
+
+pub code-more : (front more : CodeFront) (bit : Bool) (rest : List Bool) → child (behind_code front) bit ≡ behind_code more → next_at (behind_code front) reasons.Code (bit ∷ rest) ≡ next_at (behind_code more) reasons.Code rest
+code-more front more bit rest e = ap (λ (t : Choice CommandKind). choice_at t reasons.Code rest) e ∙ fork-at (behind_code more) reasons.Code rest (code-forks more)
+
+abbrev pub Resumes : CommandKind → Place → List Field → Fields → List Bool → Type 0
+Resumes kind place behind v bits = (rest : List Bool) → all_of (bits ++ rest) ≡ resume kind place behind v (bits ++ rest) rest
+
+pub resumes_none : (kind : CommandKind) (behind : List Field) (v : Fields) → Resumes kind (places.Code fronts.Nothing) behind v []
+unfolding all_of command_at
+resumes_none kind behind v rest = goes (choice_at all_kinds reasons.Code rest) ∙ ap (λ (r : Reading CommandKind). r >>= λ x. run (fields_of x.0) x.0 v rest x.1) (fork-at all_kinds reasons.Code rest refl)
+  where
+    goes : (r : Reading CommandKind) → ((r >>= λ x. fields_at x.0 rest x.1) >>= whole_of) ≡ (r >>= λ x. run (fields_of x.0) x.0 v rest x.1)
+    goes (Ok x) = fields_run x.0 v rest x.1
+    goes (Err stop) = refl
+
+-- ---- with one bit more
+
+pub resumes_more : (kind next_kind : CommandKind) (place next_place : Place) (behind next_behind : List Field) (v next_v : Fields) (bits : List Bool) (bit : Bool) → Resumes kind place behind v bits
+    → ((rest : List Bool) → resume kind place behind v ((bits ++ bit ∷ []) ++ rest) (bit ∷ rest) ≡ resume next_kind next_place next_behind next_v ((bits ++ bit ∷ []) ++ rest) rest)
+    → Resumes next_kind next_place next_behind next_v (bits ++ bit ∷ [])
+resumes_more kind next_kind place next_place behind next_behind v next_v bits bit resumes step rest =
+    let same : (bits ++ bit ∷ []) ++ rest ≡ bits ++ bit ∷ rest = append_assoc bits (bit ∷ []) rest in
+    ap all_of same ∙ resumes (bit ∷ rest) ∙ ap (λ (whole : List Bool). resume kind place behind v whole (bit ∷ rest)) (sym same) ∙ step rest
+
+-- ---- no state but the last ends with no bits
+
+stage-short : (stage : Stage) (v : Fields) → stage_from stage v [] ≡ Err Short
+unfolding block_at first_block_at last_block_at field_of
+stage-short (stages.Bit bit_fields.Dr) v = refl
+stage-short (stages.Bit bit_fields.Pilot) v = refl
+stage-short (stages.Bit bit_fields.Side) v = refl
+stage-short (stages.Pair pair_fields.LineCode first) v = refl
+stage-short (stages.Pair pair_fields.Sel first) v = refl
+stage-short (stages.Pair pair_fields.Bank first) v = refl
+stage-short (stages.Pair pair_fields.MaskBank first) v = refl
+stage-short (stages.Triple triple_fields.UpDn front) v = refl
+stage-short (stages.Triple triple_fields.Target front) v = refl
+stage-short (stages.Number field number) v = ap (λ (r : Reading ℕ). r >>= λ n. number_then field n.0 v n.1) (number-short number.behind number.value)
+stage-short (stages.Extension First value) v = refl
+stage-short (stages.Extension Second value) v = refl
+stage-short (stages.Extension Third value) v = refl
+stage-short (stages.Extension Fourth value) v = refl
+stage-short (stages.Mask behind) v = ap (λ (r : Reading (List Bool)). r >>= λ x. Ok (record v { mask = x.0 }, x.1)) (mask-short behind v.mask)
+stage-short (stages.Known reason number) v = refl
+
+all_here : (kind : CommandKind) (place : Place) (behind : List Field) (v : Fields) (bits : List Bool) → Resumes kind place behind v bits → all_of bits ≡ resume kind place behind v (bits ++ []) []
+all_here kind place behind v bits resumes = ap all_of (sym (append-nil bits)) ∙ resumes []
+
+pub code_short : (kind : CommandKind) (front : CodeFront) (behind : List Field) (v : Fields) (bits : List Bool) → Resumes kind (places.Code front) behind v bits → all_of bits ≡ Err Short
+code_short kind front behind v bits resumes = all_here kind (places.Code front) behind v bits resumes
+
+pub within_short : (kind : CommandKind) (stage : Stage) (behind : List Field) (v : Fields) (bits : List Bool) → Resumes kind (places.Within stage) behind v bits → all_of bits ≡ Err Short
+within_short kind stage behind v bits resumes =
+    all_here kind (places.Within stage) behind v bits resumes ∙ ap (λ (r : Reading Fields). r >>= λ x. run behind kind x.0 (bits ++ []) x.1) (stage-short stage v)
+
+pub whole_here : (kind : CommandKind) (behind : List Field) (v : Fields) (bits : List Bool) → Resumes kind places.Whole behind v bits → all_of bits ≡ Ok (command_of kind v)
+whole_here kind behind v bits resumes = all_here kind places.Whole behind v bits resumes
+
+-- so the bits begin some command, and are few
+pub few_bits : (kind : CommandKind) (place : Place) (behind : List Field) (v : Fields) (bits : List Bool) → Resumes kind place behind v bits → length bits ≤ 4162
+few_bits kind (places.Code front) behind v bits resumes = length-begins bits (all_short bits (code_short kind front behind v bits resumes)).begins
+few_bits kind (places.Within stage) behind v bits resumes = length-begins bits (all_short bits (within_short kind stage behind v bits resumes)).begins
+few_bits kind places.Whole behind v bits resumes =
+    length-begins bits (begun Spellings bits (command_of kind v, all_whole (command_of kind v) bits (whole_here kind behind v bits resumes)))
+
+-- a bit that no command goes on with is the place of refusal
+pub refused_last : (bits : List Bool) (bit : Bool) (place : ℕ) (reason : Reason) → place ≡ length bits → all_of (bits ++ bit ∷ []) ≡ Err (Bad (length {A = Bool} [] + 1) reason) → IsCommandRefusedAt (bits ++ bit ∷ []) place reason
+refused_last bits bit place reason same e =
+    let here : length (bits ++ bit ∷ []) - 1 ≡ place = omega (arith, length-append bits (bit ∷ [])) in
+    subst (λ (n : ℕ). IsCommandRefusedAt (bits ++ bit ∷ []) n reason) here (all_bad (bits ++ bit ∷ []) 1 reason e).1
+
+-- ---- what is said of a state
+
+pub whole_spells : (s : State) (bits : List Bool) → s.place ≡ places.Whole → Stands s bits → SpellsCommand (command_of s.kind s.fields) bits
+whole_spells s bits whole stands =
+    let resumes : Resumes s.kind places.Whole s.behind.now s.fields bits = subst (λ (place : Place). Resumes s.kind place s.behind.now s.fields bits) whole stands.reads in
+    all_whole (command_of s.kind s.fields) bits (whole_here s.kind s.behind.now s.fields bits resumes)
+
+pub open_short : (s : State) (bits : List Bool) → ((front : CodeFront) × (s.place ≡ places.Code front)) ⊎ ((stage : Stage) × (s.place ≡ places.Within stage)) → Stands s bits → IsShortAt Spellings bits (length bits)
+open_short s bits (inl code) stands =
+    all_short bits (code_short s.kind code.0 s.behind.now s.fields bits (subst (λ (place : Place). Resumes s.kind place s.behind.now s.fields bits) code.1 stands.reads))
+open_short s bits (inr within) stands =
+    all_short bits (within_short s.kind within.0 s.behind.now s.fields bits (subst (λ (place : Place). Resumes s.kind place s.behind.now s.fields bits) within.1 stands.reads))
+
+-- the next field begins
+pub begins_field : (behind : List Field) (default : Field) (kind : CommandKind) (v : Fields) (whole bits : List Bool) (stage : Stage) → 1 ≤ length behind → stage_from stage v bits ≡ field_from (slice_index_or behind 0 default) v whole bits
+    → run behind kind v whole bits ≡ (stage_from stage v bits >>= λ x. run (take (length behind - 1) (drop 1 behind)) kind x.0 whole x.1)
+begins_field [] default kind v whole bits stage some e = absurd (omega arith)
+begins_field (field ∷ behind) default kind v whole bits stage some e =
+    ap (λ (r : Reading Fields). r >>= λ x. run behind kind x.0 whole x.1) (sym e)
+    ∙ ap (λ (others : List Field). stage_from stage v bits >>= λ x. run others kind x.0 whole x.1) (sym (take_all (length (field ∷ behind) - 1) behind (omega arith)))
+
+-- ---- what comes of one bit more
+
+-- the code goes on
+pub code_goes_on : (s : State) (bits : List Bool) (bit : Bool) (front more : CodeFront) → s.place ≡ places.Code front → child (behind_code front) bit ≡ behind_code more → Stands s bits → Resumes s.kind (places.Code more) s.behind.now s.fields (bits ++ bit ∷ [])
+code_goes_on s bits bit front more here e stands =
+    resumes_more s.kind s.kind (places.Code front) (places.Code more) s.behind.now s.behind.now s.fields s.fields bits bit (subst (λ (place : Place). Resumes s.kind place s.behind.now s.fields bits) here stands.reads)
+    (λ rest. ap (λ (r : Reading CommandKind). r >>= λ x. run (fields_of x.0) x.0 s.fields ((bits ++ bit ∷ []) ++ rest) x.1) (code-more front more bit rest e))
+
+-- a refusal at a bit of a list
+pub refused_at : (bits : List Bool) (at : ℕ) (default : Bool) (place : ℕ) (reason : Reason) → at < length bits → place ≡ length (take at bits) → ((rest : List Bool) → all_of (take at bits ++ get_or bits at default ∷ rest) ≡ Err (Bad (length rest + 1) reason))
+    → IsCommandRefusedAt bits place reason
+refused_at bits at default place reason inside same stops =
+    let rest : List Bool = drop (suc at) bits in
+    let split : take at bits ++ get_or bits at default ∷ rest ≡ bits = ap (λ (l : List Bool). take at bits ++ l) (sym (drop-cons bits at default inside)) ∙ take-append-drop at bits in
+    let refused = (all_bad bits (length rest + 1) reason (ap all_of (sym split) ∙ stops rest)).1 in
+    let long : length (take at bits) + (length rest + 1) ≡ length bits = omega (arith, ap (λ (l : List Bool). length l) split, length-append (take at bits) (get_or bits at default ∷ rest)) in
+    subst (λ (n : ℕ). IsCommandRefusedAt bits n reason) (omega arith) refused

@@ -1,0 +1,24 @@
+//! A list of bits to a command.
+ghost use Rattle.std.specs.Prelude.{◌≡◌, Ok};
+ghost use Rattle.command_grammar.specs.Commands.{IsFinishAnswer, SpellsCommand};
+ghost use Rattle.command_grammar.specs.declared.commands.Command.{Command};
+
+use crate::commands::Command;
+use crate::refusal::CommandRefusal;
+use crate::state::State;
+
+/// The command that these bits are, or why they are none. Bits behind a refused one are not looked
+/// at.
+pub fn decode_command(bits: &[bool]) -> Result<Command, CommandRefusal>
+    ensures answer { IsFinishAnswer result bits.now }
+    ensures only { (command : Command) → SpellsCommand command bits.now → result ≡ Ok command }
+{
+    let mut state = State::new();
+    for bit in bits {
+        let place = state.pushed;
+        if let Some(reason) = state.take(*bit) {
+            return Err(CommandRefusal::At(place, reason));
+        }
+    }
+    state.finish()
+}

@@ -1,0 +1,311 @@
+//! The fields behind the code of each command, in their order (6.3.2.11), and what was read of them.
+ghost use Rattle.std.specs.Prelude.{◌≡◌, ◌≢◌, ◌^◌, ◌<◌, ◌≤◌};
+ghost use Rattle.command_grammar.specs.Framing.{fields_of, command_of};
+
+use crate::choices::CommandKind;
+use crate::command_lists::{BlockWords, Mask};
+use crate::commands::Command;
+use crate::field_values::{Bank, FlagName, MaskBank, Sel, Side, UpDn};
+use bit_strings::{Action, Code, Count1, Payload, Pointer, QValue, Session};
+
+/// A field behind the code of a command.
+#[derive(Clone, Copy)]
+pub(crate) enum Field {
+    /// DR of a Query.
+    Dr,
+    /// M of a Query.
+    LineCode,
+    /// TRext of a Query.
+    Pilot,
+    /// Sel of a Query.
+    Sel,
+    /// Session of a QueryRep, Query or QueryAdjust.
+    Session,
+    /// Target of a Query.
+    Side,
+    /// Q of a Query.
+    Q,
+    /// CRC-5.
+    Crc5,
+    /// UpDn of a QueryAdjust.
+    UpDn,
+    /// Target of a Select.
+    Target,
+    /// Action of a Select.
+    Action,
+    /// MemBank of a Select.
+    MaskBank,
+    /// Pointer or WordPtr.
+    Pointer,
+    /// Length and Mask of a Select.
+    Mask,
+    /// Truncate of a Select.
+    Truncate,
+    /// MemBank of the other commands.
+    Bank,
+    /// WordCount of a Read.
+    Count,
+    /// WordCount and Data of a BlockWrite.
+    Words,
+    /// WordCount of a BlockErase.
+    WordCount,
+    /// Data of a Write, or half of a password.
+    Covered,
+    /// The three bits of a Kill behind the covered half.
+    KillBits,
+    /// Payload of a Lock.
+    Payload,
+    /// The tag's RN16 or handle.
+    Rn,
+    /// CRC-16.
+    Crc16,
+}
+
+impl CommandKind {
+    /// The fields of the command, in their order.
+    pub(crate) fn fields(self) -> &'static [Field]
+        ensures { result.now ≡ fields_of self }
+    {
+        match self {
+            CommandKind::QueryRep => &[Field::Session],
+            CommandKind::Ack => &[Field::Rn],
+            CommandKind::Query => &[
+                Field::Dr,
+                Field::LineCode,
+                Field::Pilot,
+                Field::Sel,
+                Field::Session,
+                Field::Side,
+                Field::Q,
+                Field::Crc5,
+            ],
+            CommandKind::QueryAdjust => &[Field::Session, Field::UpDn],
+            CommandKind::Select => &[
+                Field::Target,
+                Field::Action,
+                Field::MaskBank,
+                Field::Pointer,
+                Field::Mask,
+                Field::Truncate,
+                Field::Crc16,
+            ],
+            CommandKind::Nak => &[],
+            CommandKind::ReqRn => &[Field::Rn, Field::Crc16],
+            CommandKind::Read => &[
+                Field::Bank,
+                Field::Pointer,
+                Field::Count,
+                Field::Rn,
+                Field::Crc16,
+            ],
+            CommandKind::Write => &[
+                Field::Bank,
+                Field::Pointer,
+                Field::Covered,
+                Field::Rn,
+                Field::Crc16,
+            ],
+            CommandKind::Kill => &[Field::Covered, Field::KillBits, Field::Rn, Field::Crc16],
+            CommandKind::Lock => &[Field::Payload, Field::Rn, Field::Crc16],
+            CommandKind::Access => &[Field::Covered, Field::Rn, Field::Crc16],
+            CommandKind::BlockWrite => &[
+                Field::Bank,
+                Field::Pointer,
+                Field::Words,
+                Field::Rn,
+                Field::Crc16,
+            ],
+            CommandKind::BlockErase => &[
+                Field::Bank,
+                Field::Pointer,
+                Field::WordCount,
+                Field::Rn,
+                Field::Crc16,
+            ],
+        }
+    }
+}
+
+/// The values of the fields that were read; the others hold some value.
+#[derive(Drop)]
+pub(crate) struct Fields {
+    pub(crate) dr: bool,
+    pub(crate) code: Code,
+    pub(crate) trext: bool,
+    pub(crate) sel: Sel,
+    pub(crate) session: Session,
+    pub(crate) side: Side,
+    pub(crate) q: QValue,
+    pub(crate) updn: UpDn,
+    pub(crate) target: FlagName,
+    pub(crate) action: Action,
+    pub(crate) mask_bank: MaskBank,
+    pub(crate) pointer: Pointer,
+    pub(crate) mask: Mask,
+    pub(crate) bank: Bank,
+    pub(crate) count: u8,
+    pub(crate) words: BlockWords,
+    pub(crate) word_count: Count1,
+    pub(crate) covered: u16,
+    pub(crate) payload: Payload,
+    pub(crate) rn: u16,
+}
+
+impl Fields {
+    /// No field was read.
+    pub(crate) fn new() -> Fields {
+        Fields {
+            dr: false,
+            code: Code::Fm0,
+            trext: false,
+            sel: Sel::All00,
+            session: session_of(0),
+            side: Side::A,
+            q: q_of(0),
+            updn: UpDn::Same,
+            target: FlagName::S0,
+            action: action_of(0),
+            mask_bank: MaskBank::Epc,
+            pointer: pointer_of(0),
+            mask: Mask::new(),
+            bank: Bank::Reserved,
+            count: 0,
+            words: BlockWords::first(0),
+            word_count: count_of(1),
+            covered: 0,
+            payload: payload_of(0),
+            rn: 0,
+        }
+    }
+
+    /// The command whose fields were all read.
+    pub(crate) fn command(self, kind: CommandKind) -> Command
+        ensures { result ≡ command_of kind self }
+    {
+        match kind {
+            CommandKind::QueryRep => Command::QueryRep {
+                session: self.session,
+            },
+            CommandKind::Ack => Command::Ack { rn: self.rn },
+            CommandKind::Query => Command::Query {
+                dr: self.dr,
+                code: self.code,
+                trext: self.trext,
+                sel: self.sel,
+                session: self.session,
+                target: self.side,
+                q: self.q,
+            },
+            CommandKind::QueryAdjust => Command::QueryAdjust {
+                session: self.session,
+                updn: self.updn,
+            },
+            CommandKind::Select => Command::Select {
+                target: self.target,
+                action: self.action,
+                bank: self.mask_bank,
+                pointer: self.pointer,
+                mask: self.mask,
+            },
+            CommandKind::Nak => Command::Nak,
+            CommandKind::ReqRn => Command::ReqRn { rn: self.rn },
+            CommandKind::Read => Command::Read {
+                bank: self.bank,
+                pointer: self.pointer,
+                count: self.count,
+                rn: self.rn,
+            },
+            CommandKind::Write => Command::Write {
+                bank: self.bank,
+                pointer: self.pointer,
+                covered: self.covered,
+                rn: self.rn,
+            },
+            CommandKind::Kill => Command::Kill {
+                covered: self.covered,
+                rn: self.rn,
+            },
+            CommandKind::Lock => Command::Lock {
+                payload: self.payload,
+                rn: self.rn,
+            },
+            CommandKind::Access => Command::Access {
+                covered: self.covered,
+                rn: self.rn,
+            },
+            CommandKind::BlockWrite => Command::BlockWrite {
+                bank: self.bank,
+                pointer: self.pointer,
+                words: self.words,
+                rn: self.rn,
+            },
+            CommandKind::BlockErase => Command::BlockErase {
+                bank: self.bank,
+                pointer: self.pointer,
+                count: self.word_count,
+                rn: self.rn,
+            },
+        }
+    }
+}
+
+pub(crate) fn session_of(number: u32) -> Session
+    requires { number ≤ 3 }
+    ensures { result ≡ number }
+{
+    match Session::new(number as u8) {
+        Some(session) => session,
+        None => unreachable!(),
+    }
+}
+
+pub(crate) fn q_of(number: u32) -> QValue
+    requires { number ≤ 15 }
+    ensures { result ≡ number }
+{
+    match QValue::new(number as u8) {
+        Some(q) => q,
+        None => unreachable!(),
+    }
+}
+
+pub(crate) fn action_of(number: u32) -> Action
+    requires { number ≤ 7 }
+    ensures { result ≡ number }
+{
+    match Action::new(number as u8) {
+        Some(action) => action,
+        None => unreachable!(),
+    }
+}
+
+pub(crate) fn pointer_of(number: u32) -> Pointer
+    requires { number < 2 ^ 28 }
+    ensures { result ≡ number }
+{
+    match Pointer::new(number) {
+        Some(pointer) => pointer,
+        None => unreachable!(),
+    }
+}
+
+pub(crate) fn payload_of(number: u32) -> Payload
+    requires { number < 2 ^ 20 }
+    ensures { result ≡ number }
+{
+    match Payload::new(number) {
+        Some(payload) => payload,
+        None => unreachable!(),
+    }
+}
+
+pub(crate) fn count_of(number: u32) -> Count1
+    requires some { number ≢ 0 }
+    requires few { number ≤ 255 }
+    ensures { result ≡ number }
+{
+    match Count1::new(number as u8) {
+        Some(count) => count,
+        None => unreachable!(),
+    }
+}

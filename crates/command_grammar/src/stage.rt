@@ -1,0 +1,445 @@
+//! The field of a command that is being read.
+ghost use Rattle.std.specs.Prelude.{◌≡◌, ◌+◌, ◌≤◌, ◌<◌, ◌^◌, ◌∷◌, ◌++◌, ℕ, List, Bool, length, Some};
+ghost use Rattle.gen2_crc.specs.Crc.{crc5_of, RegisterStandsFor};
+ghost use Rattle.command_grammar.specs.Framing.{number_from, taken_from, IsFront, IsTaken, stage_from, next_from, field_from, pair_from, triple_from, bit_from, number_then, words_then, block_then, IsBefore, IsSound, IsSoundNumber, IsSoundNext, width_of};
+ghost use Rattle.command_grammar.specs.declared.fields.Fields.{Fields};
+ghost use Rattle.command_grammar.specs.declared.stage.NumberField.TheVariants.{Digit};
+ghost use Rattle.command_grammar.specs.declared.stage.Stage.TheVariants as stages;
+
+use crate::choices::{bank, line_code, mask_bank, sel, side, target, updn};
+use crate::command_lists::{BlockWords, Mask};
+use crate::fields::{Field, Fields, action_of, count_of, payload_of, pointer_of, q_of, session_of};
+use crate::refusal::Reason;
+use bit_strings::value_of_bits;
+use gen2_crc::Crc16;
+
+/// The bits of a number that were read before its next one.
+#[derive(Clone, Copy)]
+pub(crate) struct Number {
+    /// How many bits come behind the next one.
+    behind: u32,
+    /// What the bits read are.
+    value: u32,
+}
+
+/// A number with its next bit.
+#[derive(Clone, Copy)]
+pub(crate) enum Taken {
+    /// More bits of it come.
+    More(Number),
+    /// It is this.
+    Is(u32),
+}
+
+impl Number {
+    /// No bit of a number of `width` bits.
+    fn of(width: u32) -> Number
+        requires { 1 ≤ width }
+        ensures behind { result.behind + 1 ≡ width }
+        ensures value { result.value ≡ 0 }
+    {
+        Number {
+            behind: width - 1,
+            value: 0,
+        }
+    }
+
+    /// One bit more.
+    fn take(self, bit: bool) -> Taken
+        requires { self.value < 2 ^ 30 }
+        ensures reads { (rest : List Bool) → number_from self.behind self.value (bit ∷ rest) ≡ taken_from result rest }
+        ensures fits { (width : ℕ) → IsFront width self → IsTaken width result }
+    {
+        let value = 2 * self.value + u32::from(bit);
+        if self.behind == 0 {
+            return Taken::Is(value);
+        }
+        Taken::More(Number {
+            behind: self.behind - 1,
+            value,
+        })
+    }
+}
+
+/// A field of one bit.
+#[derive(Clone, Copy)]
+pub(crate) enum BitField {
+    Dr,
+    Pilot,
+    Side,
+}
+
+/// A field of two bits whose values have names.
+#[derive(Clone, Copy)]
+pub(crate) enum PairField {
+    LineCode,
+    Sel,
+    Bank,
+    MaskBank,
+}
+
+/// A field of three bits whose values have names.
+#[derive(Clone, Copy)]
+pub(crate) enum TripleField {
+    UpDn,
+    Target,
+}
+
+/// The bits of a field of three that were read.
+#[derive(Clone, Copy)]
+pub(crate) enum Front {
+    Nothing,
+    One(bool),
+    Two(bool, bool),
+}
+
+/// A block of an extensible bit vector (Annex A), of which there are at most four (profile).
+#[derive(Clone, Copy)]
+pub(crate) enum Block {
+    First,
+    Second,
+    Third,
+    Fourth,
+}
+
+/// What a number of some bits is for.
+#[derive(Clone, Copy)]
+pub(crate) enum NumberField {
+    Session,
+    Q,
+    Action,
+    Count,
+    WordCount,
+    Covered,
+    Payload,
+    Rn,
+    /// Length of a Select: how many bits of mask follow.
+    MaskLength,
+    /// WordCount of a BlockWrite: how many words follow.
+    WordsLength,
+    /// The first word of a BlockWrite, and how many others follow.
+    FirstWord(u32),
+    /// Another word, and how many others follow.
+    Word(u32),
+    /// The digit of a block, whether another block follows, and the number of the digits before.
+    Digit(Block, bool, u32),
+}
+
+/// What is being read: a field, or a part of one.
+#[derive(Clone, Copy)]
+pub(crate) enum Stage {
+    Bit(BitField),
+    /// The first bit, where it was read.
+    Pair(PairField, Option<bool>),
+    Triple(TripleField, Front),
+    Number(NumberField, Number),
+    /// The extension bit of a block, and the number of the digits before.
+    Extension(Block, u32),
+    /// The bits of a mask: how many come behind the next one.
+    Mask(u32),
+    /// Bits that are known: they are those of a number, and a bit that differs is refused.
+    Known(Reason, Number),
+}
+
+/// What comes of a bit.
+#[derive(Clone, Copy)]
+pub(crate) enum Next {
+    /// The field goes on.
+    Stay(Stage),
+    /// The field has ended.
+    Done,
+    /// No command goes on so.
+    Refused(Reason),
+}
+
+impl Stage {
+    /// The beginning of a field, behind bits with these check numbers.
+    pub(crate) fn start(field: Field, crc5: [bool; 5], crc16: Crc16) -> Stage
+        ensures reads { (bits rest : List Bool) (fields : Fields) → crc5 ≡ crc5_of bits → RegisterStandsFor crc16 bits → stage_from result fields rest ≡ field_from field fields (bits ++ rest) rest }
+        ensures sound { (fields : Fields) → IsSound result fields }
+    {
+        match field {
+            Field::Dr => Stage::Bit(BitField::Dr),
+            Field::LineCode => Stage::Pair(PairField::LineCode, None),
+            Field::Pilot => Stage::Bit(BitField::Pilot),
+            Field::Sel => Stage::Pair(PairField::Sel, None),
+            Field::Session => Stage::Number(NumberField::Session, Number::of(2)),
+            Field::Side => Stage::Bit(BitField::Side),
+            Field::Q => Stage::Number(NumberField::Q, Number::of(4)),
+            Field::Crc5 => Stage::Known(
+                Reason::Crc5,
+                Number {
+                    behind: 4,
+                    value: value_of_bits(&crc5),
+                },
+            ),
+            Field::UpDn => Stage::Triple(TripleField::UpDn, Front::Nothing),
+            Field::Target => Stage::Triple(TripleField::Target, Front::Nothing),
+            Field::Action => Stage::Number(NumberField::Action, Number::of(3)),
+            Field::MaskBank => Stage::Pair(PairField::MaskBank, None),
+            Field::Pointer => Stage::Extension(Block::First, 0),
+            Field::Mask => Stage::Number(NumberField::MaskLength, Number::of(8)),
+            Field::Truncate => Stage::Known(Reason::Truncate, Number::of(1)),
+            Field::Bank => Stage::Pair(PairField::Bank, None),
+            Field::Count => Stage::Number(NumberField::Count, Number::of(8)),
+            Field::Words => Stage::Number(NumberField::WordsLength, Number::of(8)),
+            Field::WordCount => Stage::Number(NumberField::WordCount, Number::of(8)),
+            Field::Covered => Stage::Number(NumberField::Covered, Number::of(16)),
+            Field::KillBits => Stage::Known(Reason::KillBits, Number::of(3)),
+            Field::Payload => Stage::Number(NumberField::Payload, Number::of(20)),
+            Field::Rn => Stage::Number(NumberField::Rn, Number::of(16)),
+            Field::Crc16 => Stage::Known(
+                Reason::Crc16,
+                Number {
+                    behind: 15,
+                    value: u32::from(crc16.value()),
+                },
+            ),
+        }
+    }
+
+    /// One bit more.
+    pub(crate) fn take(self, bit: bool, fields: &mut Fields) -> Next
+        requires { IsSound self fields.old }
+        ensures reads { (rest : List Bool) → stage_from self fields.old (bit ∷ rest) ≡ next_from result fields.new rest }
+        ensures sound { IsSoundNext result fields.new }
+    {
+        match self {
+            Stage::Bit(field) => take_bit(field, bit, fields),
+            Stage::Pair(field, None) => Next::Stay(Stage::Pair(field, Some(bit))),
+            Stage::Pair(field, Some(first)) => take_pair(field, first, bit, fields),
+            Stage::Triple(field, front) => take_triple(field, front, bit, fields),
+            Stage::Number(field, number) => match number.take(bit) {
+                Taken::More(number) => Next::Stay(Stage::Number(field, number)),
+                Taken::Is(value) => take_number(field, value, fields),
+            },
+            Stage::Extension(block, value) => take_extension(block, value, bit),
+            Stage::Mask(behind) => take_mask(behind, bit, fields),
+            Stage::Known(reason, wanted) => take_known(reason, wanted, bit),
+        }
+    }
+}
+
+/// A field of one bit.
+fn take_bit(field: BitField, bit: bool, fields: &mut Fields) -> Next
+    ensures reads { (rest : List Bool) → bit_from field fields.old (bit ∷ rest) ≡ next_from result fields.new rest }
+    ensures sound { IsSoundNext result fields.new }
+{
+    match field {
+        BitField::Dr => fields.dr = bit,
+        BitField::Pilot => fields.trext = bit,
+        BitField::Side => fields.side = side(bit),
+    }
+    Next::Done
+}
+
+/// The second bit of a field of two.
+fn take_pair(field: PairField, first: bool, second: bool, fields: &mut Fields) -> Next
+    ensures reads { (rest : List Bool) → pair_from field (Some first) fields.old (second ∷ rest) ≡ next_from result fields.new rest }
+    ensures sound { IsSoundNext result fields.new }
+{
+    match field {
+        PairField::LineCode => fields.code = line_code(first, second),
+        PairField::Sel => fields.sel = sel(first, second),
+        PairField::Bank => fields.bank = bank(first, second),
+        PairField::MaskBank => match mask_bank(first, second) {
+            Some(bank) => fields.mask_bank = bank,
+            None => return Next::Refused(Reason::Bank),
+        },
+    }
+    Next::Done
+}
+
+/// A bit of a field of three.
+fn take_triple(field: TripleField, front: Front, bit: bool, fields: &mut Fields) -> Next
+    ensures reads { (rest : List Bool) → triple_from field front fields.old (bit ∷ rest) ≡ next_from result fields.new rest }
+    ensures sound { IsSoundNext result fields.new }
+{
+    match (field, front, bit) {
+        (_, Front::Nothing, _) => Next::Stay(Stage::Triple(field, Front::One(bit))),
+        (TripleField::UpDn, Front::One(true), false) => Next::Refused(Reason::UpDn),
+        (TripleField::Target, Front::One(true), true) => Next::Refused(Reason::Target),
+        (_, Front::One(first), _) => Next::Stay(Stage::Triple(field, Front::Two(first, bit))),
+        (TripleField::UpDn, Front::Two(first, second), _) => match updn(first, second, bit) {
+            Some(updn) => {
+                fields.updn = updn;
+                Next::Done
+            }
+            None => Next::Refused(Reason::UpDn),
+        },
+        (TripleField::Target, Front::Two(first, second), _) => match target(first, second, bit) {
+            Some(target) => {
+                fields.target = target;
+                Next::Done
+            }
+            None => Next::Refused(Reason::Target),
+        },
+    }
+}
+
+/// The whole number of a field.
+fn take_number(field: NumberField, value: u32, fields: &mut Fields) -> Next
+    requires small { value < 2 ^ width_of field }
+    requires sound { IsSoundNumber field fields.old }
+    ensures reads { (rest : List Bool) → number_then field value fields.old rest ≡ next_from result fields.new rest }
+    ensures sound { IsSoundNext result fields.new }
+{
+    match field {
+        NumberField::Session => {
+            fields.session = session_of(value);
+            Next::Done
+        }
+        NumberField::Q => {
+            fields.q = q_of(value);
+            Next::Done
+        }
+        NumberField::Action => {
+            fields.action = action_of(value);
+            Next::Done
+        }
+        NumberField::Count => {
+            fields.count = value as u8;
+            Next::Done
+        }
+        NumberField::WordCount => {
+            if value == 0 {
+                return Next::Refused(Reason::Count);
+            }
+            fields.word_count = count_of(value);
+            Next::Done
+        }
+        NumberField::Covered => {
+            fields.covered = value as u16;
+            Next::Done
+        }
+        NumberField::Payload => {
+            fields.payload = payload_of(value);
+            Next::Done
+        }
+        NumberField::Rn => {
+            fields.rn = value as u16;
+            Next::Done
+        }
+        NumberField::MaskLength => {
+            fields.mask = Mask::new();
+            if value == 0 {
+                return Next::Done;
+            }
+            Next::Stay(Stage::Mask(value - 1))
+        }
+        NumberField::WordsLength => {
+            if value == 0 {
+                return Next::Refused(Reason::Count);
+            }
+            Next::Stay(Stage::Number(NumberField::FirstWord(value - 1), Number::of(16)))
+        }
+        NumberField::FirstWord(left) => {
+            fields.words = BlockWords::first(value as u16);
+            next_word(left)
+        }
+        NumberField::Word(left) => {
+            fields.words.add(value as u16);
+            next_word(left)
+        }
+        NumberField::Digit(block, more, before) => take_digit(block, more, before, value, fields),
+    }
+}
+
+/// What follows a word of a block, where so many others follow.
+fn next_word(left: u32) -> Next
+    ensures reads { (fields : Fields) (rest : List Bool) → words_then left fields rest ≡ next_from result fields rest }
+    ensures sound { (fields : Fields) → length fields.words + left ≤ 255 → IsSoundNext result fields }
+{
+    if left == 0 {
+        return Next::Done;
+    }
+    Next::Stay(Stage::Number(NumberField::Word(left - 1), Number::of(16)))
+}
+
+/// The digit of a block of an extensible bit vector, behind the number of the digits before.
+fn take_digit(block: Block, more: bool, before: u32, digit: u32, fields: &mut Fields) -> Next
+    requires small { digit < 2 ^ 7 }
+    requires before { IsBefore block before }
+    ensures reads { (rest : List Bool) → number_then (Digit block more before) digit fields.old rest ≡ next_from result fields.new rest }
+    ensures sound { IsSoundNext result fields.new }
+{
+    match block {
+        Block::First => {
+            if more && digit == 0 {
+                return Next::Refused(Reason::Ebv);
+            }
+            next_block(Block::Second, more, digit, fields)
+        }
+        Block::Second => next_block(Block::Third, more, before * 128 + digit, fields),
+        Block::Third => next_block(Block::Fourth, more, before * 128 + digit, fields),
+        Block::Fourth => {
+            fields.pointer = pointer_of(before * 128 + digit);
+            Next::Done
+        }
+    }
+}
+
+/// What follows a block, where the number so far is `value`: this block, or the end.
+fn next_block(block: Block, more: bool, value: u32, fields: &mut Fields) -> Next
+    requires before { IsBefore block value }
+    requires small { value < 2 ^ 28 }
+    ensures reads { (rest : List Bool) → block_then block more value fields.old rest ≡ next_from result fields.new rest }
+    ensures sound { IsSoundNext result fields.new }
+{
+    if more {
+        return Next::Stay(Stage::Extension(block, value));
+    }
+    fields.pointer = pointer_of(value);
+    Next::Done
+}
+
+/// The extension bit of a block.
+fn take_extension(block: Block, value: u32, bit: bool) -> Next
+    requires { IsBefore block value }
+    ensures reads { (fields : Fields) (rest : List Bool) → stage_from (stages.Extension block value) fields (bit ∷ rest) ≡ next_from result fields rest }
+    ensures sound { (fields : Fields) → IsSoundNext result fields }
+{
+    let next = Next::Stay(Stage::Number(NumberField::Digit(block, bit, value), Number::of(7)));
+    if !bit {
+        return next;
+    }
+    match block {
+        Block::First | Block::Second | Block::Third => next,
+        Block::Fourth => Next::Refused(Reason::Ebv),
+    }
+}
+
+/// A bit of a mask.
+fn take_mask(behind: u32, bit: bool, fields: &mut Fields) -> Next
+    requires { length fields.old.mask + behind + 1 ≤ 255 }
+    ensures reads { (rest : List Bool) → stage_from (stages.Mask behind) fields.old (bit ∷ rest) ≡ next_from result fields.new rest }
+    ensures sound { IsSoundNext result fields.new }
+{
+    fields.mask.add(bit);
+    if behind == 0 {
+        return Next::Done;
+    }
+    Next::Stay(Stage::Mask(behind - 1))
+}
+
+/// A bit that is known.
+fn take_known(reason: Reason, number: Number, bit: bool) -> Next
+    requires { number.behind ≤ 15 }
+    ensures reads { (fields : Fields) (rest : List Bool) → stage_from (stages.Known reason number) fields (bit ∷ rest) ≡ next_from result fields rest }
+    ensures sound { (fields : Fields) → IsSoundNext result fields }
+{
+    let Number { behind, value } = number;
+    if bit != ((value >> behind) % 2 == 1) {
+        return Next::Refused(reason);
+    }
+    if behind == 0 {
+        return Next::Done;
+    }
+    Next::Stay(Stage::Known(
+        reason,
+        Number {
+            behind: behind - 1,
+            value,
+        },
+    ))
+}

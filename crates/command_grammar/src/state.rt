@@ -1,0 +1,128 @@
+//! What was read of a command.
+ghost use Rattle.std.specs.Prelude.{◌≡◌, ◌++◌, ◌∷◌, [], ℕ, List, Bool, Ok, None};
+ghost use Rattle.gen2_crc.specs.Crc.{crc5_of, RegisterStandsFor};
+ghost use Rattle.command_grammar.specs.Commands.{Judges, IsFinishAnswer, SpellsCommand};
+ghost use Rattle.command_grammar.specs.Framing.{Stands, IsSoundPlace, IsOpen, Goes, refusal_in, resume, run};
+ghost use Rattle.command_grammar.specs.declared.commands.Command.{Command};
+
+use crate::choices::{CodeFront, CodeStep, CommandKind, code_step};
+use crate::commands::Command;
+use crate::fields::{Field, Fields};
+use crate::refusal::{CommandRefusal, Pushed, Reason};
+use crate::running_crc5::{PRESET, shifted};
+use crate::stage::{Next, Stage};
+use gen2_crc::Crc16;
+
+/// Where the next bit stands.
+#[derive(Clone, Copy)]
+pub(crate) enum Place {
+    /// In the command code.
+    Code(CodeFront),
+    /// In a field.
+    Within(Stage),
+    /// Behind the command.
+    Whole,
+}
+
+/// What was read of a command, where no bit was refused. It keeps no bits but those of a mask and of
+/// words.
+#[derive(Drop)]
+pub(crate) struct State {
+    /// How many bits were read.
+    pub(crate) pushed: u32,
+    /// The register of CRC-5.
+    crc5: [bool; 5],
+    crc16: Crc16,
+    /// The command, once its code was read.
+    kind: CommandKind,
+    place: Place,
+    /// The fields behind the one that is being read.
+    behind: &'static [Field],
+    fields: Fields,
+}
+
+impl State {
+    /// Stands for no bits.
+    pub(crate) fn new() -> State
+        ensures stands { Stands result [] }
+        ensures sound { IsSoundPlace result.place result.fields }
+    {
+        State {
+            pushed: 0,
+            crc5: PRESET,
+            crc16: Crc16::new(),
+            kind: CommandKind::Nak,
+            place: Place::Code(CodeFront::Nothing),
+            behind: &[],
+            fields: Fields::new(),
+        }
+    }
+
+    /// Stands for one bit more, or says why no command goes on with it.
+    pub(crate) fn take(&mut self, bit: bool) -> Option<Reason>
+        requires { IsOpen self.old None }
+        ensures goes { (bits : List Bool) → Stands self.old bits → Goes result self.new bits bit }
+        ensures sound { result ≡ None → IsSoundPlace self.new.place self.new.fields }
+    {
+        self.pushed += 1;
+        self.crc5 = shifted(self.crc5, bit);
+        self.crc16.push(bit);
+        match self.place {
+            Place::Code(front) => match code_step(front, bit) {
+                CodeStep::More(front) => self.place = Place::Code(front),
+                CodeStep::Is(kind) => {
+                    self.kind = kind;
+                    self.behind = kind.fields();
+                    self.begin();
+                }
+                CodeStep::Refused => return Some(Reason::Code),
+            },
+            Place::Within(stage) => match stage.take(bit, &mut self.fields) {
+                Next::Stay(stage) => self.place = Place::Within(stage),
+                Next::Done => self.begin(),
+                Next::Refused(reason) => return Some(reason),
+            },
+            Place::Whole => return Some(Reason::Extra),
+        }
+        None
+    }
+
+    /// The next field begins, or the command is whole.
+    fn begin(&mut self)
+        ensures reads { (bits rest : List Bool) → self.old.crc5 ≡ crc5_of bits → RegisterStandsFor self.old.crc16 bits → run self.old.behind.now self.old.kind self.old.fields (bits ++ rest) rest ≡ resume self.new.kind self.new.place self.new.behind.now self.new.fields (bits ++ rest) rest }
+        ensures sound { IsSoundPlace self.new.place self.new.fields }
+        ensures pushed { self.new.pushed ≡ self.old.pushed }
+        ensures crc5 { self.new.crc5 ≡ self.old.crc5 }
+        ensures crc16 { self.new.crc16 ≡ self.old.crc16 }
+    {
+        match self.behind {
+            [] => self.place = Place::Whole,
+            [field, behind @ ..] => {
+                self.behind = behind;
+                self.place = Place::Within(Stage::start(*field, self.crc5, self.crc16));
+            }
+        }
+    }
+
+    /// What the bits are.
+    pub(crate) fn judge(&self) -> Pushed
+        ensures judges { (bits : List Bool) → Stands self.now bits → Judges result bits }
+        ensures taken { refusal_in result ≡ None }
+    {
+        match self.place {
+            Place::Whole => Pushed::Whole,
+            Place::Code(_) | Place::Within(_) => Pushed::More,
+        }
+    }
+
+    /// The command that the bits are, or `Short` where they only begin one.
+    pub(crate) fn finish(self) -> Result<Command, CommandRefusal>
+        ensures finishes { (bits : List Bool) → Stands self bits → IsFinishAnswer result bits }
+        ensures only { (bits : List Bool) (command : Command) → Stands self bits → SpellsCommand command bits → result ≡ Ok command }
+    {
+        match self.place {
+            Place::Whole => Ok(self.fields.command(self.kind)),
+            Place::Code(_) | Place::Within(_) => Err(CommandRefusal::Short(self.pushed)),
+        }
+    }
+}
