@@ -10,7 +10,7 @@ ghost use Rattle.epc_sgtin.specs.Uri.{IsUriOf};
 ghost use Rattle.epc_sgtin.specs.UriFaults.{RefusesUri};
 
 use crate::raw_field::RawField;
-use crate::request::{MOST_INTERVALS, MOST_LEVELS, Request};
+use crate::request::{MOST_INTERVALS, MOST_LEVELS, MOST_SAMPLES, Request};
 use air_channel::receive;
 use bit_strings::{Bits, Code, Levels, OutOfMemory};
 use command_grammar::{Command, CommandRefusal, Framer};
@@ -26,30 +26,32 @@ use sgtin_text::{push_epc_fault, push_name, push_sgtin_words, push_uri_fault};
 use std::alloc::Global;
 use text_fields::{Digits, HexBytes, Words, push_bits, push_number};
 
-/// Room for the levels, bits and intervals of the longest line, taken once for all lines. The samples of
-/// a line and the text of the answers take memory of their own.
+/// Room for the levels, bits, intervals and samples of the longest line, taken once for all lines.
 #[derive(Drop)]
 pub struct Workspace {
     alloc: Global,
     levels: Levels,
     bits: Bits,
     intervals: Intervals,
+    samples: Vec<u8>,
     ghost levels_room: { levels.capacity ≡ most_levels },
     ghost bits_room: { bits.capacity ≡ most_levels },
     ghost intervals_room: { intervals.capacity ≡ 20000 },
 }
 
 impl Workspace {
-    /// Takes the room for levels, bits and intervals.
+    /// Takes the room.
     pub fn new(alloc: Global) -> Result<Workspace, OutOfMemory> {
         let levels = Levels::new(alloc, MOST_LEVELS)?;
         let bits = Bits::new(alloc, MOST_LEVELS)?;
         let intervals = Intervals::new(alloc, MOST_INTERVALS)?;
+        let samples = Vec::with_capacity(alloc, MOST_SAMPLES as usize)?;
         Ok(Workspace {
             alloc,
             levels,
             bits,
             intervals,
+            samples,
         })
     }
 
@@ -99,7 +101,7 @@ impl Workspace {
         push_outcome(text, outcome, &self.bits)
     }
 
-    /// Adds the levels of samples, or the place at which they are none. Each line takes memory for its samples.
+    /// Adds the levels of samples, or the place at which they are none.
     fn answer_samples(
         &mut self,
         threshold: u8,
@@ -110,8 +112,8 @@ impl Workspace {
         requires { IsWithinLimits (Request.Samples threshold per_level samples.now) }
         ensures { OnOk result (AddsAnswer (Request.Samples threshold per_level samples.now) (string_bytes text.old) (string_bytes text.new)) }
     {
-        let samples = samples.decode(self.alloc)?;
-        let outcome = slice_levels(&samples, threshold, per_level, &mut self.levels);
+        read_samples(samples, &mut self.samples)?;
+        let outcome = slice_levels(&self.samples, threshold, per_level, &mut self.levels);
         push_slicing(text, outcome, &self.levels)
     }
 
@@ -175,6 +177,15 @@ impl Workspace {
         let outcome = Sgtin::decode(&words);
         push_named(text, &outcome)
     }
+}
+
+/// Writes samples into a list in place of what it holds.
+fn read_samples(samples: &HexBytes, out: &mut Vec<u8>) -> Result<(), OutOfMemory>
+    ensures { OnOk result (out.new.items ≡ samples.now) }
+{
+    out.resize(samples.len() as usize, 0)?;
+    samples.decode_to(out);
+    Ok(())
 }
 
 /// Adds the words of the trade item number that a URI names, or why it names none.
