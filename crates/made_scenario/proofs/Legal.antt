@@ -7,7 +7,8 @@ use Rattle.made_scenario.specs.Made.{made, made_link, made_round, made_tag, draw
 use Rattle.pie_line.specs.Link.{IsLegalLink}
 use Rattle.scenario.specs.Limits.{IsScenario, IsEntry, IsStep, IsOpList, most_tags, no_operations}
 use Rattle.scenario_lines.specs.LineForm.{IsOp, IsRound}
-use Rattle.scenario_lines.specs.TagForm.{IsTag, IsWordList}
+use Rattle.value_text.specs.ValueText.{IsWordList}
+use Rattle.scenario_lines.specs.TagForm.{IsTag}
 
 -- what holds of each item holds of the image of each
 all-map : {A : Type 0} {B : Type 0} (P : A → Type 0) (Q : B → Type 0) (f : A → B) → ((item : A) → P item → Q (f item)) → (list : List A)

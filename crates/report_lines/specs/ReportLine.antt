@@ -11,7 +11,7 @@ use Rattle.command_grammar.specs.declared.field_values.Side.{Side}
 use Rattle.command_grammar.specs.declared.field_values.Side.TheVariants.{A, B}
 use Rattle.q_round.specs.declared.round.RoundEnd.{RoundEnd}
 use Rattle.q_round.specs.declared.round.RoundEnd.TheVariants as ends
-use Rattle.scenario_lines.specs.Spelling.{locks_text}
+use Rattle.value_text.specs.ValueText.{locks_text}
 use Rattle.session_flags.specs.declared.flags.Flags.{Flags}
 use Rattle.tag_machine.specs.declared.states.StateName.{StateName}
 use Rattle.tag_machine.specs.declared.states.StateName.TheVariants as names

@@ -4,7 +4,7 @@ ghost use Rattle.std.specs.String.{string_bytes};
 ghost use Rattle.std.specs.Fmt.{decimal};
 ghost use Rattle.text_fields.specs.Hexadecimal.{hex_words};
 ghost use Rattle.text_fields.specs.Lines.{line_with, space};
-ghost use Rattle.scenario_lines.specs.Spelling.{locks_text};
+ghost use Rattle.value_text.specs.ValueText.{locks_text};
 ghost use Rattle.tag_machine.specs.Hearing.{tag_value_of};
 ghost use Rattle.report_lines.specs.ReportLine.{TagLine, flags_word, report_line_text, side_letter, state_word};
 
@@ -12,11 +12,11 @@ use crate::lines::end_line;
 use bit_strings::OutOfMemory;
 use command_grammar::{Bank, Side};
 use lock_rules::Locks;
-use scenario_lines::push_locks;
 use session_flags::Flags;
 use tag_machine::{AnyTag, StateName};
 use tag_memory::Memory;
 use text_fields::{push_next_name, push_next_number, push_next_words};
+use value_text::push_locks;
 
 /// The name of a state (6.3.2.4 Tag states and slot counter); that of a tag without power is profile.
 fn state_text(state: StateName) -> &'static str

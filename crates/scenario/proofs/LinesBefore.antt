@@ -1,7 +1,8 @@
 -- What a scenario has settled behind some lines says the same of the next line as those lines do.
-use Rattle.std.proofs.Common.{◌≡◌, ◌≢◌, ℕ, zero, suc, ◌+◌, ◌<◌, ◌≤◌, ◌==◌, ◌↔◌, Bool, true, false, List, [], ◌∷◌, ◌++◌, length, Option, Some, None, if◌then◌else◌, refl, sym, ◌∙◌, ap, subst, arith, append_assoc, append-nil}
+use Rattle.std.proofs.Common.{◌≡◌, ◌≢◌, ℕ, zero, suc, ◌+◌, ◌<◌, ◌≤◌, ◌==◌, ◌↔◌, Bool, true, false, List, [], ◌∷◌, ◌++◌, length, filter, Option, Some, None, if◌then◌else◌, refl, sym, ◌∙◌, ap, subst, arith, append_assoc, append-nil}
 use Rattle.std.proofs.lemmas.Bool.{eqb-true, eqb-false}
 use Rattle.std.proofs.lemmas.List.{length-append}
+use Rattle.std.proofs.lemmas.List.Elements.{filter-append}
 use Rattle.std.specs.List.{AllByRecursion}
 use Rattle.access_ops.specs.declared.OpList.{OpList}
 use Rattle.air_events.specs.Entries.{no_entry}
@@ -18,9 +19,9 @@ use Rattle.scenario.specs.declared.fault.Fault.{Fault}
 use Rattle.scenario.specs.declared.fault.Fault.TheVariants as faults
 use Rattle.scenario.specs.declared.values.Step.{Step}
 use Rattle.scenario.specs.Limits.{most_tags, most_air_lines, most_ops, most_steps}
-use Rattle.scenario.specs.Standing.{DraftValue, Standing, start, begun, within, ended, new_draft, after, grown, turned, with_air, with_said, with_happening, with_last, with_step, with_round, with_only, with_op, steps_of, Follows, Leads, HasRoom, NamesTag, MayFollow, KeepsOrder, ChoosesOnce}
+use Rattle.scenario.specs.Standing.{DraftValue, Standing, start, begun, within, ended, new_draft, after, grown, turned, with_said, with_happening, with_last, steps_of, Follows, Leads, HasRoom, NamesTag, MayFollow, KeepsOrder, ChoosesOnce}
 use Rattle.scenario.specs.Faults.{DisagreesBy}
-use Rattle.scenario.specs.LinesBefore.{tags_in, airs_in, steps_in, ops_behind, IsFullBefore, turn_of, ComesBefore, ChoosesOther, KeepsOrderBehind, ChoosesFirst, DisagreesWith}
+use Rattle.scenario.specs.LinesBefore.{is_tag, is_air, is_step, tags_in, airs_in, steps_in, ops_behind, IsFullBefore, turn_of, ComesBefore, ChoosesOther, KeepsOrderBehind, ChoosesFirst, DisagreesWith}
 
 -- lists with one more
 
@@ -46,60 +47,19 @@ airs_one line = airs_in (line ∷ [])
 abbrev steps_one : Line → ℕ
 steps_one line = steps_in (line ∷ [])
 
-tags-first : (line : Line) (more : List Line) → tags_in (line ∷ more) ≡ tags_in more + tags_one line
-tags-first lines.Version more = omega arith
-tags-first (lines.Link link) more = omega arith
-tags-first (lines.Tag tag) more = omega arith
-tags-first (lines.Air exchange happening) more = omega arith
-tags-first (lines.Select selection) more = omega arith
-tags-first lines.Nak more = omega arith
-tags-first (lines.Event event tag) more = omega arith
-tags-first (lines.Round spec) more = omega arith
-tags-first (lines.Only epc) more = omega arith
-tags-first (lines.Op op) more = omega arith
-tags-first lines.End more = omega arith
-
-airs-first : (line : Line) (more : List Line) → airs_in (line ∷ more) ≡ airs_in more + airs_one line
-airs-first lines.Version more = omega arith
-airs-first (lines.Link link) more = omega arith
-airs-first (lines.Tag tag) more = omega arith
-airs-first (lines.Air exchange happening) more = omega arith
-airs-first (lines.Select selection) more = omega arith
-airs-first lines.Nak more = omega arith
-airs-first (lines.Event event tag) more = omega arith
-airs-first (lines.Round spec) more = omega arith
-airs-first (lines.Only epc) more = omega arith
-airs-first (lines.Op op) more = omega arith
-airs-first lines.End more = omega arith
-
-steps-first : (line : Line) (more : List Line) → steps_in (line ∷ more) ≡ steps_in more + steps_one line
-steps-first lines.Version more = omega arith
-steps-first (lines.Link link) more = omega arith
-steps-first (lines.Tag tag) more = omega arith
-steps-first (lines.Air exchange happening) more = omega arith
-steps-first (lines.Select selection) more = omega arith
-steps-first lines.Nak more = omega arith
-steps-first (lines.Event event tag) more = omega arith
-steps-first (lines.Round spec) more = omega arith
-steps-first (lines.Only epc) more = omega arith
-steps-first (lines.Op op) more = omega arith
-steps-first lines.End more = omega arith
-
--- a count that one line first adds to adds to it last as well
-count-push : (count : List Line → ℕ) (one : Line → ℕ) → count [] ≡ 0 → ((line : Line) (more : List Line) → count (line ∷ more) ≡ count more + one line)
-    → (before : List Line) (line : Line) → count (before ++ line ∷ []) ≡ count before + one line
-count-push count one none first [] line = omega (arith, none, first line [])
-count-push count one none first (other ∷ before) line =
-    omega (arith, first other (before ++ line ∷ []), first other before, count-push count one none first before line)
+-- a line more is counted last
+count-push : (counts : Line → Bool) (before : List Line) (line : Line)
+    → length (filter counts (before ++ line ∷ [])) ≡ length (filter counts before) + length (filter counts (line ∷ []))
+count-push counts before line = ap length (filter-append counts before (line ∷ [])) ∙ length-append (filter counts before) (filter counts (line ∷ []))
 
 tags-push : (before : List Line) (line : Line) → tags_in (before ++ line ∷ []) ≡ tags_in before + tags_one line
-tags-push = count-push tags_in tags_one refl tags-first
+tags-push = count-push is_tag
 
 airs-push : (before : List Line) (line : Line) → airs_in (before ++ line ∷ []) ≡ airs_in before + airs_one line
-airs-push = count-push airs_in airs_one refl airs-first
+airs-push = count-push is_air
 
 steps-push : (before : List Line) (line : Line) → steps_in (before ++ line ∷ []) ≡ steps_in before + steps_one line
-steps-push = count-push steps_in steps_one refl steps-first
+steps-push = count-push is_step
 
 ops-push : (count : ℕ) (before : List Line) (line : Line) → ops_behind count (before ++ line ∷ []) ≡ ops_behind (ops_behind count before) (line ∷ [])
 ops-push count [] line = refl

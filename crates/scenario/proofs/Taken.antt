@@ -1,16 +1,18 @@
 -- What a line does to a draft.
-use Rattle.std.proofs.Common.{◌≡◌, ◌≢◌, ℕ, List, Some, refl}
-use Rattle.scenario_lines.specs.declared.first_fields.Word.{Word}
+use Rattle.std.proofs.Common.{◌≡◌, ◌≢◌, ℕ, List, Result, Ok, Err, IfErr, refl, subst, sym}
+use Rattle.std.specs.Prelude.{IsErrAnd}
 use Rattle.scenario_lines.specs.declared.first_fields.Word.TheVariants as words
 use Rattle.scenario_lines.specs.declared.line.Line.{Line}
 use Rattle.scenario_lines.specs.declared.line.Line.TheVariants as lines
 use Rattle.scenario_lines.specs.Names.{air_kind, event_kind, op_kind}
 use Rattle.scenario_lines.specs.Spelling.{other_fields, word_of_line}
-use Rattle.scenario_lines.specs.LineFaults.{BeginsWith, HasKnownKind, SpellsLine}
+use Rattle.scenario_lines.specs.LineFaults.{BeginsWith, HasKnownKind, IsFaultyLine, SpellsLine}
+use Rattle.scenario_lines.specs.declared.fault.LineFault.{LineFault}
+use Rattle.scenario_lines.specs.declared.fault.LineFault.TheVariants as line_faults
 use Rattle.scenario.specs.declared.fault.Fault.{Fault}
 use Rattle.scenario.specs.declared.fault.Fault.TheVariants.{Extra, End, Version, Word as WordFault, Limit, Shape, Number, Tari, RtCal, TrCal, Pw, Pc, Tag, Order, Twice}
-use Rattle.scenario.specs.Standing.{Agrees, DraftValue, after, ended, grown, within}
-use Rattle.scenario.specs.Faults.{DisagreesBy}
+use Rattle.scenario.specs.Standing.{Agrees, DraftValue, HasRoom, MayStand, Standing, after, ended, grown, within}
+use Rattle.scenario.specs.Faults.{DisagreesBy, HasPlace, IsFaultyAt, fault_of_line}
 
 known_kind : (said : Line) → HasKnownKind (word_of_line said) (other_fields said)
 known_kind lines.Version = tt
@@ -29,8 +31,65 @@ known_kind lines.End = tt
 pub spelled_begins : (fields : List (List ℕ)) (said : Line) → SpellsLine fields said → BeginsWith fields (word_of_line said)
 spelled_begins fields said spells = record { others = other_fields said; first = spells.spelling; kind = known_kind said }
 
-pub same_word : {word other : Word} → Some word ≡ Some other → word ≡ other
-same_word same = cc
+-- a line that has its place, and says nothing
+pub no_line : (standing : Standing) (fields : List (List ℕ)) → HasPlace standing fields → (reason : LineFault) → IsFaultyLine fields reason
+    → IsFaultyAt standing fields (fault_of_line reason)
+no_line standing fields place line_faults.Word faulty = λ word begins stands. faulty word begins
+no_line standing fields place line_faults.Shape faulty = record { place = place; faulty = faulty }
+no_line standing fields place line_faults.Number faulty = record { place = place; faulty = faulty }
+no_line standing fields place line_faults.Tari faulty = record { place = place; faulty = faulty }
+no_line standing fields place line_faults.RtCal faulty = record { place = place; faulty = faulty }
+no_line standing fields place line_faults.TrCal faulty = record { place = place; faulty = faulty }
+no_line standing fields place line_faults.Pw faulty = record { place = place; faulty = faulty }
+no_line standing fields place line_faults.Pc faulty = record { place = place; faulty = faulty }
+
+-- a line that has its place and says something, which disagrees with the lines before it
+pub unfit : (draft : DraftValue) (fields : List (List ℕ)) (said : Line) → SpellsLine fields said → MayStand (within draft) (word_of_line said)
+    → HasRoom (within draft) (word_of_line said) → (fault : Fault) → DisagreesBy draft said fault → IsFaultyAt (within draft) fields fault
+unfit draft fields said spells stands room Extra by = absurd by
+unfit draft fields said spells stands room End by = absurd by
+unfit draft fields said spells stands room Version by = absurd by
+unfit draft fields said spells stands room WordFault by = absurd by
+unfit draft fields said spells stands room Limit by = absurd by
+unfit draft fields said spells stands room Shape by = absurd by
+unfit draft fields said spells stands room Number by = absurd by
+unfit draft fields said spells stands room Tari by = absurd by
+unfit draft fields said spells stands room RtCal by = absurd by
+unfit draft fields said spells stands room TrCal by = absurd by
+unfit draft fields said spells stands room Pw by = absurd by
+unfit draft fields said spells stands room Pc by = absurd by
+unfit draft fields said spells stands room Tag by = record {
+  draft = draft;
+  here = refl;
+  line = said;
+  spells = spells;
+  stands = stands;
+  room = room;
+  disagrees = by;
+}
+unfit draft fields said spells stands room Order by = record {
+  draft = draft;
+  here = refl;
+  line = said;
+  spells = spells;
+  stands = stands;
+  room = room;
+  disagrees = by;
+}
+unfit draft fields said spells stands room Twice by = record {
+  draft = draft;
+  here = refl;
+  line = said;
+  spells = spells;
+  stands = stands;
+  room = room;
+  disagrees = by;
+}
+
+-- what holds of the fault holds of the answer
+pub of_fault : {T F : Type 0} (P : F → Type 0) (result : Result T F) (fault : F) → IsErrAnd result (λ it. it ≡ fault) → P fault → IfErr result P
+of_fault P (Ok value) fault is holds = tt
+of_fault P (Err it) fault is holds = subst P (sym is) holds
 
 -- the end ends a draft
 pub after_end : (draft : DraftValue) (said : Line) → word_of_line said ≡ words.End → after (within draft) said ≡ ended draft

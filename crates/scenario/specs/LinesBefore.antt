@@ -1,6 +1,6 @@
 -- Profile: why a line doesn't agree with the lines before it, said of these lines alone. The lines are those behind one
 -- another from the first line of a scenario on.
-use Rattle.std.specs.Prelude.{◌≡◌, ◌≢◌, ℕ, ◌+◌, ◌≤◌, List, [], ◌∷◌}
+use Rattle.std.specs.Prelude.{◌≡◌, ◌≢◌, ℕ, ◌+◌, ◌≤◌, Bool, true, false, List, [], ◌∷◌, length, filter}
 use Rattle.std.specs.List.{AllByRecursion}
 use Rattle.scenario_lines.specs.declared.first_fields.Word.{Word}
 use Rattle.scenario_lines.specs.declared.first_fields.Word.TheVariants as words
@@ -13,26 +13,33 @@ use Rattle.scenario.specs.declared.fault.Fault.TheVariants.{Tag, Order, Twice}
 use Rattle.scenario.specs.Limits.{most_tags, most_air_lines, most_ops, most_steps}
 use Rattle.scenario.specs.Standing.{NamesTag}
 
--- how many of the lines are tag lines
+-- the line is a tag line
+abbrev pub is_tag : Line → Bool
+is_tag (lines.Tag tag) = true
+is_tag line = false
+
+-- ... an air line
+abbrev pub is_air : Line → Bool
+is_air (lines.Air exchange happening) = true
+is_air line = false
+
+-- ... a step: a Select, a NAK, an event or a round
+abbrev pub is_step : Line → Bool
+is_step (lines.Select selection) = true
+is_step lines.Nak = true
+is_step (lines.Event event tag) = true
+is_step (lines.Round spec) = true
+is_step line = false
+
+-- how many of the lines are tag lines, air lines and steps
 abbrev pub tags_in : List Line → ℕ
-tags_in [] = 0
-tags_in (lines.Tag tag ∷ more) = tags_in more + 1
-tags_in (line ∷ more) = tags_in more
+tags_in before = length (filter is_tag before)
 
--- ... air lines
 abbrev pub airs_in : List Line → ℕ
-airs_in [] = 0
-airs_in (lines.Air exchange happening ∷ more) = airs_in more + 1
-airs_in (line ∷ more) = airs_in more
+airs_in before = length (filter is_air before)
 
--- ... steps: selects, NAKs, events and rounds
 abbrev pub steps_in : List Line → ℕ
-steps_in [] = 0
-steps_in (lines.Select selection ∷ more) = steps_in more + 1
-steps_in (lines.Nak ∷ more) = steps_in more + 1
-steps_in (lines.Event event tag ∷ more) = steps_in more + 1
-steps_in (lines.Round spec ∷ more) = steps_in more + 1
-steps_in (line ∷ more) = steps_in more
+steps_in before = length (filter is_step before)
 
 -- how many operations come behind the last of the steps, where so many came already
 abbrev pub ops_behind : ℕ → List Line → ℕ

@@ -1,10 +1,10 @@
 //! A scenario, line by line.
-ghost use Rattle.std.specs.Prelude.{◌≡◌, ◌<◌, ◌≤◌, ◌+◌, ◌^◌, ◌↔◌, ◌++◌, [], ◌∷◌, length, IsTrue, IfOk, IfErr, OnOk, OnErr};
+ghost use Rattle.std.specs.Prelude.{◌≡◌, ◌<◌, ◌≤◌, ◌+◌, ◌^◌, ◌↔◌, ◌++◌, [], ◌∷◌, length, IsTrue, IsOkAnd, IfOk, IfErr, OnOk, OnErr};
 ghost use Rattle.std.specs.List.{flat_map};
 ghost use Rattle.text_fields.specs.Lines.{fields_of};
 ghost use Rattle.scenario.specs.ScenarioText.{step_lines};
 ghost use Rattle.scenario.specs.Standing.{Agrees, ChoosesOnce, Follows, HasRoom, IsBareRound, KeepsOrder, MayFollow, MayStand, NamesTag, after, entries_of, grown, last_entry, new_draft, scenario_of, size, steps_of, turned, with_air, with_happening, with_last, with_only, with_op, with_round, with_step, within};
-ghost use Rattle.scenario.specs.Faults.{DisagreesBy, fault_of_line};
+ghost use Rattle.scenario.specs.Faults.{DisagreesBy, IsFaultyAt};
 ghost use Rattle.scenario_lines.specs.declared.line.Line.{Line};
 ghost use Rattle.scenario_lines.specs.LineFaults.{SpellsLine};
 ghost use Rattle.scenario_lines.specs.Spelling.{word_of_line};
@@ -19,7 +19,7 @@ use bit_strings::{List, OutOfMemory};
 use pie_line::Link;
 use q_round::RoundSpec;
 use reply_grammar::EpcWords;
-use scenario_lines::{Happening, Line, LineFault, TagSpec, TagText, Word, read_line, word_of};
+use scenario_lines::{BegunLine, Happening, Line, TagSpec, TagText, Word};
 use std::alloc::Global;
 use std::marker::Model;
 use std::mem;
@@ -84,22 +84,6 @@ pub(crate) enum Taken {
     End,
     /// The line is faulty, for this reason.
     Faulty(Fault),
-}
-
-/// The reason for a line that says nothing, whatever the lines before it say.
-pub(crate) fn fault_of(fault: LineFault) -> Fault
-    ensures { result ≡ fault_of_line fault }
-{
-    match fault {
-        LineFault::Word => Fault::Word,
-        LineFault::Shape => Fault::Shape,
-        LineFault::Number => Fault::Number,
-        LineFault::Tari => Fault::Tari,
-        LineFault::RtCal => Fault::RtCal,
-        LineFault::TrCal => Fault::TrCal,
-        LineFault::Pw => Fault::Pw,
-        LineFault::Pc => Fault::Pc,
-    }
 }
 
 impl Draft {
@@ -400,6 +384,31 @@ impl Draft {
         }
     }
 
+    /// What the next line says, which is given without its line feed.
+    ///
+    /// # Errors
+    ///
+    /// The first reason for which the line may not stand here.
+    fn next_said<'b>(&self, line: &'b [u8]) -> Result<Line<'b>, Fault>
+        ensures ok { IfOk result (λ said. SpellsLine (fields_of line.now) said × Follows (within self.now) said) }
+        ensures only { (said : Line) → SpellsLine (fields_of line.now) said → Follows (within self.now) said → IsOkAnd result (λ it. it ≡ said) }
+        ensures refused { IfErr result (IsFaultyAt (within self.now) (fields_of line.now)) }
+    {
+        let Some(begun) = BegunLine::new(line) else {
+            return Err(Fault::Word);
+        };
+        let word = begun.word();
+        if !self.may_stand(word) {
+            return Err(Fault::Word);
+        }
+        if !self.has_room(word) {
+            return Err(Fault::Limit);
+        }
+        let said = begun.read()?;
+        self.agree(&said)?;
+        Ok(said)
+    }
+
     /// Takes the next line, which is given without its line feed. After an error the draft may hold a
     /// part of what the line says.
     pub(crate) fn take(&mut self, alloc: Global, line: &[u8]) -> Result<Taken, OutOfMemory>
@@ -407,23 +416,11 @@ impl Draft {
         ensures only { (said : Line) → SpellsLine (fields_of line.now) said → Follows (within self.old) said
             → IfOk result (LeadsTo (after (within self.old) said) self.new) }
     {
-        let Some(word) = word_of(line) else {
-            return Ok(Taken::Faulty(Fault::Word));
-        };
-        if !self.may_stand(word) {
-            return Ok(Taken::Faulty(Fault::Word));
-        }
-        if !self.has_room(word) {
-            return Ok(Taken::Faulty(Fault::Limit));
-        }
-        let said = match read_line(line) {
+        let said = match self.next_said(line) {
             Ok(said) => said,
-            Err(fault) => return Ok(Taken::Faulty(fault_of(fault))),
+            Err(fault) => return Ok(Taken::Faulty(fault)),
         };
-        if let Err(fault) = self.agree(&said) {
-            return Ok(Taken::Faulty(fault));
-        }
-        if word == Word::End {
+        if matches!(&said, Line::End) {
             return Ok(Taken::End);
         }
         self.add(alloc, said)?;

@@ -1,5 +1,6 @@
 //! Why a text is no scenario.
 
+use scenario_lines::LineFault;
 use std::alloc::AllocError;
 
 /// The reasons for which a line is faulty, in the order in which they are looked for.
@@ -36,6 +37,26 @@ pub enum Fault {
     Order,
     /// It is a second choice for its exchange.
     Twice,
+}
+
+impl From<LineFault> for Fault {
+    ghost use Rattle.std.specs.Prelude.{◌≡◌};
+    ghost use Rattle.scenario.specs.Faults.{fault_of_line};
+
+    ghost from_gives = { λ reason fault. fault ≡ fault_of_line reason };
+
+    fn from(reason: LineFault) -> Fault {
+        match reason {
+            LineFault::Word => Fault::Word,
+            LineFault::Shape => Fault::Shape,
+            LineFault::Number => Fault::Number,
+            LineFault::Tari => Fault::Tari,
+            LineFault::RtCal => Fault::RtCal,
+            LineFault::TrCal => Fault::TrCal,
+            LineFault::Pw => Fault::Pw,
+            LineFault::Pc => Fault::Pc,
+        }
+    }
 }
 
 /// Why no scenario is read from a text.

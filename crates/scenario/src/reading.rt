@@ -11,11 +11,11 @@ ghost use Rattle.text_fields.specs.Lines.{fields_of};
 ghost use Rattle.scenario_lines.specs.Spelling.{line_text};
 ghost use Rattle.scenario_lines.specs.LineFaults.{SpellsLine};
 
-use crate::draft::{Draft, Taken, fault_of};
+use crate::draft::{Draft, Taken};
 use crate::laws::line_laws;
 use crate::{Fault, Scenario, ScenarioFault};
 use pie_line::Link;
-use scenario_lines::{Line, Word, read_line, word_of};
+use scenario_lines::{BegunLine, Line, Word};
 use std::alloc::Global;
 use text_fields::split_line;
 
@@ -39,17 +39,13 @@ fn link_of(line: &[u8]) -> Result<Link, Fault>
     ensures only { (said : Line) → SpellsLine (fields_of line.now) said → Follows begun said → IsOkAnd result (λ link. said ≡ Line.Link link) }
     ensures refused { IfErr result (IsFaultyAt begun (fields_of line.now)) }
 {
-    let Some(word) = word_of(line) else {
+    let Some(begun) = BegunLine::new(line) else {
         return Err(Fault::Word);
     };
-    if word != Word::Link {
+    if begun.word() != Word::Link {
         return Err(Fault::Word);
     }
-    let said = match read_line(line) {
-        Ok(said) => said,
-        Err(fault) => return Err(fault_of(fault)),
-    };
-    match said {
+    match begun.read()? {
         Line::Link(link) => Ok(link),
         // A line of another kind begins with another word.
         _ => unreachable!(),

@@ -1,7 +1,6 @@
 -- The fields of an air line.
-use Rattle.std.proofs.Common.{◌≡◌, ◌≢◌, ◌<◌, ◌^◌, ◌==◌, ℕ, Bool, true, false, List, [], ◌∷◌, length, Some, None, arith, refl, sym, ◌∙◌}
+use Rattle.std.proofs.Common.{◌≡◌, ◌≢◌, ◌<◌, ◌^◌, ℕ, List, [], ◌∷◌, Some, None, arith, sym, ◌∙◌}
 use Rattle.std.specs.Fmt.{decimal}
-use Rattle.std.proofs.lemmas.Bool.{eqb-true}
 use Rattle.air_events.specs.declared.Event.{Event}
 use Rattle.air_events.specs.declared.Event.TheVariants as events
 use Rattle.air_events.specs.declared.Choice.TheVariants as choices
@@ -53,16 +52,6 @@ pub air_shape : (others : List (List ℕ)) (field kind : List ℕ) (rest : List 
 air_shape others field kind rest known happening whole filled is text =
     let count = rw (← text.spelling, text.same_kind) at (happening_filled happening text.is) in
     rw whole (filled, known, is, count)
-
-pub is_nothing : (text : List ℕ) (test : Bool) → test ≡ (length text == 0) → test ≡ true → text ≡ []
-is_nothing [] test is true_test = refl
-is_nothing (byte ∷ text) test is true_test =
-    let zero_long : length (byte ∷ text) ≡ 0 = eqb-true (length (byte ∷ text)) 0 (sym is ∙ true_test) in
-    absurd (omega arith)
-
-pub is_something : (text : List ℕ) (test : Bool) → test ≡ (length text == 0) → test ≡ false → text ≢ []
-is_something [] test is false_test none = cc
-is_something (byte ∷ text) test is false_test none = cc
 
 pub not_found : {A : Type 0} {x : A} → None ≡ Some x → ⊥
 not_found found = cc

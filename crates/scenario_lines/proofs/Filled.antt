@@ -31,7 +31,8 @@ use Rattle.scenario_lines.specs.declared.first_fields.OpKind.TheVariants as op_k
 use Rattle.scenario_lines.specs.declared.first_fields.AirKind.{AirKind}
 use Rattle.scenario_lines.specs.declared.first_fields.AirKind.TheVariants as airs
 use Rattle.scenario_lines.specs.Names.{air_word, event_word, op_word, sel_text, word_text}
-use Rattle.scenario_lines.specs.Spelling.{flag_text, locks_text, pair_text, password_text}
+use Rattle.value_text.specs.ValueText.{locks_text, pair_text, password_text}
+use Rattle.scenario_lines.specs.Spelling.{flag_text}
 
 -- one visible byte
 IsFieldText-one : (byte : ℕ) → space < byte → IsFieldText (byte ∷ [])

@@ -1,12 +1,9 @@
 pub mod LinePieces
 pub mod Filled
 pub mod Counted
-pub mod Passwords
-pub mod Masks
 pub mod Events
 pub mod AirFields
 pub mod OpFields
-pub mod WordDigits
 pub mod Payloads
 pub mod TagFields
 pub mod LineTexts

@@ -25,9 +25,11 @@ use Rattle.scenario_lines.specs.declared.line.Happening.TheVariants as happening
 use Rattle.scenario_lines.specs.declared.line.Line.{Line}
 use Rattle.scenario_lines.specs.declared.line.Line.TheVariants as lines
 use Rattle.scenario_lines.specs.Names.{air_kind, air_word, event_kind, event_word, op_kind, op_word}
-use Rattle.scenario_lines.specs.TagForm.{IsTagForm, IsWordList, tag_of}
+use Rattle.value_text.specs.ValueText.{IsWordList}
+use Rattle.scenario_lines.specs.TagForm.{IsTagForm, tag_of}
 use Rattle.scenario_lines.specs.LineForm.{HasForm, IsEvent, IsHappening, IsLinkForm, IsOp, IsPlace, IsRound, IsSelection, most_level, most_nanoseconds}
-use Rattle.scenario_lines.specs.Spelling.{event_fields, happening_fields, link_fields, op_fields, other_fields, password_text, round_fields, select_fields, tag_fields, word_of_line}
+use Rattle.value_text.specs.ValueText.{password_text}
+use Rattle.scenario_lines.specs.Spelling.{event_fields, happening_fields, link_fields, op_fields, other_fields, round_fields, select_fields, tag_fields, word_of_line}
 use Rattle.scenario_lines.specs.Reading.{IsEventText, IsHappeningText, IsOpText}
 use Rattle.scenario_lines.proofs.Decisions.{Any, Decided, Only, Spelled, behind_decided, list_decided, nothing_decided, only_decided, same_answer, text_decided}
 use Rattle.scenario_lines.proofs.FieldsDecided.{IsLasting, IsWithin, any_bank_decided, bank_decided, bit_decided, code_decided, decimal_decided, flag_decided, lasting_decided, locks_decided, mask_decided, password_decided, payload_decided, sel_decided, side_decided, tried, word_decided, words_decided}

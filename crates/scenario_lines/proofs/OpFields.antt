@@ -9,7 +9,8 @@ use Rattle.text_fields.specs.Hexadecimal.{hex_word, hex_words}
 use Rattle.scenario_lines.specs.declared.first_fields.OpKind.{OpKind}
 use Rattle.scenario_lines.specs.Names.{op_field_count, op_kind}
 use Rattle.scenario_lines.specs.LineForm.{IsOp, IsPointer}
-use Rattle.scenario_lines.specs.Spelling.{op_fields, password_text}
+use Rattle.value_text.specs.ValueText.{password_text}
+use Rattle.scenario_lines.specs.Spelling.{op_fields}
 use Rattle.scenario_lines.specs.LineFaults.{AreFilled}
 use Rattle.scenario_lines.proofs.Counted.{Filled, none_filled, one_more}
 use Rattle.scenario_lines.proofs.Filled.{any_bank_is, number_text, one_word_is, password_is, payload_is, words_is}

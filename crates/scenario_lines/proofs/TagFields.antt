@@ -4,7 +4,8 @@ use Rattle.text_fields.specs.Hexadecimal.{hex_words}
 use Rattle.scenario_lines.specs.declared.tag.TagSpec.{TagSpec}
 use Rattle.lock_rules.specs.declared.locks.Locks.{Locks}
 use Rattle.scenario_lines.specs.TagForm.{tag_of}
-use Rattle.scenario_lines.specs.Spelling.{locks_text, password_text, tag_fields}
+use Rattle.value_text.specs.ValueText.{locks_text, password_text}
+use Rattle.scenario_lines.specs.Spelling.{tag_fields}
 
 -- the fields of a tag, one by one
 pub record AreTagFields (kill access locks epc tid user words : List ℕ) (tag : TagSpec) : Type 0 where

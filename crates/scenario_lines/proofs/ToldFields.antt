@@ -7,7 +7,8 @@ use Rattle.command_text.specs.CommandText.{payload_digits}
 use Rattle.text_fields.specs.Binary.{binary_digit}
 use Rattle.lock_rules.specs.declared.locks.Pair.{Pair}
 use Rattle.lock_rules.specs.declared.locks.Locks.{Locks}
-use Rattle.scenario_lines.specs.Spelling.{flag_text, locks_text, pair_text, password_text}
+use Rattle.value_text.specs.ValueText.{locks_text, pair_text, password_text}
+use Rattle.scenario_lines.specs.Spelling.{flag_text}
 use Rattle.scenario_lines.proofs.ToldNames.{digit_told}
 
 pub flag_text_told : (one other : Bool) → flag_text one ≡ flag_text other → one ≡ other

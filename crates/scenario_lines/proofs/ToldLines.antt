@@ -23,7 +23,8 @@ use Rattle.scenario_lines.specs.Names.{air_kind, air_word, event_kind, event_wor
 use Rattle.scenario_lines.specs.TagForm.{IsTagForm}
 use Rattle.scenario_lines.specs.LineForm.{HasForm, IsEvent, IsHappening, IsLinkForm, IsOp, IsRound, IsSelection}
 use Rattle.scenario_lines.specs.LineFaults.{SpellsLine}
-use Rattle.scenario_lines.specs.Spelling.{event_fields, flag_text, happening_fields, line_fields, link_fields, locks_text, op_fields, other_fields, password_text, round_fields, select_fields, tag_fields, word_of_line}
+use Rattle.value_text.specs.ValueText.{locks_text, password_text}
+use Rattle.scenario_lines.specs.Spelling.{event_fields, flag_text, happening_fields, line_fields, link_fields, op_fields, other_fields, round_fields, select_fields, tag_fields, word_of_line}
 use Rattle.scenario_lines.proofs.TagFields.{same_7, same_tag}
 use Rattle.scenario_lines.proofs.ToldNames.{air_word_told, any_bank_told, bank_told, code_told, event_word_told, flag_told, op_word_told, sel_told, side_told, word_told}
 use Rattle.scenario_lines.proofs.ToldFields.{flag_text_told, locks_told, password_told, payload_told}

@@ -11,7 +11,8 @@ use Rattle.air_events.specs.declared.Choice.TheVariants.{Pick, Silent, Break}
 use Rattle.tag_memory.specs.Image.{pc_fits}
 use Rattle.pie_line.specs.Link.{LinkValue, IsLegalLink}
 use Rattle.q_round.specs.SpecValue.{SpecValue, IsLegalSpec}
-use Rattle.scenario_lines.specs.TagForm.{IsTagForm, IsWordList}
+use Rattle.value_text.specs.ValueText.{IsWordList}
+use Rattle.scenario_lines.specs.TagForm.{IsTagForm}
 use Rattle.scenario_lines.specs.declared.line.Happening.{Happening}
 use Rattle.scenario_lines.specs.declared.line.Happening.TheVariants as happenings
 use Rattle.scenario_lines.specs.declared.line.Selection.{Selection}

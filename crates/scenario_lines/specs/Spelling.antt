@@ -1,18 +1,17 @@
 -- Profile: the one spelling of each line of a scenario, as the list of its fields.
-use Rattle.std.specs.Prelude.{ℕ, ◌/◌, ◌%◌, ◌^◌, Bool, List, [], ◌∷◌, ◌++◌, codes}
+use Rattle.std.specs.Prelude.{ℕ, Bool, List, [], ◌∷◌, codes}
 use Rattle.std.specs.Fmt.{decimal}
 use Rattle.text_fields.specs.Lines.{line_with}
 use Rattle.text_fields.specs.Binary.{binary, binary_digit}
 use Rattle.text_fields.specs.Hexadecimal.{hex_word, hex_words}
 use Rattle.text_fields.specs.CodeNames.{code_word}
 use Rattle.command_text.specs.CommandText.{bank_word, flag_word, mask_bank_word, payload_digits, side_word}
+use Rattle.value_text.specs.ValueText.{locks_text, password_text}
 use Rattle.access_ops.specs.declared.Op.{Op}
 use Rattle.access_ops.specs.declared.Op.TheVariants as ops
 use Rattle.air_events.specs.declared.Event.{Event}
 use Rattle.air_events.specs.declared.Event.TheVariants as events
 use Rattle.air_events.specs.declared.Choice.TheVariants as choices
-use Rattle.lock_rules.specs.declared.locks.Pair.{Pair}
-use Rattle.lock_rules.specs.declared.locks.Locks.{Locks}
 use Rattle.pie_line.specs.Link.{LinkValue}
 use Rattle.q_round.specs.SpecValue.{SpecValue}
 use Rattle.scenario_lines.specs.declared.tag.TagSpec.{TagSpec}
@@ -28,19 +27,6 @@ use Rattle.scenario_lines.specs.Names.{word_text, event_word, event_kind, air_wo
 -- a flag, as one binary digit
 abbrev pub flag_text : Bool → List ℕ
 flag_text bit = binary_digit bit ∷ []
-
--- a password, as its two words
-abbrev pub password_text : ℕ → List ℕ
-password_text password = hex_word (password / 2 ^ 16) ++ hex_word (password % 2 ^ 16)
-
--- the two bits of a pair, the write bit first
-abbrev pub pair_text : Pair → List ℕ
-pair_text pair = binary_digit pair.write_bit ∷ binary_digit pair.permalock ∷ []
-
--- the ten lock bits, in the order of a Lock's payload (6.3.2.11.3.5)
-abbrev pub locks_text : Locks → List ℕ
-locks_text locks =
-    pair_text locks.kill_word ++ pair_text locks.access_word ++ pair_text locks.epc ++ pair_text locks.tid ++ pair_text locks.user
 
 abbrev pub link_fields : LinkValue → List (List ℕ)
 link_fields link =

@@ -1,7 +1,8 @@
 -- Profile: what the line of a tag may say.
-use Rattle.std.specs.Prelude.{◌≡◌, ℕ, ◌<◌, ◌≤◌, ◌^◌, true, List, length, All}
+use Rattle.std.specs.Prelude.{◌≡◌, ℕ, ◌<◌, ◌^◌, true, List}
 use Rattle.lock_rules.specs.declared.locks.Locks.{Locks}
 use Rattle.tag_memory.specs.Image.{pc_fits}
+use Rattle.value_text.specs.ValueText.{IsWordList}
 use Rattle.scenario_lines.specs.declared.tag.TagSpec.{TagSpec}
 
 -- the tag of these fields
@@ -11,12 +12,6 @@ tag_of kill access locks epc tid user words = record {
   locks = locks;
   words = words;
 }
-
--- from least to most words of 16 bits
-pub record IsWordList (least most : ℕ) (words : List ℕ) : Type 0 where
-  pub some : least ≤ length words
-  pub room : length words ≤ most
-  pub small : All (λ word. word < 2 ^ 16) words
 
 -- each field of a tag is in its range: the passwords have 32 bits, the EPC bank from PC on 1 to 32 words, TID 2 to 16,
 -- User at most 512, and there are 1 to 256 draw words

@@ -1,7 +1,7 @@
 -- A memory can be made of the image of each tag line.
-use Rattle.std.proofs.Common.{◌≡◌, ◌≤◌, ℕ, nat_le, Bool, true, ◌&&◌, length, refl, arith}
+use Rattle.std.proofs.Common.{◌≡◌, ◌≤◌, ℕ, nat_le, Bool, true, ◌&&◌, refl, arith}
 use Rattle.std.proofs.lemmas.Bool.Decides.{nat_tests}
-use Rattle.tag_memory.specs.Image.{banks_of, pc_fits, sizes_fit}
+use Rattle.tag_memory.specs.Image.{banks_of, sizes_fit}
 use Rattle.tag_memory.specs.Memory.{IsLegalMemory}
 use Rattle.scenario_lines.specs.declared.tag.TagSpec.{TagSpec}
 use Rattle.scenario_lines.specs.TagForm.{IsTag, IsTagForm}

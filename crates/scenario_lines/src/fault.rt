@@ -1,5 +1,7 @@
 //! Why a line says nothing, whatever the lines before it say.
 
+use pie_line::LinkRefusal;
+
 /// The reasons for which a line says nothing, in the order in which they are looked for.
 #[derive(Clone, Copy, Debug, PartialEq, Eq)]
 pub enum LineFault {
@@ -20,4 +22,20 @@ pub enum LineFault {
     Pw,
     /// The EPC that the PC of a tag announces passes its bank (6.3.2.1.2.2).
     Pc,
+}
+
+impl From<LinkRefusal> for LineFault {
+    ghost use Rattle.std.specs.Prelude.{◌≡◌};
+    ghost use Rattle.scenario_lines.specs.Reading.{link_fault};
+
+    ghost from_gives = { λ refusal fault. fault ≡ link_fault refusal };
+
+    fn from(refusal: LinkRefusal) -> LineFault {
+        match refusal {
+            LinkRefusal::Tari => LineFault::Tari,
+            LinkRefusal::RtCal => LineFault::RtCal,
+            LinkRefusal::TrCal => LineFault::TrCal,
+            LinkRefusal::Pw => LineFault::Pw,
+        }
+    }
 }

@@ -19,8 +19,8 @@ pub use laws::{
 };
 pub use line::{Happening, Line, Selection};
 pub use printing::{
-    push_air, push_end, push_event, push_link, push_locks, push_nak, push_only, push_op,
-    push_round, push_tag, push_version,
+    push_air, push_end, push_event, push_link, push_nak, push_only, push_op, push_round, push_tag,
+    push_version,
 };
-pub use reading::{read_line, word_of};
+pub use reading::{BegunLine, read_line};
 pub use tag::{TagSpec, TagText};

@@ -18,7 +18,7 @@ use bit_strings::OutOfMemory;
 pub use link::push_link;
 pub use op::{push_only, push_op};
 pub use round::push_round;
-pub use tag::{push_locks, push_tag};
+pub use tag::push_tag;
 
 /// Writes `gen2 1`, the first line of a scenario.
 pub fn push_version(text: &mut String) -> Result<(), OutOfMemory>

@@ -11,12 +11,10 @@ mod air;
 mod event;
 mod link;
 mod names;
-mod numbers;
 mod op;
 mod round;
 mod select;
 mod tag;
-mod words;
 
 use crate::{Line, LineFault, Word};
 use air::read_air;
@@ -26,6 +24,7 @@ use names::{air_kind_named, event_kind_named, op_kind_named, word_named};
 use op::{read_only, read_op};
 use round::read_round;
 use select::read_select;
+use std::marker::Model;
 use tag::read_tag;
 use text_fields::{Fields, is_at_end, one_field};
 
@@ -71,22 +70,6 @@ fn has_known_kind(word: Word, others: Fields) -> bool
         Word::Event => has_event_kind(others),
         Word::Op => has_op_kind(others),
         _ => true,
-    }
-}
-
-/// The word that a line begins with. None exactly where the first field is no word of a scenario, or
-/// the kind of an air, event or op line is there and is none of its kinds.
-pub fn word_of(line: &[u8]) -> Option<Word>
-    ensures value { IfSome result (BeginsWith (fields_of line.now)) }
-    ensures only { (word : Word) → BeginsWith (fields_of line.now) word → result ≡ Some word }
-    ensures none { IfNone result (IsFaultyLine (fields_of line.now) LineFault.Word) }
-{
-    let mut fields = Fields::new(line);
-    let word = word_named(fields.next()?)?;
-    if has_known_kind(word, fields) {
-        Some(word)
-    } else {
-        None
     }
 }
 
@@ -154,6 +137,69 @@ fn read_behind<'a>(word: Word, others: Fields<'a>) -> Result<Line<'a>, LineFault
     }
 }
 
+/// A line that begins with a word of a scenario, of which no more is read yet. A contract sees it as its
+/// fields.
+#[derive(Drop)]
+pub struct BegunLine<'a> {
+    line: &'a [u8],
+    word: Word,
+}
+
+impl<'a> Model for BegunLine<'a> {
+    ghost use Rattle.std.specs.Prelude.{List, ℕ};
+    ghost use Rattle.text_fields.specs.Lines.{fields_of};
+    ghost use Rattle.scenario_lines.specs.LineFaults.{BeginsWith};
+
+    ghost Value = { List (List ℕ) };
+
+    ghost view = { λ a. fields_of a.line.now };
+
+    ghost invariant = { λ a. BeginsWith (fields_of a.line.now) a.word };
+}
+
+impl<'a> BegunLine<'a> {
+    /// A line, which is given without its line feed. None exactly where the first field is no word of a
+    /// scenario, or the kind of an air, event or op line is there and is none of its kinds.
+    pub fn new(line: &'a [u8]) -> Option<BegunLine<'a>>
+        ensures value { IfSome result (λ begun. begun ≡ fields_of line.now) }
+        ensures none { IfNone result (IsFaultyLine (fields_of line.now) LineFault.Word) }
+    {
+        let mut fields = Fields::new(line);
+        let word = word_named(fields.next()?)?;
+        if has_known_kind(word, fields) {
+            Some(BegunLine { line, word })
+        } else {
+            None
+        }
+    }
+
+    /// The word that the line begins with.
+    pub fn word(&self) -> Word
+        ensures value { BeginsWith self.now result }
+        ensures only { (word : Word) → BeginsWith self.now word → word ≡ result }
+    {
+        self.word
+    }
+
+    /// What the line says.
+    ///
+    /// # Errors
+    ///
+    /// The first reason for which the line says nothing, whatever the lines before it say.
+    pub fn read(self) -> Result<Line<'a>, LineFault>
+        // What is read is spelled so.
+        ensures ok { IfOk result (SpellsLine self.entry) }
+        // What is spelled so is read.
+        ensures only { (said : Line) → SpellsLine self.entry said → IsOkAnd result (λ it. it ≡ said) }
+        ensures refused { IfErr result (IsFaultyLine self.entry) }
+    {
+        let mut others = Fields::new(self.line);
+        // The first field is the word.
+        let _ = others.next();
+        read_behind(self.word, others)
+    }
+}
+
 /// What a line says, which is given without its line feed.
 ///
 /// # Errors
@@ -166,12 +212,8 @@ pub fn read_line(line: &[u8]) -> Result<Line<'_>, LineFault>
     ensures only { (said : Line) → SpellsLine (fields_of line.now) said → IsOkAnd result (λ it. it ≡ said) }
     ensures refused { IfErr result (IsFaultyLine (fields_of line.now)) }
 {
-    let mut fields = Fields::new(line);
-    let Some(first) = fields.next() else {
-        return Err(LineFault::Word);
-    };
-    let Some(word) = word_named(first) else {
-        return Err(LineFault::Word);
-    };
-    read_behind(word, fields)
+    match BegunLine::new(line) {
+        Some(begun) => begun.read(),
+        None => Err(LineFault::Word),
+    }
 }

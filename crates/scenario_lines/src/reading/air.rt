@@ -9,10 +9,10 @@ ghost use Rattle.scenario_lines.specs.Reading.{IsHappeningText, MisreadsAirLine,
 
 use super::event::{MOST_PLACE, event_behind, one_number};
 use super::names::air_kind_named;
-use super::numbers::number_from;
 use crate::{AirKind, Happening, LineFault};
 use air_events::Choice;
 use text_fields::{Fields, is_at_end};
+use value_text::number_from;
 
 /// The greatest number of an exchange in a line.
 const MOST_EXCHANGE: u32 = 1_000_000;

@@ -4,11 +4,11 @@ ghost use Rattle.pie_line.specs.Link.{LinkValue, IsLegalLink};
 ghost use Rattle.scenario_lines.specs.LineForm.{IsLinkForm};
 ghost use Rattle.scenario_lines.specs.Spelling.{link_fields};
 ghost use Rattle.scenario_lines.specs.LineFaults.{AreFilled};
-ghost use Rattle.scenario_lines.specs.Reading.{Misreads, MisreadsLink, link_fault, link_value};
+ghost use Rattle.scenario_lines.specs.Reading.{Misreads, MisreadsLink, link_value};
 
 use crate::LineFault;
 use bit_strings::Code;
-use pie_line::{Link, LinkRefusal};
+use pie_line::Link;
 use text_fields::{Fields, code_named, number, one_bit, seven_fields};
 
 /// The greatest length of time in a line, in nanoseconds.
@@ -67,18 +67,6 @@ fn read_parameters(others: Fields) -> Result<Parameters, LineFault>
     })
 }
 
-/// The fault of a line whose link is refused.
-fn fault_of(refusal: LinkRefusal) -> LineFault
-    ensures { result ≡ link_fault refusal }
-{
-    match refusal {
-        LinkRefusal::Tari => LineFault::Tari,
-        LinkRefusal::RtCal => LineFault::RtCal,
-        LinkRefusal::TrCal => LineFault::TrCal,
-        LinkRefusal::Pw => LineFault::Pw,
-    }
-}
-
 /// The link that the fields behind `link` spell.
 pub(crate) fn read_link(others: Fields) -> Result<Link, LineFault>
     ensures ok { IfOk result (λ link. (others.entry ≡ link_fields link) × IsLinkForm link × IsLegalLink link) }
@@ -86,8 +74,6 @@ pub(crate) fn read_link(others: Fields) -> Result<Link, LineFault>
     ensures refused { IfErr result (MisreadsLink others.entry) }
 {
     let of = read_parameters(others)?;
-    match Link::new(of.tari, of.rtcal, of.trcal, of.pw, of.dr, of.code, of.trext) {
-        Ok(link) => Ok(link),
-        Err(refusal) => Err(fault_of(refusal)),
-    }
+    let link = Link::new(of.tari, of.rtcal, of.trcal, of.pw, of.dr, of.code, of.trext)?;
+    Ok(link)
 }

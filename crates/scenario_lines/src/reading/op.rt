@@ -1,8 +1,8 @@
 //! Only and op lines, read.
-ghost use Rattle.std.specs.Prelude.{◌≡◌, ℕ, List, IfOk, IfErr, IfSome, IsOkAnd, IsSomeAnd, [], ◌∷◌};
+ghost use Rattle.std.specs.Prelude.{◌≡◌, ◌≤◌, ℕ, List, IfOk, IfErr, IfSome, IsOkAnd, IsSomeAnd, [], ◌∷◌};
 ghost use Rattle.std.specs.Fmt.{decimal};
 ghost use Rattle.text_fields.specs.Hexadecimal.{hex_words};
-ghost use Rattle.command_text.specs.CommandText.{bank_word};
+ghost use Rattle.command_text.specs.CommandText.{bank_word, payload_digits};
 ghost use Rattle.access_ops.specs.declared.Op.{Op};
 ghost use Rattle.scenario_lines.specs.Names.{op_field_count, op_kind, op_word};
 ghost use Rattle.scenario_lines.specs.LineForm.{IsEpc, IsOp, IsPointer};
@@ -11,14 +11,13 @@ ghost use Rattle.scenario_lines.specs.LineFaults.{AreFilled};
 ghost use Rattle.scenario_lines.specs.Reading.{IsOpText, Misreads, MisreadsOp, MisreadsOpLine};
 
 use super::names::{bank_named, op_kind_named};
-use super::numbers::{count_of, password_of, payload_of, pointer_of};
-use super::words::{block_of, epc_of};
 use crate::{LineFault, OpKind};
 use access_ops::Op;
-use bit_strings::Pointer;
+use bit_strings::{Payload, Pointer};
 use command_grammar::Bank;
 use reply_grammar::EpcWords;
 use text_fields::{Fields, number, one_field, three_fields, word};
+use value_text::{block_of, count_of, epc_of, password_of, pointer_of};
 
 /// The EPC that the field behind `only` spells.
 pub(crate) fn read_only(others: Fields) -> Result<EpcWords, LineFault>
@@ -78,6 +77,22 @@ fn op_at(kind: OpKind, bank: Bank, pointer: Pointer, last: &[u8]) -> Option<Op>
         // These name no place.
         OpKind::Lock | OpKind::Access | OpKind::Kill => None,
     }
+}
+
+/// The payload of a Lock that a field spells in five digits. The first digit is that of the word which
+/// the first four spell.
+fn payload_of(field: &[u8]) -> Option<Payload>
+    ensures value { IfSome result (λ payload. (field.now ≡ payload_digits payload) × (payload ≤ 1048575)) }
+    ensures only { (n : ℕ) → n ≤ 1048575 → field.now ≡ payload_digits n → IsSomeAnd result (λ payload. payload ≡ n) }
+{
+    if field.len() != 5 {
+        return None;
+    }
+    let (upper, _) = field.split_at(4);
+    let (_, lower) = field.split_at(1);
+    let first = u32::from(word(upper)?) / 4096;
+    let others = u32::from(word(lower)?);
+    Payload::new(first * 65536 + others)
 }
 
 /// The operation of a kind that names no place, by the one field of its line.

@@ -7,10 +7,10 @@ ghost use Rattle.scenario_lines.specs.LineFaults.{AreFilled};
 ghost use Rattle.scenario_lines.specs.Reading.{Misreads};
 
 use super::names::{sel_named, side_named};
-use super::numbers::{number_from, q_of, session_of};
 use crate::LineFault;
 use q_round::RoundSpec;
-use text_fields::{Fields, six_fields};
+use text_fields::{Fields, number, six_fields};
+use value_text::{q_of, session_of};
 
 /// The parameters of a round that the fields behind `round` spell.
 pub(crate) fn read_round(others: Fields) -> Result<RoundSpec, LineFault>
@@ -33,10 +33,10 @@ pub(crate) fn read_round(others: Fields) -> Result<RoundSpec, LineFault>
     let Some(q) = q_of(q) else {
         return Err(LineFault::Number);
     };
-    let Some(c) = number_from(c, 100, 500) else {
+    let Some(c) = number(c, u32::MAX) else {
         return Err(LineFault::Number);
     };
-    let Some(limit) = number_from(limit, 1, 70_000) else {
+    let Some(limit) = number(limit, u32::MAX) else {
         return Err(LineFault::Number);
     };
     match RoundSpec::new(sel, session, target, q, c, limit) {

@@ -7,9 +7,9 @@ ghost use Rattle.scenario_lines.specs.LineFaults.{AreFilled};
 ghost use Rattle.scenario_lines.specs.Reading.{Misreads};
 
 use super::names::{flag_named, mask_bank_named};
-use super::numbers::{action_of, mask_of, pointer_of};
 use crate::{LineFault, Selection};
 use text_fields::{Fields, five_fields};
+use value_text::{action_of, mask_of, pointer_of};
 
 /// What the fields behind `select` name.
 pub(crate) fn read_select(others: Fields) -> Result<Selection, LineFault>

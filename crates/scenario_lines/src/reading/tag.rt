@@ -2,15 +2,16 @@
 ghost use Rattle.std.specs.Prelude.{◌≡◌, ℕ, List, IfOk, IfErr, IfSome, IsOkAnd, IsSomeAnd};
 ghost use Rattle.text_fields.specs.Hexadecimal.{hex_words};
 ghost use Rattle.scenario_lines.specs.declared.tag.TagSpec.{TagSpec};
-ghost use Rattle.scenario_lines.specs.TagForm.{IsTag, IsTagForm, IsWordList};
+ghost use Rattle.value_text.specs.ValueText.{IsWordList};
+ghost use Rattle.scenario_lines.specs.TagForm.{IsTag, IsTagForm};
 ghost use Rattle.scenario_lines.specs.Spelling.{tag_fields};
 ghost use Rattle.scenario_lines.specs.LineFaults.{AreFilled};
 ghost use Rattle.scenario_lines.specs.Reading.{Misreads, MisreadsTag, tag_value};
 
-use super::numbers::{locks_of, password_of, words_from};
 use crate::{LineFault, TagText};
 use lock_rules::Locks;
 use text_fields::{Fields, Words, seven_fields};
+use value_text::{locks_of, password_of, words_from};
 
 /// The lists of words of a tag.
 #[derive(Drop)]

@@ -1,19 +1,22 @@
 -- The fields of an air line.
-use Rattle.std.proofs.Common.{◌≡◌, ◌∷◌, ◌∙◌, List, ℕ, ap, rules}
-use Rattle.scenario_lines.proofs.AirFields.{air_shape, empty_exchange, is_nothing, is_something, no_exchange, not_found}
+use Rattle.std.proofs.Common.{◌≡◌, ◌≢◌, [], ◌∷◌, ◌∙◌, List, ℕ, ap, length, rules, sym}
+use Rattle.std.proofs.lemmas.Bool.{eqb-false, eqb-true}
+use Rattle.std.proofs.lemmas.List.{nil_from_length}
+use Rattle.scenario_lines.proofs.AirFields.{air_shape, empty_exchange, no_exchange, not_found}
 use Rattle.scenario_lines.proofs.reading.air.read_air.Goals as goal
 
 pub returns-then-is_empty-clause-only : goal.returns-then-is_empty-clause-only
 returns-then-is_empty-clause-only c = λ exchange happening is is' spells.
     let next : c.args.others ≡ c.in-Some.exchange.now ∷ c.next.new.self = search rules in
-    let empty = is_nothing c.in-Some.exchange.now _ c.is_empty.ensures c.if-is_empty.true in
+    let empty = nil_from_length c.in-Some.exchange.now (eqb-true (length c.in-Some.exchange.now) 0 (sym c.is_empty.ensures ∙ c.if-is_empty.true)) in
     empty_exchange c.args.others c.in-Some.exchange.now c.next.new.self _ exchange next empty is spells
 
 pub returns-in-None-clause-refused : goal.returns-in-None-clause-refused
 returns-in-None-clause-refused c =
     let first : c.args.others ≡ c.in-Some.exchange.now ∷ c.next.new.self = search rules in
     let second : c.next.new.self ≡ c.in-Some-next.kind.now ∷ c.next-2.new.self = search rules in
-    let filled = is_something c.in-Some.exchange.now _ c.is_empty.ensures c.if-is_empty.false in
+    let filled : c.in-Some.exchange.now ≢ [] = λ none.
+    eqb-false (length c.in-Some.exchange.now) 0 (sym c.is_empty.ensures ∙ c.if-is_empty.false) (ap length none) in
     let whole : c.args.others ≡ c.in-Some.exchange.now ∷ c.in-Some-next.kind.now ∷ c.next-2.new.self =
     first ∙ ap (λ (rest : List (List ℕ)). c.in-Some.exchange.now ∷ rest) second in (
       air_shape c.args.others c.in-Some.exchange.now c.in-Some-next.kind.now c.next-2.new.self c.in-Some-air_kind_named.kind c.in_ok-happening.happening

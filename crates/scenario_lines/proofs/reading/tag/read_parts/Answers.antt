@@ -1,7 +1,7 @@
 -- Seven fields spell a tag, or none.
 use Rattle.std.proofs.Common.{◌≡◌, ◌∷◌, [], rules}
 use Rattle.text_fields.specs.Hexadecimal.{hex_words}
-use Rattle.scenario_lines.specs.Spelling.{locks_text, password_text}
+use Rattle.value_text.specs.ValueText.{locks_text, password_text}
 use Rattle.scenario_lines.proofs.Filled.{locks_is, password_is, words_is}
 use Rattle.scenario_lines.proofs.Counted.{have_7, are_7}
 use Rattle.scenario_lines.proofs.TagFields.{same_tag, some_same, tag_fields_are}

@@ -1,0 +1,4 @@
+pub mod EmptyTexts
+pub mod PasswordWords
+pub mod MaskDigits
+pub mod WordDigits
