@@ -60,7 +60,7 @@ fn send(interval: u32, frame: &mut Intervals, receiver: &mut Receiver)
         → HasTaken receiver.new.edges receiver.new.framer (intervals ++ interval ∷ []) }
     ensures count { receiver.new.edges.count ≤ receiver.old.edges.count + 1 }
 {
-    let _ = frame.push(interval);
+    frame.push_reserved(interval);
     receiver.take(interval);
 }
 

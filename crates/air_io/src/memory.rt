@@ -1,4 +1,4 @@
-// A source and a sink over memory, whose calls fail where they are told to.
+//! A source and a sink over memory, whose calls fail where they are told to.
 ghost use Rattle.std.specs.Prelude.{◌≡◌, ◌⊎◌, ◌+◌, ◌<◌, ◌≤◌, ◌↔◌, [], ◌++◌, length, min, take, Some, IfOk, IsTrue, Contains, if◌then◌else◌};
 ghost use Rattle.air_io.specs.Flow.{FaultsRose, one_more};
 ghost use Rattle.air_io.specs.Takes.{IfTook, OnEnd, OnReadFailed, is_failed_read};

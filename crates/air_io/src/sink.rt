@@ -1,4 +1,4 @@
-// Where bytes go.
+//! Where bytes go.
 ghost use Rattle.std.specs.Prelude.{◌≡◌, ℕ, ◌<◌, ◌≤◌, List, Option, length, take};
 ghost use Rattle.air_io.specs.Flow.{Adds, FaultsRose};
 ghost use Rattle.air_io.specs.Puts.{IfPut, OnWriteFailed};

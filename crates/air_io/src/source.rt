@@ -1,4 +1,4 @@
-// Where bytes come from.
+//! Where bytes come from.
 ghost use Rattle.std.specs.Prelude.{◌≡◌, ℕ, ◌<◌, ◌≤◌, List, Option, length, take};
 ghost use Rattle.air_io.specs.Flow.{Reads, AtEnd, FaultsRose};
 ghost use Rattle.air_io.specs.Takes.{IfTook, OnEnd, OnReadFailed};

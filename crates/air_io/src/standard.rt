@@ -1,4 +1,4 @@
-// The edge: std's readers and writers.
+//! The edge: std's readers and writers.
 ghost use Rattle.std.specs.Prelude.{◌≡◌, ◌<◌, ◌≤◌, length, take, None, if◌then◌else◌};
 ghost use Rattle.std.specs.Io.KnownBytes.{Consumes, Appends, Keeps, IsAtEnd};
 ghost use Rattle.air_io.specs.Flow.{FaultsRose, one_more};

@@ -1,4 +1,4 @@
-// A source and a sink that never fail.
+//! A source and a sink that never fail.
 ghost use Rattle.std.specs.Prelude.{◌≡◌, ◌<◌, ◌≤◌, [], ◌++◌, length, take, min, Some, None, false};
 ghost use Rattle.air_io.specs.Takes.{IfTook, OnEnd, is_failed_read};
 

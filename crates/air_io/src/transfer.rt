@@ -1,4 +1,4 @@
-// Reading all of a source, and writing all of a piece.
+//! Reading all of a source, and writing all of a piece.
 ghost use Rattle.std.specs.Prelude.{◌≡◌, ℕ, ◌+◌, ◌≤◌, List, length, take, IfOk, OnOk, OnErr, vec_len, IfErr, IsErrOf};
 ghost use Rattle.air_io.specs.Flow.{Reads, Adds, AtEnd, FaultsRose};
 ghost use Rattle.air_io.specs.ReadEnds.{most_read};
@@ -7,6 +7,7 @@ ghost use Rattle.air_io.specs.declared.transfer.ReadEnd.TheVariants.{OutOfMemory
 use crate::{Put, Sink, Source, Take};
 use std::alloc::{AllocError, Global};
 use std::marker::Model;
+use thiserror::Error;
 
 /// A list of bytes (profile).
 #[derive(Drop)]
@@ -58,7 +59,8 @@ impl From<AllocError> for ReadEnd {
 }
 
 /// A write failed, so the piece was not written whole (profile).
-#[derive(Clone, Copy, Debug, PartialEq, Eq)]
+#[derive(Clone, Copy, Debug, PartialEq, Eq, Error)]
+#[error("a write failed, and the piece was not written whole")]
 pub struct WriteFailed;
 
 /// How many bytes one read of `read_to_end` may take.

@@ -4,6 +4,7 @@ ghost use Rattle.air_world.specs.declared.mode.PlayFault.TheVariants.{Write, Out
 
 use air_io::WriteFailed;
 use bit_strings::OutOfMemory;
+use thiserror::Error;
 
 /// How much a report tells.
 #[derive(Clone, Copy, Debug, PartialEq, Eq)]
@@ -15,11 +16,13 @@ pub enum Mode {
 }
 
 /// Why a run was cut off, with a part of its report written from the beginning on.
-#[derive(Clone, Copy, Debug, PartialEq, Eq)]
+#[derive(Clone, Copy, Debug, PartialEq, Eq, Error)]
 pub enum PlayFault {
     /// A write failed.
+    #[error("a write failed")]
     Write,
     /// There was no memory.
+    #[error("there was no memory")]
     OutOfMemory,
 }
 

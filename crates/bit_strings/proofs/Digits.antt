@@ -33,12 +33,3 @@ field_all front whole value width none so_far =
 pub same_string : (bits : BitString) (items : List Bool) (capacity : ℕ) → bits.items ≡ items → bits.capacity ≡ capacity → bits ≡ record { items = items; capacity = capacity }
 same_string bits items capacity same_items same_capacity =
     ap (λ (i : List Bool). record { items = i; capacity = bits.capacity }) same_items ∙ ap (λ (n : ℕ). record { items = items; capacity = n }) same_capacity
-
--- a bit and then a field of seven bits
-pub bit_and_field : (old mid new : BitString) (bit : Bool) (field : List Bool) → mid ≡ record { items = old.items ++ bit ∷ []; capacity = old.capacity } → length old.items + 8 ≤ old.capacity → (length mid.items + 7 ≤ mid.capacity → new ≡ record { items = mid.items ++ field; capacity = mid.capacity }) → new ≡ record { items = (old.items ++ bit ∷ []) ++ field; capacity = old.capacity }
-bit_and_field old mid new bit field pushed room put =
-    let capacity : mid.capacity ≡ old.capacity = ap (λ (b : BitString). b.capacity) pushed in
-    let items : mid.items ≡ old.items ++ bit ∷ [] = ap (λ (b : BitString). b.items) pushed in
-    let more : length mid.items ≡ length old.items + 1 = ap (λ (b : List Bool). length b) items ∙ length-append old.items (bit ∷ []) in
-    let written : new ≡ record { items = mid.items ++ field; capacity = mid.capacity } = put (omega arith) in
-    written ∙ rw (items, capacity)

@@ -3,12 +3,14 @@ ghost use Rattle.std.specs.Prelude.{◌≡◌, ◌<◌, ◌≤◌, ◌↔◌, Li
 
 use std::alloc::{AllocError, Global};
 use std::marker::Model;
+use thiserror::Error;
 
 /// The answer of a call that wants memory where there is none. Nothing else is ever meant by it.
 pub type OutOfMemory = AllocError;
 
 /// The answer of a call that adds to a list whose free places don't suffice. Nothing was added.
-#[derive(Clone, Copy, Debug, PartialEq, Eq)]
+#[derive(Clone, Copy, Debug, PartialEq, Eq, Error)]
+#[error("the list has too few free places")]
 pub struct Full;
 
 /// A list of bits. Its capacity, in bits, is fixed when it is made, and no later call takes memory.
@@ -110,8 +112,16 @@ impl Bits {
         if self.bits.len() == self.room as usize {
             return Err(Full);
         }
-        self.bits.push_reserved(bit);
+        self.push_reserved(bit);
         Ok(())
+    }
+
+    /// Adds a bit at the end of a list that has room for it.
+    pub fn push_reserved(&mut self, bit: bool)
+        requires { length self.old.items < self.old.capacity }
+        ensures { self.new ≡ record self.old { items = self.old.items ++ bit ∷ [] } }
+    {
+        self.bits.push_reserved(bit);
     }
 
     /// Puts one bit for each byte in place of what the list holds: 1 where the byte is `one`, else 0.

@@ -45,17 +45,25 @@ impl Bits {
         ensures room { length self.old.items + length (ebv_of value) ≤ self.old.capacity → self.new ≡ record self.old { items = self.old.items ++ ebv_of value } }
         ensures err { OnErr result (self.new ≡ self.old) }
     {
-        let blocks = blocks_of(value);
-        if self.capacity() - self.len() < 8 * blocks {
+        if self.capacity() - self.len() < 8 * blocks_of(value) {
             return Err(Full);
         }
-        let mut left = blocks;
+        self.put_ebv_reserved(value);
+        Ok(())
+    }
+
+    /// Adds the extensible bit vector of a number to a list that has room for it.
+    pub fn put_ebv_reserved(&mut self, value: u32)
+        requires fits { value < 2 ^ 28 }
+        requires room { length self.old.items + length (ebv_of value) ≤ self.old.capacity }
+        ensures { self.new ≡ record self.old { items = self.old.items ++ ebv_of value } }
+    {
+        let mut left = blocks_of(value);
         while left > 0 {
             left -= 1;
-            self.push(left > 0)?;
-            self.put_field((value >> (7 * left)) % 128, 7)?;
+            self.push_reserved(left > 0);
+            self.put_field_reserved((value >> (7 * left)) % 128, 7);
         }
-        Ok(())
     }
 
     /// Reads the extensible bit vector that begins at the place `from`.

@@ -17,12 +17,22 @@ impl Bits {
         if self.capacity() - self.len() < width {
             return Err(Full);
         }
+        self.put_field_reserved(value, width);
+        Ok(())
+    }
+
+    /// Adds the `width` bits of `value` to a list that has room for them.
+    pub fn put_field_reserved(&mut self, value: u32, width: u32)
+        requires narrow { width ≤ 31 }
+        requires fits { value < 2 ^ width }
+        requires room { length self.old.items + width ≤ self.old.capacity }
+        ensures { self.new ≡ record self.old { items = self.old.items ++ field_of value width } }
+    {
         let mut places = width;
         while places > 0 {
             places -= 1;
-            self.push((value >> places) % 2 == 1)?;
+            self.push_reserved((value >> places) % 2 == 1);
         }
-        Ok(())
     }
 
     /// Adds the 16 bits of a word. `Full` comes exactly where fewer than 16 places are free, and
@@ -33,6 +43,14 @@ impl Bits {
         ensures err { OnErr result (self.new ≡ self.old) }
     {
         self.put_field(u32::from(value), 16)
+    }
+
+    /// Adds the 16 bits of a word to a list that has room for them.
+    pub fn put_u16_reserved(&mut self, value: u16)
+        requires { length self.old.items + 16 ≤ self.old.capacity }
+        ensures { self.new ≡ record self.old { items = self.old.items ++ field_of value 16 } }
+    {
+        self.put_field_reserved(u32::from(value), 16);
     }
 
     /// The number that the `width` bits from the place `from` on are. None comes exactly where

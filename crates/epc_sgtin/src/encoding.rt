@@ -8,22 +8,28 @@ ghost use Rattle.std.specs.Prelude.{IfOk, IfErr};
 use crate::halves::{half_of, words_of};
 use crate::partitions::{ITEM_AND_COMPANY_BITS, ITEM_AND_COMPANY_DIGITS, company_bits, ten_to};
 use crate::value::Sgtin;
+use thiserror::Error;
 
 /// The header of an SGTIN-96.
 const HEADER: u64 = 0x30;
 
 /// Why words are no SGTIN-96: the first of these that applies.
-#[derive(Clone, Copy, Debug, PartialEq, Eq)]
+#[derive(Clone, Copy, Debug, PartialEq, Eq, Error)]
 pub enum EpcFault {
     /// There are not six words.
+    #[error("there are not six words")]
     Length,
     /// The header is not 30h.
+    #[error("the header is not 30h")]
     Header,
     /// The partition is 7, which the partition table does not have.
+    #[error("the partition is 7")]
     Partition,
     /// The company has more digits than its partition says.
+    #[error("the company has more digits than its partition says")]
     Company,
     /// The item has more digits than its partition says.
+    #[error("the item has more digits than its partition says")]
     Item,
 }
 

@@ -12,6 +12,7 @@ use crate::partitions::ITEM_AND_COMPANY_DIGITS;
 use crate::value::{SERIALS, Sgtin};
 use arrayvec::ArrayVec;
 use text_fields::number;
+use thiserror::Error;
 
 /// What each URI begins with.
 const PREFIX: &[u8] = b"urn:epc:tag:sgtin-96:";
@@ -23,19 +24,25 @@ const DOT: u8 = b'.';
 const MOST_DIGITS: usize = 12;
 
 /// Why a text is no URI of an SGTIN-96: the first of these that applies.
-#[derive(Clone, Copy, Debug, PartialEq, Eq)]
+#[derive(Clone, Copy, Debug, PartialEq, Eq, Error)]
 pub enum UriFault {
     /// The text does not begin with `urn:epc:tag:sgtin-96:`.
+    #[error("the text does not begin with urn:epc:tag:sgtin-96:")]
     Prefix,
     /// What stands behind that is not four parts, joined by dots.
+    #[error("there are not four parts, joined by dots")]
     Parts,
     /// The filter is not one digit from 0 to 7.
+    #[error("the filter is not one digit from 0 to 7")]
     Filter,
     /// The company is not 6 to 12 digits.
+    #[error("the company is not 6 to 12 digits")]
     Company,
     /// The item has not as many digits as the company leaves of 13.
+    #[error("the item has not as many digits as the company leaves of 13")]
     Item,
     /// The serial is no decimal number without leading zeros, or it is not below 274,877,906,944.
+    #[error("the serial is no decimal number below 274877906944 without leading zeros")]
     Serial,
 }
 

@@ -3,6 +3,7 @@ ghost use Rattle.std.specs.Prelude.{◌≡◌, IfOk, IfErr};
 
 use crate::partitions::{ITEM_AND_COMPANY_DIGITS, ten_to};
 use std::marker::Model;
+use thiserror::Error;
 
 /// A serialised trade item number, always with its parts in the ranges of an SGTIN-96 (GS1 Tag Data Standard).
 ///
@@ -17,17 +18,22 @@ pub struct Sgtin {
 }
 
 /// Which part of an SGTIN is the first that is out of its range.
-#[derive(Clone, Copy, Debug, PartialEq, Eq)]
+#[derive(Clone, Copy, Debug, PartialEq, Eq, Error)]
 pub enum SgtinRefusal {
     /// The filter value is above 7.
+    #[error("the filter value is above 7")]
     Filter,
     /// The number of the company's digits isn't from 6 to 12.
+    #[error("the number of the company's digits is not from 6 to 12")]
     Digits,
     /// The company has more digits than these.
+    #[error("the company has more digits than these")]
     Company,
     /// The item has more digits than the company leaves of 13.
+    #[error("the item has more digits than the company leaves of 13")]
     Item,
     /// The serial number is not below 274,877,906,944, which is two to the power of 38.
+    #[error("the serial number is not below 274877906944")]
     Serial,
 }
 

@@ -28,7 +28,7 @@ fn put_lead<C: LineCode>(trext: bool, out: &mut Levels)
     ensures { out.new ≡ record out.old { items = out.old.items ++ C.table.lead trext } }
 {
     for at in 0..C::lead_len(trext) {
-        put(C::lead(trext, at), out);
+        out.push_reserved(C::lead(trext, at));
     }
 }
 
@@ -38,14 +38,6 @@ fn put_block<C: LineCode>(mark: C::Mark, bit: bool, out: &mut Levels)
     ensures { out.new ≡ record out.old { items = out.old.items ++ C.table.block (C.context_of mark) bit } }
 {
     for at in 0..C::CHIPS {
-        put(C::level(mark, bit, at), out);
+        out.push_reserved(C::level(mark, bit, at));
     }
-}
-
-/// Adds a level to a list with room for it.
-fn put(level: bool, out: &mut Levels)
-    requires { length out.old.items < out.old.capacity }
-    ensures { out.new ≡ record out.old { items = out.old.items ++ level ∷ [] } }
-{
-    let _ = out.push(level);
 }

@@ -49,9 +49,7 @@ fn decode_intervals(intervals: &[u32], out: &mut Bits) -> Result<FrameKind, PieR
     for &interval in intervals {
         match edges.push(interval) {
             Edge::More => {}
-            Edge::Bit(bit) => {
-                let _ = out.push(bit);
-            }
+            Edge::Bit(bit) => out.push_reserved(bit),
             Edge::Refused(refusal) => return Err(refusal),
         }
     }

@@ -26,8 +26,8 @@ pub fn encode_frame(link: &Link, lead: Lead, bits: &Bits, out: &mut Intervals)
     put_header(link, lead, out);
     for &bit in bits.as_slice() {
         let (high, low) = symbol_intervals(link, bit);
-        let _ = out.push(high);
-        let _ = out.push(low);
+        out.push_reserved(high);
+        out.push_reserved(low);
     }
 }
 
@@ -75,7 +75,7 @@ fn put_header(link: &Link, lead: Lead, out: &mut Intervals)
     out.clear();
     for place in 0..LONGEST_HEADER {
         if let Some(interval) = header_interval(link, lead, place) {
-            let _ = out.push(interval);
+            out.push_reserved(interval);
         }
     }
 }

@@ -1,6 +1,8 @@
 //! What is said of a frame: which header it has, what is read from it, and why a list is none.
 ghost use Rattle.std.specs.Prelude.{◌≡◌};
 
+use thiserror::Error;
+
 /// With which header a frame begins.
 #[derive(Clone, Copy, Debug, PartialEq, Eq)]
 pub enum Lead {
@@ -47,18 +49,24 @@ impl FrameKind {
 
 /// Why a list of intervals is no frame. All but `Unfinished` name the first interval with which the
 /// list begins no frame any more, in whatever way it goes on (the names are profile).
-#[derive(Clone, Copy, Debug, PartialEq, Eq)]
+#[derive(Clone, Copy, Debug, PartialEq, Eq, Error)]
 pub enum PieRefusal {
     /// The delimiter, interval 0, lasts less than 11,875 or more than 13,125 nanoseconds.
+    #[error("the delimiter is not 11,875 to 13,125 ns long")]
     Delimiter,
     /// Interval 1 or 2 makes no pair that could be the first data-0.
+    #[error("the first pair is no data-0")]
     Tari,
     /// Interval 3 or 4 makes no pair that could be RTcal.
+    #[error("the second pair is no RTcal")]
     RtCal,
     /// Interval 5 or 6, which is not 0, makes no pair that could be TRcal or a data symbol.
+    #[error("the third pair is neither a TRcal nor a data symbol")]
     TrCal,
     /// The interval at this place is 0, at place 5 or 6, or makes no data symbol, at a later place.
+    #[error("the interval at place {0} makes no data symbol")]
     Symbol(u32),
     /// All intervals, of which there are so many, begin a frame, and they are none.
+    #[error("the {0} intervals begin a frame and are none")]
     Unfinished(u32),
 }

@@ -94,7 +94,15 @@ impl Intervals {
         if self.intervals.len() == self.room as usize {
             return Err(Full);
         }
-        self.intervals.push_reserved(interval);
+        self.push_reserved(interval);
         Ok(())
+    }
+
+    /// Adds an interval, in nanoseconds, at the end of a list that has room for it.
+    pub fn push_reserved(&mut self, interval: u32)
+        requires { length self.old.items < self.old.capacity }
+        ensures { self.new ≡ record self.old { items = self.old.items ++ interval ∷ [] } }
+    {
+        self.intervals.push_reserved(interval);
     }
 }

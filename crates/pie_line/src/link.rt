@@ -4,6 +4,7 @@ ghost use Rattle.std.specs.Prelude.{◌≡◌, IfOk, IfErr};
 use crate::Code;
 use crate::ranges::{is_pw, is_rtcal, is_tari, is_trcal};
 use std::marker::Model;
+use thiserror::Error;
 
 /// The parameters of a link, always in the ranges of the standard (6.3.1.2.4 Tari values, 6.3.1.2.8
 /// preamble and frame-sync, Table 6.5 for the width PW of a low), in whole nanoseconds.
@@ -21,15 +22,19 @@ pub struct Link {
 }
 
 /// Which parameter of a link is the first that is out of its range.
-#[derive(Clone, Copy, Debug, PartialEq, Eq)]
+#[derive(Clone, Copy, Debug, PartialEq, Eq, Error)]
 pub enum LinkRefusal {
     /// Tari is below 6,250 or above 25,000 nanoseconds.
+    #[error("Tari is not 6,250 to 25,000 ns")]
     Tari,
     /// RTcal is below 2.5 Tari or above 3 Tari.
+    #[error("RTcal is not 2.5 to 3 Tari")]
     RtCal,
     /// TRcal is below 1.1 RTcal or above 3 RTcal.
+    #[error("TRcal is not 1.1 to 3 RTcal")]
     TrCal,
     /// PW is below 2,000 nanoseconds or 0.265 Tari, or above 0.525 Tari.
+    #[error("PW is not from the larger of 2,000 ns and 0.265 Tari to 0.525 Tari")]
     Pw,
 }
 

@@ -8,13 +8,16 @@ use crate::leading::{behind_field, leading_number};
 use pie_line::Intervals;
 use std::marker::Model;
 use text_fields::{Fields, number};
+use thiserror::Error;
 
 /// Why fields are no list of numbers, in the order in which the reasons are looked for.
-#[derive(Clone, Copy, Debug, PartialEq, Eq)]
+#[derive(Clone, Copy, Debug, PartialEq, Eq, Error)]
 pub enum NotNumbers {
     /// The number of fields is wrong, or a field is empty.
+    #[error("the number of fields is wrong, or a field is empty")]
     Shape,
     /// A field is no number, or the number is too great.
+    #[error("a field is no number, or the number is too great")]
     Number,
 }
 

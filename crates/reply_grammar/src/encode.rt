@@ -35,42 +35,34 @@ fn write_reply(reply: &Reply, handle: u16, out: &mut Bits)
 {
     out.clear();
     match reply {
-        Reply::Rn16(rn) => put_word(out, *rn),
+        Reply::Rn16(rn) => out.put_u16_reserved(*rn),
         Reply::Epc { pc, epc } => {
-            put_word(out, *pc);
+            out.put_u16_reserved(*pc);
             put_words(out, epc.as_slice());
             put_check(out);
         }
         Reply::Handle(rn) => {
-            put_word(out, *rn);
+            out.put_u16_reserved(*rn);
             put_check(out);
         }
         Reply::Words(words) => {
-            put_bit(out, false);
+            out.push_reserved(false);
             put_words(out, words.as_slice());
-            put_word(out, handle);
+            out.put_u16_reserved(handle);
             put_check(out);
         }
         Reply::Header => {
-            put_bit(out, false);
-            put_word(out, handle);
+            out.push_reserved(false);
+            out.put_u16_reserved(handle);
             put_check(out);
         }
         Reply::Error(code) => {
-            put_bit(out, true);
+            out.push_reserved(true);
             put_code(out, *code);
-            put_word(out, handle);
+            out.put_u16_reserved(handle);
             put_check(out);
         }
     }
-}
-
-/// Adds a bit, for which there is room.
-fn put_bit(out: &mut Bits, bit: bool)
-    requires { length out.old.items + 1 ≤ out.old.capacity }
-    ensures { out.new ≡ record out.old { items = out.old.items ++ bit ∷ [] } }
-{
-    out.push(bit).unwrap();
 }
 
 /// Adds an error code, for which there is room.
@@ -78,15 +70,7 @@ fn put_code(out: &mut Bits, code: u8)
     requires { length out.old.items + 8 ≤ out.old.capacity }
     ensures { out.new ≡ record out.old { items = out.old.items ++ field_of code 8 } }
 {
-    out.put_field(u32::from(code), 8).unwrap();
-}
-
-/// Adds a word, for which there is room.
-fn put_word(out: &mut Bits, word: u16)
-    requires { length out.old.items + 16 ≤ out.old.capacity }
-    ensures { out.new ≡ record out.old { items = out.old.items ++ field_of word 16 } }
-{
-    out.put_u16(word).unwrap();
+    out.put_field_reserved(u32::from(code), 8);
 }
 
 /// Adds words, for which there is room.
@@ -95,7 +79,7 @@ fn put_words(out: &mut Bits, words: &[u16])
     ensures { out.new ≡ record out.old { items = out.old.items ++ bits_of_words words.now } }
 {
     for word in words {
-        put_word(out, *word);
+        out.put_u16_reserved(*word);
     }
 }
 
@@ -105,5 +89,5 @@ fn put_check(out: &mut Bits)
     ensures { out.new ≡ record out.old { items = with_check out.old.items } }
 {
     let check = crc16(out, out.len());
-    put_word(out, check);
+    out.put_u16_reserved(check);
 }

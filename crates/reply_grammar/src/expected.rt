@@ -2,6 +2,7 @@
 
 use crate::reply_words::{EpcWords, ReadWords};
 use bit_strings::Count1;
+use thiserror::Error;
 
 /// Which replies a command allows. The number in it is the handle that the reply must carry.
 #[derive(Clone, Copy, Debug, PartialEq, Eq)]
@@ -45,15 +46,19 @@ pub enum Reply {
 }
 
 /// Why bits are no reply that is expected: the first of these that applies.
-#[derive(Clone, Copy, Debug, PartialEq, Eq)]
+#[derive(Clone, Copy, Debug, PartialEq, Eq, Error)]
 pub enum ReplyRefusal {
     /// The number of bits is none of those that are allowed.
+    #[error("no reply that is expected has so many bits")]
     Length,
     /// The last 16 bits are not the CRC-16 of the rest.
+    #[error("the last 16 bits are not the CRC-16 of the rest")]
     Crc,
     /// The header bit is 1 at a length of success, or 0 at the length of an error.
+    #[error("the header bit does not fit the length")]
     Header,
     /// The handle is another.
+    #[error("the handle is another")]
     Number,
 }
 

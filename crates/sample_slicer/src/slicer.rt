@@ -6,13 +6,16 @@ ghost use Rattle.sample_slicer.specs.SlicedTo.{SlicedTo};
 
 use bit_strings::Levels;
 use std::simd::prelude::*;
+use thiserror::Error;
 
 /// Why samples are no whole levels (profile). A place is the number of a sample, counted from 0.
-#[derive(Clone, Copy, Debug, PartialEq, Eq)]
+#[derive(Clone, Copy, Debug, PartialEq, Eq, Error)]
 pub enum SliceRefusal {
     /// The first whole group that has samples on both sides of the threshold begins at this place.
+    #[error("the group of samples from place {0} on is on both sides of the threshold")]
     Mixed(u32),
     /// Each whole group is on one side, and the last group, which begins at this place, is short.
+    #[error("the last group of samples, from place {0} on, is short")]
     Rest(u32),
 }
 
@@ -118,7 +121,7 @@ fn slice_block(
         let Some(level) = level_of_mask(mask & all_high, all_high) else {
             return Err(SliceRefusal::Mixed(at as u32));
         };
-        out.push(level).unwrap();
+        out.push_reserved(level);
         mask >>= per;
         at += per;
     }
@@ -151,7 +154,7 @@ fn slice_groups(
         let Some(level) = level_of(&samples[place..place + per], threshold) else {
             return Err(SliceRefusal::Mixed(place as u32));
         };
-        out.push(level).unwrap();
+        out.push_reserved(level);
         place += per;
     }
     if place < samples.len() {

@@ -2,40 +2,56 @@
 
 use scenario_lines::LineFault;
 use std::alloc::AllocError;
+use thiserror::Error;
 
 /// The reasons for which a line is faulty, in the order in which they are looked for.
-#[derive(Clone, Copy, Debug, PartialEq, Eq)]
+#[derive(Clone, Copy, Debug, PartialEq, Eq, Error)]
 pub enum Fault {
     /// Bytes stand behind the `end` line.
+    #[error("bytes stand behind the `end` line")]
     Extra,
     /// A line is needed and there is none, or the line has no line feed.
+    #[error("a line is needed, or the line has no line feed")]
     End,
     /// Line 1 isn't `gen2 1`.
+    #[error("line 1 is not `gen2 1`")]
     Version,
     /// The first field may not stand here, or a kind is there and is none of its kinds.
+    #[error("the first field may not stand here, or there is no such kind")]
     Word,
     /// It is one tag, air line, step or operation too many.
+    #[error("it is one too many")]
     Limit,
     /// The number of fields is wrong, or a field is empty.
+    #[error("the number of fields is wrong, or a field is empty")]
     Shape,
     /// A field isn't of its form or range.
+    #[error("a field is not of its form or range")]
     Number,
     /// The Tari of the link is out of its range.
+    #[error("the Tari of the link is out of its range")]
     Tari,
     /// The RTcal of the link is out of its range.
+    #[error("the RTcal of the link is out of its range")]
     RtCal,
     /// The TRcal of the link is out of its range.
+    #[error("the TRcal of the link is out of its range")]
     TrCal,
     /// The PW of the link is out of its range.
+    #[error("the PW of the link is out of its range")]
     Pw,
     /// The EPC that the PC of a tag announces passes its bank.
+    #[error("the EPC that the PC announces passes its bank")]
     Pc,
     /// There is no tag of the number that is named.
+    #[error("there is no tag of this number")]
     Tag,
     /// The number of the exchange falls, or an event, a miss or a choice stands behind what it must
     /// stand before.
+    #[error("the line stands behind one that it must stand before")]
     Order,
     /// It is a second choice for its exchange.
+    #[error("it is a second choice for its exchange")]
     Twice,
 }
 
@@ -60,11 +76,13 @@ impl From<LineFault> for Fault {
 }
 
 /// Why no scenario is read from a text.
-#[derive(Clone, Copy, Debug, PartialEq, Eq)]
+#[derive(Clone, Copy, Debug, PartialEq, Eq, Error)]
 pub enum ScenarioFault {
     /// The number of the first faulty line, counted from 1, and the first reason that applies to it.
+    #[error("line {0}: {1}")]
     Line(u32, Fault),
     /// There was no memory.
+    #[error("there was no memory")]
     OutOfMemory,
 }
 

@@ -3,6 +3,7 @@ ghost use Rattle.std.specs.Prelude.{◌≡◌};
 
 use bit_strings::List;
 use std::alloc::AllocError;
+use thiserror::Error;
 
 /// What a tag's banks hold when it is made, but for StoredCRC, which is computed.
 #[derive(Drop)]
@@ -20,13 +21,16 @@ pub struct BankImage {
 }
 
 /// Why a memory can't be made of an image.
-#[derive(Clone, Copy, Debug, PartialEq, Eq)]
+#[derive(Clone, Copy, Debug, PartialEq, Eq, Error)]
 pub enum ImageRefusal {
     /// A bank has more or fewer words than a tag's bank may have.
+    #[error("a bank has more or fewer words than it may have")]
     Size,
     /// The EPC that PC announces would pass its bank.
+    #[error("the EPC that PC announces passes its bank")]
     Pc,
     /// There was no memory.
+    #[error("there was no memory")]
     OutOfMemory,
 }
 

@@ -7,5 +7,5 @@ use Rattle.reply_grammar.proofs.encode.put_check.Goals as goal
 
 pub returns : goal.returns
 returns c =
-    check_written c.args.out.now c.put_word.new.out c.crc16-check.result
-    (c.crc16-check.ensures ∙ ap (λ (b : List Bool). value_of (crc16_of b)) (take_all _ c.args.out.now.items (omega arith))) c.put_word.ensures
+    check_written c.args.out.now c.put_u16_reserved.new.self c.crc16-check.result
+    (c.crc16-check.ensures ∙ ap (λ (b : List Bool). value_of (crc16_of b)) (take_all _ c.args.out.now.items (omega arith))) c.put_u16_reserved.ensures

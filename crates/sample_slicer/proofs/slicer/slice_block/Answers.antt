@@ -34,6 +34,11 @@ returns-in_default-clause-refused c =
     let bits = all ∙ ap (λ n. 2 ^ n) (sym (group_length c.args.per place c.args.samples.now whole)) in
     mixed_here _ _ _ c.loop-at.out.items _ so_far whole (c.in_default.ensures.mixed c.args.threshold _ mask bits)
 
+pub push_reserved-requires : goal.push_reserved-requires
+push_reserved-requires c =
+    let room : c.loop-at.at + (c.args.start + 32 - c.loop-at.at) ≤ length c.args.samples.now = omega (arith, c.requires.block, c.loop-at.invariant.within) in
+    omega (arith, c.loop-at.invariant.so_far.few, c.loop-at.invariant.capacity, c.requires.least, c.requires.room, room, c.loop-at-test.true)
+
 pub loop-at-preserved : goal.loop-at-preserved
 loop-at-preserved c =
     let so_far = c.loop-at.invariant.so_far in
@@ -41,13 +46,12 @@ loop-at-preserved c =
     let left = c.args.start + 32 - place in
     let within : c.args.per ≤ left = c.loop-at-test.true in
     let room : place + left ≤ length c.args.samples.now = omega (arith, c.requires.block, c.loop-at.invariant.within) in
-    let free : length c.loop-at.out.items < c.loop-at.out.capacity = omega (arith, so_far.few, c.loop-at.invariant.capacity, c.requires.least, c.requires.room, room, within) in
     let whole : place + c.args.per ≤ length c.args.samples.now = omega (arith, room, within) in
     let all = all_bits c.args.per c.requires.most in
     let mask = group_mask c.args.threshold c.args.per place left c.loop-at.mask _ c.args.samples.now c.loop-at.invariant.mask room within all in
     let bits = all ∙ ap (λ n. 2 ^ n) (sym (group_length c.args.per place c.args.samples.now whole)) in
     let size : left - c.args.per ≡ c.args.start + 32 - (place + c.args.per) = omega (arith, within) in
-    rw (c.push.ensures.room free) (record {
+    rw c.push_reserved.ensures (record {
       so_far = sliced_more _ _ _ _ _ _ c.requires.least so_far whole (c.in-Some.ensures.pure c.args.threshold _ mask bits);
       capacity = c.loop-at.invariant.capacity;
       onward = omega (arith, c.loop-at.invariant.onward);

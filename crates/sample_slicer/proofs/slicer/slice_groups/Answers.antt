@@ -8,12 +8,14 @@ returns-in_default-clause-refused c =
     let so_far = c.loop-place.invariant.so_far in
     mixed_here _ _ _ c.loop-place.out.items _ so_far (omega (arith, so_far.within)) c.in_default.ensures.mixed
 
+pub push_reserved-requires : goal.push_reserved-requires
+push_reserved-requires c = omega (arith, c.loop-place.invariant.so_far.few, c.loop-place.invariant.capacity, c.loop-place-test.true)
+
 pub loop-place-preserved : goal.loop-place-preserved
 loop-place-preserved c =
     let so_far = c.loop-place.invariant.so_far in
     let room : c.loop-place.place + c.args.per ≤ length c.args.samples.now = omega (arith, so_far.within) in
-    let free : length c.loop-place.out.items < c.loop-place.out.capacity = omega (arith, so_far.few, c.loop-place.invariant.capacity) in
-    rw (c.push.ensures.room free) (record {
+    rw c.push_reserved.ensures (record {
       so_far = sliced_more _ _ _ _ _ _ c.requires.least so_far room c.in-Some.ensures.pure;
       capacity = c.loop-place.invariant.capacity;
     })

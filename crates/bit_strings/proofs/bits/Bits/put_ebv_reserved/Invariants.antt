@@ -1,7 +1,7 @@
 use Rattle.std.proofs.Common.{◌≡◌, ◌+◌, ◌*◌, ◌≤◌, ◌++◌, length}
 use Rattle.bit_strings.specs.Ebv.{ebv_of}
 use Rattle.bit_strings.proofs.EbvWriting.{last_blocks}
-use Rattle.bit_strings.proofs.bits.Bits.put_ebv.Given as goal
+use Rattle.bit_strings.proofs.bits.Bits.put_ebv_reserved.Given as goal
 
 -- what stands there and the blocks still to come are what stood there and the whole vector
 abbrev pub invariant-loop-left : goal.invariant-loop-left

@@ -1,12 +1,12 @@
 use Rattle.std.proofs.Common.{◌-◌, ◌++◌, ap, sym, refl, arith, length-append, List, Bool}
 use Rattle.bit_strings.specs.NumberLaws.{length-field_of}
-use Rattle.bit_strings.proofs.Digits.{same_string, bit_and_field}
+use Rattle.bit_strings.proofs.Digits.{same_string}
 use Rattle.bit_strings.proofs.EbvWriting.{ebv_of-blocks, block_more, blocks_all}
-use Rattle.bit_strings.proofs.bits.Bits.put_ebv.Goals as goal
+use Rattle.bit_strings.proofs.bits.Bits.put_ebv_reserved.Goals as goal
 
 pub loop-left-init : goal.loop-left-init
 loop-left-init c = (
-  ap (λ (more : List Bool). c.args.self.now.items ++ more) (sym (ebv_of-blocks c.args.value c.blocks_of-blocks.result c.blocks_of-blocks.ensures.count)),
+  ap (λ (more : List Bool). c.args.self.now.items ++ more) (sym (ebv_of-blocks c.args.value c.blocks_of-left.result c.blocks_of-left.ensures.count)),
   omega arith,
   refl,
   omega arith,
@@ -14,15 +14,14 @@ loop-left-init c = (
 
 pub loop-left-preserved : goal.loop-left-preserved
 loop-left-preserved c =
-    let put = bit_and_field c.loop-left.self c.push.new.self c.put_field.new.self _ _ (c.in_ok-push.ensures.room (omega arith)) (omega arith) c.in_ok-put_field.ensures.room in
-    rw put (
+    rw (c.put_field_reserved.ensures, c.push_reserved.ensures) (
       block_more c.loop-left.self.items _ c.args.value c.loop-left.left (c.loop-left.left - 1) (omega arith) (omega arith) c.loop-left.invariant.0,
       simp (length-append, length-field_of) (omega arith),
       omega arith,
       omega arith,
     )
 
-pub returns-clause-room : goal.returns-clause-room
-returns-clause-room c = λ h.
+pub returns : goal.returns
+returns c =
     let items = blocks_all c.loop-left.self.items _ c.args.value c.loop-left.left c.loop-left-test.false c.loop-left.invariant.0 in
     same_string c.loop-left.self _ _ items c.loop-left.invariant.2
