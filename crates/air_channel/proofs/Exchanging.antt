@@ -1,14 +1,16 @@
 -- An exchange, put together from its steps.
-use Rattle.std.proofs.Common.{◌≡◌, ℕ, ◌+◌, Bool, List, [], ◌∷◌, length, refl, ap, ◌∙◌, if◌then◌else◌}
+use Rattle.std.proofs.Common.{◌≡◌, ℕ, ◌+◌, ◌*◌, ◌<◌, ◌≤◌, Bool, List, [], ◌∷◌, length, refl, sym, ap, ◌∙◌, subst, arith}
+use Rattle.std.specs.List.{All}
 use Rattle.air_events.specs.declared.Entry.{Entry}
 use Rattle.air_events.specs.declared.Event.{Event}
 use Rattle.air_events.specs.declared.Several.{Several}
 use Rattle.command_grammar.specs.declared.commands.Command.{Command}
 use Rattle.tag_machine.specs.Answers.{Outcome}
 use Rattle.tag_machine.specs.TagValue.{TagValue}
+use Rattle.air_channel.proofs.Resting.{length-befallen}
 use Rattle.air_channel.specs.Air.{AirValue, air_after, outcomes_in, replies_in, given_in, next_exchange}
 use Rattle.air_channel.specs.Channel.{wave_for, heard_levels, given_of, got_of}
-use Rattle.air_channel.specs.Exchange.{Replied, replies_from, tag_after_own_event, tag_after_events, tags_after_event, outcome_in, is_missed, outcomes_from, tags_after, hearers_from}
+use Rattle.air_channel.specs.Exchange.{Replied, replies_from, tag_after_own_event, tag_after_events, tags_after_event, outcome_in, outcomes_from, tags_after, IsQueryRep, busy_from}
 use Rattle.air_channel.specs.Hearing.{tags_after_events, hearing_from}
 use Rattle.air_channel.specs.Kept.{KeptReplies, RepliesStandFor}
 use Rattle.air_channel.specs.declared.air.Got.{Got}
@@ -31,13 +33,6 @@ exchange_outcomes number command entry [] = ap (λ (l : List TagValue). hearing_
 exchange_outcomes number command entry (tag ∷ tags) =
     ap (λ (l : List TagValue). hearing_from number command entry l) (events_apart number entry.events tag tags)
     ∙ ap (λ (l : List Outcome). outcome_in number command entry tag ∷ l) (exchange_outcomes (number + 1) command entry tags)
-
--- who hears the command is settled by the entry alone
-pub exchange_hearers : (number : ℕ) (entry : Entry) (tags : List TagValue) → hearers_from number entry (tags_after_events number entry.events tags) ≡ hearers_from number entry tags
-exchange_hearers number entry [] = ap (λ (l : List TagValue). hearers_from number entry l) (no_tags number entry.events)
-exchange_hearers number entry (tag ∷ tags) =
-    ap (λ (l : List TagValue). hearers_from number entry l) (events_apart number entry.events tag tags)
-    ∙ ap (λ n. (if is_missed number entry then 0 else 1) + n) (exchange_hearers (number + 1) entry tags)
 
 -- what came of the command that was heard, for the tags after their events
 outcomes_are : (command heard : Command) (entry : Entry) (events : List (Event × ℕ)) (tags befallen : List TagValue) → heard ≡ command → events ≡ entry.events
@@ -68,9 +63,27 @@ exchange_got several old command heard entry events befallen kept got same event
     let outcomes = outcomes_are command heard entry events old befallen same events_are befell in
     gives (replies_from 0 (hearing_from 0 heard entry befallen)) stands ∙ ap (λ (l : List Outcome). got_of (given_of (replies_from 0 l) entry.choice several)) outcomes
 
-pub exchange_steps : (old : List TagValue) (entry : Entry) (events : List (Event × ℕ)) (befallen : List TagValue) (start steps : ℕ) → events ≡ entry.events
-    → befallen ≡ tags_after_events 0 events old → steps ≡ start + hearers_from 0 entry befallen → steps ≡ start + hearers_from 0 entry old
-exchange_steps old entry events befallen start steps events_are befell counts =
-    counts
-    ∙ ap (λ (l : List TagValue). start + hearers_from 0 entry l) (befell ∙ ap (λ (l : List (Event × ℕ)). tags_after_events 0 l old) events_are)
-    ∙ ap (λ n. start + n) (exchange_hearers 0 entry old)
+pub exchange_steps : (old : List TagValue) (entry : Entry) (events : List (Event × ℕ)) (befallen : List TagValue) (start stepped steps : ℕ) → events ≡ entry.events
+    → befallen ≡ tags_after_events 0 events old → stepped ≤ start + length events → steps ≤ stepped + 2 * length befallen → steps ≤ start + length entry.events + 2 * length old
+exchange_steps old entry events befallen start stepped steps events_are befell counts hears =
+    omega
+    (arith, counts, hears, ap (λ (l : List TagValue). length l) befell, length-befallen 0 events old, ap (λ (l : List (Event × ℕ)). length l) events_are)
+
+-- the bound of a QueryRep, where no event comes before it
+pub exchange_bound : (old : List TagValue) (command heard : Command) (entry : Entry) (events : List (Event × ℕ)) (befallen : List TagValue) (start stepped steps : ℕ) → IsQueryRep command
+    → entry.events ≡ [] → heard ≡ command → events ≡ entry.events → befallen ≡ tags_after_events 0 events old → stepped ≤ start + length events
+    → (IsQueryRep heard → steps ≤ stepped + 2 * busy_from 0 heard entry befallen) → steps ≤ start + 2 * busy_from 0 command entry old
+exchange_bound old command heard entry events befallen start stepped steps rep none same events_are befell counts hears =
+    let no_events : events ≡ [] = events_are ∙ none in
+    let tags : befallen ≡ old = befell ∙ ap (λ (l : List (Event × ℕ)). tags_after_events 0 l old) no_events in
+    let most : steps ≤ stepped + 2 * busy_from 0 heard entry befallen = hears (rep.0, same ∙ rep.1) in
+    let busy : busy_from 0 heard entry befallen ≡ busy_from 0 command entry old =
+    ap (λ (h : Command). busy_from 0 h entry befallen) same ∙ ap (λ (l : List TagValue). busy_from 0 command entry l) tags in
+    omega (arith, most, busy, counts, ap (λ (l : List (Event × ℕ)). length l) no_events)
+
+-- the tags that miss the command are there
+pub exchange_missed : (old : List TagValue) (entry : Entry) (events : List (Event × ℕ)) (befallen : List TagValue) → befallen ≡ tags_after_events 0 events old
+    → All (λ tag. tag < length old) entry.missed → All (λ tag. tag < length befallen) entry.missed
+exchange_missed old entry events befallen befell missed =
+    let same : length befallen ≡ length old = ap (λ (l : List TagValue). length l) befell ∙ length-befallen 0 events old in
+    subst (λ n. All (λ tag. tag < n) entry.missed) (sym same) missed

@@ -7,3 +7,7 @@ pub mod Populations
 pub mod Exchanging
 pub mod Links
 pub mod Slots
+pub mod Seating
+pub mod Heard
+pub mod Calling
+pub mod Resting

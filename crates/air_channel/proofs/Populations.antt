@@ -1,20 +1,18 @@
 -- Tags with numbers: what one event and one command after another makes of them.
-use Rattle.std.proofs.Common.{◌≡◌, ◌≢◌, ℕ, zero, suc, ◌+◌, ◌<◌, ◌≤◌, Bool, Option, Some, None, List, [], ◌∷◌, ◌++◌, length, map, take, drop, get_or, refl, sym, ap, ◌∙◌, subst, arith, append_assoc, append-nil, add-one, drop-cons, take_all, length-append}
-use Rattle.std.specs.Prelude.{if◌then◌else◌, slice_set}
+use Rattle.std.proofs.Common.{◌≡◌, ◌≢◌, ℕ, zero, suc, ◌+◌, ◌<◌, ◌≤◌, List, [], ◌∷◌, ◌++◌, length, map, drop, get_or, refl, sym, ap, ◌∙◌, arith, append_assoc, add-one, drop-cons, length-append}
+use Rattle.std.specs.Prelude.{slice_set}
 use Rattle.std.proofs.lemmas.Bool.{eq-eqb, ne_eqb}
-use Rattle.std.proofs.lemmas.List.{take_more_set, drop-set-lt, drop_all, length-map}
+use Rattle.std.proofs.lemmas.List.{drop_all, length-map}
 use Rattle.air_events.specs.declared.Entry.{Entry}
 use Rattle.air_events.specs.declared.Event.{Event}
 use Rattle.command_grammar.specs.declared.commands.Command.{Command}
-use Rattle.tag_machine.specs.Answers.{Outcome, Sent}
 use Rattle.tag_machine.specs.Events.{tag_after_event}
 use Rattle.tag_machine.specs.Hearing.{tag_value_of}
 use Rattle.tag_machine.specs.TagValue.{TagValue, IsLegalTag}
 use Rattle.tag_machine.specs.declared.any_tag.AnyTag.{AnyTag}
 use Rattle.air_channel.specs.Air.{AreLegalTags}
-use Rattle.air_channel.specs.Exchange.{Replied, tag_after_own_event, tags_after_event, outcome_unless, is_missed, tags_after, reply_of, replies_from, hearers_from}
+use Rattle.air_channel.specs.Exchange.{tag_after_own_event, tags_after_event, tags_after}
 use Rattle.air_channel.specs.Hearing.{tags_after_events, hearing_from}
-use Rattle.air_channel.specs.Kept.{KeptReplies, RepliesStandFor}
 
 -- an event befalls no tag of another number
 other_tag : (number befallen : ℕ) (event : Event) (tag : TagValue) → befallen ≢ number → tag_after_own_event number event befallen tag ≡ tag
@@ -74,102 +72,6 @@ pub legal-append : (tags : List TagValue) (tag : TagValue) → AreLegalTags tags
 legal-append [] tag legal here = (here, tt)
 legal-append (first ∷ tags) tag legal here = (legal.0, legal-append tags tag legal.1 here)
 
--- what is known while the tags below a number have heard the command: the tags and the replies in the end are those so far
--- and those of the others
-pub record HeardBelow (command : Command) (entry : Entry) (start : List TagValue) (counted : ℕ) (wanted : ℕ) (number : ℕ) (seats : List TagValue) (kept : KeptReplies) (steps : ℕ) : Type 0 where
-  pub tags : take number seats ++ tags_after (hearing_from number command entry (drop number seats)) ≡ tags_after (hearing_from 0 command entry start)
-  pub so_far : List Replied
-  pub stands : RepliesStandFor so_far kept
-  pub few : length so_far ≤ number
-  pub replies : so_far ++ replies_from number (hearing_from number command entry (drop number seats)) ≡ replies_from 0 (hearing_from 0 command entry start)
-  pub steps_are : steps + hearers_from number entry (drop number seats) ≡ counted + hearers_from 0 entry start
-  pub wanted_is : kept.wanted ≡ wanted
-  pub legal : AreLegalTags seats
-
-pub heard_none : (command : Command) (entry : Entry) (start : List TagValue) (steps : ℕ) (kept : KeptReplies) → RepliesStandFor [] kept → AreLegalTags start
-    → HeardBelow command entry start steps kept.wanted 0 start kept steps
-heard_none command entry start steps kept stands legal =
-    record { tags = refl; so_far = []; stands = stands; few = omega arith; replies = refl; steps_are = refl; wanted_is = refl; legal = legal }
-
--- the replies so far are no more than the tags so far, so that one more can be counted
-pub few_replies : (command : Command) (entry : Entry) (start : List TagValue) (counted wanted number : ℕ) (seats : List TagValue) (kept : KeptReplies) (steps : ℕ)
-    → HeardBelow command entry start counted wanted number seats kept steps → number < 256 → kept.count < 4294967295
-few_replies command entry start counted wanted number seats kept steps heard below = omega (arith, heard.stands.count_is, heard.few)
-
-one_reply : (number : ℕ) (answer : Option Sent) → length (reply_of number answer) ≤ 1
-one_reply number None = omega arith
-one_reply number (Some sent) = omega arith
-
--- one tag more heard the command, or missed it
-pub heard_next : (command : Command) (entry : Entry) (start : List TagValue) (counted wanted number : ℕ) (seats : List TagValue) (kept after : KeptReplies) (steps stepped : ℕ)
-    (misses : Bool) (tag d new : TagValue) → HeardBelow command entry start counted wanted number seats kept steps → number < length seats
-    → tag ≡ get_or seats number d → misses ≡ is_missed number entry → new ≡ (outcome_unless misses command tag).tag → IsLegalTag new
-    → ((replies : List Replied) (number : ℕ) → RepliesStandFor replies kept → RepliesStandFor (replies ++ reply_of number (outcome_unless misses command tag).answer) after)
-    → after.wanted ≡ kept.wanted → stepped ≡ steps + (if misses then 0 else 1)
-    → HeardBelow command entry start counted wanted (number + 1) (slice_set seats number new) after stepped
-heard_next command entry start counted wanted number seats kept after steps stepped misses tag d new heard below at missed is legal stands same counts =
-    let others : List TagValue = drop (number + 1) seats in
-    let outcome : Outcome = outcome_unless (is_missed number entry) command tag in
-    let rest : drop number seats ≡ tag ∷ others = rw (drop-cons seats number d below, ← at, add-one number) refl in
-    let behind : drop (number + 1) (slice_set seats number new) ≡ others = drop-set-lt (number + 1) seats number new (omega arith) in
-    let front : take (number + 1) (slice_set seats number new) ≡ take number seats ++ new ∷ [] = take_more_set seats number new below in
-    let new_is : new ≡ outcome.tag = subst (λ (b : Bool). new ≡ (outcome_unless b command tag).tag) missed is in
-    let reply_is : reply_of number (outcome_unless misses command tag).answer ≡ reply_of number outcome.answer =
-    ap (λ (b : Bool). reply_of number (outcome_unless b command tag).answer) missed in
-    let count_is : stepped ≡ steps + (if is_missed number entry then 0 else 1) = subst (λ (b : Bool). stepped ≡ steps + (if b then 0 else 1)) missed counts in
-    record {
-      tags =
-          ap (λ (l : List TagValue). l ++ tags_after (hearing_from (number + 1) command entry (drop (number + 1) (slice_set seats number new)))) front
-          ∙ ap (λ (l : List TagValue). (take number seats ++ new ∷ []) ++ tags_after (hearing_from (number + 1) command entry l)) behind
-          ∙ ap (λ (t : TagValue). (take number seats ++ t ∷ []) ++ tags_after (hearing_from (number + 1) command entry others)) new_is
-          ∙ append_assoc (take number seats) (outcome.tag ∷ []) (tags_after (hearing_from (number + 1) command entry others))
-          ∙ ap (λ (l : List TagValue). take number seats ++ tags_after (hearing_from number command entry l)) (sym rest)
-          ∙ heard.tags;
-      so_far = heard.so_far ++ reply_of number outcome.answer;
-      stands = subst (λ (l : List Replied). RepliesStandFor (heard.so_far ++ l) after) reply_is (stands heard.so_far number heard.stands);
-      few = omega (arith, length-append heard.so_far (reply_of number outcome.answer), one_reply number outcome.answer, heard.few);
-      replies =
-          ap (λ (l : List TagValue). (heard.so_far ++ reply_of number outcome.answer) ++ replies_from (number + 1) (hearing_from (number + 1) command entry l)) behind
-          ∙ append_assoc heard.so_far (reply_of number outcome.answer) (replies_from (number + 1) (hearing_from (number + 1) command entry others))
-          ∙ ap (λ (l : List TagValue). heard.so_far ++ replies_from number (hearing_from number command entry l)) (sym rest)
-          ∙ heard.replies;
-      steps_are =
-          let before : steps + hearers_from number entry (tag ∷ others) ≡ counted + hearers_from 0 entry start =
-          subst (λ (l : List TagValue). steps + hearers_from number entry l ≡ counted + hearers_from 0 entry start) rest heard.steps_are in
-          let later : hearers_from (number + 1) entry (drop (number + 1) (slice_set seats number new)) ≡ hearers_from (number + 1) entry others =
-          ap (λ (l : List TagValue). hearers_from (number + 1) entry l) behind in
-          omega (arith, before, later, count_is);
-      wanted_is = same ∙ heard.wanted_is;
-      legal = legal-set seats number new heard.legal legal;
-    }
-
--- all tags heard it, or missed it
-pub heard_tags : (command : Command) (entry : Entry) (start : List TagValue) (counted wanted number : ℕ) (seats : List TagValue) (kept : KeptReplies) (steps : ℕ)
-    → HeardBelow command entry start counted wanted number seats kept steps → length seats ≤ number → seats ≡ tags_after (hearing_from 0 command entry start)
-heard_tags command entry start counted wanted number seats kept steps heard past =
-    let none : drop number seats ≡ [] = drop_all number seats past in
-    sym (append-nil seats)
-    ∙ ap (λ (l : List TagValue). l ++ []) (sym (take_all number seats past))
-    ∙ ap (λ (l : List TagValue). take number seats ++ tags_after (hearing_from number command entry l)) (sym none)
-    ∙ heard.tags
-
-pub heard_replies : (command : Command) (entry : Entry) (start : List TagValue) (counted wanted number : ℕ) (seats : List TagValue) (kept : KeptReplies) (steps : ℕ)
-    → HeardBelow command entry start counted wanted number seats kept steps → length seats ≤ number → RepliesStandFor (replies_from 0 (hearing_from 0 command entry start)) kept
-heard_replies command entry start counted wanted number seats kept steps heard past =
-    let none : drop number seats ≡ [] = drop_all number seats past in
-    let whole : heard.so_far ≡ replies_from 0 (hearing_from 0 command entry start) =
-    sym (append-nil heard.so_far) ∙ ap (λ (l : List TagValue). heard.so_far ++ replies_from number (hearing_from number command entry l)) (sym none) ∙ heard.replies in
-    subst (λ (l : List Replied). RepliesStandFor l kept) whole heard.stands
-
-pub heard_steps : (command : Command) (entry : Entry) (start : List TagValue) (counted wanted number : ℕ) (seats : List TagValue) (kept : KeptReplies) (steps : ℕ)
-    → HeardBelow command entry start counted wanted number seats kept steps → length seats ≤ number → steps ≡ counted + hearers_from 0 entry start
-heard_steps command entry start counted wanted number seats kept steps heard past =
-    let none : drop number seats ≡ [] = drop_all number seats past in
-    let last : steps + 0 ≡ counted + hearers_from 0 entry start =
-    subst (λ (l : List TagValue). steps + hearers_from number entry l ≡ counted + hearers_from 0 entry start) none heard.steps_are in
-    omega (arith, last)
-
--- tags that are still to be seated
 -- no tag is lost
 pub length-heard : (number : ℕ) (command : Command) (entry : Entry) (tags : List TagValue) → length (tags_after (hearing_from number command entry tags)) ≡ length tags
 length-heard number command entry [] = refl

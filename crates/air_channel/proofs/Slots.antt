@@ -8,7 +8,7 @@ use Rattle.tag_machine.specs.Inventory.{slot_below}
 use Rattle.air_channel.specs.declared.waiting.Standing.{Standing}
 use Rattle.air_channel.specs.declared.waiting.Standing.TheVariants.{Waits, Called}
 use Rattle.air_channel.specs.Wheel.{place_of, IsNextTag}
-use Rattle.air_channel.specs.Waiting.{standing_at, IsLegalStanding, IsNextCalled, IsDue, counted_down, called_place, slot_place, slot_behind, standing_on, standings_on, AreBases}
+use Rattle.air_channel.specs.Waiting.{standing_at, IsLegalStanding, IsNextCalled, IsDue, counted_down, called_place, slot_place, slot_behind, slot_in, standing_there, standing_on, standings_on, AreBases, AreSlots}
 
 -- the standing of the tag on a place
 pub standing_of_place : (bases : List ℕ) (places : List (Option ℕ)) (number : ℕ) → standing_at (standings_on bases places) number ≡ standing_on bases (place_of places number)
@@ -146,7 +146,7 @@ pub length-standings : (bases : List ℕ) (places : List (Option ℕ)) (now : Li
 length-standings bases places now same = sym (length-map places (λ place. standing_on bases place)) ∙ ap (λ (l : List (Option Standing)). length l) same
 
 -- a tag waits with a counter exactly where it stands on the place of it
-same_waits : (own slot session counter : ℕ) → Some (Waits own slot) ≡ Some (Waits session counter) → (own ≡ session) × (slot ≡ counter)
+pub same_waits : (own slot session counter : ℕ) → Some (Waits own slot) ≡ Some (Waits session counter) → (own ≡ session) × (slot ≡ counter)
 same_waits own slot session counter same = (cc, cc)
 
 waits_called : (session slot : ℕ) → Some (Waits session slot) ≡ Some Called → ⊥
@@ -220,3 +220,30 @@ called_place_of bases places number called =
       | inl w ↦ w
       | inr w ↦ absurd (not_called_there bases places number w called)
     ]
+
+-- each slot counter has 15 bits
+no_slot : (slot : ℕ) → None ≡ Some slot → ⊥
+no_slot slot e = cc
+
+slot_there : (bases : List ℕ) (place slot : ℕ) → slot_in (Some (standing_there bases place)) ≡ Some slot → slot < 32768
+slot_there bases place slot is =
+    elim (eqb_tells place called_place) [
+      | inl w ↦
+          absurd
+          (no_slot slot
+          (sym (ap (λ (b : Bool). slot_in (Some (if b then Called else Waits (place / 32768) (slot_behind (get_or bases (place / 32768) 0) place)))) w.0) ∙ is))
+      | inr w ↦
+          let same : slot_behind (get_or bases (place / 32768) 0) place ≡ slot =
+          same_Some (slot_behind (get_or bases (place / 32768) 0) place) slot
+          (sym (ap (λ (b : Bool). slot_in (Some (if b then Called else Waits (place / 32768) (slot_behind (get_or bases (place / 32768) 0) place)))) w.0) ∙ is) in
+          omega (arith, same)
+    ]
+
+slot_on : (bases : List ℕ) (stands : Option ℕ) (slot : ℕ) → slot_in (standing_on bases stands) ≡ Some slot → slot < 32768
+slot_on bases None slot is = absurd (no_slot slot is)
+slot_on bases (Some place) slot is = slot_there bases place slot is
+
+pub are_slots : (bases : List ℕ) (places : List (Option ℕ)) (now : List (Option Standing)) → standings_on bases places ≡ now → AreSlots now
+are_slots bases places now same = λ number slot is.
+    slot_on bases (place_of places number) slot
+    (ap (λ (s : Option Standing). slot_in s) (sym (standing_of_place bases places number) ∙ ap (λ (l : List (Option Standing)). standing_at l number) same) ∙ is)

@@ -1,13 +1,16 @@
 -- What one tag and a population of tags become in one exchange: first the events that a scenario names for a tag, then the
 -- command, unless the tag misses it. What becomes of one tag depends on no other tag.
-use Rattle.std.specs.Prelude.{ℕ, ◌+◌, ◌==◌, Bool, List, [], ◌∷◌, ◌++◌, map, Option, Some, None, if◌then◌else◌}
+use Rattle.std.specs.Prelude.{◌≡◌, ℕ, ◌+◌, ◌==◌, ◌||◌, Bool, List, [], ◌∷◌, ◌++◌, map, Option, Some, None, if◌then◌else◌}
 use Rattle.std.specs.List.{list_any}
+use Rattle.std.specs.Option.{is_some}
 use Rattle.air_events.specs.declared.Entry.{Entry}
 use Rattle.air_events.specs.declared.Event.{Event}
 use Rattle.command_grammar.specs.declared.commands.Command.{Command}
+use Rattle.command_grammar.specs.declared.commands.Command.TheVariants as commands
 use Rattle.tag_machine.specs.TagValue.{TagValue}
 use Rattle.tag_machine.specs.Answers.{Outcome, Sent, silent}
 use Rattle.tag_machine.specs.Events.{tag_after_event}
+use Rattle.tag_machine.specs.Slots.{is_beyond_arbitrate}
 use Rattle.tag_machine.specs.Step.{step}
 
 -- an event that befalls the tag of one number, seen by the tag of another
@@ -55,10 +58,17 @@ abbrev pub replies_from : ℕ → List Outcome → List Replied
 replies_from number [] = []
 replies_from number (outcome ∷ outcomes) = reply_of number outcome.answer ++ replies_from (number + 1) outcomes
 
--- how many of the tags that are numbered from a number on hear the command
-abbrev pub hearers_from : ℕ → Entry → List TagValue → ℕ
-hearers_from number entry [] = 0
-hearers_from number entry (tag ∷ tags) = (if is_missed number entry then 0 else 1) + hearers_from (number + 1) entry tags
+abbrev pub IsQueryRep : Command → Type 0
+IsQueryRep command = (session : ℕ) × (command ≡ commands.QueryRep session)
+
+-- a tag that a command keeps busy: it misses the command, was beyond arbitrate before it, or answers it
+abbrev pub is_busy : ℕ → Command → Entry → TagValue → Bool
+is_busy number command entry tag = is_missed number entry || is_beyond_arbitrate tag.state || is_some (step command tag.state tag.body).answer
+
+-- how many of the tags that are numbered from a number on it keeps busy
+abbrev pub busy_from : ℕ → Command → Entry → List TagValue → ℕ
+busy_from number command entry [] = 0
+busy_from number command entry (tag ∷ tags) = (if is_busy number command entry tag then 1 else 0) + busy_from (number + 1) command entry tags
 
 -- one event befalls a tag among tags that are numbered from a number on
 abbrev pub tags_after_event : ℕ → Event → ℕ → List TagValue → List TagValue

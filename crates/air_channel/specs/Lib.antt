@@ -16,3 +16,4 @@ pub mod Rooms
 pub mod Lent
 pub mod Wheel
 pub mod Waiting
+pub mod Seated

@@ -32,6 +32,10 @@ IsLegalStanding None = Unit {0}
 IsLegalStanding (Some (Waits session slot)) = (session ≤ 3) × (slot < 32768)
 IsLegalStanding (Some Called) = Unit {0}
 
+-- each slot counter has 15 bits
+abbrev pub AreSlots : List (Option Standing) → Type 0
+AreSlots standings = (number slot : ℕ) → slot_in (standing_at standings number) ≡ Some slot → slot < 32768
+
 -- the first tag with a number from one on that is called, or none where there is no such tag
 abbrev pub IsNextCalled : List (Option Standing) → ℕ → Option ℕ → Type 0
 IsNextCalled standings from None = (number : ℕ) → from ≤ number → standing_at standings number ≢ Some Called

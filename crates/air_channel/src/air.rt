@@ -1,12 +1,12 @@
 //! The air between one interrogator and a population of tags.
-ghost use Rattle.std.specs.Prelude.{◌≡◌, ◌+◌, ◌<◌, ◌≤◌, [], All, Some, length, slice_get, IfOk};
+ghost use Rattle.std.specs.Prelude.{◌≡◌, ◌+◌, ◌*◌, ◌<◌, ◌≤◌, [], All, Some, length, slice_get, IfOk};
 ghost use Rattle.std.specs.Borrow.{sem};
 ghost use Rattle.command_grammar.specs.Commands.{IsLegalCommand};
 ghost use Rattle.tag_machine.specs.Hearing.{tag_value_of};
 ghost use Rattle.tag_machine.specs.TagValue.{IsLegalTag};
 ghost use Rattle.air_channel.specs.Air.{AreLegalTags, NamesTags, air_after, air_after_event, given_in, next_exchange};
 ghost use Rattle.air_channel.specs.Channel.{got_of};
-ghost use Rattle.air_channel.specs.Exchange.{hearers_from};
+ghost use Rattle.air_channel.specs.Exchange.{IsQueryRep, busy_from};
 ghost use Rattle.air_channel.specs.Lent.{KeepsAir};
 
 use crate::population::Population;
@@ -16,8 +16,8 @@ use bit_strings::{Bits, Levels, OutOfMemory};
 use command_grammar::Command;
 use pie_line::{Intervals, Link};
 use std::alloc::Global;
-use std::marker::Model;
-use std::sync::ledger::Ledger;
+use std::marker::{Brand, Model};
+use std::sync::ledger::{Blank, Ledger};
 use tag_machine::{AnyTag, Entry, Event, Several, Steps};
 
 /// How many bits of a command there is room for, and how many intervals of its frame: more than the 4,162 and
@@ -91,7 +91,8 @@ impl Air {
     }
 
     /// Sends a command, and says whether the channel gives anything in reply. The entry's events happen first.
-    /// Then each tag that doesn't miss the command hears what it reads from the frame, and takes one step.
+    /// Then each tag that doesn't miss the command hears what it reads from the frame. A QueryRep takes at most two steps for each
+    /// tag that answers it, was beyond arbitrate before it, or missed it, and none for any other.
     pub fn exchange<L: Ledger>(
         &mut self,
         command: &Command,
@@ -101,11 +102,12 @@ impl Air {
         requires named { NamesTags (length self.old.tags) entry.now }
         ensures air { self.new ≡ air_after self.old command.now entry.now }
         ensures got { result ≡ got_of (given_in self.old.several command.now entry.now self.old.tags) }
-        ensures counted { steps.new ≡ steps.old + hearers_from 0 entry.now self.old.tags }
+        ensures counted { steps.new ≤ steps.old + length entry.now.events + 2 * length self.old.tags }
+        ensures bound { IsQueryRep command.now → entry.now.events ≡ [] → steps.new ≤ steps.old + 2 * busy_from 0 command.now entry.now self.old.tags }
         ensures legal { AreLegalTags self.new.tags }
         ensures command { IsLegalCommand command.now }
     {
-        self.population.befall_all(entry.events.as_slice());
+        self.population.befall_all(entry.events.as_slice(), steps);
         let heard = transmit(&self.link, command, &mut self.bits, &mut self.frame);
         self.replies.begin(&entry.choice);
         self.population
@@ -121,7 +123,20 @@ impl Air {
         ensures air { self.new ≡ air_after_event self.old event tag }
         ensures legal { AreLegalTags self.new.tags }
     {
-        self.population.befall(event, tag);
+        self.event_counted::<Brand>(Blank::new(1), event, tag);
+    }
+
+    /// Lets an event befall a tag, with the ledger of the blank for the counter of steps.
+    fn event_counted<L: Ledger>(&mut self, blank: Blank, event: Event, tag: u32)
+        requires name { blank.name ≡ L.name }
+        requires parts { blank.parts ≡ L.parts }
+        requires one { blank.parts ≡ 1 }
+        requires there { tag < length self.old.tags }
+        ensures air { self.new ≡ air_after_event self.old event tag }
+        ensures legal { AreLegalTags self.new.tags }
+    {
+        let mut steps = Steps::<L>::new(blank);
+        self.population.befall(event, tag, &mut steps);
     }
 
     /// The link.
@@ -141,14 +156,14 @@ impl Air {
     }
 
     /// The tag with this number. It takes at most one step.
-    pub fn tag<L: Ledger>(&mut self, number: u32, _steps: &mut Steps<L>) -> &AnyTag
+    pub fn tag<L: Ledger>(&mut self, number: u32, steps: &mut Steps<L>) -> &AnyTag
         requires { number < length self.old.tags }
         ensures* same { sem 𝓛 (KeepsAir self.entry) }
         ensures tag { slice_get self.old.tags number ≡ Some (tag_value_of result.now) }
         ensures legal { IsLegalTag (tag_value_of result.now) }
-        ensures counted { _steps.new ≤ _steps.old + 1 }
+        ensures counted { steps.new ≤ steps.old + 1 }
     {
-        self.population.tag(number)
+        self.population.tag(number, steps)
     }
 
     /// The frame that was sent last, in nanoseconds; none before the first exchange.

@@ -1,17 +1,20 @@
 //! One place in a population, which has a tag.
-ghost use Rattle.std.specs.Prelude.{◌≡◌, ◌+◌, ◌≤◌, true, false, if◌then◌else◌};
+ghost use Rattle.std.specs.Prelude.{◌≡◌, ◌+◌, ◌<◌, ◌≤◌, Some, true, false, if◌then◌else◌};
 ghost use Rattle.tag_machine.specs.Answers.{IsSent, bits_sent, silent};
 ghost use Rattle.tag_machine.specs.Events.{tag_after_event};
-ghost use Rattle.tag_machine.specs.Hearing.{mark_of, tag_value_of};
+ghost use Rattle.tag_machine.specs.Hearing.{mark_of, tag_value_of, typed_name_of};
 ghost use Rattle.tag_machine.specs.Step.{step};
 ghost use Rattle.tag_machine.specs.TagValue.{IsLegalTag};
 ghost use Rattle.air_channel.specs.Exchange.{outcome_unless};
+ghost use Rattle.air_channel.specs.Seated.{standing_in, with_slot};
+ghost use Rattle.air_channel.specs.Waiting.{IsLegalStanding};
 
+use crate::waiting::Standing;
 use bit_strings::Bits;
 use command_grammar::Command;
 use std::marker::Model;
 use std::sync::ledger::Ledger;
-use tag_machine::{Answered, AnyTag, Event, Steps};
+use tag_machine::{Answered, AnyTag, Event, StateName, Steps};
 
 /// A seat of a population. It has a tag at all times, but while that tag hears or an event befalls it.
 ///
@@ -51,6 +54,35 @@ impl Seat {
         match &self.tag {
             Some(tag) => tag,
             None => unreachable!(),
+        }
+    }
+
+    /// How the tag takes part in a round.
+    pub(crate) fn standing(&self) -> Option<Standing>
+        ensures value { result ≡ standing_in self.now.state }
+        ensures legal { IsLegalStanding result }
+    {
+        let tag = self.tag();
+        match tag.state() {
+            StateName::Arbitrate => Some(waits(tag)),
+            StateName::InReply | StateName::Acknowledged | StateName::Opened | StateName::Secured =>
+                Some(Standing::Called),
+            StateName::Ready | StateName::Killed | StateName::Unpowered => None,
+        }
+    }
+
+    /// Changes the slot counter, where the tag has one.
+    pub(crate) fn set_slot<L: Ledger>(&mut self, slot: u16, steps: &mut Steps<L>)
+        requires { slot < 32768 }
+        ensures tag { self.new ≡ record self.old { state = with_slot slot self.old.state } }
+        ensures counted { steps.new ≤ steps.old + 1 }
+        ensures legal { IsLegalTag self.new }
+    {
+        let Some(tag) = &mut self.tag else {
+            unreachable!()
+        };
+        if tag.state() == StateName::Arbitrate {
+            set_slot(tag, slot, steps);
         }
     }
 
@@ -110,5 +142,30 @@ impl Seat {
             Some(tag) => tag.hear_in_place(command, steps),
             None => unreachable!(),
         }
+    }
+}
+
+/// How a tag waits in arbitrate.
+fn waits(tag: &AnyTag) -> Standing
+    requires { typed_name_of tag.now ≡ StateName.Arbitrate }
+    ensures value { Some result ≡ standing_in (tag_value_of tag.now).state }
+    ensures legal { IsLegalStanding (Some result) }
+{
+    match tag {
+        AnyTag::Arbitrate(tag) => Standing::Waits(tag.session().get(), tag.slot()),
+        _ => unreachable!(),
+    }
+}
+
+/// Changes the slot counter of a tag in arbitrate.
+fn set_slot<L: Ledger>(tag: &mut AnyTag, slot: u16, steps: &mut Steps<L>)
+    requires slot { slot < 32768 }
+    requires waits { typed_name_of tag.old ≡ StateName.Arbitrate }
+    ensures tag { tag_value_of tag.new ≡ record (tag_value_of tag.old) { state = with_slot slot (tag_value_of tag.old).state } }
+    ensures counted { steps.new ≡ steps.old + 1 }
+{
+    match tag {
+        AnyTag::Arbitrate(tag) => tag.set_slot(slot, steps),
+        _ => unreachable!(),
     }
 }

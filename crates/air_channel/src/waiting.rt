@@ -1,6 +1,6 @@
 //! Which tags wait for their slots, and which are called.
 ghost use Rattle.std.specs.Prelude.{◌≡◌, ℕ, ◌+◌, ◌<◌, ◌≤◌, Some, None, length, map, replicate, slice_set, IfOk};
-ghost use Rattle.air_channel.specs.Waiting.{IsDue, IsLegalStanding, IsNextCalled, counted_down, slot_in, slot_place, standing_at, waits_in};
+ghost use Rattle.air_channel.specs.Waiting.{AreSlots, IsDue, IsLegalStanding, IsNextCalled, counted_down, slot_in, slot_place, standing_at, waits_in};
 
 use crate::wheel::Wheel;
 use bit_strings::{OutOfMemory, Session};
@@ -87,7 +87,8 @@ impl Waiting {
     pub(crate) fn put(&mut self, number: u16, standing: Option<Standing>)
         requires number { number < length self.old }
         requires legal { IsLegalStanding standing }
-        ensures { self.new ≡ slice_set self.old number standing }
+        ensures standings { self.new ≡ slice_set self.old number standing }
+        ensures slots { AreSlots self.new }
     {
         match standing {
             Some(standing) => self.place(number, standing),
@@ -99,7 +100,8 @@ impl Waiting {
     fn place(&mut self, number: u16, standing: Standing)
         requires number { number < length self.old }
         requires legal { IsLegalStanding (Some standing) }
-        ensures { self.new ≡ slice_set self.old number (Some standing) }
+        ensures standings { self.new ≡ slice_set self.old number (Some standing) }
+        ensures slots { AreSlots self.new }
     {
         match standing {
             Standing::Waits(session, slot) => {
@@ -112,7 +114,8 @@ impl Waiting {
 
     /// The first tag that is called.
     pub(crate) fn first_called(&self) -> Option<u16>
-        ensures { IsNextCalled self.now 0 result }
+        ensures next { IsNextCalled self.now 0 result }
+        ensures slots { AreSlots self.now }
     {
         self.wheel.first(CALLED)
     }

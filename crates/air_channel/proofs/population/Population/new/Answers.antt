@@ -1,17 +1,17 @@
-use Rattle.std.proofs.Common.{◌≡◌, ◌+◌, length, arith}
-use Rattle.air_channel.proofs.Populations.{length-seated, seated_next, legal-append}
+use Rattle.std.proofs.Common.{◌∙◌, ◌≤◌, ap, arith, length, List}
+use Rattle.std.proofs.lemmas.List.{length-map}
+use Rattle.tag_machine.specs.Hearing.{tag_value_of}
+use Rattle.tag_machine.specs.TagValue.{TagValue}
+use Rattle.air_channel.proofs.Resting.{new_tags, new_rest}
+use Rattle.air_channel.specs.Seated.{standings_of}
 use Rattle.air_channel.proofs.population.Population.new.Goals as goal
 
-pub push_reserved-requires : goal.push_reserved-requires
-push_reserved-requires c =
-    let left = length-seated c.loop-tag.seats.items c.args.tags.items c.loop-tag.tag-iterator.rest.items c.loop-tag.invariant.0 in
-    let taken : length c.loop-tag.tag-iterator.rest.items ≡ length c.next.new.self.rest.items + 1 = rw c.in-Some.ensures.steps.0 (omega arith) in
-    omega (arith, left, taken, c.loop-tag.invariant.2)
+pub invariant_of-result : goal.invariant_of-result
+invariant_of-result c =
+    let few : length c.in_ok-seats.seats.items ≤ 256 =
+    omega (arith, c.requires, c.args.tags.ok.0, ap (λ (l : List TagValue). length l) c.in_ok-seats.ensures.items, length-map c.args.tags.items tag_value_of) in
+    new_rest c.in_ok-seats.seats.items c.settle.new.waiting (c.settle.ensures ∙ ap (λ (l : List TagValue). standings_of l) c.as_slice.ensures.value) few c.in_ok-seats.ensures.legal
 
-pub loop-tag-preserved : goal.loop-tag-preserved
-loop-tag-preserved c = (
-  seated_next c.loop-tag.seats.items c.push_reserved.new.self.items c.new.result c.in-Some.tag c.loop-tag.tag-iterator.rest.items c.next.new.self.rest.items c.args.tags.items
-      c.loop-tag.invariant.0 c.in-Some.ensures.steps.0 c.new.ensures.value c.push_reserved.ensures.items,
-  rw c.push_reserved.ensures.items (legal-append c.loop-tag.seats.items c.new.result c.loop-tag.invariant.1 c.new.ensures.legal),
-  omega (arith, c.loop-tag.invariant.2, c.push_reserved.ensures.capacity),
-)
+pub returns : goal.returns
+returns c =
+    new_tags c.in_ok-seats.seats.items c.settle.new.waiting (c.settle.ensures ∙ ap (λ (l : List TagValue). standings_of l) c.as_slice.ensures.value) ∙ c.in_ok-seats.ensures.items

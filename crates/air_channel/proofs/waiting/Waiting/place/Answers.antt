@@ -1,11 +1,18 @@
-use Rattle.air_channel.proofs.Slots.{put_waiting, put_calling}
+use Rattle.std.proofs.Common.{refl}
+use Rattle.air_channel.proofs.Slots.{put_waiting, put_calling, are_slots}
 use Rattle.air_channel.proofs.waiting.Waiting.place.Goals as goal
 
-pub returns-in-Waits : goal.returns-in-Waits
-returns-in-Waits c =
+pub returns-in-Waits-clause-standings : goal.returns-in-Waits-clause-standings
+returns-in-Waits-clause-standings c =
     put_waiting c.self.inside.bases c.self.inside.wheel c.put.new.self c.args.self.now c.args.number c.in-Waits.session c.in-Waits.slot c.slot_place-place.result c.args.standing
     c.self.invariant c.self.view_is c.in-Waits.is c.requires.legal c.slot_place-place.ensures c.put.ensures
 
-pub returns-in-Called : goal.returns-in-Called
-returns-in-Called c =
+pub returns-in-Waits-clause-slots : goal.returns-in-Waits-clause-slots
+returns-in-Waits-clause-slots c = are_slots c.self.inside.bases c.put.new.self _ refl
+
+pub returns-in-Called-clause-standings : goal.returns-in-Called-clause-standings
+returns-in-Called-clause-standings c =
     put_calling c.self.inside.bases c.self.inside.wheel c.put-in-Called.new.self c.args.self.now c.args.number c.args.standing c.self.view_is c.in-Called.is c.put-in-Called.ensures
+
+pub returns-in-Called-clause-slots : goal.returns-in-Called-clause-slots
+returns-in-Called-clause-slots c = are_slots c.self.inside.bases c.put-in-Called.new.self _ refl

@@ -1,6 +1,10 @@
-use Rattle.air_channel.proofs.Slots.{put_none}
+use Rattle.std.proofs.Common.{refl}
+use Rattle.air_channel.proofs.Slots.{put_none, are_slots}
 use Rattle.air_channel.proofs.waiting.Waiting.put.Goals as goal
 
-pub returns-in-None : goal.returns-in-None
-returns-in-None c =
+pub returns-in-None-clause-standings : goal.returns-in-None-clause-standings
+returns-in-None-clause-standings c =
     rw c.in-None.is (put_none c.self.inside.bases c.self.inside.wheel c.take.new.self c.args.self.now c.args.number c.self.view_is c.take.ensures)
+
+pub returns-in-None-clause-slots : goal.returns-in-None-clause-slots
+returns-in-None-clause-slots c = are_slots c.self.inside.bases c.take.new.self _ refl
