@@ -88,6 +88,11 @@ def line(kind, rng):
         )
     if kind == "command":
         return "command " + digits(field(0b11000001, 8) + field(0xA1B2, 16) + field(crc16(field(0b11000001, 8) + field(0xA1B2, 16)), 16))
+    if kind == "sgtin":
+        return f"sgtin {sgtin(rng):024X}"
+    if kind == "uri":
+        filter_value, company = rng.randrange(8), rng.randrange(10**7)
+        return f"uri urn:epc:tag:sgtin-96:{filter_value}.{company:07}.{rng.randrange(10**6):06}.{rng.randrange(1 << 38)}"
     sys.exit(f"no such kind of line: {kind}")
 
 
@@ -136,17 +141,21 @@ def run(rounds, rng):
 PARTITIONS = [(40, 12), (37, 11), (34, 10), (30, 9), (27, 8), (24, 7), (20, 6)]
 
 
+def sgtin(rng):
+    """The 96 bits of an SGTIN."""
+    partition = rng.randrange(7)
+    company_bits, company_digits = PARTITIONS[partition]
+    item_bits = 44 - company_bits
+    epc = 0x30 << 6 | rng.randrange(8) << 3 | partition
+    epc = epc << company_bits | rng.randrange(10**company_digits)
+    epc = epc << item_bits | rng.randrange(10 ** (13 - company_digits))
+    return epc << 38 | rng.randrange(1 << 38)
+
+
 def names(size, rng):
     lines, left = [], size
     while True:
-        partition = rng.randrange(7)
-        company_bits, company_digits = PARTITIONS[partition]
-        item_bits = 44 - company_bits
-        epc = 0x30 << 6 | rng.randrange(8) << 3 | partition
-        epc = epc << company_bits | rng.randrange(10**company_digits)
-        epc = epc << item_bits | rng.randrange(10 ** (13 - company_digits))
-        epc = epc << 38 | rng.randrange(1 << 38)
-        line = f"list {rng.randrange(1, 100)} {rng.randrange(1, 1000)} 3000 {epc:024X}\n"
+        line = f"list {rng.randrange(1, 100)} {rng.randrange(1, 1000)} 3000 {sgtin(rng):024X}\n"
         if len(line) > left:
             return "".join(lines)
         lines.append(line)

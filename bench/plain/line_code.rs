@@ -120,29 +120,55 @@ impl LineCode {
         self.push_bit(mark, true, levels);
     }
 
-    /// Reads the bits of a stream, and answers whether it is one. `scratch` is room for the lead.
+    /// Reads the bits of a stream. `scratch` is room for the lead.
     pub fn decode(
         &self,
         trext: bool,
         levels: &[bool],
         scratch: &mut Vec<bool>,
         bits: &mut Vec<bool>,
-    ) -> bool {
+    ) -> Result<(), Refusal> {
         bits.clear();
         let mut mark = self.lead(trext, scratch);
         let Some(data) = levels.strip_prefix(scratch.as_slice()) else {
-            return false;
+            return Err(refusal(0, levels, &[scratch]));
         };
-        for levels in data.chunks(self.count) {
-            let fits = [true, false]
-                .into_iter()
-                .find(|&bit| self.block(mark, bit).0 == levels);
-            let Some(bit) = fits else { return false };
+        for (place, block) in data.chunks(self.count).enumerate() {
+            // In FM0 the level of a 1 stays through its symbol; in Miller its phase turns in the middle.
+            let middle = block.get(self.count / 2);
+            let bit = (middle == block.first()) == matches!(self.code, Code::Fm0);
+            let (wanted, next) = self.block(mark, bit);
+            if wanted != block {
+                let both = [self.block(mark, false).0, self.block(mark, true).0];
+                return Err(refusal(scratch.len() + place * self.count, block, &both));
+            }
             bits.push(bit);
-            mark = self.block(mark, bit).1;
+            mark = next;
         }
         // The dummy 1 ends the stream.
-        bits.pop() == Some(true)
+        match bits.pop() {
+            Some(true) => Ok(()),
+            _ => Err(Refusal::Unfinished(levels.len())),
+        }
+    }
+}
+
+/// Why levels are no stream.
+pub enum Refusal {
+    /// The levels before this place begin a stream, and with the level there they begin none.
+    Invalid(usize),
+    /// All so many levels begin a stream, and are none.
+    Unfinished(usize),
+}
+
+/// Why the levels from this place on are none of those that may stand there.
+fn refusal(start: usize, levels: &[bool], wanted: &[&[bool]]) -> Refusal {
+    let common = |other: &&[bool]| levels.iter().zip(*other).take_while(|(a, b)| a == b).count();
+    let count = wanted.iter().map(common).max().unwrap_or(0);
+    if count == levels.len() {
+        Refusal::Unfinished(start + count)
+    } else {
+        Refusal::Invalid(start + count)
     }
 }
 

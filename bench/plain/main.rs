@@ -1,11 +1,12 @@
-//! Plays scenarios as `gen2run run` and `gen2run run trace` do, names what was listed as `gen2run names`
-//! does, and summarises generated scenarios as `gen2run gen` does, in plain Rust and unproved, so that the time of the proved program can be compared with it. It does the same work: in
-//! a run each command is encoded as a frame and decoded, and each reply that the channel gives is encoded as a stream of levels
-//! and decoded.
+//! Explains captures as `gen2run decode` does, plays scenarios as `gen2run run` and `gen2run run trace` do, names what was listed
+//! as `gen2run names` does, and summarises generated scenarios as `gen2run gen` does, in plain Rust and unproved, so that the time
+//! of the proved program can be compared with it. It does the same work: in a run each command is encoded as a frame and decoded,
+//! and each reply that the channel gives is encoded as a stream of levels and decoded.
 
 mod access;
 mod bits;
 mod command;
+mod decode;
 mod generated;
 mod line_code;
 mod locks;
@@ -17,6 +18,7 @@ mod scenario;
 mod tag;
 mod world;
 
+use decode::Explained;
 use std::io::{self, Read, Write};
 use std::process::ExitCode;
 
@@ -25,8 +27,15 @@ fn main() -> ExitCode {
     let words: Vec<&str> = words.iter().map(String::as_str).collect();
     if let ["gen", seed, tags] = words[..] {
         return match generated::summary(seed, tags) {
-            Some(summary) => write(&summary, ExitCode::SUCCESS),
+            Some(summary) => write(summary.as_bytes(), ExitCode::SUCCESS),
             None => ExitCode::from(2),
+        };
+    }
+    if words == ["decode"] {
+        return match decode::explain(io::stdin().lock()) {
+            Ok(Explained::Answers(answers)) => write(&answers, ExitCode::SUCCESS),
+            Ok(Explained::FaultLine(line)) => write(line.as_bytes(), ExitCode::from(3)),
+            Err(_) => ExitCode::from(4),
         };
     }
     if !matches!(words[..], ["run"] | ["run", "trace"] | ["names"]) {
@@ -45,14 +54,14 @@ fn main() -> ExitCode {
             .map_err(|line| format!("fault {line}\n"))
     };
     match result {
-        Ok(output) => write(&output, ExitCode::SUCCESS),
-        Err(fault) => write(&fault, ExitCode::from(3)),
+        Ok(output) => write(output.as_bytes(), ExitCode::SUCCESS),
+        Err(fault) => write(fault.as_bytes(), ExitCode::from(3)),
     }
 }
 
 /// Writes the output; the status is this one, or that of a failed write.
-fn write(output: &str, status: ExitCode) -> ExitCode {
-    match io::stdout().write_all(output.as_bytes()) {
+fn write(output: &[u8], status: ExitCode) -> ExitCode {
+    match io::stdout().write_all(output) {
         Ok(()) => status,
         Err(_) => ExitCode::from(5),
     }

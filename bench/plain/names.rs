@@ -1,9 +1,9 @@
 //! Adds its name behind each list line whose EPC is an SGTIN-96, as `gen2run names` does.
 
-use std::fmt::Write;
+use std::fmt::{self, Display, Formatter, Write};
 
 /// The bits and the digits of the company, by the partition.
-const PARTITIONS: [(u32, usize); 7] = [(40, 12), (37, 11), (34, 10), (30, 9), (27, 8), (24, 7), (20, 6)];
+pub const PARTITIONS: [(u32, usize); 7] = [(40, 12), (37, 11), (34, 10), (30, 9), (27, 8), (24, 7), (20, 6)];
 
 /// The lines with their names, or the number of the last line, where it has no line feed.
 pub fn add_names(text: &str) -> Result<String, usize> {
@@ -45,23 +45,63 @@ fn hexadecimal(digits: &str) -> Option<u128> {
     })
 }
 
-/// Adds the name of an EPC of 96 bits, where it is an SGTIN-96.
-fn push_name(output: &mut String, epc: u128) {
+/// A trade item number, with the number of digits that its company has.
+pub struct Sgtin {
+    filter: u64,
+    digits: usize,
+    company: u64,
+    item: u64,
+    serial: u64,
+}
+
+/// Why an EPC has no trade item number.
+pub enum EpcFault {
+    Length,
+    Header,
+    Partition,
+    Company,
+    Item,
+}
+
+/// The trade item number of an EPC of 96 bits, or the first reason for which it has none.
+pub fn sgtin_of(epc: u128) -> Result<Sgtin, EpcFault> {
+    if epc >> 88 != 0x30 {
+        return Err(EpcFault::Header);
+    }
     let Some(&(company_bits, digits)) = PARTITIONS.get((epc >> 82 & 7) as usize) else {
-        return;
+        return Err(EpcFault::Partition);
     };
     let item_bits = 44 - company_bits;
     let company = (epc >> (38 + item_bits)) as u64 & ((1 << company_bits) - 1);
     let item = (epc >> 38) as u64 & ((1 << item_bits) - 1);
-    let item_digits = 13 - digits;
-    if epc >> 88 != 0x30 || company >= 10u64.pow(digits as u32) || item >= 10u64.pow(item_digits as u32) {
-        return;
+    if company >= 10u64.pow(digits as u32) {
+        return Err(EpcFault::Company);
     }
-    let filter = epc >> 85 & 7;
-    let serial = epc as u64 & ((1 << 38) - 1);
-    // Writing into a String does not fail.
-    let _ = writeln!(
-        output,
-        "name urn:epc:tag:sgtin-96:{filter}.{company:0digits$}.{item:0item_digits$}.{serial}"
-    );
+    if item >= 10u64.pow(13 - digits as u32) {
+        return Err(EpcFault::Item);
+    }
+    Ok(Sgtin {
+        filter: (epc >> 85 & 7) as u64,
+        digits,
+        company,
+        item,
+        serial: epc as u64 & ((1 << 38) - 1),
+    })
+}
+
+impl Display for Sgtin {
+    /// Writes its URI.
+    fn fmt(&self, f: &mut Formatter) -> fmt::Result {
+        let Sgtin { filter, digits, company, item, serial } = self;
+        let item_digits = 13 - digits;
+        write!(f, "urn:epc:tag:sgtin-96:{filter}.{company:0digits$}.{item:0item_digits$}.{serial}")
+    }
+}
+
+/// Adds the name of an EPC of 96 bits, where it is an SGTIN-96.
+fn push_name(output: &mut String, epc: u128) {
+    if let Ok(sgtin) = sgtin_of(epc) {
+        // Writing into a String does not fail.
+        let _ = writeln!(output, "name {sgtin}");
+    }
 }

@@ -132,15 +132,12 @@ impl World {
         let link = &self.scenario.link;
         if !gave {
             Heard::Silence
-        } else if link.code.decode(
-            link.trext || extended,
-            &self.levels,
-            &mut self.lead,
-            &mut self.received,
-        ) {
-            Heard::Whole
         } else {
-            Heard::Refused
+            let trext = link.trext || extended;
+            match link.code.decode(trext, &self.levels, &mut self.lead, &mut self.received) {
+                Ok(()) => Heard::Whole,
+                Err(_) => Heard::Refused,
+            }
         }
     }
 

@@ -3,7 +3,6 @@ ghost use Rattle.std.specs.Prelude.{◌≡◌, ◌≤◌, ◌++◌, length, IfOk
 ghost use Rattle.std.specs.String.{string_bytes};
 ghost use Rattle.decode_lines.specs.Answer.{AddsAnswer, answer_line, streamed, sliced, replied, heard, framed, commanded, named, worded, with_left};
 ghost use Rattle.decode_lines.specs.Request.{IsWithinLimits, most_levels};
-ghost use Rattle.command_grammar.specs.Commands.{IsFinishAnswer};
 ghost use Rattle.epc_sgtin.specs.SgtinValue.{SgtinValue};
 ghost use Rattle.epc_sgtin.specs.Epc.{IsSgtin};
 ghost use Rattle.epc_sgtin.specs.Uri.{IsUriOf};
@@ -13,7 +12,7 @@ use crate::raw_field::RawField;
 use crate::request::{MOST_INTERVALS, MOST_LEVELS, MOST_SAMPLES, Request};
 use air_channel::receive;
 use bit_strings::{Bits, Code, Levels, OutOfMemory};
-use command_grammar::{Command, CommandRefusal, Framer};
+use command_grammar::{Command, CommandRefusal, decode_command};
 use command_text::{push_command, push_command_refusal};
 use epc_sgtin::{EpcFault, Sgtin, UriFault};
 use line_codes::{LineRefusal, decode_levels};
@@ -165,7 +164,7 @@ impl Workspace {
         ensures { OnOk result (AddsAnswer (Request.Command bits.now) (string_bytes text.old) (string_bytes text.new)) }
     {
         bits.copy_to(&mut self.bits);
-        let outcome = command_of(self.bits.as_slice());
+        let outcome = decode_command(self.bits.as_slice());
         push_commanded(text, &outcome)
     }
 
@@ -295,7 +294,7 @@ fn push_framed(
     text.push_str("\n")
 }
 
-/// Adds what the framer answered, as a line.
+/// Adds what the decoder of commands answered, as a line.
 fn push_commanded(
     text: &mut String,
     outcome: &Result<Command, CommandRefusal>,
@@ -329,15 +328,4 @@ fn push_worded(text: &mut String, outcome: &Result<[u16; 6], UriFault>) -> Resul
         Err(fault) => push_uri_fault(text, *fault)?,
     }
     text.push_str("\n")
-}
-
-/// The command that bits are, or why they are none.
-fn command_of(bits: &[bool]) -> Result<Command, CommandRefusal>
-    ensures { IsFinishAnswer result bits.now }
-{
-    let mut framer = Framer::new();
-    for bit in bits {
-        framer.push(*bit);
-    }
-    framer.finish()
 }
