@@ -2,103 +2,47 @@
 //! memory become, all written out by hand.
 
 use crate::access_tables::{
-    ACCESS, ACCESS_SWAPPED, ACCESS_THEN_KILL, ACCESS_ZERO, ACKNOWLEDGED, AFTER_HALF,
-    BETWEEN_HALVES, FIRST_HALF, KILL, KILL_IN_OPEN, KILL_THEN_ACCESS, KILL_THEN_BARE_ACCESS,
-    KILL_WRONG, KILL_ZERO, LATE_HALF, LOCKS, OPEN, OPENED, OTHER_HANDLES, PERMALOCK, REQ_RN,
-    SECOND_COVER, SECURED, WITHOUT_POWER, WRITES, WRONG_PASSWORDS,
+    ACKNOWLEDGED, AFTER_A_HALF, BETWEEN_HALVES, LISTS, PASSWORDS, TWO_PASSWORDS, WRITES_AND_LOCKS,
 };
-use crate::bench::played;
+use crate::bench::{each_played, played, rows_played};
 use crate::holds::Given;
 use crate::holds::Then::Same;
 use crate::rows::Is::{Acknowledged, Arbitrate, InReply, Opened, Secured};
-use crate::rows::{GUARDED, GUARDED_RN, PLAIN, QUERY, RN, UNGUARDED};
+use crate::rows::{GUARDED_RN, QUERY, RN};
 use crate::says::Says;
 use crate::says::Says::{Access, Ack, BlockErase, BlockWrite, Kill, Lock, Read, ReqRn, Write};
 use crate::wants::Want::{Handle, Nothing, PcEpc, ReadError, Rn16, Two};
 use command_grammar::Bank::{Epc, Reserved, Tid, User};
 use std::test::Fail;
 
-const WRONG: Given = Given {
-    access: 0x1234_5678,
-    ..PLAIN
-};
-
-const KILLABLE: Given = Given {
-    kill: 0xAABB_CCDD,
-    ..PLAIN
-};
-
-const EPC_GUARDED: Given = Given {
-    locks: 0b00_00_10_00_00,
-    ..GUARDED
-};
-
-const NO_USER: Given = Given {
-    user: 0,
-    ..UNGUARDED
-};
-
-const NO_KILL: Given = Given {
-    kill: 0,
-    ..UNGUARDED
-};
-
 #[test]
 fn lists_with_one_number(rt: HostRuntime) -> Result<(), Fail> {
-    let alloc = rt.alloc();
-    played(&rt, alloc, &PLAIN, &[], &PERMALOCK)?;
-    played(&rt, alloc, &WRONG, &[], &WRONG_PASSWORDS)?;
-    played(&rt, alloc, &KILLABLE, &[], &KILL)?;
-    played(&rt, alloc, &PLAIN, &[], &REQ_RN)?;
-    played(&rt, alloc, &GUARDED, &[], &WITHOUT_POWER)
+    played(&rt, rt.alloc(), &LISTS)
 }
 
 #[test]
 fn writes_and_locks(rt: HostRuntime) -> Result<(), Fail> {
-    let alloc = rt.alloc();
-    played(&rt, alloc, &UNGUARDED, &SECURED, &WRITES)?;
-    played(&rt, alloc, &EPC_GUARDED, &OPENED, &OPEN)?;
-    played(&rt, alloc, &NO_USER, &SECURED, &LOCKS)
+    played(&rt, rt.alloc(), &WRITES_AND_LOCKS)
 }
 
 #[test]
 fn passwords(rt: HostRuntime) -> Result<(), Fail> {
-    let alloc = rt.alloc();
-    played(&rt, alloc, &GUARDED, &OPENED, &ACCESS)?;
-    played(&rt, alloc, &GUARDED, &OPENED, &ACCESS_SWAPPED)?;
-    played(&rt, alloc, &UNGUARDED, &SECURED, &ACCESS_ZERO)?;
-    played(&rt, alloc, &GUARDED, &OPENED, &KILL_IN_OPEN)?;
-    played(&rt, alloc, &GUARDED, &OPENED, &KILL_WRONG)?;
-    played(&rt, alloc, &NO_KILL, &SECURED, &KILL_ZERO)
+    played(&rt, rt.alloc(), &PASSWORDS)
 }
 
 #[test]
 fn two_passwords_and_other_handles(rt: HostRuntime) -> Result<(), Fail> {
-    let alloc = rt.alloc();
-    played(&rt, alloc, &GUARDED, &OPENED, &KILL_THEN_ACCESS)?;
-    played(&rt, alloc, &GUARDED, &OPENED, &KILL_THEN_BARE_ACCESS)?;
-    played(&rt, alloc, &GUARDED, &OPENED, &ACCESS_THEN_KILL)?;
-    played(&rt, alloc, &GUARDED, &OPENED, &OTHER_HANDLES)
+    played(&rt, rt.alloc(), &TWO_PASSWORDS)
 }
 
 #[test]
 fn commands_after_a_half(rt: HostRuntime) -> Result<(), Fail> {
-    let alloc = rt.alloc();
-    for row in AFTER_HALF {
-        let rows = [FIRST_HALF[0], FIRST_HALF[1], row];
-        played(&rt, alloc, &GUARDED, &OPENED, &rows)?;
-    }
-    Ok(())
+    each_played(&rt, rt.alloc(), &AFTER_A_HALF)
 }
 
 #[test]
 fn commands_between_the_halves(rt: HostRuntime) -> Result<(), Fail> {
-    let alloc = rt.alloc();
-    for row in BETWEEN_HALVES {
-        let rows = [FIRST_HALF[0], FIRST_HALF[1], SECOND_COVER, row, LATE_HALF];
-        played(&rt, alloc, &GUARDED, &OPENED, &rows)?;
-    }
-    Ok(())
+    played(&rt, rt.alloc(), &BETWEEN_HALVES)
 }
 
 /// The access commands but Req_RN, with a number.
@@ -126,7 +70,7 @@ fn seven_commands_too_soon(rt: HostRuntime) -> Result<(), Fail> {
                 (Ack(RN), PcEpc, Acknowledged, Same),
                 (says, Nothing, Arbitrate(0), Same),
             ];
-            played(&rt, alloc, &GUARDED_RN, &[], &rows)?;
+            rows_played(&rt, alloc, &GUARDED_RN, &[], &rows)?;
         }
     }
     Ok(())
@@ -167,7 +111,7 @@ fn reads_under_each_pair(rt: HostRuntime) -> Result<(), Fail> {
             (Read(Tid, 0, 0, RN), Two(0xE200, 0x0001), state, Same),
             (Read(User, 0, 2, RN), Two(0x1111, 0x2222), state, Same),
         ];
-        played(&rt, alloc, &given, &ACKNOWLEDGED, &rows)?;
+        rows_played(&rt, alloc, &given, ACKNOWLEDGED, &rows)?;
     }
     Ok(())
 }

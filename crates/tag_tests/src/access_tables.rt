@@ -1,10 +1,11 @@
 //! The tables: lists of commands with the answer, the state, and what changes of the flags, the locks and the memory.
 
+use crate::holds::Given;
 use crate::holds::Then::{FlagsAre, LocksAre, PairIs, Same, WordIs};
 use crate::rows::Is::{
     Acknowledged, Arbitrate, InReply, Killed, Opened, Ready, Secured, Unpowered,
 };
-use crate::rows::{H, QUERY, RN, Row, SELECT};
+use crate::rows::{GUARDED, H, PLAIN, QUERY, RN, Row, SELECT, Table, UNGUARDED};
 use crate::says::Says::{
     Access, Ack, Befalls, BlockErase, BlockWrite, Kill, Lock, Nak, QueryAdjust, QueryRep, Read,
     ReqRn, Write,
@@ -14,28 +15,53 @@ use air_events::Event::Off;
 use command_grammar::Bank::{Epc, Reserved, Tid, User};
 use command_grammar::UpDn::Up;
 
+const WRONG: Given = Given {
+    access: 0x1234_5678,
+    ..PLAIN
+};
+
+const KILLABLE: Given = Given {
+    kill: 0xAABB_CCDD,
+    ..PLAIN
+};
+
+const EPC_GUARDED: Given = Given {
+    locks: 0b00_00_10_00_00,
+    ..GUARDED
+};
+
+const NO_USER: Given = Given {
+    user: 0,
+    ..UNGUARDED
+};
+
+const NO_KILL: Given = Given {
+    kill: 0,
+    ..UNGUARDED
+};
+
 /// A tag in acknowledged.
-pub const ACKNOWLEDGED: [Row; 2] = [
+pub const ACKNOWLEDGED: &[Row] = &[
     (QUERY, Rn16(RN), InReply, Same),
     (Ack(RN), PcEpc, Acknowledged, Same),
 ];
 
 /// A tag with an access password, singulated and given its handle.
-pub const OPENED: [Row; 3] = [
+const OPENED: &[Row] = &[
     (QUERY, Rn16(RN), InReply, Same),
     (Ack(RN), PcEpc, Acknowledged, Same),
     (ReqRn(RN), Handle(H), Opened, Same),
 ];
 
 /// ... and one without.
-pub const SECURED: [Row; 3] = [
+const SECURED: &[Row] = &[
     (QUERY, Rn16(RN), InReply, Same),
     (Ack(RN), PcEpc, Acknowledged, Same),
     (ReqRn(RN), Handle(H), Secured, Same),
 ];
 
 /// A tag whose draws are all A1B2: its locks are changed, and the pair of the EPC bank is permalocked.
-pub const PERMALOCK: [Row; 8] = [
+const PERMALOCK: &[Row] = &[
     (QUERY, Rn16(RN), InReply, Same),
     (Ack(RN), PcEpc, Acknowledged, Same),
     (ReqRn(RN), Handle(RN), Secured, Same),
@@ -52,7 +78,7 @@ pub const PERMALOCK: [Row; 8] = [
 ];
 
 /// A Kill of a tag whose kill password is 0, and an Access with a wrong password.
-pub const WRONG_PASSWORDS: [Row; 11] = [
+const WRONG_PASSWORDS: &[Row] = &[
     (QUERY, Rn16(RN), InReply, Same),
     (Ack(RN), PcEpc, Acknowledged, Same),
     (ReqRn(RN), Handle(RN), Opened, Same),
@@ -67,7 +93,7 @@ pub const WRONG_PASSWORDS: [Row; 11] = [
 ];
 
 /// A Kill by the kill password, and what a killed tag does with further commands.
-pub const KILL: [Row; 11] = [
+const KILL: &[Row] = &[
     (QUERY, Rn16(RN), InReply, Same),
     (Ack(RN), PcEpc, Acknowledged, Same),
     (ReqRn(RN), Handle(RN), Secured, Same),
@@ -82,7 +108,7 @@ pub const KILL: [Row; 11] = [
 ];
 
 /// Writes with and without a cover, and blocks. The covers are 00FF, 1234, 8001, 7FFE and C0DE, and then 0000.
-pub const WRITES: [Row; 22] = [
+const WRITES: &[Row] = &[
     (Write(User, 0, 0xAB32, H), Nothing, Secured, Same),
     (ReqRn(H), Handle(0x00FF), Secured, Same),
     (
@@ -145,7 +171,7 @@ pub const WRITES: [Row; 22] = [
 ];
 
 /// In open nothing comes of a Lock, a field that wants secured isn't written, and a password can be written away.
-pub const OPEN: [Row; 8] = [
+const OPEN: &[Row] = &[
     (Lock(0x0C030, H), Nothing, Opened, Same),
     (
         BlockWrite(Epc, 1, [0x0800, 0x5678], H),
@@ -172,7 +198,7 @@ pub const OPEN: [Row; 8] = [
 ];
 
 /// In secured a Lock that names the User bank of a tag without one is refused, and one of another field isn't.
-pub const LOCKS: [Row; 4] = [
+const LOCKS: &[Row] = &[
     (Lock(0x00C03, H), Error(0x03), Secured, Same),
     (
         Lock(0x08020, H),
@@ -190,7 +216,7 @@ pub const LOCKS: [Row; 4] = [
 ];
 
 /// The two halves of an Access, each with its cover; between them a half without a cover, which changes nothing.
-pub const ACCESS: [Row; 7] = [
+const ACCESS: &[Row] = &[
     (ReqRn(H), Handle(0x00FF), Opened, Same),
     (Access(0x12CB, H), Handle(H), Opened, Same),
     (Access(0x444C, H), Nothing, Opened, Same),
@@ -206,7 +232,7 @@ pub const ACCESS: [Row; 7] = [
 ];
 
 /// The halves of an Access in the other order.
-pub const ACCESS_SWAPPED: [Row; 4] = [
+const ACCESS_SWAPPED: &[Row] = &[
     (ReqRn(H), Handle(0x00FF), Opened, Same),
     (Access(0x5687, H), Handle(H), Opened, Same),
     (ReqRn(H), Handle(0x1234), Opened, Same),
@@ -214,7 +240,7 @@ pub const ACCESS_SWAPPED: [Row; 4] = [
 ];
 
 /// The access password 0, and then a wrong second half.
-pub const ACCESS_ZERO: [Row; 8] = [
+const ACCESS_ZERO: &[Row] = &[
     (ReqRn(H), Handle(0x00FF), Secured, Same),
     (Access(0x00FF, H), Handle(H), Secured, Same),
     (ReqRn(H), Handle(0x1234), Secured, Same),
@@ -225,14 +251,14 @@ pub const ACCESS_ZERO: [Row; 8] = [
     (Access(0x7FFF, H), Nothing, Arbitrate(0), Same),
 ];
 
-pub const KILL_IN_OPEN: [Row; 4] = [
+const KILL_IN_OPEN: &[Row] = &[
     (ReqRn(H), Handle(0x00FF), Opened, Same),
     (Kill(0xAA44, H), Handle(H), Opened, Same),
     (ReqRn(H), Handle(0x1234), Opened, Same),
     (Kill(0xDEE9, H), Header, Killed, Same),
 ];
 
-pub const KILL_WRONG: [Row; 4] = [
+const KILL_WRONG: &[Row] = &[
     (ReqRn(H), Handle(0x00FF), Opened, Same),
     (Kill(0xAA44, H), Handle(H), Opened, Same),
     (ReqRn(H), Handle(0x1234), Opened, Same),
@@ -240,7 +266,7 @@ pub const KILL_WRONG: [Row; 4] = [
 ];
 
 /// The kill password 0: an error, after which the next Kill is a first half again.
-pub const KILL_ZERO: [Row; 9] = [
+const KILL_ZERO: &[Row] = &[
     (ReqRn(H), Handle(0x00FF), Secured, Same),
     (Kill(0x00FF, H), Handle(H), Secured, Same),
     (ReqRn(H), Handle(0x1234), Secured, Same),
@@ -253,7 +279,7 @@ pub const KILL_ZERO: [Row; 9] = [
 ];
 
 /// A half of one kind and then of the other, each with a cover.
-pub const KILL_THEN_ACCESS: [Row; 4] = [
+const KILL_THEN_ACCESS: &[Row] = &[
     (ReqRn(H), Handle(0x00FF), Opened, Same),
     (Kill(0xAA44, H), Handle(H), Opened, Same),
     (ReqRn(H), Handle(0x1234), Opened, Same),
@@ -261,13 +287,13 @@ pub const KILL_THEN_ACCESS: [Row; 4] = [
 ];
 
 /// ... and then of the other without a cover.
-pub const KILL_THEN_BARE_ACCESS: [Row; 3] = [
+const KILL_THEN_BARE_ACCESS: &[Row] = &[
     (ReqRn(H), Handle(0x00FF), Opened, Same),
     (Kill(0xAA44, H), Handle(H), Opened, Same),
     (Access(0x444C, H), Nothing, Arbitrate(0), Same),
 ];
 
-pub const ACCESS_THEN_KILL: [Row; 4] = [
+const ACCESS_THEN_KILL: &[Row] = &[
     (ReqRn(H), Handle(0x00FF), Opened, Same),
     (Access(0x12CB, H), Handle(H), Opened, Same),
     (ReqRn(H), Handle(0x1234), Opened, Same),
@@ -275,7 +301,7 @@ pub const ACCESS_THEN_KILL: [Row; 4] = [
 ];
 
 /// A number that isn't the handle leaves all as it is, a cover and a first half too, in open and in secured.
-pub const OTHER_HANDLES: [Row; 22] = [
+const OTHER_HANDLES: &[Row] = &[
     (ReqRn(H), Handle(0x00FF), Opened, Same),
     (Access(0x12CB, H), Handle(H), Opened, Same),
     (ReqRn(H), Handle(0x1234), Opened, Same),
@@ -307,7 +333,7 @@ pub const OTHER_HANDLES: [Row; 22] = [
 
 /// A Req_RN in ready, arbitrate, reply, acknowledged and secured, with the tag's number and, where the state holds one, with
 /// another; all draws are A1B2.
-pub const REQ_RN: [Row; 11] = [
+const REQ_RN: &[Row] = &[
     (ReqRn(RN), Nothing, Ready, Same),
     (QUERY, Rn16(RN), InReply, Same),
     (ReqRn(RN), Nothing, Arbitrate(0), Same),
@@ -322,26 +348,23 @@ pub const REQ_RN: [Row; 11] = [
 ];
 
 /// A first half of an Access in open.
-pub const FIRST_HALF: [Row; 2] = [
+const FIRST_HALF: &[Row] = &[
     (ReqRn(H), Handle(0x00FF), Opened, Same),
     (Access(0x12CB, H), Handle(H), Opened, Same),
 ];
 
-/// The cover of the second half.
-pub const SECOND_COVER: Row = (ReqRn(H), Handle(0x1234), Opened, Same);
-
-/// What comes between the halves, and ends the Access.
-pub const BETWEEN_HALVES: [Row; 3] = [
-    (Ack(H), Nothing, Arbitrate(0), Same),
-    (QueryRep(0), Nothing, Arbitrate(0), Same),
-    (SELECT, Nothing, Arbitrate(0), Same),
+/// ... and the cover of the second half.
+const HALF_AND_COVER: &[Row] = &[
+    (ReqRn(H), Handle(0x00FF), Opened, Same),
+    (Access(0x12CB, H), Handle(H), Opened, Same),
+    (ReqRn(H), Handle(0x1234), Opened, Same),
 ];
 
-/// The second half, which comes too late.
-pub const LATE_HALF: Row = (Access(0x444C, H), Nothing, Arbitrate(0), Same);
+/// The second half, which comes too late where another command came between the halves.
+const LATE_HALF: Row = (Access(0x444C, H), Nothing, Arbitrate(0), Same);
 
 /// What each other command does after a first half.
-pub const AFTER_HALF: [Row; 22] = [
+const AFTER_HALF: &[Row] = &[
     (Ack(H), Nothing, Arbitrate(0), Same),
     (Ack(RN), Nothing, Arbitrate(0), Same),
     (QueryRep(0), Nothing, Arbitrate(0), Same),
@@ -367,10 +390,63 @@ pub const AFTER_HALF: [Row; 22] = [
 ];
 
 /// A tag that loses its power hears nothing.
-pub const WITHOUT_POWER: [Row; 5] = [
+const WITHOUT_POWER: &[Row] = &[
     (Befalls(Off), Nothing, Unpowered, Same),
     (QUERY, Nothing, Unpowered, Same),
     (SELECT, Nothing, Unpowered, Same),
     (ReqRn(RN), Nothing, Unpowered, Same),
     (Read(Tid, 0, 1, RN), Nothing, Unpowered, Same),
+];
+
+/// Lists that begin in ready.
+pub const LISTS: [Table; 5] = [
+    (PLAIN, [&[], &[]], PERMALOCK),
+    (WRONG, [&[], &[]], WRONG_PASSWORDS),
+    (KILLABLE, [&[], &[]], KILL),
+    (PLAIN, [&[], &[]], REQ_RN),
+    (GUARDED, [&[], &[]], WITHOUT_POWER),
+];
+
+pub const WRITES_AND_LOCKS: [Table; 3] = [
+    (UNGUARDED, [SECURED, &[]], WRITES),
+    (EPC_GUARDED, [OPENED, &[]], OPEN),
+    (NO_USER, [SECURED, &[]], LOCKS),
+];
+
+pub const PASSWORDS: [Table; 6] = [
+    (GUARDED, [OPENED, &[]], ACCESS),
+    (GUARDED, [OPENED, &[]], ACCESS_SWAPPED),
+    (UNGUARDED, [SECURED, &[]], ACCESS_ZERO),
+    (GUARDED, [OPENED, &[]], KILL_IN_OPEN),
+    (GUARDED, [OPENED, &[]], KILL_WRONG),
+    (NO_KILL, [SECURED, &[]], KILL_ZERO),
+];
+
+pub const TWO_PASSWORDS: [Table; 4] = [
+    (GUARDED, [OPENED, &[]], KILL_THEN_ACCESS),
+    (GUARDED, [OPENED, &[]], KILL_THEN_BARE_ACCESS),
+    (GUARDED, [OPENED, &[]], ACCESS_THEN_KILL),
+    (GUARDED, [OPENED, &[]], OTHER_HANDLES),
+];
+
+/// What comes after a first half, each at a tag of its own.
+pub const AFTER_A_HALF: [Table; 1] = [(GUARDED, [OPENED, FIRST_HALF], AFTER_HALF)];
+
+/// What comes between the halves, and ends the Access.
+pub const BETWEEN_HALVES: [Table; 3] = [
+    (
+        GUARDED,
+        [OPENED, HALF_AND_COVER],
+        &[(Ack(H), Nothing, Arbitrate(0), Same), LATE_HALF],
+    ),
+    (
+        GUARDED,
+        [OPENED, HALF_AND_COVER],
+        &[(QueryRep(0), Nothing, Arbitrate(0), Same), LATE_HALF],
+    ),
+    (
+        GUARDED,
+        [OPENED, HALF_AND_COVER],
+        &[(SELECT, Nothing, Arbitrate(0), Same), LATE_HALF],
+    ),
 ];

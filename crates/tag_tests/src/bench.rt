@@ -3,9 +3,8 @@ ghost use Rattle.std.specs.Prelude.{◌≡◌, ◌≤◌};
 ghost use Rattle.reply_grammar.specs.Table.{reply_room};
 
 use crate::holds::{Given, Holds};
-use crate::rows::Row;
+use crate::rows::{Row, Table};
 use crate::says::Says;
-use crate::state_tables::FLAGGED;
 use crate::wants::Want;
 use bit_strings::{Bits, List};
 use command_grammar::Command;
@@ -136,33 +135,49 @@ impl Bench {
     }
 }
 
-/// The rows of a table one after another, at the tag that is made of this and went the way to its state.
-pub fn played(
+/// The tag that is made of what is given, and went the ways.
+fn begun(
     rt: &impl Abort,
     alloc: Global,
     given: &Given,
-    way: &[Row],
-    rows: &[Row],
-) -> Result<(), Fail> {
-    let bench = Bench::new(alloc, given)?;
-    let bench = bench.plays_all(rt, alloc, way)?;
-    let _ = bench.plays_all(rt, alloc, rows)?;
+    ways: &[&'static [Row]],
+) -> Result<Bench, Fail> {
+    let mut bench = Bench::new(alloc, given)?;
+    for way in ways {
+        bench = bench.plays_all(rt, alloc, way)?;
+    }
+    Ok(bench)
+}
+
+/// The rows of each table one after another, at one tag.
+pub fn played(rt: &impl Abort, alloc: Global, tables: &[Table]) -> Result<(), Fail> {
+    for (given, ways, rows) in tables {
+        let bench = begun(rt, alloc, given, ways)?;
+        let _ = bench.plays_all(rt, alloc, rows)?;
+    }
     Ok(())
 }
 
-/// Each row of a table at a tag of its own, which has all flags set and went the way to its state.
-pub fn each_played(
+/// Each row of each table at a tag of its own.
+pub fn each_played(rt: &impl Abort, alloc: Global, tables: &[Table]) -> Result<(), Fail> {
+    for (given, ways, rows) in tables {
+        for row in *rows {
+            let bench = begun(rt, alloc, given, ways)?;
+            let _ = bench.plays(rt, alloc, row)?;
+        }
+    }
+    Ok(())
+}
+
+/// Rows that a test makes, at the tag that is made of what is given and went the way.
+pub fn rows_played(
     rt: &impl Abort,
     alloc: Global,
     given: &Given,
     way: &[Row],
     rows: &[Row],
 ) -> Result<(), Fail> {
-    for row in rows {
-        let bench = Bench::new(alloc, given)?;
-        let bench = bench.plays_all(rt, alloc, &FLAGGED)?;
-        let bench = bench.plays_all(rt, alloc, way)?;
-        let _ = bench.plays(rt, alloc, row)?;
-    }
+    let bench = Bench::new(alloc, given)?.plays_all(rt, alloc, way)?;
+    let _ = bench.plays_all(rt, alloc, rows)?;
     Ok(())
 }

@@ -3,8 +3,7 @@
 ghost use Rattle.std.specs.Prelude.{◌≡◌, ◌<◌};
 
 use crate::bench::{after, made, memory, played};
-use crate::holds::Given;
-use crate::inventory_tables::{ROUND, SELECTED, SLOTS};
+use crate::inventory_tables::LISTS;
 use crate::rows::{GUARDED_RN, PLAIN};
 use crate::says::Says::Query;
 use bit_strings::Pointer;
@@ -17,24 +16,9 @@ use std::sync::ledger::{Blank, Ledger};
 use std::test::Fail;
 use tag_machine::{AnyTag, Arbitrate, Event, Steps, Tag};
 
-const TWO_DRAWS: Given = Given {
-    draws: &[0x0000, 0x1111],
-    ..PLAIN
-};
-
-const SLOT_DRAWS: Given = Given {
-    draws: &[
-        0x0002, 0x5555, 0x9234, 0x8001, 0x4003, 0x0006, 0xFFF8, 0x0007,
-    ],
-    ..PLAIN
-};
-
 #[test]
 fn lists_of_inventory_commands(rt: HostRuntime) -> Result<(), Fail> {
-    let alloc = rt.alloc();
-    played(&rt, alloc, &TWO_DRAWS, &[], &ROUND)?;
-    played(&rt, alloc, &SLOT_DRAWS, &[], &SLOTS)?;
-    played(&rt, alloc, &TWO_DRAWS, &[], &SELECTED)
+    played(&rt, rt.alloc(), &LISTS)
 }
 
 #[test]

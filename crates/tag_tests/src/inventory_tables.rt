@@ -1,8 +1,9 @@
 //! Lists of commands of the inventory.
 
+use crate::holds::Given;
 use crate::holds::Then::{FlagsAre, Same};
 use crate::rows::Is::{Acknowledged, Arbitrate, InReply, Ready};
-use crate::rows::Row;
+use crate::rows::{PLAIN, Row, Table};
 use crate::says::Says::{Ack, Nak, Query, QueryAdjust, QueryRep, QuerySel, Select, SelectOthers};
 use crate::wants::Want::{Nothing, PcEpc, Rn16};
 use command_grammar::FlagName::Sl;
@@ -12,7 +13,7 @@ use command_grammar::UpDn::{Down, Same as Stays, Up};
 
 /// A tag that draws 0000 and 1111 in turn, so that it replies at once with Q 0 and with Q 1. In the middle a Query of
 /// the tag's own session, and one of another, come to a tag in acknowledged.
-pub const ROUND: [Row; 40] = [
+const ROUND: &[Row] = &[
     (Query(0, A, 1), Rn16(0x1111), InReply, Same),
     (QueryRep(1), Nothing, InReply, Same),
     (QueryRep(0), Nothing, Arbitrate(32767), Same),
@@ -57,7 +58,7 @@ pub const ROUND: [Row; 40] = [
 
 /// A tag that draws 0002, 5555, 9234, 8001, 4003, 0006, FFF8 and 0007. Q is 2; then 15, where it stays at an Up, 14 and
 /// 13; then 3 and 4.
-pub const SLOTS: [Row; 13] = [
+const SLOTS: &[Row] = &[
     (Query(2, A, 2), Nothing, Arbitrate(2), Same),
     (QueryRep(1), Nothing, Arbitrate(2), Same),
     (QueryAdjust(3, Up), Nothing, Arbitrate(2), Same),
@@ -74,7 +75,7 @@ pub const SLOTS: [Row; 13] = [
 ];
 
 /// A tag that draws 0000 and 1111, and Queries that go by SL.
-pub const SELECTED: [Row; 8] = [
+const SELECTED: &[Row] = &[
     (QuerySel(OnlySl), Nothing, Ready, Same),
     (QuerySel(NotSl), Rn16(0x1111), InReply, Same),
     (Select(Sl, 0), Nothing, Ready, FlagsAre("AAAA1")),
@@ -83,4 +84,22 @@ pub const SELECTED: [Row; 8] = [
     (QuerySel(All01), Rn16(0x1111), InReply, Same),
     (SelectOthers(Sl, 4), Nothing, Ready, Same),
     (SelectOthers(Sl, 0), Nothing, Ready, FlagsAre("AAAA0")),
+];
+
+const TWO_DRAWS: Given = Given {
+    draws: &[0x0000, 0x1111],
+    ..PLAIN
+};
+
+const SLOT_DRAWS: Given = Given {
+    draws: &[
+        0x0002, 0x5555, 0x9234, 0x8001, 0x4003, 0x0006, 0xFFF8, 0x0007,
+    ],
+    ..PLAIN
+};
+
+pub const LISTS: [Table; 3] = [
+    (TWO_DRAWS, [&[], &[]], ROUND),
+    (SLOT_DRAWS, [&[], &[]], SLOTS),
+    (TWO_DRAWS, [&[], &[]], SELECTED),
 ];

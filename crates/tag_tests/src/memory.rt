@@ -29,6 +29,17 @@ fn image(alloc: Global, epc: &[u16], tid: &[u16], user: &[u16]) -> Result<BankIm
     })
 }
 
+/// A memory with two words in each bank but Reserved, behind StoredCRC.
+fn two_words_each(alloc: Global) -> Result<Memory, Fail> {
+    let image = image(
+        alloc,
+        &[0x0800, 0x1234],
+        &[0xE200, 0x0003],
+        &[0x1111, 0x2222],
+    )?;
+    Ok(Memory::new(alloc, &image)?)
+}
+
 /// The first words of those, as many as there are of so many.
 fn first(alloc: Global, words: &[u16], count: u16) -> Result<List<u16>, AllocError> {
     match words.get(..usize::from(count)) {
@@ -197,13 +208,7 @@ fn an_epc_of_no_words_ends_with_pc(rt: HostRuntime) -> Result<(), Fail> {
 #[test]
 fn writes_at_the_edges(rt: HostRuntime) -> Result<(), Fail> {
     let alloc = rt.alloc();
-    let image = image(
-        alloc,
-        &[0x0800, 0x1234],
-        &[0xE200, 0x0003],
-        &[0x1111, 0x2222],
-    )?;
-    let mut memory = Memory::new(alloc, &image)?;
+    let mut memory = two_words_each(alloc)?;
     // The EPC bank and the kill password want the secured state, the access password and TID are shut.
     let locks = Locks::from_bits(0b10_11_10_11_00).ok_or("ten bits")?;
     let table = [
@@ -237,13 +242,7 @@ fn writes_at_the_edges(rt: HostRuntime) -> Result<(), Fail> {
 #[test]
 fn blocks_are_written_whole_or_not_at_all(rt: HostRuntime) -> Result<(), Fail> {
     let alloc = rt.alloc();
-    let image = image(
-        alloc,
-        &[0x0800, 0x1234],
-        &[0xE200, 0x0003],
-        &[0x1111, 0x2222],
-    )?;
-    let mut memory = Memory::new(alloc, &image)?;
+    let mut memory = two_words_each(alloc)?;
     let open = Locks::from_bits(0).ok_or("ten bits")?;
     let mut words = BlockWords::first(0xAAAA);
     let _ = words.push(0xBBBB);

@@ -22,6 +22,9 @@ pub enum Is {
 
 pub type Row = (Says, Want, Is, Then);
 
+/// What a tag is made of, the rows that lead it to its state, and the rows of the table.
+pub type Table = (Given, [&'static [Row]; 2], &'static [Row]);
+
 /// A Query of session 0, for all tags with the flag A, with Q 0.
 pub const QUERY: Says = Says::Query(0, Side::A, 0);
 

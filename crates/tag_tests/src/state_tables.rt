@@ -4,7 +4,7 @@ use crate::holds::Then::{FlagsAre, Same};
 use crate::rows::Is::{
     Acknowledged, Arbitrate, InReply, Killed, Opened, Ready, Secured, Unpowered,
 };
-use crate::rows::{RN, Row};
+use crate::rows::{GUARDED_RN, RN, Row, Table, UNGUARDED_RN};
 use crate::says::Says::{
     Access, Ack, Befalls, Kill, Nak, Query, QueryAdjust, QueryRep, ReqRn, Select,
 };
@@ -15,7 +15,7 @@ use command_grammar::Side::{A, B};
 use command_grammar::UpDn::Up;
 
 /// All flags set: from here on a tag stands in its state with the flags BBBB1, and its round is one of session 1.
-pub const FLAGGED: [Row; 5] = [
+const FLAGGED: &[Row] = &[
     (Select(S0, 4), Nothing, Ready, FlagsAre("BAAA0")),
     (Select(S1, 4), Nothing, Ready, FlagsAre("BBAA0")),
     (Select(S2, 4), Nothing, Ready, FlagsAre("BBBA0")),
@@ -24,26 +24,26 @@ pub const FLAGGED: [Row; 5] = [
 ];
 
 /// The way to arbitrate.
-pub const TO_ARBITRATE: [Row; 1] = [(Query(1, B, 3), Nothing, Arbitrate(2), Same)];
+const TO_ARBITRATE: &[Row] = &[(Query(1, B, 3), Nothing, Arbitrate(2), Same)];
 
 /// The way to reply.
-pub const TO_REPLY: [Row; 1] = [(Query(1, B, 0), Rn16(RN), InReply, Same)];
+const TO_REPLY: &[Row] = &[(Query(1, B, 0), Rn16(RN), InReply, Same)];
 
 /// The way to acknowledged.
-pub const TO_ACKNOWLEDGED: [Row; 2] = [
+const TO_ACKNOWLEDGED: &[Row] = &[
     (Query(1, B, 0), Rn16(RN), InReply, Same),
     (Ack(RN), PcEpc, Acknowledged, Same),
 ];
 
 /// The way to open, of a tag with an access password.
-pub const TO_OPEN: [Row; 3] = [
+const TO_OPEN: &[Row] = &[
     (Query(1, B, 0), Rn16(RN), InReply, Same),
     (Ack(RN), PcEpc, Acknowledged, Same),
     (ReqRn(RN), Handle(RN), Opened, Same),
 ];
 
 /// ... and to the first half of a Kill there.
-pub const TO_OPEN_IN_KILL: [Row; 5] = [
+const TO_OPEN_IN_KILL: &[Row] = &[
     (Query(1, B, 0), Rn16(RN), InReply, Same),
     (Ack(RN), PcEpc, Acknowledged, Same),
     (ReqRn(RN), Handle(RN), Opened, Same),
@@ -52,7 +52,7 @@ pub const TO_OPEN_IN_KILL: [Row; 5] = [
 ];
 
 /// ... and of an Access.
-pub const TO_OPEN_IN_ACCESS: [Row; 5] = [
+const TO_OPEN_IN_ACCESS: &[Row] = &[
     (Query(1, B, 0), Rn16(RN), InReply, Same),
     (Ack(RN), PcEpc, Acknowledged, Same),
     (ReqRn(RN), Handle(RN), Opened, Same),
@@ -61,14 +61,14 @@ pub const TO_OPEN_IN_ACCESS: [Row; 5] = [
 ];
 
 /// The way to secured, of a tag without one.
-pub const TO_SECURED: [Row; 3] = [
+const TO_SECURED: &[Row] = &[
     (Query(1, B, 0), Rn16(RN), InReply, Same),
     (Ack(RN), PcEpc, Acknowledged, Same),
     (ReqRn(RN), Handle(RN), Secured, Same),
 ];
 
 /// ... and to the first half of a Kill there.
-pub const TO_SECURED_IN_KILL: [Row; 5] = [
+const TO_SECURED_IN_KILL: &[Row] = &[
     (Query(1, B, 0), Rn16(RN), InReply, Same),
     (Ack(RN), PcEpc, Acknowledged, Same),
     (ReqRn(RN), Handle(RN), Secured, Same),
@@ -77,7 +77,7 @@ pub const TO_SECURED_IN_KILL: [Row; 5] = [
 ];
 
 /// ... and of an Access.
-pub const TO_SECURED_IN_ACCESS: [Row; 5] = [
+const TO_SECURED_IN_ACCESS: &[Row] = &[
     (Query(1, B, 0), Rn16(RN), InReply, Same),
     (Ack(RN), PcEpc, Acknowledged, Same),
     (ReqRn(RN), Handle(RN), Secured, Same),
@@ -86,7 +86,7 @@ pub const TO_SECURED_IN_ACCESS: [Row; 5] = [
 ];
 
 /// The way to killed.
-pub const TO_KILLED: [Row; 7] = [
+const TO_KILLED: &[Row] = &[
     (Query(1, B, 0), Rn16(RN), InReply, Same),
     (Ack(RN), PcEpc, Acknowledged, Same),
     (ReqRn(RN), Handle(RN), Secured, Same),
@@ -97,10 +97,10 @@ pub const TO_KILLED: [Row; 7] = [
 ];
 
 /// The way to no power, at which the flag of S0 becomes A.
-pub const TO_UNPOWERED: [Row; 1] = [(Befalls(Off), Nothing, Unpowered, FlagsAre("ABBB1"))];
+const TO_UNPOWERED: &[Row] = &[(Befalls(Off), Nothing, Unpowered, FlagsAre("ABBB1"))];
 
 /// A tag in ready.
-pub const READY: [Row; 9] = [
+const READY: &[Row] = &[
     (Select(S2, 0), Nothing, Ready, FlagsAre("BBAB1")),
     (Befalls(Timeout), Nothing, Ready, Same),
     (Befalls(Off), Nothing, Unpowered, FlagsAre("ABBB1")),
@@ -113,7 +113,7 @@ pub const READY: [Row; 9] = [
 ];
 
 /// A tag in arbitrate, whose slot is 2.
-pub const ARBITRATE: [Row; 11] = [
+const ARBITRATE: &[Row] = &[
     (Select(S2, 0), Nothing, Ready, FlagsAre("BBAB1")),
     (Query(1, A, 0), Nothing, Ready, Same),
     (Query(0, B, 0), Rn16(RN), InReply, Same),
@@ -128,7 +128,7 @@ pub const ARBITRATE: [Row; 11] = [
 ];
 
 /// A tag in reply.
-pub const REPLY: [Row; 11] = [
+const REPLY: &[Row] = &[
     (Select(S2, 0), Nothing, Ready, FlagsAre("BBAB1")),
     (Query(1, A, 0), Nothing, Ready, Same),
     (Query(1, B, 0), Rn16(RN), InReply, Same),
@@ -143,7 +143,7 @@ pub const REPLY: [Row; 11] = [
 ];
 
 /// A tag in acknowledged.
-pub const ACKNOWLEDGED: [Row; 9] = [
+const ACKNOWLEDGED: &[Row] = &[
     (Select(S2, 0), Nothing, Ready, FlagsAre("BBAB1")),
     (Befalls(Timeout), Nothing, Arbitrate(0), Same),
     (Befalls(Off), Nothing, Unpowered, FlagsAre("ABBB1")),
@@ -156,7 +156,7 @@ pub const ACKNOWLEDGED: [Row; 9] = [
 ];
 
 /// A tag in open.
-pub const OPEN: [Row; 18] = [
+const OPEN: &[Row] = &[
     (Select(S2, 0), Nothing, Ready, FlagsAre("BBAB1")),
     (QueryRep(1), Nothing, Ready, FlagsAre("BABB1")),
     (QueryRep(0), Nothing, Opened, Same),
@@ -178,7 +178,7 @@ pub const OPEN: [Row; 18] = [
 ];
 
 /// A tag in secured.
-pub const SECURED: [Row; 18] = [
+const SECURED: &[Row] = &[
     (Select(S2, 0), Nothing, Ready, FlagsAre("BBAB1")),
     (QueryRep(1), Nothing, Ready, FlagsAre("BABB1")),
     (QueryRep(2), Nothing, Secured, Same),
@@ -200,7 +200,7 @@ pub const SECURED: [Row; 18] = [
 ];
 
 /// A tag in open with the first half of a Kill.
-pub const OPEN_IN_KILL: [Row; 4] = [
+const OPEN_IN_KILL: &[Row] = &[
     (Select(S2, 0), Nothing, Arbitrate(0), Same),
     (QueryAdjust(1, Up), Nothing, Arbitrate(0), Same),
     (Nak, Nothing, Arbitrate(0), Same),
@@ -208,27 +208,27 @@ pub const OPEN_IN_KILL: [Row; 4] = [
 ];
 
 /// ... of an Access.
-pub const OPEN_IN_ACCESS: [Row; 3] = [
+const OPEN_IN_ACCESS: &[Row] = &[
     (QueryRep(1), Nothing, Arbitrate(0), Same),
     (QueryRep(0), Nothing, Opened, Same),
     (Ack(RN), Nothing, Arbitrate(0), Same),
 ];
 
 /// A tag in secured with the first half of a Kill.
-pub const SECURED_IN_KILL: [Row; 2] = [
+const SECURED_IN_KILL: &[Row] = &[
     (QueryRep(1), Nothing, Arbitrate(0), Same),
     (Ack(RN), Nothing, Arbitrate(0), Same),
 ];
 
 /// ... of an Access.
-pub const SECURED_IN_ACCESS: [Row; 3] = [
+const SECURED_IN_ACCESS: &[Row] = &[
     (Select(S2, 0), Nothing, Arbitrate(0), Same),
     (QueryAdjust(1, Up), Nothing, Arbitrate(0), Same),
     (Query(1, B, 0), Nothing, Ready, FlagsAre("BABB1")),
 ];
 
 /// A killed tag.
-pub const KILLED: [Row; 14] = [
+const KILLED: &[Row] = &[
     (Select(S2, 0), Nothing, Killed, Same),
     (QueryRep(1), Nothing, Killed, Same),
     (QueryAdjust(1, Up), Nothing, Killed, Same),
@@ -246,7 +246,7 @@ pub const KILLED: [Row; 14] = [
 ];
 
 /// A tag without power, whose flag of S0 is A.
-pub const UNPOWERED: [Row; 14] = [
+const UNPOWERED: &[Row] = &[
     (Select(S2, 0), Nothing, Unpowered, Same),
     (QueryRep(1), Nothing, Unpowered, Same),
     (QueryAdjust(1, Up), Nothing, Unpowered, Same),
@@ -261,4 +261,36 @@ pub const UNPOWERED: [Row; 14] = [
     (Befalls(Expire(S2)), Nothing, Unpowered, FlagsAre("ABAB1")),
     (Befalls(Expire(S3)), Nothing, Unpowered, FlagsAre("ABBA1")),
     (Befalls(Expire(Sl)), Nothing, Unpowered, FlagsAre("ABBB0")),
+];
+
+/// Tags in no round.
+pub const IN_NO_ROUND: [Table; 3] = [
+    (GUARDED_RN, [FLAGGED, &[]], READY),
+    (UNGUARDED_RN, [FLAGGED, TO_KILLED], KILLED),
+    (GUARDED_RN, [FLAGGED, TO_UNPOWERED], UNPOWERED),
+];
+
+/// Tags in a round, before a handle.
+pub const IN_A_ROUND: [Table; 3] = [
+    (GUARDED_RN, [FLAGGED, TO_ARBITRATE], ARBITRATE),
+    (GUARDED_RN, [FLAGGED, TO_REPLY], REPLY),
+    (GUARDED_RN, [FLAGGED, TO_ACKNOWLEDGED], ACKNOWLEDGED),
+];
+
+/// Tags in open.
+pub const IN_OPEN: [Table; 3] = [
+    (GUARDED_RN, [FLAGGED, TO_OPEN], OPEN),
+    (GUARDED_RN, [FLAGGED, TO_OPEN_IN_KILL], OPEN_IN_KILL),
+    (GUARDED_RN, [FLAGGED, TO_OPEN_IN_ACCESS], OPEN_IN_ACCESS),
+];
+
+/// Tags in secured.
+pub const IN_SECURED: [Table; 3] = [
+    (UNGUARDED_RN, [FLAGGED, TO_SECURED], SECURED),
+    (UNGUARDED_RN, [FLAGGED, TO_SECURED_IN_KILL], SECURED_IN_KILL),
+    (
+        UNGUARDED_RN,
+        [FLAGGED, TO_SECURED_IN_ACCESS],
+        SECURED_IN_ACCESS,
+    ),
 ];
