@@ -1,5 +1,5 @@
 -- The field with which a text begins, where it spells a number.
-use Rattle.std.proofs.Common.{◌≡◌, ◌≢◌, inl, inr, ℕ, zero, suc, ◌+◌, ◌-◌, ◌*◌, ◌^◌, ◌<◌, ◌≤◌, List, [], ◌∷◌, ◌++◌, length, take, drop, get_or, arith, refl, sym, ◌∙◌, ap, subst, true, false}
+use Rattle.std.proofs.Common.{Bool, ◌≡◌, ◌≢◌, inl, inr, ℕ, zero, suc, ◌+◌, ◌-◌, ◌*◌, ◌^◌, ◌<◌, ◌≤◌, List, [], ◌∷◌, ◌++◌, length, take, drop, get_or, arith, refl, sym, ◌∙◌, ap, subst, true, false}
 use Rattle.std.specs.Char.{digit_value, is_ascii_digit}
 use Rattle.std.specs.Fmt.{decimal}
 use Rattle.std.specs.Prelude.{All}
@@ -24,6 +24,11 @@ front_item : (text : List ℕ) (end i : ℕ) → i < end → get_or (take end te
 front_item text end i below =
     let place : 0 + i ≡ i = omega arith in
     get_or-chunk 0 end text i 0 below ∙ ap (λ k. get_or text k 0) place
+
+-- a test has one answer
+pub not_both : (answer : Bool) → answer ≡ true → answer ≡ false → ⊥
+not_both true holds fails = cc
+not_both false holds fails = cc
 
 -- the test of a digit
 pub tested_digit : (byte : ℕ) → is_ascii_digit byte ≡ true → (48 ≤ byte) × (byte ≤ 57)

@@ -1,5 +1,5 @@
 //! The number with which a text begins.
-ghost use Rattle.std.specs.Prelude.{◌≡◌, ◌<◌, ◌↔◌, ℕ, [], ◌∷◌, length, take, slice_index, IfSome, IfNone, IsTrue};
+ghost use Rattle.std.specs.Prelude.{◌≡◌, ◌<◌, ◌≤◌, ◌↔◌, ℕ, [], ◌∷◌, length, take, slice_index, IfSome, IfNone, IsTrue};
 ghost use Rattle.std.specs.Option.{option_map_or};
 ghost use Rattle.text_fields.specs.Lines.{Lacks, fields_of, space};
 ghost use Rattle.pie_text.specs.FieldEnd.{IsFieldEnd};
@@ -21,6 +21,14 @@ fn has_number_form(digits: &[u8]) -> bool
     }
 }
 
+/// Whether the text is at its end at a place, or has a space there.
+fn is_field_end(text: &[u8], end: usize) -> bool
+    requires { end ≤ length text.now }
+    ensures { IsTrue result ↔ IsFieldEnd text.now end }
+{
+    end == text.len() || text[end] == SPACE
+}
+
 /// The number up to `most` that the first field of a text spells, and the place where this field ends;
 /// none exactly where it spells no such number.
 pub(crate) fn leading_number(text: &[u8], most: u32) -> Option<(u32, usize)>
@@ -30,18 +38,14 @@ pub(crate) fn leading_number(text: &[u8], most: u32) -> Option<(u32, usize)>
 {
     let mut number = 0;
     let mut end = 0;
-    while end < text.len() && text[end] != SPACE {
-        let digit = text[end];
-        if !digit.is_ascii_digit() {
-            return None;
-        }
-        number = 10 * number + (digit - b'0') as u64;
+    while end < text.len() && text[end].is_ascii_digit() {
+        number = 10 * number + (text[end] - b'0') as u64;
         if number > most as u64 {
             return None;
         }
         end += 1;
     }
-    if !has_number_form(&text[..end]) {
+    if !is_field_end(text, end) || !has_number_form(&text[..end]) {
         return None;
     }
     Some((number as u32, end))
