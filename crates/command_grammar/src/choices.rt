@@ -1,5 +1,6 @@
-//! The command codes, and the fields of a few bits whose values have names.
+//! The command codes, and the fields of a few bits whose values have names, each read and written.
 ghost use Rattle.std.specs.Prelude.{◌≡◌};
+ghost use Rattle.command_grammar.specs.Commands.{bits_of_code, bits_of_sel, bits_of_side, bits_of_updn, bits_of_target, bits_of_mask_bank, bits_of_bank};
 ghost use Rattle.command_grammar.specs.Reading.{lines, chosen_of, sides, changes, targets, masked_banks, all_banks, pick, child};
 ghost use Rattle.command_grammar.specs.Framing.{IsChosen, IsCodeStep};
 
@@ -102,6 +103,16 @@ pub(crate) fn side(bit: bool) -> Side
     if bit { Side::B } else { Side::A }
 }
 
+/// The bits of Target of a Query.
+pub(crate) fn side_bits(side: Side) -> [bool; 1]
+    ensures { result ≡ bits_of_side side }
+{
+    match side {
+        Side::A => [false],
+        Side::B => [true],
+    }
+}
+
 /// M of a Query.
 pub(crate) fn line_code(first: bool, second: bool) -> Code
     ensures { child (child lines first) second ≡ pick result }
@@ -111,6 +122,18 @@ pub(crate) fn line_code(first: bool, second: bool) -> Code
         (false, true) => Code::M2,
         (true, false) => Code::M4,
         (true, true) => Code::M8,
+    }
+}
+
+/// The bits of M.
+pub(crate) fn code_bits(code: Code) -> [bool; 2]
+    ensures { result ≡ bits_of_code code }
+{
+    match code {
+        Code::Fm0 => [false, false],
+        Code::M2 => [false, true],
+        Code::M4 => [true, false],
+        Code::M8 => [true, true],
     }
 }
 
@@ -126,6 +149,18 @@ pub(crate) fn sel(first: bool, second: bool) -> Sel
     }
 }
 
+/// The bits of Sel.
+pub(crate) fn sel_bits(sel: Sel) -> [bool; 2]
+    ensures { result ≡ bits_of_sel sel }
+{
+    match sel {
+        Sel::All00 => [false, false],
+        Sel::All01 => [false, true],
+        Sel::NotSl => [true, false],
+        Sel::Sl => [true, true],
+    }
+}
+
 /// MemBank of a Read, Write, BlockWrite or BlockErase.
 pub(crate) fn bank(first: bool, second: bool) -> Bank
     ensures { child (child all_banks first) second ≡ pick result }
@@ -135,6 +170,18 @@ pub(crate) fn bank(first: bool, second: bool) -> Bank
         (false, true) => Bank::Epc,
         (true, false) => Bank::Tid,
         (true, true) => Bank::User,
+    }
+}
+
+/// The bits of MemBank.
+pub(crate) fn bank_bits(bank: Bank) -> [bool; 2]
+    ensures { result ≡ bits_of_bank bank }
+{
+    match bank {
+        Bank::Reserved => [false, false],
+        Bank::Epc => [false, true],
+        Bank::Tid => [true, false],
+        Bank::User => [true, true],
     }
 }
 
@@ -150,6 +197,17 @@ pub(crate) fn mask_bank(first: bool, second: bool) -> Option<MaskBank>
     }
 }
 
+/// The bits of MemBank of a Select.
+pub(crate) fn mask_bank_bits(bank: MaskBank) -> [bool; 2]
+    ensures { result ≡ bits_of_mask_bank bank }
+{
+    match bank {
+        MaskBank::Epc => [false, true],
+        MaskBank::Tid => [true, false],
+        MaskBank::User => [true, true],
+    }
+}
+
 /// UpDn of a QueryAdjust.
 pub(crate) fn updn(first: bool, second: bool, third: bool) -> Option<UpDn>
     ensures { IsChosen result (child (child (child changes first) second) third) }
@@ -159,6 +217,17 @@ pub(crate) fn updn(first: bool, second: bool, third: bool) -> Option<UpDn>
         (false, false, false) => Some(UpDn::Same),
         (false, true, true) => Some(UpDn::Down),
         _ => None,
+    }
+}
+
+/// The bits of UpDn.
+pub(crate) fn updn_bits(updn: UpDn) -> [bool; 3]
+    ensures { result ≡ bits_of_updn updn }
+{
+    match updn {
+        UpDn::Up => [true, true, false],
+        UpDn::Same => [false, false, false],
+        UpDn::Down => [false, true, true],
     }
 }
 
@@ -173,5 +242,18 @@ pub(crate) fn target(first: bool, second: bool, third: bool) -> Option<FlagName>
         (false, true, true) => Some(FlagName::S3),
         (true, false, false) => Some(FlagName::Sl),
         _ => None,
+    }
+}
+
+/// The bits of Target of a Select.
+pub(crate) fn target_bits(target: FlagName) -> [bool; 3]
+    ensures { result ≡ bits_of_target target }
+{
+    match target {
+        FlagName::S0 => [false, false, false],
+        FlagName::S1 => [false, false, true],
+        FlagName::S2 => [false, true, false],
+        FlagName::S3 => [false, true, true],
+        FlagName::Sl => [true, false, false],
     }
 }

@@ -5,9 +5,12 @@ ghost use Rattle.bit_strings.specs.Numbers.{field_of};
 ghost use Rattle.bit_strings.specs.Ebv.{ebv_of};
 ghost use Rattle.bit_strings.specs.Words.{bits_of_words};
 ghost use Rattle.gen2_crc.specs.Crc.{crc5_of, crc16_of};
-ghost use Rattle.command_grammar.specs.Commands.{IsLegalCommand, IsWord, spelling_of, bits_of_code, bits_of_sel, bits_of_side, bits_of_updn, bits_of_target, bits_of_mask_bank, bits_of_bank, command_room};
+ghost use Rattle.command_grammar.specs.Commands.{IsLegalCommand, IsWord, spelling_of, command_room};
 ghost use Rattle.command_grammar.specs.declared.commands.Command.TheVariants.{QueryRep, Ack, Query, QueryAdjust, Select, Nak, ReqRn, Read, Write, Kill, Lock, Access, BlockWrite, BlockErase};
 
+use crate::choices::{
+    bank_bits, code_bits, mask_bank_bits, sel_bits, side_bits, target_bits, updn_bits,
+};
 use crate::command_lists::{BlockWords, Mask};
 use crate::commands::Command;
 use crate::field_values::{Bank, FlagName, MaskBank, Sel, Side, UpDn};
@@ -150,80 +153,6 @@ fn put_crc16(out: &mut Bits)
 {
     let check = crc16_of_bits(out.as_slice());
     put(out, u32::from(check), 16);
-}
-
-fn code_bits(code: Code) -> [bool; 2]
-    ensures { result ≡ bits_of_code code }
-{
-    match code {
-        Code::Fm0 => [false, false],
-        Code::M2 => [false, true],
-        Code::M4 => [true, false],
-        Code::M8 => [true, true],
-    }
-}
-
-fn sel_bits(sel: Sel) -> [bool; 2]
-    ensures { result ≡ bits_of_sel sel }
-{
-    match sel {
-        Sel::All00 => [false, false],
-        Sel::All01 => [false, true],
-        Sel::NotSl => [true, false],
-        Sel::Sl => [true, true],
-    }
-}
-
-fn side_bits(side: Side) -> [bool; 1]
-    ensures { result ≡ bits_of_side side }
-{
-    match side {
-        Side::A => [false],
-        Side::B => [true],
-    }
-}
-
-fn updn_bits(updn: UpDn) -> [bool; 3]
-    ensures { result ≡ bits_of_updn updn }
-{
-    match updn {
-        UpDn::Up => [true, true, false],
-        UpDn::Same => [false, false, false],
-        UpDn::Down => [false, true, true],
-    }
-}
-
-fn target_bits(target: FlagName) -> [bool; 3]
-    ensures { result ≡ bits_of_target target }
-{
-    match target {
-        FlagName::S0 => [false, false, false],
-        FlagName::S1 => [false, false, true],
-        FlagName::S2 => [false, true, false],
-        FlagName::S3 => [false, true, true],
-        FlagName::Sl => [true, false, false],
-    }
-}
-
-fn mask_bank_bits(bank: MaskBank) -> [bool; 2]
-    ensures { result ≡ bits_of_mask_bank bank }
-{
-    match bank {
-        MaskBank::Epc => [false, true],
-        MaskBank::Tid => [true, false],
-        MaskBank::User => [true, true],
-    }
-}
-
-fn bank_bits(bank: Bank) -> [bool; 2]
-    ensures { result ≡ bits_of_bank bank }
-{
-    match bank {
-        Bank::Reserved => [false, false],
-        Bank::Epc => [false, true],
-        Bank::Tid => [true, false],
-        Bank::User => [true, true],
-    }
 }
 
 /// Adds a QueryRep.
