@@ -96,7 +96,7 @@ fn put(out: &mut Bits, value: u32, width: u32)
     ensures count { length out.new.items ≡ length out.old.items + width }
     ensures capacity { out.new.capacity ≡ out.old.capacity }
 {
-    let _ = out.put_field(value, width);
+    out.put_field_reserved(value, width);
 }
 
 /// Adds these bits.
@@ -107,7 +107,7 @@ fn put_bits(out: &mut Bits, bits: &[bool])
     ensures capacity { out.new.capacity ≡ out.old.capacity }
 {
     for bit in bits {
-        let _ = out.push(*bit);
+        out.push_reserved(*bit);
     }
 }
 
@@ -132,7 +132,7 @@ fn put_pointer(out: &mut Bits, pointer: Pointer)
     ensures capacity { out.new.capacity ≡ out.old.capacity }
     ensures range { pointer < 2 ^ 28 }
 {
-    let _ = out.put_ebv(pointer.get());
+    out.put_ebv_reserved(pointer.get());
 }
 
 /// Adds the CRC-5 of the bits before.

@@ -6,4 +6,4 @@ use Rattle.command_grammar.proofs.spelling.put.Goals as goal
 
 pub returns-clause-count : goal.returns-clause-count
 returns-clause-count c =
-    omega (arith, ap (λ (bits : BitString). length bits.items) (c.put_field.ensures.room c.requires.room), length-append c.args.out.now.items (field_of c.args.value c.args.width), length-field_of c.args.value c.args.width)
+    omega (arith, ap (λ (bits : BitString). length bits.items) c.put_field_reserved.ensures, length-append c.args.out.now.items (field_of c.args.value c.args.width), length-field_of c.args.value c.args.width)
