@@ -19,6 +19,7 @@ pub(crate) struct Receiver {
 
 impl Receiver {
     /// A receiver that was given no interval.
+    #[tactic(auto, unfolding(crate::specs::Taken::HasTaken))]
     pub(crate) fn new() -> Receiver
         ensures taken { HasTaken result.edges result.framer [] }
         ensures count { result.edges.count ≡ 0 }
@@ -30,6 +31,7 @@ impl Receiver {
     }
 
     /// Takes one more interval, in nanoseconds.
+    #[tactic(auto, unfolding(crate::specs::Taken::HasTaken))]
     pub(crate) fn take(&mut self, interval: u32)
         requires interval { interval ≤ longest_interval }
         requires count { self.old.edges.count < most_counted }
@@ -43,6 +45,7 @@ impl Receiver {
     }
 
     /// The command of the frame that the receiver was given.
+    #[tactic(auto, unfolding(crate::specs::Taken::HasTaken))]
     pub(crate) fn command(self) -> Command
         requires { (intervals : List ℕ) × (kind : FrameKind) × (bits : List Bool) × (command : Command) × HasTaken self.edges self.framer intervals
             × IsFrame kind bits intervals × SpellsCommand command bits }

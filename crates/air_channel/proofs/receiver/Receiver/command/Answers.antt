@@ -1,9 +1,11 @@
 use Rattle.std.proofs.Common.{◌≡◌, Ok, subst, sym}
 use Rattle.command_grammar.specs.Framing.{FramerStandsFor}
+use Rattle.air_channel.specs.Taken.{HasTaken}
 use Rattle.air_channel.proofs.Taking.{frame_not_refused}
 use Rattle.air_channel.proofs.receiver.Receiver.command.Goals as goal
 
 pub unreachable-requires : goal.unreachable-requires
+unfolding HasTaken
 unreachable-requires c =
     let intervals = c.requires.0 in
     let taken = c.requires.4 in
@@ -11,6 +13,7 @@ unreachable-requires c =
     (c.in_default.ensures.answer taken.bits intervals taken.read)
 
 pub unreachable-requires-in-Err : goal.unreachable-requires-in-Err
+unfolding HasTaken
 unreachable-requires-in-Err c =
     let intervals = c.requires.0 in
     let bits = c.requires.2 in
@@ -22,6 +25,7 @@ unreachable-requires-in-Err c =
     cc
 
 pub returns : goal.returns
+unfolding HasTaken
 returns c = λ intervals kind bits command taken frame spells.
     let same : bits ≡ taken.bits =
     (c.one_answer.ensures.frame kind c.in-Ok.field-0 bits taken.bits intervals frame (c.in-Ok.ensures.answer taken.bits intervals taken.read)).1 in
