@@ -6,6 +6,7 @@ use command_grammar::{Bank, BlockWords, MaskBank};
 use lock_rules::{ErrorCode, Level, Locks};
 use reply_grammar::ReadWords;
 use std::alloc::{AllocError, Global};
+use std::process::Abort;
 use std::test::Fail;
 use tag_memory::{BankImage, ImageRefusal, Memory};
 
@@ -129,80 +130,80 @@ fn holds(words: &ReadWords, want: &[u16]) -> bool {
     true
 }
 
+/// A bank, the pointer, the count and the level of a Read, and the words that come or the refusal.
+type Read = (Bank, u32, u8, Level, Result<&'static [u16], ErrorCode>);
+
+const O: Level = Level::Opened;
+
+const S: Level = Level::Secured;
+
+/// Reads of the banks 0800 1234 5678 9ABC behind StoredCRC, E200 0003, and 1111 2222. The kill password wants the secured state,
+/// the access password is never readable.
+const READS: [Read; 15] = [
+    (Bank::Epc, 1, 0, O, Ok(&[0x0800, 0x1234])),
+    (Bank::Epc, 2, 0, O, Ok(&[0x1234])),
+    (Bank::Epc, 3, 0, O, Ok(&[0x5678, 0x9ABC])),
+    (Bank::Epc, 1, 4, O, Ok(&[0x0800, 0x1234, 0x5678, 0x9ABC])),
+    (Bank::Tid, 0, 0, O, Ok(&[0xE200, 0x0003])),
+    (Bank::User, 1, 0, O, Ok(&[0x2222])),
+    (Bank::Reserved, 0, 2, S, Ok(&[0xAABB, 0xCCDD])),
+    (Bank::Epc, 5, 0, O, Err(ErrorCode::Overrun)),
+    (Bank::Epc, 4, 2, O, Err(ErrorCode::Overrun)),
+    (Bank::User, 2, 0, O, Err(ErrorCode::Overrun)),
+    (Bank::User, 268_435_455, 255, O, Err(ErrorCode::Overrun)),
+    (Bank::Reserved, 0, 2, O, Err(ErrorCode::Locked)),
+    (Bank::Reserved, 1, 2, S, Err(ErrorCode::Locked)),
+    (Bank::Reserved, 3, 2, S, Err(ErrorCode::Overrun)),
+    (Bank::Reserved, 4, 0, S, Err(ErrorCode::Overrun)),
+];
+
+/// Reads of the bank 0000 5678 behind StoredCRC, whose EPC has no word.
+const READS_OF_NO_EPC: [Read; 2] = [
+    (Bank::Epc, 1, 0, O, Ok(&[0x0000])),
+    (Bank::Epc, 2, 0, O, Ok(&[0x5678])),
+];
+
+fn check_reads(
+    rt: &impl Abort,
+    memory: &Memory,
+    locks: &Locks,
+    reads: &[Read],
+) -> Result<(), Fail> {
+    let mut out = ReadWords::new();
+    for (bank, place, count, level, want) in reads {
+        let _ = out.push(0x1111);
+        let got = memory.read(*bank, pointer(*place)?, *count, *level, locks, &mut out);
+        let (came, words) = match want {
+            Ok(words) => (Ok(()), *words),
+            Err(code) => (Err(*code), [].as_slice()),
+        };
+        assert!(rt;
+            got == came && holds(&out, words),
+            "{bank:?} {place} {count}"
+        );
+    }
+    Ok(())
+}
+
 #[test]
 fn reads_at_the_edges(rt: HostRuntime) -> Result<(), Fail> {
     let alloc = rt.alloc();
+    let locks = Locks::from_bits(0b10_11_00_00_00).ok_or("ten bits")?;
     let image = image(
         alloc,
         &[0x0800, 0x1234, 0x5678, 0x9ABC],
         &[0xE200, 0x0003],
         &[0x1111, 0x2222],
     )?;
-    let memory = Memory::new(alloc, &image)?;
-    // The kill password wants the secured state, the access password is never readable.
-    let locks = Locks::from_bits(0b10_11_00_00_00).ok_or("ten bits")?;
-    // A bank, the pointer, the count, the level, and the words that come.
-    let words: [(Bank, u32, u8, Level, &[u16]); 7] = [
-        (Bank::Epc, 1, 0, Level::Opened, &[0x0800, 0x1234]),
-        (Bank::Epc, 2, 0, Level::Opened, &[0x1234]),
-        (Bank::Epc, 3, 0, Level::Opened, &[0x5678, 0x9ABC]),
-        (
-            Bank::Epc,
-            1,
-            4,
-            Level::Opened,
-            &[0x0800, 0x1234, 0x5678, 0x9ABC],
-        ),
-        (Bank::Tid, 0, 0, Level::Opened, &[0xE200, 0x0003]),
-        (Bank::User, 1, 0, Level::Opened, &[0x2222]),
-        (Bank::Reserved, 0, 2, Level::Secured, &[0xAABB, 0xCCDD]),
-    ];
-    // The same with the refusal.
-    let refusals = [
-        (Bank::Epc, 5u32, 0u8, Level::Opened, ErrorCode::Overrun),
-        (Bank::Epc, 4, 2, Level::Opened, ErrorCode::Overrun),
-        (Bank::User, 2, 0, Level::Opened, ErrorCode::Overrun),
-        (
-            Bank::User,
-            268_435_455,
-            255,
-            Level::Opened,
-            ErrorCode::Overrun,
-        ),
-        (Bank::Reserved, 0, 2, Level::Opened, ErrorCode::Locked),
-        (Bank::Reserved, 1, 2, Level::Secured, ErrorCode::Locked),
-        (Bank::Reserved, 3, 2, Level::Secured, ErrorCode::Overrun),
-        (Bank::Reserved, 4, 0, Level::Secured, ErrorCode::Overrun),
-    ];
-    let mut out = ReadWords::new();
-    for (bank, place, count, level, want) in words {
-        let got = memory.read(bank, pointer(place)?, count, level, &locks, &mut out);
-        assert!(rt; got.is_ok(), "{bank:?} {place} {count}");
-        assert!(rt; holds(&out, want), "{bank:?} {place} {count}");
-    }
-    for (bank, place, count, level, want) in refusals {
-        let _ = out.push(0x1111);
-        let got = memory.read(bank, pointer(place)?, count, level, &locks, &mut out);
-        assert!(rt; got == Err(want), "{bank:?} {place} {count}");
-        assert_eq!(rt; out.len(), 0, "{bank:?} {place} {count}");
-    }
-    Ok(())
+    check_reads(&rt, &Memory::new(alloc, &image)?, &locks, &READS)
 }
 
 #[test]
 fn an_epc_of_no_words_ends_with_pc(rt: HostRuntime) -> Result<(), Fail> {
     let alloc = rt.alloc();
-    let image = image(alloc, &[0x0000, 0x5678], &[0xE200, 0x0003], &[])?;
-    let memory = Memory::new(alloc, &image)?;
     let open = Locks::from_bits(0).ok_or("ten bits")?;
-    let mut out = ReadWords::new();
-    let got = memory.read(Bank::Epc, pointer(1)?, 0, Level::Opened, &open, &mut out);
-    assert!(rt; got.is_ok());
-    assert!(rt; holds(&out, &[0x0000]));
-    let got = memory.read(Bank::Epc, pointer(2)?, 0, Level::Opened, &open, &mut out);
-    assert!(rt; got.is_ok());
-    assert!(rt; holds(&out, &[0x5678]));
-    Ok(())
+    let image = image(alloc, &[0x0000, 0x5678], &[0xE200, 0x0003], &[])?;
+    check_reads(&rt, &Memory::new(alloc, &image)?, &open, &READS_OF_NO_EPC)
 }
 
 #[test]
