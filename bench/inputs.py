@@ -1,11 +1,11 @@
 #!/usr/bin/env python3
-"""Writes an input of one kind: inputs.py KIND SIZE > FILE. It has at most SIZE bytes; of the kind `run`, SIZE rounds; of the
+"""Writes an input of one kind: inputs.py KIND SIZE > FILE. It has at most SIZE bytes; of the kinds `run` and `slots`, SIZE rounds; of the
 kind `operations`, SIZE operations.
 
 Of decode lines each line is as long as a line may be (or a whole reply), and each stream, reply and sample group is a
 good one, so that the decoder goes over all of it. `scenario` is a scenario without steps, with as many tags of full banks as
 fit, and `long` one whose first tag line is as long as fits, so that its last field is refused. `run` is a scenario that is
-played: 256 tags, and rounds in each of which every tag is listed. `operations` is one such round with operations on each tag.
+played: 256 tags, and rounds in each of which every tag is listed; `slots` the same with Q 15. `operations` is one such round with operations on each tag.
 `names` is list lines, each of an SGTIN-96.
 """
 
@@ -127,14 +127,25 @@ def long(size, rng):
     return HEAD + front + words(1024, rng) * (digits // 4096) + "\n" + END
 
 
-def run(rounds, rng):
-    """256 tags with one User word and 64 draw words each. Rounds ask for A and B in turn, so that each tag takes part in each."""
-    text = [HEAD]
+def population(rng):
+    """256 tags with one User word and 64 draw words each."""
+    lines = []
     for number in range(256):
         epc = f"30003074257BF7194E400000{number:04X}"
-        text.append(f"tag 00000000 00000000 0000000000 {epc} E200{number:04X} {words(1, rng)} {words(64, rng)}\n")
-    text += [f"round all 0 {'ab'[number % 2]} 8 300 1024\n" for number in range(rounds)]
-    return "".join(text) + END
+        lines.append(f"tag 00000000 00000000 0000000000 {epc} E200{number:04X} {words(1, rng)} {words(64, rng)}\n")
+    return "".join(lines)
+
+
+def run(rounds, rng):
+    """Rounds with Q 8 that ask for A and B in turn, so that each tag takes part in each."""
+    text = [f"round all 0 {'ab'[number % 2]} 8 300 1024\n" for number in range(rounds)]
+    return HEAD + population(rng) + "".join(text) + END
+
+
+def slots(rounds, rng):
+    """Rounds with Q 15, in whose frames of 32,768 slots the tags wait long."""
+    text = [f"round all 0 {'ab'[number % 2]} 15 300 70000\n" for number in range(rounds)]
+    return HEAD + population(rng) + "".join(text) + END
 
 
 # How many bits and digits the company of an SGTIN-96 has, by the partition.
@@ -193,7 +204,7 @@ def operations(count, rng):
 def main():
     kind, size = sys.argv[1], int(sys.argv[2])
     rng = random.Random(7)
-    whole = {"scenario": scenario, "long": long, "run": run, "operations": operations, "names": names}
+    whole = {"scenario": scenario, "long": long, "run": run, "slots": slots, "operations": operations, "names": names}
     if kind in whole:
         sys.stdout.write(whole[kind](size, rng))
         return
