@@ -80,7 +80,10 @@ fn spelled<R: Abort>(rt: &R, out: &mut Bits, command: Command, digits: &str) {
     }
     let (framer, last) = fed(digits);
     assert_eq!(rt; last, Pushed::Whole, "{digits}");
-    assert!(rt; decode_command(out.as_slice()) == framer.finish(), "{digits}");
+    assert!(rt;
+        decode_command(out.as_slice()) == framer.finish(),
+        "{digits}"
+    );
     let (framer, _) = fed(digits);
     assert!(rt; framer.finish() == Ok(command), "{digits}");
 }
