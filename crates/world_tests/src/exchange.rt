@@ -9,6 +9,7 @@ use bit_strings::{Bits, QValue, Session};
 use command_grammar::{Command, Sel, Side};
 use scenario::{Entry, EntryCursor, Scenario, empty_entry};
 use std::alloc::Global;
+use std::fmt::Write;
 use std::marker::Brand;
 use std::process::Abort;
 use std::sync::ledger::{Blank, Ledger};
@@ -62,14 +63,14 @@ const TWO_TAGS: [Row; 11] = [
     ("air 1 off 1\nair 1 miss 0\n", 0, b""),
 ];
 
-/// The Query of session S0 with this Q.
-fn query(q: u8) -> Result<Command, Fail> {
+/// The Query of a session with this Q.
+fn query(session: u8, q: u8) -> Result<Command, Fail> {
     Ok(Command::Query {
         dr: true,
         code: Code::Fm0,
         trext: false,
         sel: Sel::All00,
-        session: Session::new(0).ok_or("a session")?,
+        session: Session::new(session).ok_or("a session")?,
         target: Side::A,
         q: QValue::new(q).ok_or("a Q")?,
     })
@@ -119,7 +120,7 @@ fn send_query(
     let mut entries = EntryCursor::new(scenario.entries.as_slice(), &empty);
     let entry = entries.next_entry(1);
     assert!(rt; names_tags(entry, air.len()));
-    Ok(exchange(air, &query(0)?, entry))
+    Ok(exchange(air, &query(0, 0)?, entry))
 }
 
 /// The exchange of a row, with tags that reply at once.
@@ -190,7 +191,7 @@ fn frames_are_sent(rt: HostRuntime) -> Result<(), Fail> {
     let entry = empty_entry(rt.alloc());
     assert!(rt; air.intervals().is_empty());
     assert!(rt; names_tags(&entry, air.len()));
-    exchange(&mut air, &query(1)?, &entry);
+    exchange(&mut air, &query(0, 1)?, &entry);
     assert_eq!(rt; air.intervals().as_slice(), FRAMES[0]);
     assert_eq!(rt; air.exchanges(), 1);
     assert!(rt; names_tags(&entry, air.len()));
@@ -198,5 +199,42 @@ fn frames_are_sent(rt: HostRuntime) -> Result<(), Fail> {
     exchange(&mut air, &Command::QueryRep { session }, &entry);
     assert_eq!(rt; air.intervals().as_slice(), FRAMES[1]);
     assert_eq!(rt; air.exchanges(), 2);
+    Ok(())
+}
+
+/// Adds a tag whose first draw word is its number, so that it chooses the slot of its number.
+fn push_waiting_tag(text: &mut String, k: u16) -> Result<(), Fail> {
+    let (epc, user) = (0x1A85 + u32::from(k), 0x0100 + u32::from(k));
+    let (second, third) = (0x1000 + u32::from(k), 0x2000 + u32::from(k));
+    writeln!(
+        text,
+        "tag 00000000 00000000 0000000000 30003074257BF7194E400000{epc:04X} E200{k:04X} {user:04X}0000 {k:04X}{second:04X}{third:04X}"
+    )?;
+    Ok(())
+}
+
+/// How many tags reply to the Query of S2 with Q 6 and then to one QueryRep after another, of which tag 5 misses the
+/// second: its slot comes one later.
+const SLOT_REPLIES: [u32; 9] = [1, 1, 1, 1, 1, 0, 2, 1, 1];
+
+#[test]
+fn tags_wait_for_their_slots(rt: HostRuntime) -> Result<(), Fail> {
+    let mut tags = String::new(rt.alloc());
+    for k in 0..48 {
+        push_waiting_tag(&mut tags, k)?;
+    }
+    let scenario = scenario_of(rt.alloc(), &[tags.as_str(), "air 3 miss 5\n"])?;
+    let mut air = set_up(rt.alloc(), &scenario)?;
+    let empty = empty_entry(rt.alloc());
+    let mut entries = EntryCursor::new(scenario.entries.as_slice(), &empty);
+    let session = Session::new(2).ok_or("a session")?;
+    let mut command = query(2, 6)?;
+    for at in 0..SLOT_REPLIES.len() {
+        let entry = entries.next_entry(at as u64 + 1);
+        assert!(rt; names_tags(entry, air.len()));
+        exchange(&mut air, &command, entry);
+        assert_eq!(rt; air.replies(), SLOT_REPLIES[at], "{at}");
+        command = Command::QueryRep { session };
+    }
     Ok(())
 }
