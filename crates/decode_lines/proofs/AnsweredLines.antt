@@ -4,8 +4,7 @@ use Rattle.std.specs.List.{AllZip, flat_map}
 use Rattle.std.proofs.lemmas.List.{append-nil}
 use Rattle.std.proofs.lemmas.Grind.{flat_map-append}
 use Rattle.text_fields.specs.Lines.{lines_of, line_feed}
-use Rattle.decode_lines.specs.Request.{AsksForRequest}
-use Rattle.decode_lines.specs.Answer.{Answer, IsLineAnswer, AddsAnswer, answer_line}
+use Rattle.decode_lines.specs.Answer.{Answer, IsLineAnswer, AnswersLine, answer_line}
 use Rattle.decode_lines.specs.DecodeLines.{Decodes}
 use Rattle.decode_lines.specs.declared.request.Request.{Request}
 use Rattle.decode_lines.proofs.CheckedLines.{AsksTo, asks_none, asks_more, asks_all, zip_push}
@@ -28,16 +27,19 @@ lines_push answers answer =
     flat_map-append answer_line answers (answer ∷ []) ∙ ap (λ (line : List ℕ). flat_map answer_line answers ++ line) (append-nil (answer_line answer))
 
 -- one more answer
-pub answers_more : (input rest line behind old new : List ℕ) (number : ℕ) (request : Request) → AnswersTo input rest old number → lines_of rest ≡ line ∷ lines_of behind
-    → rest ≡ line ++ line_feed ∷ behind → AsksForRequest line request → AddsAnswer request old new → AnswersTo input behind new (number + 1)
-answers_more input rest line behind old new number request so_far lines split asks adds = record {
-  asked = so_far.asked ++ request ∷ [];
-  answers = so_far.answers ++ adds.answer ∷ [];
-  so_far = asks_more input rest line behind so_far.asked request so_far.so_far lines split asks;
-  each = zip_push IsLineAnswer so_far.asked so_far.answers request adds.answer so_far.each adds.right;
-  lines = adds.line ∙ ap (λ text. text ++ answer_line adds.answer) so_far.lines ∙ sym (lines_push so_far.answers adds.answer);
-  count = omega (arith, so_far.count, length-append so_far.asked (request ∷ []));
-}
+pub answers_more : (input rest line behind old new : List ℕ) (number : ℕ) → AnswersTo input rest old number → lines_of rest ≡ line ∷ lines_of behind
+    → rest ≡ line ++ line_feed ∷ behind → AnswersLine line old new → AnswersTo input behind new (number + 1)
+answers_more input rest line behind old new number so_far lines split answered =
+    let request = answered.request in
+    let adds = answered.adds in
+    record {
+      asked = so_far.asked ++ request ∷ [];
+      answers = so_far.answers ++ adds.answer ∷ [];
+      so_far = asks_more input rest line behind so_far.asked request so_far.so_far lines split answered.asks;
+      each = zip_push IsLineAnswer so_far.asked so_far.answers request adds.answer so_far.each adds.right;
+      lines = adds.line ∙ ap (λ text. text ++ answer_line adds.answer) so_far.lines ∙ sym (lines_push so_far.answers adds.answer);
+      count = omega (arith, so_far.count, length-append so_far.asked (request ∷ []));
+    }
 
 -- all is answered
 pub answers_all : (input rest text : List ℕ) (number : ℕ) → AnswersTo input rest text number → lines_of rest ≡ rest ∷ [] → rest ≡ [] → Decodes input text

@@ -1,15 +1,20 @@
 //! The answer to a decode line.
-ghost use Rattle.std.specs.Prelude.{◌≡◌, ◌≤◌, ◌++◌, length, IfOk, IfErr, OnOk};
+ghost use Rattle.std.specs.Prelude.{◌≡◌, ◌≢◌, ◌≤◌, ◌++◌, length, IfOk, IfErr, OnOk};
 ghost use Rattle.std.specs.String.{string_bytes};
-ghost use Rattle.decode_lines.specs.Answer.{AddsAnswer, answer_line, streamed, sliced, replied, heard, framed, commanded, named, worded, with_left};
-ghost use Rattle.decode_lines.specs.Request.{IsWithinLimits, most_levels};
+ghost use Rattle.decode_lines.specs.Answer.{AddsAnswer, AnswersFields, AnswersLine, answer_line, streamed, sliced, replied, heard, framed, commanded, named, worded, with_left};
+ghost use Rattle.text_fields.specs.Lines.{fields_of};
+ghost use Rattle.decode_lines.specs.Request.{AreFaulty, IsFaultyRequest, IsWithinLimits, most_levels, request_kind};
+ghost use Rattle.decode_lines.specs.declared.request.RequestKind.{RequestKind};
 ghost use Rattle.epc_sgtin.specs.SgtinValue.{SgtinValue};
 ghost use Rattle.epc_sgtin.specs.Epc.{IsSgtin};
 ghost use Rattle.epc_sgtin.specs.Uri.{IsUriOf};
 ghost use Rattle.epc_sgtin.specs.UriFaults.{RefusesUri};
 
+use crate::fault::FaultReason;
 use crate::raw_field::RawField;
-use crate::request::{MOST_INTERVALS, MOST_LEVELS, MOST_SAMPLES, Request};
+use crate::request::{
+    MOST_INTERVALS, MOST_LEVELS, MOST_NANOSECONDS, MOST_SAMPLES, Request, pie_fields, request_of,
+};
 use air_channel::receive;
 use bit_strings::{Bits, Code, Levels, OutOfMemory};
 use command_grammar::{Command, CommandRefusal, decode_command};
@@ -17,13 +22,13 @@ use command_text::{push_command, push_command_refusal};
 use epc_sgtin::{EpcFault, Sgtin, UriFault};
 use line_codes::{LineRefusal, decode_levels};
 use pie_line::{FrameKind, Intervals, PieRefusal, decode_frame};
-use pie_text::{Numbers, push_frame, push_pie_refusal};
+use pie_text::{NotNumbers, push_frame, push_pie_refusal, read_numbers};
 use reply_grammar::{Expect, Received, Reply, ReplyRefusal, decode_reply};
 use reply_text::{push_reply, push_reply_refusal};
 use sample_slicer::{SliceRefusal, slice_levels};
 use sgtin_text::{push_epc_fault, push_name, push_sgtin_words, push_uri_fault};
 use std::alloc::Global;
-use text_fields::{Digits, HexBytes, Words, push_bits, push_number};
+use text_fields::{Digits, Fields, HexBytes, Words, push_bits, push_number};
 
 /// Room for the levels, bits, intervals and samples of the longest line, taken once for all lines.
 #[derive(Drop)]
@@ -54,9 +59,31 @@ impl Workspace {
         })
     }
 
+    /// Adds the answer to a line at the end of the text, as a line, or gives the first reason for which
+    /// the line asks for nothing. The line is given without its line feed.
+    pub fn answer_line(
+        &mut self,
+        line: &[u8],
+        text: &mut String,
+    ) -> Result<Result<(), FaultReason>, OutOfMemory>
+        ensures ok { IfOk result (λ answered. OnOk answered (AnswersLine line.now (string_bytes text.old) (string_bytes text.new))) }
+        ensures refused { IfOk result (λ answered. IfErr answered (IsFaultyRequest (fields_of line.now))) }
+    {
+        if let Some(others) = pie_fields(line) {
+            return self.answer_pie(others, text);
+        }
+        let request = match request_of(line) {
+            Ok(request) => request,
+            Err(reason) => return Ok(Err(reason)),
+        };
+        self.answer(&request, text)?;
+        Ok(Ok(()))
+    }
+
     /// Adds the answer to a request at the end of the text, as a line.
-    pub fn answer(&mut self, request: &Request, text: &mut String) -> Result<(), OutOfMemory>
-        requires { IsWithinLimits request.now }
+    fn answer(&mut self, request: &Request, text: &mut String) -> Result<(), OutOfMemory>
+        requires limits { IsWithinLimits request.now }
+        requires no_pie { request_kind request.now ≢ RequestKind.Pie }
         ensures { OnOk result (AddsAnswer request.now (string_bytes text.old) (string_bytes text.new)) }
     {
         match request {
@@ -77,7 +104,8 @@ impl Workspace {
                 expect,
                 levels,
             } => self.answer_heard(*code, *trext, expect, levels, text),
-            Request::Pie { intervals } => self.answer_pie(intervals, text),
+            // Such a line is answered by its fields.
+            Request::Pie { .. } => unreachable!(),
             Request::Command { bits } => self.answer_command(bits, text),
             Request::Sgtin { words } => self.answer_sgtin(words, text),
             Request::Uri { text: uri } => answer_uri(uri, text),
@@ -148,14 +176,29 @@ impl Workspace {
         push_received(text, &received)
     }
 
-    /// Adds the frame that intervals are, or why they are none.
-    fn answer_pie(&mut self, intervals: &Numbers, text: &mut String) -> Result<(), OutOfMemory>
-        requires { IsWithinLimits (Request.Pie intervals.now) }
-        ensures { OnOk result (AddsAnswer (Request.Pie intervals.now) (string_bytes text.old) (string_bytes text.new)) }
+    /// Adds the frame of a line that begins with `pie`, or why its intervals are none, by its other fields.
+    /// The intervals are read straight into their list.
+    fn answer_pie(
+        &mut self,
+        others: Fields,
+        text: &mut String,
+    ) -> Result<Result<(), FaultReason>, OutOfMemory>
+        ensures ok { IfOk result (λ answered. OnOk answered (AnswersFields RequestKind.Pie others.entry (string_bytes text.old) (string_bytes text.new))) }
+        ensures refused { IfOk result (λ answered. IfErr answered (AreFaulty RequestKind.Pie others.entry)) }
     {
-        intervals.copy_to(&mut self.intervals);
+        match read_numbers(
+            others,
+            MOST_INTERVALS,
+            MOST_NANOSECONDS,
+            &mut self.intervals,
+        ) {
+            Ok(()) => {}
+            Err(NotNumbers::Shape) => return Ok(Err(FaultReason::Shape)),
+            Err(NotNumbers::Number) => return Ok(Err(FaultReason::Number)),
+        }
         let outcome = decode_frame(&self.intervals, &mut self.bits);
-        push_framed(text, &outcome, &self.bits)
+        push_framed(text, &outcome, &self.bits)?;
+        Ok(Ok(()))
     }
 
     /// Adds the command that bits are, or why they are none.

@@ -5,7 +5,6 @@ ghost use Rattle.decode_lines.specs.DecodeLines.{Decodes, RefusesLines};
 
 use crate::answer::Workspace;
 use crate::fault::{DecodeFault, FaultReason, Unanswered};
-use crate::request::request_of;
 use std::alloc::Global;
 use text_fields::split_line;
 
@@ -25,14 +24,12 @@ pub fn answer_lines(alloc: Global, input: &[u8]) -> Result<String, Unanswered>
     let mut rest = input;
     let mut number = 1;
     while let Some((line, behind)) = split_line(rest) {
-        let request = match request_of(line) {
-            Ok(request) => request,
-            Err(reason) => return Err(Unanswered::Fault(DecodeFault {
+        if let Err(reason) = workspace.answer_line(line, &mut text)? {
+            return Err(Unanswered::Fault(DecodeFault {
                 line: number,
                 reason,
-            })),
-        };
-        workspace.answer(&request, &mut text)?;
+            }));
+        }
         rest = behind;
         number += 1;
     }

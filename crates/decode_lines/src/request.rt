@@ -33,7 +33,7 @@ pub const MOST_INTERVALS: u32 = 20_000;
 const MOST_WORDS: u32 = 31;
 
 /// The greatest interval in a line, in nanoseconds.
-const MOST_NANOSECONDS: u32 = 999_999;
+pub const MOST_NANOSECONDS: u32 = 999_999;
 
 /// What a line is, by its first field.
 #[derive(Clone, Copy, Debug, PartialEq, Eq)]
@@ -125,6 +125,18 @@ fn other_kind(word: &[u8]) -> Option<RequestKind>
         b"command" => Some(RequestKind::Command),
         b"sgtin" => Some(RequestKind::Sgtin),
         b"uri" => Some(RequestKind::Uri),
+        _ => None,
+    }
+}
+
+/// The fields behind the first of a line that begins with `pie`; none exactly where it doesn't.
+pub fn pie_fields(line: &[u8]) -> Option<Fields<'_>>
+    ensures some { IfSome result (λ others. fields_of line.now ≡ request_word RequestKind.Pie ∷ others) }
+    ensures none { IfNone result ((others : List (List ℕ)) → fields_of line.now ≢ request_word RequestKind.Pie ∷ others) }
+{
+    let mut fields = Fields::new(line);
+    match fields.next() {
+        Some(b"pie") => Some(fields),
         _ => None,
     }
 }

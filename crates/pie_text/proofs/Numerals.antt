@@ -1,8 +1,8 @@
 -- Lists of numbers and their fields.
-use Rattle.std.proofs.Common.{◌≡◌, ◌≢◌, ◌<◌, ◌≤◌, ◌+◌, ◌^◌, ℕ, List, [], ◌∷◌, ◌++◌, length, map, Option, Some, None, IsSome, IfSome, All, ap, arith, refl, sym, ◌∙◌, append_assoc}
+use Rattle.std.proofs.Common.{◌≡◌, ◌≢◌, ◌<◌, ◌≤◌, ◌^◌, ℕ, List, [], ◌∷◌, ◌++◌, length, map, Option, Some, None, IsSome, IfSome, All, ap, arith, refl, sym, ◌∙◌, append_assoc}
 use Rattle.std.specs.Fmt.{decimal}
 use Rattle.std.proofs.lemmas.Fmt.{decimal_is_IsNumeral}
-use Rattle.std.proofs.lemmas.List.{length-append, length-map}
+use Rattle.std.proofs.lemmas.List.{length-map}
 use Rattle.std.proofs.lemmas.List.Elements.{All-nil, All-cons, All-head, All-tail}
 use Rattle.pie_text.specs.Numbers.{HasShape, SpellsNumbers}
 use Rattle.pie_text.specs.Spelling.{IsNumber, number_of}
@@ -112,15 +112,7 @@ pub one_spelling : (most_items most : ℕ) (fields : List (List ℕ)) (numbers :
 one_spelling most_items most fields numbers small spells =
     ap (λ (fs : List (List ℕ)). map number_of fs) spells.spelling ∙ values_back most numbers small spells.within
 
--- a list that holds the numbers of the fields before these has room for the next one
-pub has_room : (capacity : ℕ) (all items field : List ℕ) (fields rest : List (List ℕ)) → all ≡ items ++ map number_of fields
-    → fields ≡ field ∷ rest → length all ≤ capacity → length items < capacity
-has_room capacity all items field fields rest so_far next within =
-    let whole : all ≡ items ++ number_of field ∷ map number_of rest = so_far ∙ ap (λ (fs : List (List ℕ)). items ++ map number_of fs) next in
-    let count : length all ≡ length items + length (number_of field ∷ map number_of rest) = rw (whole, length-append) refl in
-    omega arith
-
--- the list then holds the number of the next field as well
+-- a list that holds the numbers of the fields before these then holds the number of the next field as well
 pub holds_next : (all items items' field : List ℕ) (fields rest : List (List ℕ)) (number : ℕ) → all ≡ items ++ map number_of fields
     → fields ≡ field ∷ rest → number ≡ number_of field → items' ≡ items ++ number ∷ [] → all ≡ items' ++ map number_of rest
 holds_next all items items' field fields rest number so_far next is pushed =

@@ -140,14 +140,6 @@ pub fn read_numbers(
     }
 }
 
-/// The number that a field spells.
-fn value_of(field: &[u8]) -> u32
-    requires { IsNumber 4294967295 field.now }
-    ensures { result ≡ number_of field.now }
-{
-    number(field, u32::MAX).unwrap_or(0)
-}
-
 impl<'a> Numbers<'a> {
     /// The numbers that all the fields that are left spell: from 1 to `most_items` numbers, none of them
     /// greater than `most`.
@@ -169,17 +161,5 @@ impl<'a> Numbers<'a> {
             return Err(NotNumbers::Number);
         }
         Ok(Numbers { line })
-    }
-
-    /// Writes the numbers into a list in place of what it holds. The capacity stays.
-    pub fn copy_to(&self, out: &mut Intervals)
-        requires { length self.now ≤ out.old.capacity }
-        ensures { out.new ≡ record out.old { items = self.now } }
-    {
-        out.clear();
-        for field in Fields::new(self.line) {
-            // There is room for each number.
-            let _ = out.push(value_of(field));
-        }
     }
 }

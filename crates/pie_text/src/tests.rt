@@ -21,18 +21,11 @@ fn numbers_are_read(rt: HostRuntime) -> Result<(), Fail> {
         (b"1 01", Err(NotNumbers::Number)),
         (b"1 -", Err(NotNumbers::Number)),
     ] {
-        let read = match Numbers::new(Fields::new(line), 3, 999_999) {
-            Ok(numbers) => {
-                assert!(rt; intervals.capacity() == 3);
-                numbers.copy_to(&mut intervals);
-                Ok(intervals.as_slice())
-            }
-            Err(reason) => Err(reason),
-        };
-        assert_eq!(rt; read, wanted);
         assert!(rt; intervals.capacity() == 3);
-        let at_once = read_numbers(Fields::new(line), 3, 999_999, &mut intervals);
-        assert_eq!(rt; at_once.map(|()| intervals.as_slice()), wanted);
+        let read = read_numbers(Fields::new(line), 3, 999_999, &mut intervals);
+        assert_eq!(rt; read.map(|()| intervals.as_slice()), wanted);
+        let spelled = Numbers::new(Fields::new(line), 3, 999_999);
+        assert_eq!(rt; spelled.err(), wanted.err());
     }
     let mut none = Fields::new(b"1");
     assert!(rt; none.next().is_some());

@@ -1,5 +1,6 @@
 -- Each line is counted and answered, or is the first faulty one.
-use Rattle.std.proofs.Common.{◌≡◌, ◌≢◌, ◌==◌, ℕ, Bool, true, false, List, [], ◌∷◌, length, arith, refl, ap, length-append}
+use Rattle.std.proofs.Common.{◌≡◌, ◌≢◌, ◌==◌, ℕ, Bool, true, false, List, [], ◌∷◌, Result, Ok, Err, length, arith, refl, ap, length-append}
+use Rattle.std.specs.Prelude.{IfErr, OnOk}
 use Rattle.std.proofs.lemmas.Bool.Decides.{nat_tests}
 use Rattle.text_fields.specs.Lines.{line_feed}
 use Rattle.decode_lines.proofs.AnsweredLines.{answers_none, answers_more, answers_all}
@@ -14,13 +15,22 @@ not_empty : (xs : List ℕ) (b : Bool) → b ≡ (length xs == 0) → b ≡ fals
 not_empty [] b p q e = cc
 not_empty (x ∷ xs) b p q e = cc
 
+-- what is said of a refusal holds of its reason
+told_reason : {A E : Type 0} (P : E → Type 0) (answered : Result A E) (reason : E) → answered ≡ Err reason → IfErr answered P → P reason
+told_reason P answered reason is says = rw is at says
+
+-- and what is said of an answer holds
+answered_line : {A E : Type 0} (P : Type 0) (answered : Result A E) (done : A) → answered ≡ Ok done → OnOk answered P → P
+answered_line P answered done is says = rw is at says
+
 pub loop-line-init : goal.loop-line-init
 loop-line-init c = answers_none c.args.input.now _ c.new-text.ensures.bytes
 
 pub returns-in-Err-clause-refused : goal.returns-in-Err-clause-refused
 returns-in-Err-clause-refused c =
     let found = c.loop-line.invariant in
-    fault_here _ _ c.in-Some.line.now c.in-Some.behind.now found.asked _ _ found.so_far c.in-Some.ensures.lines found.count c.in-Err.ensures.refused
+    fault_here _ _ c.in-Some.line.now c.in-Some.behind.now found.asked _ _ found.so_far c.in-Some.ensures.lines found.count
+    (told_reason _ _ c.in-Err.reason c.in-Err.is c.in_ok-reason.ensures.refused)
 
 pub overflow_add-number : goal.overflow_add-number
 overflow_add-number c =
@@ -37,8 +47,8 @@ overflow_add-number c =
 
 pub loop-line-preserved : goal.loop-line-preserved
 loop-line-preserved c =
-    answers_more _ _ c.in-Some.line.now c.in-Some.behind.now _ _ _ c.in-Ok.request c.loop-line.invariant c.in-Some.ensures.lines c.in-Some.ensures.cut
-    c.in-Ok.ensures.ok c.in_ok-answer.ensures
+    answers_more _ _ c.in-Some.line.now c.in-Some.behind.now _ _ _ c.loop-line.invariant c.in-Some.ensures.lines c.in-Some.ensures.cut
+    (answered_line _ _ c.in_default-2.field-0 c.in_default-2.is c.in_ok-reason.ensures.ok)
 
 pub returns-then-is_empty-clause-ok : goal.returns-then-is_empty-clause-ok
 returns-then-is_empty-clause-ok c =

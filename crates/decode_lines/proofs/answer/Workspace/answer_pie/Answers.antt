@@ -1,12 +1,21 @@
-use Rattle.std.proofs.Common.{ap}
-use Rattle.std.proofs.lemmas.Result.{on_ok_weaker}
-use Rattle.pie_line.specs.IntervalList.{IntervalList}
+-- The fields spell the numbers that are read, and the answer is the one to them.
+use Rattle.std.proofs.Common.{refl}
 use Rattle.decode_lines.specs.Answer.{framed, with_left}
+use Rattle.decode_lines.specs.declared.request.Request.TheVariants.{Pie as PieLine}
 use Rattle.decode_lines.proofs.RightAnswers.{framed_right}
 use Rattle.decode_lines.proofs.answer.Workspace.answer_pie.Goals as goal
 
-pub returns : goal.returns
-returns c =
-    let same = ap (λ (b : IntervalList). b.items) c.copy_to.ensures in
-    let right = framed_right c.args.intervals.now _ c.decode_frame-outcome.new.out.items c.decode_frame-outcome.result same c.decode_frame-outcome.ensures.ok c.decode_frame-outcome.ensures.refused in
-    on_ok_weaker c.push_framed.result (λ line. record { answer = framed (with_left (λ kind. (kind, c.decode_frame-outcome.new.out.items)) c.decode_frame-outcome.result); right = right; line = line }) c.push_framed.ensures
+pub returns-clause-ok : goal.returns-clause-ok
+returns-clause-ok c =
+    let spells = c.in-Ok.ensures.ok in
+    let intervals = c.read_numbers.new.out.items in
+    let bits = c.decode_frame-outcome.new.out.items in
+    record {
+      request = PieLine intervals;
+      asks = record { same_kind = refl; spelling = spells.spelling; limits = (spells.some, spells.room, spells.within) };
+      adds = record {
+        answer = framed (with_left (λ kind. (kind, bits)) c.decode_frame-outcome.result);
+        right = framed_right intervals intervals bits c.decode_frame-outcome.result refl c.decode_frame-outcome.ensures.ok c.decode_frame-outcome.ensures.refused;
+        line = c.in_ok-push_framed.ensures;
+      };
+    }
