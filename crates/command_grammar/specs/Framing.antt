@@ -17,8 +17,6 @@ use Rattle.command_grammar.specs.declared.fields.Field.{Field}
 use Rattle.command_grammar.specs.declared.fields.Field.TheVariants as fields
 use Rattle.command_grammar.specs.declared.fields.Fields.{Fields}
 use Rattle.command_grammar.specs.declared.stage.Number.{Number}
-use Rattle.command_grammar.specs.declared.stage.Taken.{Taken}
-use Rattle.command_grammar.specs.declared.stage.Taken.TheVariants as taken
 use Rattle.command_grammar.specs.declared.stage.BitField.{BitField}
 use Rattle.command_grammar.specs.declared.stage.BitField.TheVariants as bit_fields
 use Rattle.command_grammar.specs.declared.stage.PairField.{PairField}
@@ -159,9 +157,10 @@ abbrev pub number_from : ℕ → ℕ → List Bool → Reading ℕ
 number_from zero value bits = bit_at bits >>= λ next. Ok (2 * value + digit_of next.0, next.1)
 number_from (suc behind) value bits = bit_at bits >>= λ next. number_from behind (2 * value + digit_of next.0) next.1
 
-abbrev pub taken_from : Taken → List Bool → Reading ℕ
-taken_from (taken.More number) bits = number_from number.behind number.value bits
-taken_from (taken.Is value) bits = Ok (value, bits)
+-- ... with one bit more: it goes on, or is whole
+abbrev pub taken_from : Option ℕ → Number → List Bool → Reading ℕ
+taken_from None number bits = number_from number.behind number.value bits
+taken_from (Some value) number bits = Ok (value, bits)
 
 -- a mask: likewise, behind the bits read
 abbrev pub mask_from : ℕ → List Bool → List Bool → Reading (List Bool)
@@ -235,6 +234,11 @@ next_from (next.Stay stage) v bits = stage_from stage v bits
 next_from next.Done v bits = Ok (v, bits)
 next_from (next.Refused reason) v bits = Err (Bad (length bits + 1) reason)
 
+-- ... where nothing comes of the bit, the stage goes on
+abbrev pub step_from : Option Next → Stage → Fields → List Bool → Reading Fields
+step_from None stage v bits = stage_from stage v bits
+step_from (Some next) stage v bits = next_from next v bits
+
 -- ---- numbers within their ranges
 
 abbrev pub width_of : NumberField → ℕ
@@ -265,9 +269,9 @@ pub record IsFront (width : ℕ) (number : Number) : Type 0 where
   pub rest : read + number.behind + 1 ≡ width
   pub small : number.value < 2 ^ read
 
-abbrev pub IsTaken : ℕ → Taken → Type 0
-IsTaken width (taken.More number) = IsFront width number
-IsTaken width (taken.Is value) = value < 2 ^ width
+abbrev pub IsTaken : ℕ → Option ℕ → Number → Type 0
+IsTaken width None number = IsFront width number
+IsTaken width (Some value) number = value < 2 ^ width
 
 abbrev pub IsSoundNumber : NumberField → Fields → Type 0
 IsSoundNumber number_fields.Session v = Unit {0}
@@ -297,6 +301,10 @@ abbrev pub IsSoundNext : Next → Fields → Type 0
 IsSoundNext (next.Stay stage) v = IsSound stage v
 IsSoundNext next.Done v = Unit {0}
 IsSoundNext (next.Refused reason) v = Unit {0}
+
+abbrev pub IsSoundStep : Option Next → Stage → Fields → Type 0
+IsSoundStep None stage v = IsSound stage v
+IsSoundStep (Some next) stage v = IsSoundNext next v
 
 -- ---- all bits
 

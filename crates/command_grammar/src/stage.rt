@@ -2,7 +2,7 @@
 ghost use Rattle.std.specs.Prelude.{◌≡◌, ◌+◌, ◌≤◌, ◌<◌, ◌^◌, ◌∷◌, ◌++◌, ℕ, List, Bool, length, Some};
 ghost use Rattle.bit_strings.specs.Numbers.{value_of};
 ghost use Rattle.gen2_crc.specs.Crc.{crc5_of, RegisterStandsFor};
-ghost use Rattle.command_grammar.specs.Framing.{number_from, taken_from, IsFront, IsTaken, stage_from, next_from, field_from, pair_from, triple_from, bit_from, number_then, words_then, block_then, IsBefore, IsSound, IsSoundNumber, IsSoundNext, width_of};
+ghost use Rattle.command_grammar.specs.Framing.{number_from, taken_from, IsFront, IsTaken, stage_from, next_from, field_from, pair_from, triple_from, bit_from, number_then, words_then, block_then, IsBefore, IsSound, IsSoundNumber, IsSoundNext, IsSoundStep, width_of, step_from};
 ghost use Rattle.command_grammar.specs.declared.fields.Fields.{Fields};
 ghost use Rattle.command_grammar.specs.declared.stage.NumberField.TheVariants.{Digit};
 ghost use Rattle.command_grammar.specs.declared.stage.Stage.TheVariants as stages;
@@ -22,15 +22,6 @@ pub(crate) struct Number {
     value: u32,
 }
 
-/// A number with its next bit.
-#[derive(Clone, Copy)]
-pub(crate) enum Taken {
-    /// More bits of it come.
-    More(Number),
-    /// It is this.
-    Is(u32),
-}
-
 impl Number {
     /// No bit of a number of `width` bits.
     fn of(width: u32) -> Number
@@ -44,20 +35,20 @@ impl Number {
         }
     }
 
-    /// One bit more.
-    fn take(self, bit: bool) -> Taken
-        requires { self.value < 2 ^ 30 }
-        ensures reads { (rest : List Bool) → number_from self.behind self.value (bit ∷ rest) ≡ taken_from result rest }
-        ensures fits { (width : ℕ) → IsFront width self → IsTaken width result }
+    /// One bit more: the whole number, if it was the last one.
+    #[inline]
+    fn take(&mut self, bit: bool) -> Option<u32>
+        requires { self.old.value < 2 ^ 30 }
+        ensures reads { (rest : List Bool) → number_from self.old.behind self.old.value (bit ∷ rest) ≡ taken_from result self.new rest }
+        ensures fits { (width : ℕ) → IsFront width self.old → IsTaken width result self.new }
     {
         let value = 2 * self.value + u32::from(bit);
         if self.behind == 0 {
-            return Taken::Is(value);
+            return Some(value);
         }
-        Taken::More(Number {
-            behind: self.behind - 1,
-            value,
-        })
+        self.behind -= 1;
+        self.value = value;
+        None
     }
 }
 
@@ -198,24 +189,24 @@ impl Stage {
         }
     }
 
-    /// One bit more.
-    pub(crate) fn take(self, bit: bool, fields: &mut Fields) -> Next
-        requires { IsSound self fields.old }
-        ensures reads { (rest : List Bool) → stage_from self fields.old (bit ∷ rest) ≡ next_from result fields.new rest }
-        ensures sound { IsSoundNext result fields.new }
+    /// One bit more: what comes of it, or nothing where the stage goes on in its place.
+    #[inline]
+    pub(crate) fn take(&mut self, bit: bool, fields: &mut Fields) -> Option<Next>
+        requires { IsSound self.old fields.old }
+        ensures reads { (rest : List Bool) → stage_from self.old fields.old (bit ∷ rest) ≡ step_from result self.new fields.new rest }
+        ensures sound { IsSoundStep result self.new fields.new }
     {
         match self {
-            Stage::Bit(field) => take_bit(field, bit, fields),
-            Stage::Pair(field, None) => Next::Stay(Stage::Pair(field, Some(bit))),
-            Stage::Pair(field, Some(first)) => take_pair(field, first, bit, fields),
-            Stage::Triple(field, front) => take_triple(field, front, bit, fields),
-            Stage::Number(field, number) => match number.take(bit) {
-                Taken::More(number) => Next::Stay(Stage::Number(field, number)),
-                Taken::Is(value) => take_number(field, value, fields),
-            },
-            Stage::Extension(block, value) => take_extension(block, value, bit),
+            Stage::Number(field, number) => {
+                let value = number.take(bit)?;
+                Some(take_number(*field, value, fields))
+            }
+            Stage::Known(reason, wanted) => take_known(*reason, wanted, bit),
             Stage::Mask(behind) => take_mask(behind, bit, fields),
-            Stage::Known(reason, wanted) => take_known(reason, wanted, bit),
+            Stage::Bit(field) => Some(take_bit(*field, bit, fields)),
+            Stage::Pair(field, first) => Some(take_pair(*field, *first, bit, fields)),
+            Stage::Triple(field, front) => Some(take_triple(*field, *front, bit, fields)),
+            Stage::Extension(block, value) => Some(take_extension(*block, *value, bit)),
         }
     }
 }
@@ -233,16 +224,19 @@ fn take_bit(field: BitField, bit: bool, fields: &mut Fields) -> Next
     Next::Done
 }
 
-/// The second bit of a field of two.
-fn take_pair(field: PairField, first: bool, second: bool, fields: &mut Fields) -> Next
-    ensures reads { (rest : List Bool) → pair_from field (Some first) fields.old (second ∷ rest) ≡ next_from result fields.new rest }
+/// A bit of a field of two, behind the first one if that was read.
+fn take_pair(field: PairField, first: Option<bool>, bit: bool, fields: &mut Fields) -> Next
+    ensures reads { (rest : List Bool) → pair_from field first fields.old (bit ∷ rest) ≡ next_from result fields.new rest }
     ensures sound { IsSoundNext result fields.new }
 {
+    let Some(first) = first else {
+        return Next::Stay(Stage::Pair(field, Some(bit)));
+    };
     match field {
-        PairField::LineCode => fields.code = line_code(first, second),
-        PairField::Sel => fields.sel = sel(first, second),
-        PairField::Bank => fields.bank = bank(first, second),
-        PairField::MaskBank => match mask_bank(first, second) {
+        PairField::LineCode => fields.code = line_code(first, bit),
+        PairField::Sel => fields.sel = sel(first, bit),
+        PairField::Bank => fields.bank = bank(first, bit),
+        PairField::MaskBank => match mask_bank(first, bit) {
             Some(bank) => fields.mask_bank = bank,
             None => return Next::Refused(Reason::Bank),
         },
@@ -409,37 +403,34 @@ fn take_extension(block: Block, value: u32, bit: bool) -> Next
     }
 }
 
-/// A bit of a mask.
-fn take_mask(behind: u32, bit: bool, fields: &mut Fields) -> Next
-    requires { length fields.old.mask + behind + 1 ≤ 255 }
-    ensures reads { (rest : List Bool) → stage_from (stages.Mask behind) fields.old (bit ∷ rest) ≡ next_from result fields.new rest }
-    ensures sound { IsSoundNext result fields.new }
+/// A bit of a mask, behind which so many come.
+#[inline]
+fn take_mask(behind: &mut u32, bit: bool, fields: &mut Fields) -> Option<Next>
+    requires { length fields.old.mask + behind.old + 1 ≤ 255 }
+    ensures reads { (rest : List Bool) → stage_from (stages.Mask behind.old) fields.old (bit ∷ rest) ≡ step_from result (stages.Mask behind.new) fields.new rest }
+    ensures sound { IsSoundStep result (stages.Mask behind.new) fields.new }
 {
     fields.mask.add(bit);
-    if behind == 0 {
-        return Next::Done;
+    if *behind == 0 {
+        return Some(Next::Done);
     }
-    Next::Stay(Stage::Mask(behind - 1))
+    *behind -= 1;
+    None
 }
 
 /// A bit that is known.
-fn take_known(reason: Reason, number: Number, bit: bool) -> Next
-    requires { number.behind ≤ 15 }
-    ensures reads { (fields : Fields) (rest : List Bool) → stage_from (stages.Known reason number) fields (bit ∷ rest) ≡ next_from result fields rest }
-    ensures sound { (fields : Fields) → IsSoundNext result fields }
+#[inline]
+fn take_known(reason: Reason, wanted: &mut Number, bit: bool) -> Option<Next>
+    requires { wanted.old.behind ≤ 15 }
+    ensures reads { (fields : Fields) (rest : List Bool) → stage_from (stages.Known reason wanted.old) fields (bit ∷ rest) ≡ step_from result (stages.Known reason wanted.new) fields rest }
+    ensures sound { (fields : Fields) → IsSoundStep result (stages.Known reason wanted.new) fields }
 {
-    let Number { behind, value } = number;
-    if bit != ((value >> behind) % 2 == 1) {
-        return Next::Refused(reason);
+    if bit != ((wanted.value >> wanted.behind) % 2 == 1) {
+        return Some(Next::Refused(reason));
     }
-    if behind == 0 {
-        return Next::Done;
+    if wanted.behind == 0 {
+        return Some(Next::Done);
     }
-    Next::Stay(Stage::Known(
-        reason,
-        Number {
-            behind: behind - 1,
-            value,
-        },
-    ))
+    wanted.behind -= 1;
+    None
 }

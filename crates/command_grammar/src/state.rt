@@ -60,6 +60,7 @@ impl State {
     }
 
     /// Stands for one bit more, or says why no command goes on with it.
+    #[inline]
     pub(crate) fn take(&mut self, bit: bool) -> Option<Reason>
         requires { IsOpen self.old None }
         ensures goes { (bits : List Bool) → Stands self.old bits → Goes result self.new bits bit }
@@ -68,20 +69,20 @@ impl State {
         self.pushed += 1;
         self.crc5 = shifted(self.crc5, bit);
         self.crc16.push(bit);
-        match self.place {
-            Place::Code(front) => match code_step(front, bit) {
-                CodeStep::More(front) => self.place = Place::Code(front),
+        match &mut self.place {
+            Place::Within(stage) => match stage.take(bit, &mut self.fields)? {
+                Next::Stay(next) => *stage = next,
+                Next::Done => self.begin(),
+                Next::Refused(reason) => return Some(reason),
+            },
+            Place::Code(front) => match code_step(*front, bit) {
+                CodeStep::More(more) => *front = more,
                 CodeStep::Is(kind) => {
                     self.kind = kind;
                     self.behind = kind.fields();
                     self.begin();
                 }
                 CodeStep::Refused => return Some(Reason::Code),
-            },
-            Place::Within(stage) => match stage.take(bit, &mut self.fields) {
-                Next::Stay(stage) => self.place = Place::Within(stage),
-                Next::Done => self.begin(),
-                Next::Refused(reason) => return Some(reason),
             },
             Place::Whole => return Some(Reason::Extra),
         }

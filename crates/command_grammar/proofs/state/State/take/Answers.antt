@@ -10,5 +10,5 @@ returns-in-More-clause-goes c = λ bits stands. record {
   count = omega (arith, stands.count, length-append bits (c.args.bit ∷ []));
   crc5 = c.shifted-self.ensures bits stands.crc5;
   crc16 = c.push.ensures bits stands.crc16;
-  reads = code_goes_on c.args.self.now bits c.args.bit c.in-Code.front c.in-More.front c.in-Code.is c.in-More.ensures stands;
+  reads = code_goes_on c.args.self.now bits c.args.bit c.in-Code.front c.in-More.more c.in-Code.is c.in-More.ensures stands;
 }
