@@ -174,16 +174,16 @@ pub crc5_of-none : 9 ≡ value_of (crc5_of [])
 unfolding crc5_of divide
 crc5_of-none = refl
 
-pub crc5_next : (bits : List Bool) (i register result : ℕ) → i < length bits → register ≡ value_of (crc5_of (take i bits)) → result < 32 → field_of result 5 ≡ remainder_of (field_of register 5) others5 (get_or bits i false ∷ []) → result ≡ value_of (crc5_of (take (i + 1) bits))
+pub crc5_more : (register result : ℕ) (bits : List Bool) (bit : Bool) → result < 32 → register ≡ value_of (crc5_of bits) → field_of result 5 ≡ remainder_of (field_of register 5) others5 (bit ∷ []) → result ≡ value_of (crc5_of (bits ++ bit ∷ []))
 unfolding crc5_of
-crc5_next bits i register result within so_far fits step =
-    let front : List Bool = take i bits in
-    let bit : Bool = get_or bits i false in
-    let held : field_of register 5 ≡ crc5_of front =
-    ap (λ n. field_of n 5) so_far ∙ ap (λ w. field_of (value_of (crc5_of front)) w) (sym (length-crc5_of front)) ∙ field_of-value_of (crc5_of front) in
-    let more : crc5_of (front ++ bit ∷ []) ≡ remainder_of (crc5_of front) others5 (bit ∷ []) = remainder_of-append preset5 others5 front (bit ∷ []) (omega arith) (omega arith) in
-    sym (value_of-field result 5 fits)
-    ∙ ap value_of (step ∙ ap (λ (r : List Bool). remainder_of r others5 (bit ∷ [])) held ∙ sym more ∙ ap crc5_of (sym (take_more bits i false within)))
+crc5_more register result bits bit fits so_far step =
+    let held : field_of register 5 ≡ crc5_of bits =
+    ap (λ n. field_of n 5) so_far ∙ ap (λ w. field_of (value_of (crc5_of bits)) w) (sym (length-crc5_of bits)) ∙ field_of-value_of (crc5_of bits) in
+    let more : crc5_of (bits ++ bit ∷ []) ≡ remainder_of (crc5_of bits) others5 (bit ∷ []) = remainder_of-append preset5 others5 bits (bit ∷ []) (omega arith) (omega arith) in
+    sym (value_of-field result 5 fits) ∙ ap value_of (step ∙ ap (λ (r : List Bool). remainder_of r others5 (bit ∷ [])) held ∙ sym more)
+
+pub crc5_next : (bits : List Bool) (i register result : ℕ) → i < length bits → register ≡ value_of (crc5_of (take i bits)) → ((front : List Bool) → register ≡ value_of (crc5_of front) → result ≡ value_of (crc5_of (front ++ get_or bits i false ∷ []))) → result ≡ value_of (crc5_of (take (i + 1) bits))
+crc5_next bits i register result within so_far push = push (take i bits) so_far ∙ ap (λ (l : List Bool). value_of (crc5_of l)) (sym (take_more bits i false within))
 
 pub crc5_all : (bits : List Bool) (i register : ℕ) → length bits ≤ i → register ≡ value_of (crc5_of (take i bits)) → register ≡ value_of (crc5_of bits)
 crc5_all bits i register past so_far = so_far ∙ ap (λ (b : List Bool). value_of (crc5_of b)) (take_all i bits past)

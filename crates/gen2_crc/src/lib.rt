@@ -2,23 +2,19 @@
 //! that have one (6.3.1.5 Cyclic-redundancy check; Annex F).
 #![tactic(auto)]
 
-ghost use Rattle.std.specs.Prelude.{◌≡◌, ◌+◌, ◌<◌, ◌≤◌, ◌↔◌, List, Bool, [], ◌∷◌, ◌++◌, length, take, IsTrue};
-ghost use Rattle.bit_strings.specs.Numbers.{value_of, field_of};
-ghost use Rattle.gen2_crc.specs.Crc.{crc5_of, crc16_of, register_of, remainder_of, others5, residue};
+ghost use Rattle.std.specs.Prelude.{◌≡◌, ◌≤◌, ◌↔◌, List, Bool, ◌++◌, length, take, IsTrue};
+ghost use Rattle.bit_strings.specs.Numbers.{value_of};
+ghost use Rattle.gen2_crc.specs.Crc.{crc5_of, crc16_of, register_of, residue};
 
 use bit_strings::Bits;
 
 mod laws;
 mod register;
+mod register5;
 
 pub use laws::crc_laws;
 pub use register::Crc16;
-
-/// The coefficients of `x^5 + x^3 + 1` behind the leading one.
-const POLYNOMIAL: u8 = 0b01001;
-
-/// What the register of CRC-5 holds before the first bit.
-const PRESET: u8 = 0b01001;
+pub use register5::Crc5;
 
 /// The CRC-5 of the first `upto` bits, a number below 32.
 pub fn crc5(bits: &Bits, upto: u32) -> u8
@@ -32,25 +28,11 @@ pub fn crc5(bits: &Bits, upto: u32) -> u8
 pub fn crc5_of_bits(bits: &[bool]) -> u8
     ensures { result ≡ value_of (crc5_of bits.now) }
 {
-    let mut register = PRESET;
+    let mut crc = Crc5::new();
     for bit in bits {
-        register = shifted5(register, *bit);
+        crc.push(*bit);
     }
-    register
-}
-
-/// The register of CRC-5 one bit later.
-fn shifted5(register: u8, bit: bool) -> u8
-    requires { register < 32 }
-    ensures small { result < 32 }
-    ensures step { field_of result 5 ≡ remainder_of (field_of register 5) others5 (bit ∷ []) }
-{
-    let moved = 2 * (register % 16);
-    if (register >= 16) != bit {
-        moved ^ POLYNOMIAL
-    } else {
-        moved
-    }
+    crc.value()
 }
 
 /// The CRC-16 of the first `upto` bits.

@@ -1,5 +1,5 @@
 use Rattle.gen2_crc.proofs.Registers.{differs5, same5, differs5-small}
-use Rattle.gen2_crc.proofs.shifted5.Goals as goal
+use Rattle.gen2_crc.proofs.register5.shifted5.Goals as goal
 
 pub returns-then-register-bit-clause-small : goal.returns-then-register-bit-clause-small
 returns-then-register-bit-clause-small c = differs5-small c.args.register
