@@ -190,7 +190,7 @@ impl Stage {
     }
 
     /// One bit more: what comes of it, or nothing where the stage goes on in its place.
-    #[inline]
+    #[inline(always)]
     pub(crate) fn take(&mut self, bit: bool, fields: &mut Fields) -> Option<Next>
         requires { IsSound self.old fields.old }
         ensures reads { (rest : List Bool) → stage_from self.old fields.old (bit ∷ rest) ≡ step_from result self.new fields.new rest }
@@ -212,6 +212,7 @@ impl Stage {
 }
 
 /// A field of one bit.
+#[inline(never)]
 fn take_bit(field: BitField, bit: bool, fields: &mut Fields) -> Next
     ensures reads { (rest : List Bool) → bit_from field fields.old (bit ∷ rest) ≡ next_from result fields.new rest }
     ensures sound { IsSoundNext result fields.new }
@@ -225,6 +226,7 @@ fn take_bit(field: BitField, bit: bool, fields: &mut Fields) -> Next
 }
 
 /// A bit of a field of two, behind the first one if that was read.
+#[inline(never)]
 fn take_pair(field: PairField, first: Option<bool>, bit: bool, fields: &mut Fields) -> Next
     ensures reads { (rest : List Bool) → pair_from field first fields.old (bit ∷ rest) ≡ next_from result fields.new rest }
     ensures sound { IsSoundNext result fields.new }
@@ -245,6 +247,7 @@ fn take_pair(field: PairField, first: Option<bool>, bit: bool, fields: &mut Fiel
 }
 
 /// A bit of a field of three.
+#[inline(never)]
 fn take_triple(field: TripleField, front: Front, bit: bool, fields: &mut Fields) -> Next
     ensures reads { (rest : List Bool) → triple_from field front fields.old (bit ∷ rest) ≡ next_from result fields.new rest }
     ensures sound { IsSoundNext result fields.new }
@@ -272,6 +275,7 @@ fn take_triple(field: TripleField, front: Front, bit: bool, fields: &mut Fields)
 }
 
 /// The whole number of a field.
+#[inline(never)]
 fn take_number(field: NumberField, value: u32, fields: &mut Fields) -> Next
     requires small { value < 2 ^ width_of field }
     requires sound { IsSoundNumber field fields.old }
@@ -388,6 +392,7 @@ fn next_block(block: Block, more: bool, value: u32, fields: &mut Fields) -> Next
 }
 
 /// The extension bit of a block.
+#[inline(never)]
 fn take_extension(block: Block, value: u32, bit: bool) -> Next
     requires { IsBefore block value }
     ensures reads { (fields : Fields) (rest : List Bool) → stage_from (stages.Extension block value) fields (bit ∷ rest) ≡ next_from result fields rest }

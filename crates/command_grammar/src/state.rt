@@ -17,10 +17,10 @@ use gen2_crc::Crc16;
 /// Where the next bit stands.
 #[derive(Clone, Copy)]
 pub(crate) enum Place {
-    /// In the command code.
-    Code(CodeFront),
     /// In a field.
     Within(Stage),
+    /// In the command code.
+    Code(CodeFront),
     /// Behind the command.
     Whole,
 }
@@ -60,7 +60,7 @@ impl State {
     }
 
     /// Stands for one bit more, or says why no command goes on with it.
-    #[inline]
+    #[inline(always)]
     pub(crate) fn take(&mut self, bit: bool) -> Option<Reason>
         requires { IsOpen self.old None }
         ensures goes { (bits : List Bool) → Stands self.old bits → Goes result self.new bits bit }
@@ -90,6 +90,7 @@ impl State {
     }
 
     /// The next field begins, or the command is whole.
+    #[inline(never)]
     fn begin(&mut self)
         ensures reads { (bits rest : List Bool) → self.old.crc5 ≡ value_of (crc5_of bits) → RegisterStandsFor self.old.crc16 bits → run self.old.behind.now self.old.kind self.old.fields (bits ++ rest) rest ≡ resume self.new.kind self.new.place self.new.behind.now self.new.fields (bits ++ rest) rest }
         ensures sound { IsSoundPlace self.new.place self.new.fields }
