@@ -1,6 +1,6 @@
 -- Reading goes on from each state for the bits that are still to come.
 use Rattle.std.proofs.Common.{◌≡◌, ℕ, suc, ◌+◌, ◌-◌, ◌≤◌, Bool, true, false, List, [], ◌∷◌, ◌++◌, length, Result, Ok, Err, refl, sym, ap, subst, ◌∙◌, append_assoc, append-nil, length-append, get_or, ◌<◌, take, drop, slice_index_or, inl, inr, arith}
-use Rattle.std.specs.Prelude.{◌⊎◌}
+use Rattle.std.specs.Prelude.{◌⊎◌, Option}
 use Rattle.std.proofs.lemmas.List.{take_all, take-append-drop}
 use Rattle.std.proofs.Math.Seq.{drop-cons}
 use Rattle.bit_strings.specs.Numbers.{field_of}
@@ -25,7 +25,7 @@ use Rattle.command_grammar.specs.declared.refusal.Reason.{Reason}
 use Rattle.command_grammar.specs.declared.refusal.Reason.TheVariants as reasons
 use Rattle.command_grammar.specs.Commands.{Spellings, SpellsCommand, IsCommandRefusedAt}
 use Rattle.command_grammar.specs.Reading.{Stop, Short, Bad, Reading, ◌>>=◌, Choice, child, all_kinds, lines, chosen_of, sides, changes, targets, masked_banks, all_banks, bit_at, bits_at, field_at, choice_at, exactly_at, count_at, words_at, ebv_at, crc5_at, crc16_at, block_at, first_block_at, last_block_at, query_rep_at, ack_at, query_at, query_adjust_at, select_at, req_rn_at, read_at, write_at, kill_at, lock_at, access_at, block_write_at, block_erase_at, fields_at, command_at, all_of}
-use Rattle.command_grammar.specs.Framing.{fields_of, command_of, only_whole, run, next_at, behind_code, number_then, stage_from, field_from, resume, Stands}
+use Rattle.command_grammar.specs.Framing.{fields_of, command_of, only_whole, run, next_at, behind_code, number_then, stage_from, field_from, resume, Stands, IsAsked, kept_behind, AreServed}
 use Rattle.command_grammar.proofs.Parts.{is_fork, fork-at, number-short, mask-short}
 use Rattle.command_grammar.proofs.SpellingLaws.{begun}
 use Rattle.command_grammar.proofs.Verdict.{all_whole, all_short, all_bad}
@@ -92,9 +92,9 @@ code-more front more bit rest e = ap (λ (t : Choice CommandKind). choice_at t r
 abbrev pub Resumes : CommandKind → Place → List Field → Fields → List Bool → Type 0
 Resumes kind place behind v bits = (rest : List Bool) → all_of (bits ++ rest) ≡ resume kind place behind v (bits ++ rest) rest
 
-pub resumes_none : (kind : CommandKind) (behind : List Field) (v : Fields) → Resumes kind (places.Code fronts.Nothing) behind v []
+pub resumes_none : (kind : CommandKind) (crc5 crc16 : ℕ) (behind : List Field) (v : Fields) → Resumes kind (places.Code fronts.Nothing crc5 crc16) behind v []
 unfolding all_of command_at
-resumes_none kind behind v rest = goes (choice_at all_kinds reasons.Code rest) ∙ ap (λ (r : Reading CommandKind). r >>= λ x. run (fields_of x.0) x.0 v rest x.1) (fork-at all_kinds reasons.Code rest refl)
+resumes_none kind crc5 crc16 behind v rest = goes (choice_at all_kinds reasons.Code rest) ∙ ap (λ (r : Reading CommandKind). r >>= λ x. run (fields_of x.0) x.0 v rest x.1) (fork-at all_kinds reasons.Code rest refl)
   where
     goes : (r : Reading CommandKind) → ((r >>= λ x. fields_at x.0 rest x.1) >>= whole_of) ≡ (r >>= λ x. run (fields_of x.0) x.0 v rest x.1)
     goes (Ok x) = fields_run x.0 v rest x.1
@@ -133,8 +133,8 @@ stage-short (stages.Known reason number) v = refl
 all_here : (kind : CommandKind) (place : Place) (behind : List Field) (v : Fields) (bits : List Bool) → Resumes kind place behind v bits → all_of bits ≡ resume kind place behind v (bits ++ []) []
 all_here kind place behind v bits resumes = ap all_of (sym (append-nil bits)) ∙ resumes []
 
-pub code_short : (kind : CommandKind) (front : CodeFront) (behind : List Field) (v : Fields) (bits : List Bool) → Resumes kind (places.Code front) behind v bits → all_of bits ≡ Err Short
-code_short kind front behind v bits resumes = all_here kind (places.Code front) behind v bits resumes
+pub code_short : (kind : CommandKind) (front : CodeFront) (crc5 crc16 : ℕ) (behind : List Field) (v : Fields) (bits : List Bool) → Resumes kind (places.Code front crc5 crc16) behind v bits → all_of bits ≡ Err Short
+code_short kind front crc5 crc16 behind v bits resumes = all_here kind (places.Code front crc5 crc16) behind v bits resumes
 
 pub within_short : (kind : CommandKind) (stage : Stage) (behind : List Field) (v : Fields) (bits : List Bool) → Resumes kind (places.Within stage) behind v bits → all_of bits ≡ Err Short
 within_short kind stage behind v bits resumes =
@@ -145,7 +145,7 @@ whole_here kind behind v bits resumes = all_here kind places.Whole behind v bits
 
 -- so the bits begin some command, and are few
 pub few_bits : (kind : CommandKind) (place : Place) (behind : List Field) (v : Fields) (bits : List Bool) → Resumes kind place behind v bits → length bits ≤ 4162
-few_bits kind (places.Code front) behind v bits resumes = length-begins bits (all_short bits (code_short kind front behind v bits resumes)).begins
+few_bits kind (places.Code front crc5 crc16) behind v bits resumes = length-begins bits (all_short bits (code_short kind front crc5 crc16 behind v bits resumes)).begins
 few_bits kind (places.Within stage) behind v bits resumes = length-begins bits (all_short bits (within_short kind stage behind v bits resumes)).begins
 few_bits kind places.Whole behind v bits resumes =
     length-begins bits (begun Spellings bits (command_of kind v, all_whole (command_of kind v) bits (whole_here kind behind v bits resumes)))
@@ -163,9 +163,9 @@ whole_spells s bits whole stands =
     let resumes : Resumes s.kind places.Whole s.behind.now s.fields bits = subst (λ (place : Place). Resumes s.kind place s.behind.now s.fields bits) whole stands.reads in
     all_whole (command_of s.kind s.fields) bits (whole_here s.kind s.behind.now s.fields bits resumes)
 
-pub open_short : (s : State) (bits : List Bool) → ((front : CodeFront) × (s.place ≡ places.Code front)) ⊎ ((stage : Stage) × (s.place ≡ places.Within stage)) → Stands s bits → IsShortAt Spellings bits (length bits)
+pub open_short : (s : State) (bits : List Bool) → ((front : CodeFront) × (crc5 : ℕ) × (crc16 : ℕ) × (s.place ≡ places.Code front crc5 crc16)) ⊎ ((stage : Stage) × (s.place ≡ places.Within stage)) → Stands s bits → IsShortAt Spellings bits (length bits)
 open_short s bits (inl code) stands =
-    all_short bits (code_short s.kind code.0 s.behind.now s.fields bits (subst (λ (place : Place). Resumes s.kind place s.behind.now s.fields bits) code.1 stands.reads))
+    all_short bits (code_short s.kind code.0 code.1 code.2 s.behind.now s.fields bits (subst (λ (place : Place). Resumes s.kind place s.behind.now s.fields bits) code.3 stands.reads))
 open_short s bits (inr within) stands =
     all_short bits (within_short s.kind within.0 s.behind.now s.fields bits (subst (λ (place : Place). Resumes s.kind place s.behind.now s.fields bits) within.1 stands.reads))
 
@@ -177,12 +177,22 @@ begins_field (field ∷ behind) default kind v whole bits stage some e =
     ap (λ (r : Reading Fields). r >>= λ x. run behind kind x.0 whole x.1) (sym e)
     ∙ ap (λ (others : List Field). stage_from stage v bits >>= λ x. run others kind x.0 whole x.1) (sym (take_all (length (field ∷ behind) - 1) behind (omega arith)))
 
+-- ... and the check number is the one that it and those behind it ask for
+pub asks_first : (kept : Option Reason) (behind : List Field) (default : Field) → 1 ≤ length behind → AreServed kept behind → IsAsked kept (slice_index_or behind 0 default)
+asks_first kept [] default some served = absurd (omega arith)
+asks_first kept (field ∷ behind) default some served = served.0
+
+pub serves_others : (kept : Option Reason) (behind : List Field) (default : Field) → 1 ≤ length behind → AreServed kept behind → AreServed (kept_behind kept (slice_index_or behind 0 default)) (take (length behind - 1) (drop 1 behind))
+serves_others kept [] default some served = absurd (omega arith)
+serves_others kept (field ∷ behind) default some served =
+    subst (λ (others : List Field). AreServed (kept_behind kept field) others) (sym (take_all (length (field ∷ behind) - 1) behind (omega arith))) served.1
+
 -- ---- what comes of one bit more
 
 -- the code goes on
-pub code_goes_on : (s : State) (bits : List Bool) (bit : Bool) (front more : CodeFront) → s.place ≡ places.Code front → child (behind_code front) bit ≡ behind_code more → Stands s bits → Resumes s.kind (places.Code more) s.behind.now s.fields (bits ++ bit ∷ [])
-code_goes_on s bits bit front more here e stands =
-    resumes_more s.kind s.kind (places.Code front) (places.Code more) s.behind.now s.behind.now s.fields s.fields bits bit (subst (λ (place : Place). Resumes s.kind place s.behind.now s.fields bits) here stands.reads)
+pub code_goes_on : (s : State) (bits : List Bool) (bit : Bool) (front more : CodeFront) (crc5 crc16 crc5' crc16' : ℕ) → s.place ≡ places.Code front crc5 crc16 → child (behind_code front) bit ≡ behind_code more → Stands s bits → Resumes s.kind (places.Code more crc5' crc16') s.behind.now s.fields (bits ++ bit ∷ [])
+code_goes_on s bits bit front more crc5 crc16 crc5' crc16' here e stands =
+    resumes_more s.kind s.kind (places.Code front crc5 crc16) (places.Code more crc5' crc16') s.behind.now s.behind.now s.fields s.fields bits bit (subst (λ (place : Place). Resumes s.kind place s.behind.now s.fields bits) here stands.reads)
     (λ rest. ap (λ (r : Reading CommandKind). r >>= λ x. run (fields_of x.0) x.0 s.fields ((bits ++ bit ∷ []) ++ rest) x.1) (code-more front more bit rest e))
 
 -- a refusal at a bit of a list

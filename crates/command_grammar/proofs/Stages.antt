@@ -1,16 +1,13 @@
 -- One bit more in a field, and the beginning of each field.
-use Rattle.std.proofs.Common.{◌≡◌, ℕ, suc, ◌+◌, ◌-◌, ◌/◌, ◌%◌, ◌^◌, ◌<◌, ◌≤◌, Bool, true, false, not, List, [], ◌∷◌, ◌++◌, length, Result, Ok, Err, refl, sym, ap, ◌∙◌, append_assoc, append-nil, length-append, inl, inr, arith, cond, leb, ◌*◌}
+use Rattle.std.proofs.Common.{◌≡◌, ℕ, suc, ◌+◌, ◌-◌, ◌/◌, ◌%◌, ◌^◌, ◌<◌, ◌≤◌, Bool, true, false, not, List, [], ◌∷◌, ◌++◌, length, Result, Ok, Err, refl, sym, ap, ◌∙◌, append_assoc, append-nil, length-append, inl, inr, arith, cond, ◌*◌}
 use Rattle.std.specs.Prelude.{◌==◌, ◌&&◌, ◌⊎◌}
 use mathlib.Core.Bool.{beq}
-use Rattle.std.specs.Prelude.{bit_xor}
 use mir.Val.{bool_byte}
 use Rattle.std.proofs.lemmas.Bool.Decides.{nat_tests}
 use Rattle.std.proofs.lemmas.List.{take_at}
 use Rattle.std.proofs.lemmas.Nat.{pow_below}
 use Rattle.bit_strings.specs.Numbers.{value_of, field_of}
-use Rattle.gen2_crc.specs.Crc.{divide, remainder_of, others5, preset5, crc5_of, crc16_of}
-use Rattle.gen2_crc.specs.CrcLaws.{length-crc5_of}
-use Rattle.gen2_crc.specs.Division.{remainder_of-append}
+use Rattle.gen2_crc.specs.Crc.{crc5_of, crc16_of}
 use Rattle.command_grammar.specs.declared.fields.Fields.{Fields}
 use Rattle.command_grammar.specs.declared.stage.Number.{Number}
 use Rattle.command_grammar.specs.declared.stage.NumberField.{NumberField}
@@ -248,52 +245,3 @@ pub count_start : (number : Number) (v : Fields) (whole bits : List Bool) → nu
 unfolding count_at
 count_start number v whole bits width nothing =
     number_stage number_fields.WordCount 8 number v bits width nothing ∙ counted (field_at 8 bits) (λ n. Ok (record v { word_count = n.0 }, n.1))
-
--- ---- the register of CRC-5
-
--- as the code moves it
-abbrev moved : ℕ → Bool → ℕ
-moved register bit = cond (not (beq (leb 16 register) bit)) (bit_xor (2 * (register % 16)) 9) (2 * (register % 16))
-
-eight : (P : Bool → Bool → Bool → Type 0) → P false false false → P false false true → P false true false → P false true true → P true false false → P true false true → P true true false → P true true true → (b d e : Bool) → P b d e
-eight P p0 p1 p2 p3 p4 p5 p6 p7 false false false = p0
-eight P p0 p1 p2 p3 p4 p5 p6 p7 false false true = p1
-eight P p0 p1 p2 p3 p4 p5 p6 p7 false true false = p2
-eight P p0 p1 p2 p3 p4 p5 p6 p7 false true true = p3
-eight P p0 p1 p2 p3 p4 p5 p6 p7 true false false = p4
-eight P p0 p1 p2 p3 p4 p5 p6 p7 true false true = p5
-eight P p0 p1 p2 p3 p4 p5 p6 p7 true true false = p6
-eight P p0 p1 p2 p3 p4 p5 p6 p7 true true true = p7
-
-abbrev Moves : Bool → Bool → Bool → Bool → Bool → Bool → Type 0
-Moves a c bit b d e = moved (value_of (a ∷ b ∷ c ∷ d ∷ e ∷ [])) bit ≡ value_of (remainder_of (a ∷ b ∷ c ∷ d ∷ e ∷ []) others5 (bit ∷ []))
-
-register-step : (a c bit b d e : Bool) → Moves a c bit b d e
-unfolding divide
-register-step false false false = eight (Moves false false false) refl refl refl refl refl refl refl refl
-register-step false false true = eight (Moves false false true) refl refl refl refl refl refl refl refl
-register-step false true false = eight (Moves false true false) refl refl refl refl refl refl refl refl
-register-step false true true = eight (Moves false true true) refl refl refl refl refl refl refl refl
-register-step true false false = eight (Moves true false false) refl refl refl refl refl refl refl refl
-register-step true false true = eight (Moves true false true) refl refl refl refl refl refl refl refl
-register-step true true false = eight (Moves true true false) refl refl refl refl refl refl refl refl
-register-step true true true = eight (Moves true true true) refl refl refl refl refl refl refl refl
-
-five : (register : List Bool) (bit : Bool) → length register ≡ 5 → moved (value_of register) bit ≡ value_of (remainder_of register others5 (bit ∷ []))
-five (a ∷ b ∷ c ∷ d ∷ e ∷ []) bit wide = register-step a c bit b d e
-five [] bit wide = absurd (omega arith)
-five (a ∷ []) bit wide = absurd (omega arith)
-five (a ∷ b ∷ []) bit wide = absurd (omega arith)
-five (a ∷ b ∷ c ∷ []) bit wide = absurd (omega arith)
-five (a ∷ b ∷ c ∷ d ∷ []) bit wide = absurd (omega arith)
-five (a ∷ b ∷ c ∷ d ∷ e ∷ f ∷ more) bit wide = absurd (omega arith)
-
-pub crc5-more : (register : ℕ) (bits : List Bool) (bit : Bool) → register ≡ value_of (crc5_of bits) → moved register bit ≡ value_of (crc5_of (bits ++ bit ∷ []))
-unfolding crc5_of
-crc5-more register bits bit same =
-    ap (λ n. moved n bit) same ∙ five (crc5_of bits) bit (length-crc5_of bits)
-    ∙ ap value_of (sym (remainder_of-append preset5 others5 bits (bit ∷ []) (omega arith) (omega arith)))
-
-pub crc5-none : 9 ≡ value_of (crc5_of [])
-unfolding crc5_of divide
-crc5-none = refl

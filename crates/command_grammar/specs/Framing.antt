@@ -7,6 +7,8 @@ use Rattle.command_grammar.specs.Commands.{IsCommandRefusedAt}
 use Rattle.command_grammar.specs.Reading.{Stop, Bad, Reading, ◌>>=◌, Choice, pick, none, child, bit_at, bits_at, field_at, choice_at, exactly_at, count_at, words_at, block_at, first_block_at, last_block_at, first_at, second_at, third_at, ebv_at, crc5_at, crc16_at, lines, chosen_of, sides, changes, targets, masked_banks, all_banks, kinds_10, kinds_11, kinds_11000, kinds_11001, all_kinds, all_of}
 use Rattle.command_grammar.specs.declared.commands.Command.{Command}
 use Rattle.command_grammar.specs.declared.commands.Command.TheVariants as commands
+use Rattle.command_grammar.specs.declared.check.Check.{Check}
+use Rattle.command_grammar.specs.declared.check.Check.TheVariants.{Short, Long, Over}
 use Rattle.command_grammar.specs.declared.choices.CommandKind.{CommandKind}
 use Rattle.command_grammar.specs.declared.choices.CommandKind.TheVariants as kinds
 use Rattle.command_grammar.specs.declared.choices.CodeFront.{CodeFront}
@@ -306,22 +308,63 @@ abbrev pub IsSoundStep : Option Next → Stage → Fields → Type 0
 IsSoundStep None stage v = IsSound stage v
 IsSoundStep (Some next) stage v = IsSoundNext next v
 
+-- ---- the check number
+
+-- the register stands for these bits
+abbrev pub Counts : Check → List Bool → Type 0
+Counts (Short crc) bits = crc ≡ value_of (crc5_of bits)
+Counts (Long crc) bits = RegisterStandsFor crc bits
+Counts Over bits = Unit {0}
+
+-- which one is kept
+abbrev pub check_kept : Check → Option Reason
+check_kept (Short crc) = Some reasons.Crc5
+check_kept (Long crc) = Some reasons.Crc16
+check_kept Over = None
+
+-- the field asks for no other
+abbrev pub IsAsked : Option Reason → Field → Type 0
+IsAsked kept fields.Crc5 = kept ≡ Some reasons.Crc5
+IsAsked kept fields.Crc16 = kept ≡ Some reasons.Crc16
+IsAsked kept other = Unit {0}
+
+-- the check number stands last
+abbrev pub kept_behind : Option Reason → Field → Option Reason
+kept_behind kept fields.Crc5 = None
+kept_behind kept fields.Crc16 = None
+kept_behind kept other = kept
+
+abbrev pub AreServed : Option Reason → List Field → Type 0
+AreServed kept [] = Unit {0}
+AreServed kept (field ∷ behind) = IsAsked kept field × AreServed (kept_behind kept field) behind
+
 -- ---- all bits
 
 abbrev pub resume : CommandKind → Place → List Field → Fields → List Bool → List Bool → Result Command Stop
-resume kind (places.Code front) behind v whole bits = next_at (behind_code front) reasons.Code bits >>= λ x. run (fields_of x.0) x.0 v whole x.1
+resume kind (places.Code front crc5 crc16) behind v whole bits = next_at (behind_code front) reasons.Code bits >>= λ x. run (fields_of x.0) x.0 v whole x.1
 resume kind (places.Within stage) behind v whole bits = stage_from stage v bits >>= λ x. run behind kind x.0 whole x.1
 resume kind places.Whole behind v whole bits = only_whole (command_of kind v) bits
+
+-- in the code both check numbers go along, and behind it that of the command
+abbrev pub IsCounted : Place → Check → List Bool → Type 0
+IsCounted (places.Code front crc5 crc16) check bits = (crc5 ≡ value_of (crc5_of bits)) × RegisterStandsFor crc16 bits
+IsCounted (places.Within stage) check bits = Counts check bits
+IsCounted places.Whole check bits = Unit {0}
+
+abbrev pub IsServed : Place → Check → List Field → Type 0
+IsServed (places.Code front crc5 crc16) check behind = Unit {0}
+IsServed (places.Within stage) check behind = AreServed (check_kept check) behind
+IsServed places.Whole check behind = Unit {0}
 
 -- the state stands for these bits: whatever comes behind them, reading goes on from the state
 pub record Stands (s : State) (bits : List Bool) : Type 0 where
   pub count : s.pushed ≡ length bits
-  pub crc5 : s.crc5 ≡ value_of (crc5_of bits)
-  pub crc16 : RegisterStandsFor s.crc16 bits
+  pub counted : IsCounted s.place s.check bits
+  pub served : IsServed s.place s.check s.behind.now
   pub reads : (rest : List Bool) → all_of (bits ++ rest) ≡ resume s.kind s.place s.behind.now s.fields (bits ++ rest) rest
 
 abbrev pub IsSoundPlace : Place → Fields → Type 0
-IsSoundPlace (places.Code front) v = Unit {0}
+IsSoundPlace (places.Code front crc5 crc16) v = Unit {0}
 IsSoundPlace (places.Within stage) v = IsSound stage v
 IsSoundPlace places.Whole v = Unit {0}
 

@@ -2,6 +2,7 @@
 //! standard, version 1.2.0).
 #![tactic(auto)]
 
+mod check;
 mod choices;
 mod command_lists;
 mod commands;
@@ -11,7 +12,6 @@ mod fields;
 mod framer;
 mod laws;
 mod refusal;
-mod running_crc5;
 mod spelling;
 mod stage;
 mod state;

@@ -1,17 +1,15 @@
 //! The field of a command that is being read.
 ghost use Rattle.std.specs.Prelude.{◌≡◌, ◌+◌, ◌≤◌, ◌<◌, ◌^◌, ◌∷◌, ◌++◌, ℕ, List, Bool, length, Some};
-ghost use Rattle.bit_strings.specs.Numbers.{value_of};
-ghost use Rattle.gen2_crc.specs.Crc.{crc5_of, RegisterStandsFor};
-ghost use Rattle.command_grammar.specs.Framing.{number_from, taken_from, IsFront, IsTaken, stage_from, next_from, field_from, pair_from, triple_from, bit_from, number_then, words_then, block_then, IsBefore, IsSound, IsSoundNumber, IsSoundNext, IsSoundStep, width_of, step_from};
+ghost use Rattle.command_grammar.specs.Framing.{number_from, taken_from, IsFront, IsTaken, stage_from, next_from, field_from, pair_from, triple_from, bit_from, number_then, words_then, block_then, IsBefore, IsSound, IsSoundNumber, IsSoundNext, IsSoundStep, width_of, step_from, Counts, IsAsked, check_kept};
 ghost use Rattle.command_grammar.specs.declared.fields.Fields.{Fields};
 ghost use Rattle.command_grammar.specs.declared.stage.NumberField.TheVariants.{Digit};
 ghost use Rattle.command_grammar.specs.declared.stage.Stage.TheVariants as stages;
 
+use crate::check::Check;
 use crate::choices::{bank, line_code, mask_bank, sel, side, target, updn};
 use crate::command_lists::{BlockWords, Mask};
 use crate::fields::{Field, Fields, action_of, count_of, payload_of, pointer_of, q_of, session_of};
 use crate::refusal::Reason;
-use gen2_crc::Crc16;
 
 /// The bits of a number that were read before its next one.
 #[derive(Clone, Copy)]
@@ -144,9 +142,10 @@ pub(crate) enum Next {
 }
 
 impl Stage {
-    /// The beginning of a field, behind bits with these check numbers.
-    pub(crate) fn start(field: Field, crc5: u8, crc16: Crc16) -> Stage
-        ensures reads { (bits rest : List Bool) (fields : Fields) → crc5 ≡ value_of (crc5_of bits) → RegisterStandsFor crc16 bits → stage_from result fields rest ≡ field_from field fields (bits ++ rest) rest }
+    /// The beginning of a field, behind bits with this check number.
+    pub(crate) fn start(field: Field, check: &Check) -> Stage
+        requires { IsAsked (check_kept check.now) field }
+        ensures reads { (bits rest : List Bool) (fields : Fields) → Counts check.now bits → stage_from result fields rest ≡ field_from field fields (bits ++ rest) rest }
         ensures sound { (fields : Fields) → IsSound result fields }
     {
         match field {
@@ -157,13 +156,13 @@ impl Stage {
             Field::Session => Stage::Number(NumberField::Session, Number::of(2)),
             Field::Side => Stage::Bit(BitField::Side),
             Field::Q => Stage::Number(NumberField::Q, Number::of(4)),
-            Field::Crc5 => Stage::Known(
-                Reason::Crc5,
-                Number {
-                    behind: 4,
-                    value: u32::from(crc5),
-                },
-            ),
+            Field::Crc5 => match check {
+                Check::Short(crc) => {
+                    let value = u32::from(crc.value());
+                    Stage::Known(Reason::Crc5, Number { behind: 4, value })
+                }
+                Check::Long(_) | Check::Over => unreachable!(),
+            },
             Field::UpDn => Stage::Triple(TripleField::UpDn, Front::Nothing),
             Field::Target => Stage::Triple(TripleField::Target, Front::Nothing),
             Field::Action => Stage::Number(NumberField::Action, Number::of(3)),
@@ -179,13 +178,13 @@ impl Stage {
             Field::KillBits => Stage::Known(Reason::KillBits, Number::of(3)),
             Field::Payload => Stage::Number(NumberField::Payload, Number::of(20)),
             Field::Rn => Stage::Number(NumberField::Rn, Number::of(16)),
-            Field::Crc16 => Stage::Known(
-                Reason::Crc16,
-                Number {
-                    behind: 15,
-                    value: u32::from(crc16.value()),
-                },
-            ),
+            Field::Crc16 => match check {
+                Check::Long(crc) => {
+                    let value = u32::from(crc.value());
+                    Stage::Known(Reason::Crc16, Number { behind: 15, value })
+                }
+                Check::Short(_) | Check::Over => unreachable!(),
+            },
         }
     }
 

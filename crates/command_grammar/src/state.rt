@@ -3,24 +3,24 @@ ghost use Rattle.std.specs.Prelude.{◌≡◌, ◌++◌, ◌∷◌, [], ℕ, Lis
 ghost use Rattle.bit_strings.specs.Numbers.{value_of};
 ghost use Rattle.gen2_crc.specs.Crc.{crc5_of, RegisterStandsFor};
 ghost use Rattle.command_grammar.specs.Commands.{Judges, IsFinishAnswer, SpellsCommand};
-ghost use Rattle.command_grammar.specs.Framing.{Stands, IsSoundPlace, IsOpen, Goes, refusal_in, resume, run};
+ghost use Rattle.command_grammar.specs.Framing.{Stands, Counts, IsCounted, AreServed, IsServed, check_kept, IsSoundPlace, IsOpen, Goes, refusal_in, resume, run};
 ghost use Rattle.command_grammar.specs.declared.commands.Command.{Command};
 
+use crate::check::Check;
 use crate::choices::{CodeFront, CodeStep, CommandKind, code_step};
 use crate::commands::Command;
 use crate::fields::{Field, Fields};
 use crate::refusal::{CommandRefusal, Pushed, Reason};
-use crate::running_crc5::{PRESET, shifted};
 use crate::stage::{Next, Stage};
-use gen2_crc::Crc16;
+use gen2_crc::{Crc5, Crc16};
 
 /// Where the next bit stands.
 #[derive(Clone, Copy)]
 pub(crate) enum Place {
     /// In a field.
     Within(Stage),
-    /// In the command code.
-    Code(CodeFront),
+    /// In the command code. Which check number the command has isn't known yet.
+    Code(CodeFront, Crc5, Crc16),
     /// Behind the command.
     Whole,
 }
@@ -31,11 +31,10 @@ pub(crate) enum Place {
 pub(crate) struct State {
     /// How many bits were read.
     pub(crate) pushed: u32,
-    /// The register of CRC-5.
-    crc5: u8,
-    crc16: Crc16,
     /// The command, once its code was read.
     kind: CommandKind,
+    /// Its check number, from the code on.
+    check: Check,
     place: Place,
     /// The fields behind the one that is being read.
     behind: &'static [Field],
@@ -50,10 +49,9 @@ impl State {
     {
         State {
             pushed: 0,
-            crc5: PRESET,
-            crc16: Crc16::new(),
             kind: CommandKind::Nak,
-            place: Place::Code(CodeFront::Nothing),
+            check: Check::Over,
+            place: Place::Code(CodeFront::Nothing, Crc5::new(), Crc16::new()),
             behind: &[],
             fields: Fields::new(),
         }
@@ -67,23 +65,29 @@ impl State {
         ensures sound { result ≡ None → IsSoundPlace self.new.place self.new.fields }
     {
         self.pushed += 1;
-        self.crc5 = shifted(self.crc5, bit);
-        self.crc16.push(bit);
         match &mut self.place {
-            Place::Within(stage) => match stage.take(bit, &mut self.fields)? {
-                Next::Stay(next) => *stage = next,
-                Next::Done => self.begin(),
-                Next::Refused(reason) => return Some(reason),
-            },
-            Place::Code(front) => match code_step(*front, bit) {
-                CodeStep::More(more) => *front = more,
-                CodeStep::Is(kind) => {
-                    self.kind = kind;
-                    self.behind = kind.fields();
-                    self.begin();
+            Place::Within(stage) => {
+                self.check.push(bit);
+                match stage.take(bit, &mut self.fields)? {
+                    Next::Stay(next) => *stage = next,
+                    Next::Done => self.begin(),
+                    Next::Refused(reason) => return Some(reason),
                 }
-                CodeStep::Refused => return Some(Reason::Code),
-            },
+            }
+            Place::Code(front, crc5, crc16) => {
+                crc5.push(bit);
+                crc16.push(bit);
+                match code_step(*front, bit) {
+                    CodeStep::More(more) => *front = more,
+                    CodeStep::Is(kind) => {
+                        self.kind = kind;
+                        self.check = Check::of(kind, *crc5, *crc16);
+                        self.behind = kind.fields();
+                        self.begin();
+                    }
+                    CodeStep::Refused => return Some(Reason::Code),
+                }
+            }
             Place::Whole => return Some(Reason::Extra),
         }
         None
@@ -92,17 +96,19 @@ impl State {
     /// The next field begins, or the command is whole.
     #[inline(never)]
     fn begin(&mut self)
-        ensures reads { (bits rest : List Bool) → self.old.crc5 ≡ value_of (crc5_of bits) → RegisterStandsFor self.old.crc16 bits → run self.old.behind.now self.old.kind self.old.fields (bits ++ rest) rest ≡ resume self.new.kind self.new.place self.new.behind.now self.new.fields (bits ++ rest) rest }
+        requires { AreServed (check_kept self.old.check) self.old.behind.now }
+        ensures reads { (bits rest : List Bool) → Counts self.old.check bits → run self.old.behind.now self.old.kind self.old.fields (bits ++ rest) rest ≡ resume self.new.kind self.new.place self.new.behind.now self.new.fields (bits ++ rest) rest }
+        ensures counts { (bits : List Bool) → Counts self.old.check bits → IsCounted self.new.place self.new.check bits }
+        ensures serves { IsServed self.new.place self.new.check self.new.behind.now }
         ensures sound { IsSoundPlace self.new.place self.new.fields }
         ensures pushed { self.new.pushed ≡ self.old.pushed }
-        ensures crc5 { self.new.crc5 ≡ self.old.crc5 }
-        ensures crc16 { self.new.crc16 ≡ self.old.crc16 }
     {
         match self.behind {
             [] => self.place = Place::Whole,
             [field, behind @ ..] => {
                 self.behind = behind;
-                self.place = Place::Within(Stage::start(*field, self.crc5, self.crc16));
+                self.place = Place::Within(Stage::start(*field, &self.check));
+                self.check.start(*field);
             }
         }
     }
@@ -114,7 +120,7 @@ impl State {
     {
         match self.place {
             Place::Whole => Pushed::Whole,
-            Place::Code(_) | Place::Within(_) => Pushed::More,
+            Place::Code(..) | Place::Within(_) => Pushed::More,
         }
     }
 
@@ -125,7 +131,7 @@ impl State {
     {
         match self.place {
             Place::Whole => Ok(self.fields.command(self.kind)),
-            Place::Code(_) | Place::Within(_) => Err(CommandRefusal::Short(self.pushed)),
+            Place::Code(..) | Place::Within(_) => Err(CommandRefusal::Short(self.pushed)),
         }
     }
 }

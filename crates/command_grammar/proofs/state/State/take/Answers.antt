@@ -1,4 +1,6 @@
-use Rattle.std.proofs.Common.{◌∷◌, [], arith, length-append}
+use Rattle.std.proofs.Common.{◌∷◌, [], arith, length-append, subst}
+use Rattle.command_grammar.specs.declared.state.Place.{Place}
+use Rattle.command_grammar.specs.Framing.{IsCounted}
 use Rattle.command_grammar.proofs.Resuming.{few_bits, code_goes_on}
 use Rattle.command_grammar.proofs.state.State.take.Goals as goal
 
@@ -6,9 +8,11 @@ pub overflow_add-self : goal.overflow_add-self
 overflow_add-self c = omega (arith, c.requires.2.count, few_bits c.args.self.now.kind c.args.self.now.place c.args.self.now.behind.now c.args.self.now.fields c.requires.1 c.requires.2.reads)
 
 pub returns-in-More-clause-goes : goal.returns-in-More-clause-goes
-returns-in-More-clause-goes c = λ bits stands. record {
-  count = omega (arith, stands.count, length-append bits (c.args.bit ∷ []));
-  crc5 = c.shifted-self.ensures bits stands.crc5;
-  crc16 = c.push.ensures bits stands.crc16;
-  reads = code_goes_on c.args.self.now bits c.args.bit c.in-Code.front c.in-More.more c.in-Code.is c.in-More.ensures stands;
-}
+returns-in-More-clause-goes c = λ bits stands.
+    let counted = subst (λ (place : Place). IsCounted place c.args.self.now.check bits) c.in-Code.is stands.counted in
+    record {
+      count = omega (arith, stands.count, length-append bits (c.args.bit ∷ []));
+      counted = (c.push-in-Code.ensures bits counted.0, c.push-in-Code-2.ensures bits counted.1);
+      served = tt;
+      reads = code_goes_on c.args.self.now bits c.args.bit c.in-Code.front c.in-More.more c.in-Code.crc5 c.in-Code.crc16 c.push-in-Code.new.self c.push-in-Code-2.new.self c.in-Code.is c.in-More.ensures stands;
+    }

@@ -1,0 +1,67 @@
+//! The check number that goes along with the bits of a command (6.3.1.5).
+ghost use Rattle.std.specs.Prelude.{◌≡◌, List, Bool, [], ◌∷◌, ◌++◌};
+ghost use Rattle.bit_strings.specs.Numbers.{value_of};
+ghost use Rattle.gen2_crc.specs.Crc.{crc5_of, RegisterStandsFor};
+ghost use Rattle.command_grammar.specs.Framing.{Counts, fields_of, check_kept, kept_behind, AreServed};
+
+use crate::choices::CommandKind;
+use crate::fields::Field;
+use gen2_crc::{Crc5, Crc16};
+
+/// The check number of the bits so far, where one is still to come.
+#[derive(Clone, Copy)]
+pub(crate) enum Check {
+    /// That of a Query.
+    Short(Crc5),
+    /// That of a Select or of an access command.
+    Long(Crc16),
+    /// None is to come.
+    Over,
+}
+
+impl Check {
+    /// The one that comes in a command of this kind, behind bits with these check numbers.
+    pub(crate) fn of(kind: CommandKind, crc5: Crc5, crc16: Crc16) -> Check
+        ensures counts { (bits : List Bool) → crc5 ≡ value_of (crc5_of bits) → RegisterStandsFor crc16 bits → Counts result bits }
+        ensures serves { AreServed (check_kept result) (fields_of kind) }
+    {
+        match kind {
+            CommandKind::Query => Check::Short(crc5),
+            CommandKind::QueryRep
+            | CommandKind::Ack
+            | CommandKind::QueryAdjust
+            | CommandKind::Nak => Check::Over,
+            CommandKind::Select
+            | CommandKind::ReqRn
+            | CommandKind::Read
+            | CommandKind::Write
+            | CommandKind::Kill
+            | CommandKind::Lock
+            | CommandKind::Access
+            | CommandKind::BlockWrite
+            | CommandKind::BlockErase => Check::Long(crc16),
+        }
+    }
+
+    /// One bit more.
+    #[inline]
+    pub(crate) fn push(&mut self, bit: bool)
+        ensures counts { (bits : List Bool) → Counts self.old bits → Counts self.new (bits ++ bit ∷ []) }
+        ensures kept { check_kept self.new ≡ check_kept self.old }
+    {
+        match self {
+            Check::Long(crc) => crc.push(bit),
+            Check::Short(crc) => crc.push(bit),
+            Check::Over => {}
+        }
+    }
+    /// Behind the start of a field: the check number is over with its own field.
+    pub(crate) fn start(&mut self, field: Field)
+        ensures counts { (bits : List Bool) → Counts self.old bits → Counts self.new bits }
+        ensures kept { check_kept self.new ≡ kept_behind (check_kept self.old) field }
+    {
+        if matches!(field, Field::Crc5 | Field::Crc16) {
+            *self = Check::Over;
+        }
+    }
+}
