@@ -2,11 +2,10 @@
 use Rattle.std.proofs.Common.{◌≡◌, ℕ, suc, ◌+◌, ◌-◌, ◌/◌, ◌%◌, ◌^◌, ◌<◌, ◌≤◌, Bool, true, false, not, List, [], ◌∷◌, ◌++◌, length, Result, Ok, Err, refl, sym, ap, ◌∙◌, append_assoc, append-nil, length-append, inl, inr, arith, cond, ◌*◌}
 use Rattle.std.specs.Prelude.{◌==◌, ◌&&◌, ◌⊎◌}
 use mathlib.Core.Bool.{beq}
-use mir.Val.{bool_byte}
 use Rattle.std.proofs.lemmas.Bool.Decides.{nat_tests}
 use Rattle.std.proofs.lemmas.List.{take_at}
 use Rattle.std.proofs.lemmas.Nat.{pow_below}
-use Rattle.bit_strings.specs.Numbers.{value_of, field_of}
+use Rattle.bit_strings.specs.Numbers.{digit_of, value_of, field_of}
 use Rattle.gen2_crc.specs.Crc.{crc5_of, crc16_of}
 use Rattle.command_grammar.specs.declared.fields.Fields.{Fields}
 use Rattle.command_grammar.specs.declared.stage.Number.{Number}
@@ -45,9 +44,9 @@ few_bits (number_fields.FirstWord left) = omega arith
 few_bits (number_fields.Word left) = omega arith
 few_bits (number_fields.Digit block more value) = omega arith
 
-pub small_bit : (bit : Bool) → bool_byte bit ≤ 1
-small_bit true = omega arith
-small_bit false = omega arith
+pub small_digit : (bit : Bool) → digit_of bit ≤ 1
+small_digit true = omega arith
+small_digit false = omega arith
 
 pub small_front : (field : NumberField) (number : Number) → IsFront (width_of field) number → number.value < 2 ^ 30
 small_front field number front = omega (arith, front.small, pow_below front.read 30 (omega (arith, front.rest, few_bits field)))

@@ -1,6 +1,6 @@
 -- Profile: what a contract sees of a Framer, and what reading gives from each of its states for the bits that are still to
 -- come. It keeps no bits but those of a mask and of words; what is pushed behind the first place of refusal changes nothing.
-use Rattle.std.specs.Prelude.{◌≡◌, ℕ, zero, suc, ◌+◌, ◌*◌, ◌^◌, ◌<◌, ◌≤◌, Bool, false, List, [], ◌∷◌, ◌++◌, length, Option, Some, None, Result, Ok, Err, ◌==◌, if◌then◌else◌, ◌&&◌}
+use Rattle.std.specs.Prelude.{◌≡◌, ℕ, zero, suc, ◌+◌, ◌*◌, ◌/◌, ◌%◌, ◌^◌, ◌<◌, ◌≤◌, Bool, false, List, [], ◌∷◌, ◌++◌, length, Option, Some, None, Result, Ok, Err, ◌==◌, if◌then◌else◌, ◌&&◌}
 use Rattle.bit_strings.specs.Numbers.{digit_of, value_of, field_of}
 use Rattle.gen2_crc.specs.Crc.{crc5_of, RegisterStandsFor}
 use Rattle.command_grammar.specs.Commands.{IsCommandRefusedAt}
@@ -159,11 +159,6 @@ abbrev pub number_from : ℕ → ℕ → List Bool → Reading ℕ
 number_from zero value bits = bit_at bits >>= λ next. Ok (2 * value + digit_of next.0, next.1)
 number_from (suc behind) value bits = bit_at bits >>= λ next. number_from behind (2 * value + digit_of next.0) next.1
 
--- ... with one bit more: it goes on, or is whole
-abbrev pub taken_from : Option ℕ → Number → List Bool → Reading ℕ
-taken_from None number bits = number_from number.behind number.value bits
-taken_from (Some value) number bits = Ok (value, bits)
-
 -- a mask: likewise, behind the bits read
 abbrev pub mask_from : ℕ → List Bool → List Bool → Reading (List Bool)
 mask_from zero mask bits = bit_at bits >>= λ next. Ok (mask ++ next.0 ∷ [], next.1)
@@ -236,11 +231,6 @@ next_from (next.Stay stage) v bits = stage_from stage v bits
 next_from next.Done v bits = Ok (v, bits)
 next_from (next.Refused reason) v bits = Err (Bad (length bits + 1) reason)
 
--- ... where nothing comes of the bit, the stage goes on
-abbrev pub step_from : Option Next → Stage → Fields → List Bool → Reading Fields
-step_from None stage v bits = stage_from stage v bits
-step_from (Some next) stage v bits = next_from next v bits
-
 -- ---- numbers within their ranges
 
 abbrev pub width_of : NumberField → ℕ
@@ -271,10 +261,6 @@ pub record IsFront (width : ℕ) (number : Number) : Type 0 where
   pub rest : read + number.behind + 1 ≡ width
   pub small : number.value < 2 ^ read
 
-abbrev pub IsTaken : ℕ → Option ℕ → Number → Type 0
-IsTaken width None number = IsFront width number
-IsTaken width (Some value) number = value < 2 ^ width
-
 abbrev pub IsSoundNumber : NumberField → Fields → Type 0
 IsSoundNumber number_fields.Session v = Unit {0}
 IsSoundNumber number_fields.Q v = Unit {0}
@@ -304,9 +290,16 @@ IsSoundNext (next.Stay stage) v = IsSound stage v
 IsSoundNext next.Done v = Unit {0}
 IsSoundNext (next.Refused reason) v = Unit {0}
 
-abbrev pub IsSoundStep : Option Next → Stage → Fields → Type 0
-IsSoundStep None stage v = IsSound stage v
-IsSoundStep (Some next) stage v = IsSoundNext next v
+-- the next bit of a number that is known
+abbrev pub next_bit : Number → Bool
+next_bit number = number.value / 2 ^ number.behind % 2 == 1
+
+-- the bit isn't inside a number, a mask or bits that are known: it ends them, is refused, or stands elsewhere
+abbrev pub IsEdge : Stage → Bool → Type 0
+IsEdge (stages.Number field number) bit = number.behind ≡ 0
+IsEdge (stages.Known reason number) bit = bit ≡ next_bit number → number.behind ≡ 0
+IsEdge (stages.Mask behind) bit = behind ≡ 0
+IsEdge other bit = Unit {0}
 
 -- ---- the check number
 
@@ -367,6 +360,11 @@ abbrev pub IsSoundPlace : Place → Fields → Type 0
 IsSoundPlace (places.Code front crc5 crc16) v = Unit {0}
 IsSoundPlace (places.Within stage) v = IsSound stage v
 IsSoundPlace places.Whole v = Unit {0}
+
+abbrev pub IsEdgePlace : Place → Bool → Type 0
+IsEdgePlace (places.Code front crc5 crc16) bit = Unit {0}
+IsEdgePlace (places.Within stage) bit = IsEdge stage bit
+IsEdgePlace places.Whole bit = Unit {0}
 
 -- what comes of one bit more: a state that stands for the bits, or a refusal at the bit, whatever follows
 abbrev pub Goes : Option Reason → State → List Bool → Bool → Type 0

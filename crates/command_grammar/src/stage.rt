@@ -1,9 +1,11 @@
 //! The field of a command that is being read.
-ghost use Rattle.std.specs.Prelude.{◌≡◌, ◌+◌, ◌≤◌, ◌<◌, ◌^◌, ◌∷◌, ◌++◌, ℕ, List, Bool, length, Some};
-ghost use Rattle.command_grammar.specs.Framing.{number_from, taken_from, IsFront, IsTaken, stage_from, next_from, field_from, pair_from, triple_from, bit_from, number_then, words_then, block_then, IsBefore, IsSound, IsSoundNumber, IsSoundNext, IsSoundStep, width_of, step_from, Counts, IsAsked, check_kept};
+ghost use Rattle.std.specs.Prelude.{◌≡◌, ◌+◌, ◌*◌, ◌≤◌, ◌<◌, ◌^◌, ◌∷◌, ◌++◌, ℕ, List, Bool, length, Some, IsTrue, IsFalse};
+ghost use Rattle.bit_strings.specs.Numbers.{digit_of};
+ghost use Rattle.command_grammar.specs.Framing.{number_from, IsFront, stage_from, next_from, field_from, pair_from, triple_from, bit_from, number_then, words_then, block_then, IsBefore, IsSound, IsSoundNumber, IsSoundNext, IsEdge, next_bit, width_of, Counts, IsAsked, check_kept};
 ghost use Rattle.command_grammar.specs.declared.fields.Fields.{Fields};
 ghost use Rattle.command_grammar.specs.declared.stage.NumberField.TheVariants.{Digit};
 ghost use Rattle.command_grammar.specs.declared.stage.Stage.TheVariants as stages;
+ghost use Rattle.command_grammar.specs.declared.refusal.Reason.{Reason};
 
 use crate::check::Check;
 use crate::choices::{bank, line_code, mask_bank, sel, side, target, updn};
@@ -33,20 +35,59 @@ impl Number {
         }
     }
 
-    /// One bit more: the whole number, if it was the last one.
+    /// One bit more, behind which others come. Before the last bit that is `false`, and nothing changes.
     #[inline]
-    fn take(&mut self, bit: bool) -> Option<u32>
+    fn take_inside(&mut self, bit: bool) -> bool
         requires { self.old.value < 2 ^ 30 }
-        ensures reads { (rest : List Bool) → number_from self.old.behind self.old.value (bit ∷ rest) ≡ taken_from result self.new rest }
-        ensures fits { (width : ℕ) → IsFront width self.old → IsTaken width result self.new }
+        ensures reads { IsTrue result → (rest : List Bool) → number_from self.old.behind self.old.value (bit ∷ rest) ≡ number_from self.new.behind self.new.value rest }
+        ensures fits { IsTrue result → (width : ℕ) → IsFront width self.old → IsFront width self.new }
+        ensures last { IsFalse result → self.old.behind ≡ 0 }
+        ensures same { IsFalse result → self.new ≡ self.old }
     {
-        let value = 2 * self.value + u32::from(bit);
         if self.behind == 0 {
-            return Some(value);
+            return false;
         }
         self.behind -= 1;
-        self.value = value;
-        None
+        self.value = self.with(bit);
+        true
+    }
+
+    /// The number with one bit more behind those read.
+    #[inline]
+    fn with(&self, bit: bool) -> u32
+        requires { self.now.value < 2 ^ 30 }
+        ensures { result ≡ 2 * self.now.value + digit_of bit }
+    {
+        2 * self.value + u32::from(bit)
+    }
+
+    /// The next bit of a number that is known.
+    #[inline]
+    fn next(&self) -> bool
+        requires { self.now.behind ≤ 15 }
+        ensures { result ≡ next_bit self.now }
+    {
+        (self.value >> self.behind) % 2 == 1
+    }
+
+    /// One bit more of a number that is known, behind which others come. Before the last bit, and where the
+    /// bit is another one, that is `false`, and nothing changes.
+    #[inline]
+    fn pass_inside(&mut self, bit: bool) -> bool
+        requires { self.old.behind ≤ 15 }
+        ensures reads { IsTrue result → (reason : Reason) (fields : Fields) (rest : List Bool) → stage_from (stages.Known reason self.old) fields (bit ∷ rest) ≡ stage_from (stages.Known reason self.new) fields rest }
+        ensures few { self.new.behind ≤ self.old.behind }
+        ensures last { IsFalse result → bit ≡ next_bit self.old → self.old.behind ≡ 0 }
+        ensures same { IsFalse result → self.new ≡ self.old }
+    {
+        if self.behind == 0 {
+            return false;
+        }
+        if bit != self.next() {
+            return false;
+        }
+        self.behind -= 1;
+        true
     }
 }
 
@@ -188,30 +229,48 @@ impl Stage {
         }
     }
 
-    /// One bit more: what comes of it, or nothing where the stage goes on in its place.
+    /// One bit more inside a number, a mask or bits that are known. Elsewhere, with the last bit of them
+    /// and with a bit that isn't the known one that is `false`, and nothing changes.
     #[inline(always)]
-    pub(crate) fn take(&mut self, bit: bool, fields: &mut Fields) -> Option<Next>
+    pub(crate) fn take_inside(&mut self, bit: bool, fields: &mut Fields) -> bool
         requires { IsSound self.old fields.old }
-        ensures reads { (rest : List Bool) → stage_from self.old fields.old (bit ∷ rest) ≡ step_from result self.new fields.new rest }
-        ensures sound { IsSoundStep result self.new fields.new }
+        ensures reads { IsTrue result → (rest : List Bool) → stage_from self.old fields.old (bit ∷ rest) ≡ stage_from self.new fields.new rest }
+        ensures sound { IsTrue result → IsSound self.new fields.new }
+        ensures edge { IsFalse result → IsEdge self.old bit }
+        ensures same { IsFalse result → self.new ≡ self.old }
+        ensures fields { IsFalse result → fields.new ≡ fields.old }
     {
         match self {
-            Stage::Number(field, number) => {
-                let value = number.take(bit)?;
-                Some(take_number(*field, value, fields))
+            Stage::Number(_, number) => number.take_inside(bit),
+            Stage::Known(_, wanted) => wanted.pass_inside(bit),
+            Stage::Mask(behind) => mask_inside(behind, bit, fields),
+            Stage::Bit(_) | Stage::Pair(..) | Stage::Triple(..) | Stage::Extension(..) => false,
+        }
+    }
+
+    /// One bit more, at an edge: `take_inside` takes it nowhere else.
+    pub(crate) fn take(self, bit: bool, fields: &mut Fields) -> Next
+        requires sound { IsSound self fields.old }
+        requires edge { IsEdge self bit }
+        ensures reads { (rest : List Bool) → stage_from self fields.old (bit ∷ rest) ≡ next_from result fields.new rest }
+        ensures sound { IsSoundNext result fields.new }
+    {
+        match self {
+            Stage::Bit(field) => take_bit(field, bit, fields),
+            Stage::Pair(field, first) => take_pair(field, first, bit, fields),
+            Stage::Triple(field, front) => take_triple(field, front, bit, fields),
+            Stage::Number(field, number) => take_number(field, number.with(bit), fields),
+            Stage::Extension(block, value) => take_extension(block, value, bit),
+            Stage::Mask(_) => {
+                fields.mask.add(bit);
+                Next::Done
             }
-            Stage::Known(reason, wanted) => take_known(*reason, wanted, bit),
-            Stage::Mask(behind) => take_mask(behind, bit, fields),
-            Stage::Bit(field) => Some(take_bit(*field, bit, fields)),
-            Stage::Pair(field, first) => Some(take_pair(*field, *first, bit, fields)),
-            Stage::Triple(field, front) => Some(take_triple(*field, *front, bit, fields)),
-            Stage::Extension(block, value) => Some(take_extension(*block, *value, bit)),
+            Stage::Known(reason, wanted) => take_known(reason, wanted, bit),
         }
     }
 }
 
 /// A field of one bit.
-#[inline(never)]
 fn take_bit(field: BitField, bit: bool, fields: &mut Fields) -> Next
     ensures reads { (rest : List Bool) → bit_from field fields.old (bit ∷ rest) ≡ next_from result fields.new rest }
     ensures sound { IsSoundNext result fields.new }
@@ -225,7 +284,6 @@ fn take_bit(field: BitField, bit: bool, fields: &mut Fields) -> Next
 }
 
 /// A bit of a field of two, behind the first one if that was read.
-#[inline(never)]
 fn take_pair(field: PairField, first: Option<bool>, bit: bool, fields: &mut Fields) -> Next
     ensures reads { (rest : List Bool) → pair_from field first fields.old (bit ∷ rest) ≡ next_from result fields.new rest }
     ensures sound { IsSoundNext result fields.new }
@@ -246,7 +304,6 @@ fn take_pair(field: PairField, first: Option<bool>, bit: bool, fields: &mut Fiel
 }
 
 /// A bit of a field of three.
-#[inline(never)]
 fn take_triple(field: TripleField, front: Front, bit: bool, fields: &mut Fields) -> Next
     ensures reads { (rest : List Bool) → triple_from field front fields.old (bit ∷ rest) ≡ next_from result fields.new rest }
     ensures sound { IsSoundNext result fields.new }
@@ -274,7 +331,6 @@ fn take_triple(field: TripleField, front: Front, bit: bool, fields: &mut Fields)
 }
 
 /// The whole number of a field.
-#[inline(never)]
 fn take_number(field: NumberField, value: u32, fields: &mut Fields) -> Next
     requires small { value < 2 ^ width_of field }
     requires sound { IsSoundNumber field fields.old }
@@ -391,7 +447,6 @@ fn next_block(block: Block, more: bool, value: u32, fields: &mut Fields) -> Next
 }
 
 /// The extension bit of a block.
-#[inline(never)]
 fn take_extension(block: Block, value: u32, bit: bool) -> Next
     requires { IsBefore block value }
     ensures reads { (fields : Fields) (rest : List Bool) → stage_from (stages.Extension block value) fields (bit ∷ rest) ≡ next_from result fields rest }
@@ -407,34 +462,33 @@ fn take_extension(block: Block, value: u32, bit: bool) -> Next
     }
 }
 
-/// A bit of a mask, behind which so many come.
+/// A bit of a mask, behind which so many come: `false` before the last one.
 #[inline]
-fn take_mask(behind: &mut u32, bit: bool, fields: &mut Fields) -> Option<Next>
+fn mask_inside(behind: &mut u32, bit: bool, fields: &mut Fields) -> bool
     requires { length fields.old.mask + behind.old + 1 ≤ 255 }
-    ensures reads { (rest : List Bool) → stage_from (stages.Mask behind.old) fields.old (bit ∷ rest) ≡ step_from result (stages.Mask behind.new) fields.new rest }
-    ensures sound { IsSoundStep result (stages.Mask behind.new) fields.new }
+    ensures reads { IsTrue result → (rest : List Bool) → stage_from (stages.Mask behind.old) fields.old (bit ∷ rest) ≡ stage_from (stages.Mask behind.new) fields.new rest }
+    ensures sound { IsTrue result → length fields.new.mask + behind.new + 1 ≤ 255 }
+    ensures last { IsFalse result → behind.old ≡ 0 }
+    ensures same { IsFalse result → behind.new ≡ behind.old }
+    ensures fields { IsFalse result → fields.new ≡ fields.old }
 {
-    fields.mask.add(bit);
     if *behind == 0 {
-        return Some(Next::Done);
+        return false;
     }
+    fields.mask.add(bit);
     *behind -= 1;
-    None
+    true
 }
 
-/// A bit that is known.
-#[inline]
-fn take_known(reason: Reason, wanted: &mut Number, bit: bool) -> Option<Next>
-    requires { wanted.old.behind ≤ 15 }
-    ensures reads { (fields : Fields) (rest : List Bool) → stage_from (stages.Known reason wanted.old) fields (bit ∷ rest) ≡ step_from result (stages.Known reason wanted.new) fields rest }
-    ensures sound { (fields : Fields) → IsSoundStep result (stages.Known reason wanted.new) fields }
+/// The last of the bits that are known, or another bit.
+fn take_known(reason: Reason, wanted: Number, bit: bool) -> Next
+    requires few { wanted.behind ≤ 15 }
+    requires edge { IsEdge (stages.Known reason wanted) bit }
+    ensures reads { (fields : Fields) (rest : List Bool) → stage_from (stages.Known reason wanted) fields (bit ∷ rest) ≡ next_from result fields rest }
+    ensures sound { (fields : Fields) → IsSoundNext result fields }
 {
-    if bit != ((wanted.value >> wanted.behind) % 2 == 1) {
-        return Some(Next::Refused(reason));
+    if bit != wanted.next() {
+        return Next::Refused(reason);
     }
-    if wanted.behind == 0 {
-        return Some(Next::Done);
-    }
-    wanted.behind -= 1;
-    None
+    Next::Done
 }

@@ -1,9 +1,9 @@
 //! What was read of a command.
-ghost use Rattle.std.specs.Prelude.{◌≡◌, ◌++◌, ◌∷◌, [], ℕ, List, Bool, Ok, None};
+ghost use Rattle.std.specs.Prelude.{◌≡◌, ◌++◌, ◌∷◌, [], ℕ, List, Bool, Ok, None, IsTrue, IsFalse};
 ghost use Rattle.bit_strings.specs.Numbers.{value_of};
 ghost use Rattle.gen2_crc.specs.Crc.{crc5_of, RegisterStandsFor};
 ghost use Rattle.command_grammar.specs.Commands.{Judges, IsFinishAnswer, SpellsCommand};
-ghost use Rattle.command_grammar.specs.Framing.{Stands, Counts, IsCounted, AreServed, IsServed, check_kept, IsSoundPlace, IsOpen, Goes, refusal_in, resume, run};
+ghost use Rattle.command_grammar.specs.Framing.{Stands, Counts, IsCounted, AreServed, IsServed, check_kept, IsEdgePlace, IsSoundPlace, IsOpen, Goes, refusal_in, resume, run};
 ghost use Rattle.command_grammar.specs.declared.commands.Command.{Command};
 
 use crate::check::Check;
@@ -64,11 +64,46 @@ impl State {
         ensures goes { (bits : List Bool) → Stands self.old bits → Goes result self.new bits bit }
         ensures sound { result ≡ None → IsSoundPlace self.new.place self.new.fields }
     {
+        if self.take_inside(bit) {
+            return None;
+        }
+        self.take_edge(bit)
+    }
+
+    /// Stands for one bit more inside a field, as most bits are. At any other place that is `false`, and
+    /// nothing changes.
+    #[inline(always)]
+    fn take_inside(&mut self, bit: bool) -> bool
+        requires { IsOpen self.old None }
+        ensures stands { IsTrue result → (bits : List Bool) → Stands self.old bits → Stands self.new (bits ++ bit ∷ []) }
+        ensures sound { IsTrue result → IsSoundPlace self.new.place self.new.fields }
+        ensures edge { IsFalse result → IsEdgePlace self.old.place bit }
+        ensures same { IsFalse result → self.new ≡ self.old }
+    {
+        let Place::Within(stage) = &mut self.place else {
+            return false;
+        };
+        if !stage.take_inside(bit, &mut self.fields) {
+            return false;
+        }
+        self.check.push(bit);
+        self.pushed += 1;
+        true
+    }
+
+    /// Stands for one bit more that isn't inside a field, or says why no command goes on with it.
+    #[inline(never)]
+    fn take_edge(&mut self, bit: bool) -> Option<Reason>
+        requires open { IsOpen self.old None }
+        requires edge { IsEdgePlace self.old.place bit }
+        ensures goes { (bits : List Bool) → Stands self.old bits → Goes result self.new bits bit }
+        ensures sound { result ≡ None → IsSoundPlace self.new.place self.new.fields }
+    {
         self.pushed += 1;
         match &mut self.place {
             Place::Within(stage) => {
                 self.check.push(bit);
-                match stage.take(bit, &mut self.fields)? {
+                match stage.take(bit, &mut self.fields) {
                     Next::Stay(next) => *stage = next,
                     Next::Done => self.begin(),
                     Next::Refused(reason) => return Some(reason),
@@ -94,7 +129,6 @@ impl State {
     }
 
     /// The next field begins, or the command is whole.
-    #[inline(never)]
     fn begin(&mut self)
         requires { AreServed (check_kept self.old.check) self.old.behind.now }
         ensures reads { (bits rest : List Bool) → Counts self.old.check bits → run self.old.behind.now self.old.kind self.old.fields (bits ++ rest) rest ≡ resume self.new.kind self.new.place self.new.behind.now self.new.fields (bits ++ rest) rest }

@@ -4,5 +4,5 @@ use Rattle.command_grammar.specs.Framing.{IsSound}
 use Rattle.command_grammar.proofs.Stages.{small_front}
 use Rattle.command_grammar.proofs.stage.Stage.take.Goals as goal
 
-pub take-requires : goal.take-requires
-take-requires c = small_front c.in-Number.field c.in-Number.number (subst (λ (stage : Stage). IsSound stage c.args.fields.now) c.in-Number.is c.requires).0
+pub with-requires : goal.with-requires
+with-requires c = small_front c.in-Number.field c.in-Number.number (subst (λ (stage : Stage). IsSound stage c.args.fields.now) c.in-Number.is c.requires.sound).0

@@ -2,10 +2,10 @@ use Rattle.std.proofs.Common.{◌∷◌, [], arith, length-append, subst}
 use Rattle.command_grammar.specs.declared.state.Place.{Place}
 use Rattle.command_grammar.specs.Framing.{IsCounted}
 use Rattle.command_grammar.proofs.Resuming.{few_bits, code_goes_on}
-use Rattle.command_grammar.proofs.state.State.take.Goals as goal
+use Rattle.command_grammar.proofs.state.State.take_edge.Goals as goal
 
 pub overflow_add-self : goal.overflow_add-self
-overflow_add-self c = omega (arith, c.requires.2.count, few_bits c.args.self.now.kind c.args.self.now.place c.args.self.now.behind.now c.args.self.now.fields c.requires.1 c.requires.2.reads)
+overflow_add-self c = omega (arith, c.requires.open.2.count, few_bits c.args.self.now.kind c.args.self.now.place c.args.self.now.behind.now c.args.self.now.fields c.requires.open.1 c.requires.open.2.reads)
 
 pub returns-in-More-clause-goes : goal.returns-in-More-clause-goes
 returns-in-More-clause-goes c = λ bits stands.
