@@ -89,6 +89,15 @@ impl LineCode for Fm0 {
         }
     }
 
+    fn block_bit(mark: SymbolBefore, levels: &[bool]) -> Option<bool> {
+        // The second level of a symbol may be either, and tells its bit.
+        if levels[0] == mark.last_level {
+            None
+        } else {
+            Some(levels[0] == levels[1])
+        }
+    }
+
     fn after(mark: SymbolBefore, bit: bool) -> SymbolBefore {
         let last_level = second_level(!mark.last_level, bit);
         SymbolBefore { bit, last_level }

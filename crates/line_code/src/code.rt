@@ -1,5 +1,5 @@
 //! What a line code is.
-ghost use Rattle.std.specs.Prelude.{◌≡◌, ℕ, ◌<◌, length, Bool, Some, slice_get};
+ghost use Rattle.std.specs.Prelude.{◌≡◌, ◌≢◌, ℕ, ◌<◌, length, Bool, Some, IfSome, IfNone, slice_get};
 ghost use Rattle.line_code.specs.Table.{Context, Table};
 ghost use Rattle.line_code.specs.Laws.{IsEven, HasLead, TellsBits, RefusesFlips, HidesLead};
 
@@ -41,6 +41,12 @@ pub trait LineCode {
     fn level(mark: Self::Mark, bit: bool, at: u32) -> bool
         requires { at < CHIPS }
         ensures { slice_get (table.block (context_of mark) bit) at ≡ Some result };
+
+    /// The bit whose block the levels are; none exactly where they are the block of neither bit.
+    fn block_bit(mark: Self::Mark, levels: &[bool]) -> Option<bool>
+        requires { length levels.now ≡ CHIPS }
+        ensures some { IfSome result (λ bit. levels.now ≡ table.block (context_of mark) bit) }
+        ensures none { IfNone result ((bit : Bool) → levels.now ≢ table.block (context_of mark) bit) };
 
     /// The mark of the bit that follows a bit.
     fn after(mark: Self::Mark, bit: bool) -> Self::Mark

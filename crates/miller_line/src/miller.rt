@@ -48,6 +48,10 @@ impl LineCode for Miller2 {
         subcarrier::block_level(2, mark, bit, at)
     }
 
+    fn block_bit(mark: SymbolBefore, levels: &[bool]) -> Option<bool> {
+        subcarrier::block_bit(2, mark, levels)
+    }
+
     fn after(mark: SymbolBefore, bit: bool) -> SymbolBefore {
         subcarrier::after(mark, bit)
     }
@@ -90,6 +94,10 @@ impl LineCode for Miller4 {
         subcarrier::block_level(4, mark, bit, at)
     }
 
+    fn block_bit(mark: SymbolBefore, levels: &[bool]) -> Option<bool> {
+        subcarrier::block_bit(4, mark, levels)
+    }
+
     fn after(mark: SymbolBefore, bit: bool) -> SymbolBefore {
         subcarrier::after(mark, bit)
     }
@@ -130,6 +138,10 @@ impl LineCode for Miller8 {
 
     fn level(mark: SymbolBefore, bit: bool, at: u32) -> bool {
         subcarrier::block_level(8, mark, bit, at)
+    }
+
+    fn block_bit(mark: SymbolBefore, levels: &[bool]) -> Option<bool> {
+        subcarrier::block_bit(8, mark, levels)
     }
 
     fn after(mark: SymbolBefore, bit: bool) -> SymbolBefore {

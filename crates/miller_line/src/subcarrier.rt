@@ -1,7 +1,7 @@
 //! What the three codes share. The number `m` is M of the standard: a symbol has `2 * m` levels, two
 //! halves of `m` levels each, and the subcarrier inverts at each level.
-ghost use Rattle.std.specs.Prelude.{◌≡◌, ℕ, ◌*◌, ◌<◌, ◌≤◌, false, true, ◌++◌, Some, length, slice_get};
-ghost use Rattle.miller_line.specs.Miller.{carrier, symbol, start_phase, middle_phase, miller_preamble, miller_lead, miller_block, miller_next};
+ghost use Rattle.std.specs.Prelude.{◌≡◌, ◌≢◌, ◌↔◌, ℕ, ◌*◌, ◌<◌, ◌≤◌, Bool, false, true, ◌++◌, Some, IfSome, IfNone, IsTrue, length, slice_get};
+ghost use Rattle.miller_line.specs.Miller.{IsOneOfThree, carrier, symbol, start_phase, middle_phase, miller_preamble, miller_lead, miller_block, miller_next};
 ghost use Rattle.miller_line.specs.SymbolContext.{context};
 
 /// The symbol before a bit's block.
@@ -28,6 +28,48 @@ const PREAMBLE_SYMBOLS: u32 = 6;
 /// on without inversion (6.3.1.3.2.4 of the standard).
 const PREAMBLE_PHASES: [bool; 12] = [
     false, false, false, true, true, true, true, false, false, true, true, false,
+];
+
+/// The levels of each symbol with M = 2, by the phase at its start and by its bit.
+const SYMBOLS_2: [[[bool; 4]; 2]; 2] = [
+    [[true, false, true, false], [true, false, false, true]],
+    [[false, true, false, true], [false, true, true, false]],
+];
+
+/// The levels of each symbol with M = 4, by the phase at its start and by its bit.
+const SYMBOLS_4: [[[bool; 8]; 2]; 2] = [
+    [
+        [true, false, true, false, true, false, true, false],
+        [true, false, true, false, false, true, false, true],
+    ],
+    [
+        [false, true, false, true, false, true, false, true],
+        [false, true, false, true, true, false, true, false],
+    ],
+];
+
+/// The levels of each symbol with M = 8, by the phase at its start and by its bit.
+const SYMBOLS_8: [[[bool; 16]; 2]; 2] = [
+    [
+        [
+            true, false, true, false, true, false, true, false, true, false, true, false, true,
+            false, true, false,
+        ],
+        [
+            true, false, true, false, true, false, true, false, false, true, false, true, false,
+            true, false, true,
+        ],
+    ],
+    [
+        [
+            false, true, false, true, false, true, false, true, false, true, false, true, false,
+            true, false, true,
+        ],
+        [
+            false, true, false, true, false, true, false, true, true, false, true, false, true,
+            false, true, false,
+        ],
+    ],
 ];
 
 /// The level of the subcarrier at the place `at`, counted from where it has this phase: high and low
@@ -125,6 +167,56 @@ pub fn block_level(m: u32, before: SymbolBefore, bit: bool, at: u32) -> bool
 {
     let start = phase_at_start(before, bit);
     symbol_level(m, start, phase_at_middle(start, bit), at)
+}
+
+/// The levels of a symbol, by the phase at its start and by its bit.
+fn symbol_of(m: u32, start: bool, bit: bool) -> &'static [bool]
+    requires { IsOneOfThree m }
+    ensures { result.now ≡ symbol m start (middle_phase start bit) }
+{
+    match m {
+        2 => &SYMBOLS_2[start as usize][bit as usize],
+        4 => &SYMBOLS_4[start as usize][bit as usize],
+        _ => &SYMBOLS_8[start as usize][bit as usize],
+    }
+}
+
+/// The bit of a symbol: a data-1 inverts the phase in the middle, so that its halves begin with different
+/// levels.
+fn bit_of_symbol(m: u32, levels: &[bool]) -> bool
+    requires factor { IsOneOfThree m }
+    requires whole { length levels.now ≡ 2 * m }
+    ensures { (start bit : Bool) → levels.now ≡ symbol m start (middle_phase start bit) → result ≡ bit }
+{
+    levels[0] != levels[m as usize]
+}
+
+/// Whether the levels are those of a symbol.
+fn is_symbol(levels: &[bool], symbol: &[bool]) -> bool
+    requires { length levels.now ≡ length symbol.now }
+    ensures { IsTrue result ↔ (levels.now ≡ symbol.now) }
+{
+    // The loop goes on to the end, so that the compiler can look at many levels at once.
+    let mut same = true;
+    for (at, level) in levels.iter().enumerate() {
+        same &= *level == symbol[at];
+    }
+    same
+}
+
+/// The bit whose block the levels are; none exactly where they are the block of neither bit.
+pub fn block_bit(m: u32, before: SymbolBefore, levels: &[bool]) -> Option<bool>
+    requires factor { IsOneOfThree m }
+    requires whole { length levels.now ≡ 2 * m }
+    ensures some { IfSome result (λ bit. levels.now ≡ miller_block m (context before) bit) }
+    ensures none { IfNone result ((bit : Bool) → levels.now ≢ miller_block m (context before) bit) }
+{
+    let bit = bit_of_symbol(m, levels);
+    if is_symbol(levels, symbol_of(m, phase_at_start(before, bit), bit)) {
+        Some(bit)
+    } else {
+        None
+    }
 }
 
 /// What stands before the bit that follows a bit.
