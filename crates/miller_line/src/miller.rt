@@ -44,8 +44,8 @@ impl LineCode for Miller2 {
         subcarrier::after_lead()
     }
 
-    fn level(mark: SymbolBefore, bit: bool, at: u32) -> bool {
-        subcarrier::block_level(2, mark, bit, at)
+    fn block(mark: SymbolBefore, bit: bool) -> &'static [bool] {
+        subcarrier::block(2, mark, bit)
     }
 
     fn block_bit(mark: SymbolBefore, levels: &[bool]) -> Option<bool> {
@@ -90,8 +90,8 @@ impl LineCode for Miller4 {
         subcarrier::after_lead()
     }
 
-    fn level(mark: SymbolBefore, bit: bool, at: u32) -> bool {
-        subcarrier::block_level(4, mark, bit, at)
+    fn block(mark: SymbolBefore, bit: bool) -> &'static [bool] {
+        subcarrier::block(4, mark, bit)
     }
 
     fn block_bit(mark: SymbolBefore, levels: &[bool]) -> Option<bool> {
@@ -136,8 +136,8 @@ impl LineCode for Miller8 {
         subcarrier::after_lead()
     }
 
-    fn level(mark: SymbolBefore, bit: bool, at: u32) -> bool {
-        subcarrier::block_level(8, mark, bit, at)
+    fn block(mark: SymbolBefore, bit: bool) -> &'static [bool] {
+        subcarrier::block(8, mark, bit)
     }
 
     fn block_bit(mark: SymbolBefore, levels: &[bool]) -> Option<bool> {

@@ -80,18 +80,6 @@ fn carrier_level(phase: bool, at: u32) -> bool
     if at % 2 == 0 { !phase } else { phase }
 }
 
-/// The level of a symbol at the place `at`, by the phases of its halves.
-fn symbol_level(m: u32, start: bool, middle: bool, at: u32) -> bool
-    requires { at < 2 * m }
-    ensures { slice_get (symbol m start middle) at ≡ Some result }
-{
-    if at < m {
-        carrier_level(start, at)
-    } else {
-        carrier_level(middle, at - m)
-    }
-}
-
 /// The phase at the start of a bit's symbol: a data-0 after a data-0 inverts it there.
 fn phase_at_start(before: SymbolBefore, bit: bool) -> bool
     ensures { result ≡ start_phase (context before) bit }
@@ -160,15 +148,6 @@ pub fn after_lead() -> SymbolBefore
     }
 }
 
-/// The level of a bit's block at the place `at`, counted from 0.
-pub fn block_level(m: u32, before: SymbolBefore, bit: bool, at: u32) -> bool
-    requires { at < 2 * m }
-    ensures { slice_get (miller_block m (context before) bit) at ≡ Some result }
-{
-    let start = phase_at_start(before, bit);
-    symbol_level(m, start, phase_at_middle(start, bit), at)
-}
-
 /// The levels of a symbol, by the phase at its start and by its bit.
 fn symbol_of(m: u32, start: bool, bit: bool) -> &'static [bool]
     requires { IsOneOfThree m }
@@ -181,6 +160,14 @@ fn symbol_of(m: u32, start: bool, bit: bool) -> &'static [bool]
     }
 }
 
+/// The levels of a bit's block.
+pub fn block(m: u32, before: SymbolBefore, bit: bool) -> &'static [bool]
+    requires { IsOneOfThree m }
+    ensures { result.now ≡ miller_block m (context before) bit }
+{
+    symbol_of(m, phase_at_start(before, bit), bit)
+}
+
 /// The bit of a symbol: a data-1 inverts the phase in the middle, so that its halves begin with different
 /// levels.
 fn bit_of_symbol(m: u32, levels: &[bool]) -> bool
@@ -191,15 +178,15 @@ fn bit_of_symbol(m: u32, levels: &[bool]) -> bool
     levels[0] != levels[m as usize]
 }
 
-/// Whether the levels are those of a symbol.
-fn is_symbol(levels: &[bool], symbol: &[bool]) -> bool
-    requires { length levels.now ≡ length symbol.now }
-    ensures { IsTrue result ↔ (levels.now ≡ symbol.now) }
+/// Whether the levels are those of a block.
+fn is_block(levels: &[bool], block: &[bool]) -> bool
+    requires { length levels.now ≡ length block.now }
+    ensures { IsTrue result ↔ (levels.now ≡ block.now) }
 {
     // The loop goes on to the end, so that the compiler can look at many levels at once.
     let mut same = true;
     for (at, level) in levels.iter().enumerate() {
-        same &= *level == symbol[at];
+        same &= *level == block[at];
     }
     same
 }
@@ -212,7 +199,7 @@ pub fn block_bit(m: u32, before: SymbolBefore, levels: &[bool]) -> Option<bool>
     ensures none { IfNone result ((bit : Bool) → levels.now ≢ miller_block m (context before) bit) }
 {
     let bit = bit_of_symbol(m, levels);
-    if is_symbol(levels, symbol_of(m, phase_at_start(before, bit), bit)) {
+    if is_block(levels, block(m, before, bit)) {
         Some(bit)
     } else {
         None
