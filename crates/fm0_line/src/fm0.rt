@@ -29,6 +29,12 @@ const PREAMBLE: [bool; 12] = [
     true, true, false, true, false, false, true, false, false, false, true, true,
 ];
 
+/// The levels of each symbol, by its first level and by its bit.
+const SYMBOLS: [[[bool; 2]; 2]; 2] = [
+    [[false, true], [false, false]],
+    [[true, false], [true, true]],
+];
+
 /// The level of the preamble at the place `at`, counted from 0.
 fn preamble_level(at: u32) -> bool
     requires { at < PREAMBLE_LEVELS }
@@ -80,12 +86,17 @@ impl LineCode for Fm0 {
         }
     }
 
-    fn level(mark: SymbolBefore, bit: bool, at: u32) -> bool {
+    fn block(mark: SymbolBefore, bit: bool) -> &'static [bool] {
         let first = !mark.last_level;
-        if at == 0 {
-            first
+        &SYMBOLS[first as usize][bit as usize]
+    }
+
+    fn block_bit(mark: SymbolBefore, levels: &[bool]) -> Option<bool> {
+        // The second level of a symbol may be either, and tells its bit.
+        if levels[0] == mark.last_level {
+            None
         } else {
-            second_level(first, bit)
+            Some(levels[0] == levels[1])
         }
     }
 

@@ -1,6 +1,6 @@
 -- How blocks and fronts of blocks join and part.
-use Rattle.std.proofs.Common.{◌≡◌, ℕ, ◌+◌, ◌<◌, ◌↔◌, Bool, true, false, List, [], ◌∷◌, ◌++◌, length, take, get_or, Some, IsTrue, slice_get, refl, sym, ap, ◌∙◌, arith, append_assoc}
-use Rattle.std.proofs.lemmas.List.{length-take-le, take_more, same_from_push}
+use Rattle.std.proofs.Common.{◌≡◌, ℕ, ◌+◌, ◌<◌, ◌↔◌, Bool, true, List, [], ◌∷◌, ◌++◌, length, take, Some, slice_get, refl, sym, ap, ◌∙◌, arith, append_assoc}
+use Rattle.std.proofs.lemmas.List.{take_more, same_from_push}
 use Rattle.std.proofs.lemmas.Option.{get_or_from_slice_get, slice_get-get_or}
 use Rattle.line_code.specs.Table.{Context, Table}
 use Rattle.line_code.specs.Stream.{blocks}
@@ -36,18 +36,4 @@ front_more part block level n is l =
     let more = take_more block n true l in (
       λ (f, g). ap (λ ls. ls ++ level ∷ []) f ∙ ap (λ x. take n block ++ x ∷ []) (sym (get_or_from_slice_get block n level true g)) ∙ sym more,
       λ e. let same = same_from_push part (take n block) level _ (e ∙ more) in (same.0, slice_get-get_or block n true l ∙ ap Some (sym same.1)),
-    )
-
--- whether two fronts are the same, with one more item
-pub same_more : (levels block : List Bool) (n : ℕ) (fits more : Bool) → n < length levels → n < length block
-    → IsTrue fits ↔ (take n levels ≡ take n block)
-    → IsTrue more ↔ (IsTrue fits × (slice_get block n ≡ Some (get_or levels n false)))
-    → IsTrue more ↔ (take (n + 1) levels ≡ take (n + 1) block)
-same_more levels block n fits more within begun before at =
-    let level = get_or levels n false in
-    let step = take_more levels n false within in
-    let size = length-take-le n levels (omega arith) in
-    let front = front_more (take n levels) block level n (sym size) begun in (
-      λ yes. let parts = at.0 yes in step ∙ front.0 (before.0 parts.0, parts.1),
-      λ same. let parts = front.1 (sym step ∙ same) in at.1 (before.1 parts.0, parts.1),
     )

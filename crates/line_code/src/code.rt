@@ -1,5 +1,5 @@
 //! What a line code is.
-ghost use Rattle.std.specs.Prelude.{◌≡◌, ℕ, ◌<◌, length, Bool, Some, slice_get};
+ghost use Rattle.std.specs.Prelude.{◌≡◌, ◌≢◌, ℕ, ◌<◌, length, Bool, Some, IfSome, IfNone, slice_get};
 ghost use Rattle.line_code.specs.Table.{Context, Table};
 ghost use Rattle.line_code.specs.Laws.{IsEven, HasLead, TellsBits, RefusesFlips, HidesLead};
 
@@ -37,10 +37,15 @@ pub trait LineCode {
     fn after_lead() -> Self::Mark
         ensures { context_of result ≡ table.start };
 
-    /// The level of a bit's block at the place `at`, counted from 0.
-    fn level(mark: Self::Mark, bit: bool, at: u32) -> bool
-        requires { at < CHIPS }
-        ensures { slice_get (table.block (context_of mark) bit) at ≡ Some result };
+    /// The levels of a bit's block.
+    fn block(mark: Self::Mark, bit: bool) -> &'static [bool]
+        ensures { result.now ≡ table.block (context_of mark) bit };
+
+    /// The bit whose block the levels are; none exactly where they are the block of neither bit.
+    fn block_bit(mark: Self::Mark, levels: &[bool]) -> Option<bool>
+        requires { length levels.now ≡ CHIPS }
+        ensures some { IfSome result (λ bit. levels.now ≡ table.block (context_of mark) bit) }
+        ensures none { IfNone result ((bit : Bool) → levels.now ≢ table.block (context_of mark) bit) };
 
     /// The mark of the bit that follows a bit.
     fn after(mark: Self::Mark, bit: bool) -> Self::Mark

@@ -37,7 +37,7 @@ fn put_block<C: LineCode>(mark: C::Mark, bit: bool, out: &mut Levels)
     requires { length out.old.items + C.CHIPS ≤ out.old.capacity }
     ensures { out.new ≡ record out.old { items = out.old.items ++ C.table.block (C.context_of mark) bit } }
 {
-    for at in 0..C::CHIPS {
-        out.push_reserved(C::level(mark, bit, at));
+    for level in C::block(mark, bit) {
+        out.push_reserved(*level);
     }
 }

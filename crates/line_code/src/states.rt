@@ -1,6 +1,6 @@
 //! The decoder as three typed states, which take one level at a time: [`Seeking`] before the
 //! data, [`Inside`] in the data, and [`Ended`] behind a whole stream. None of them keeps the levels.
-ghost use Rattle.std.specs.Prelude.{◌≡◌, ◌≢◌, ◌<◌, ◌≤◌, List, Bool, true, [], ◌∷◌, ◌++◌, length, take, IfErr, OnErr, IfSome, IfNone, IsSome, IsTrue, ◌↔◌, slice_get};
+ghost use Rattle.std.specs.Prelude.{◌≡◌, ◌<◌, ◌≤◌, List, Bool, true, [], ◌∷◌, ◌++◌, length, take, IfErr, OnErr, IfSome, IsSome, IsTrue, ◌↔◌, slice_get};
 ghost use Rattle.line_code.specs.States.{Seeks, Reads, Ends};
 ghost use Rattle.line_code.specs.Stream.{Streams};
 ghost use Rattle.line_code.specs.Refusal.{RefusesStream};
@@ -249,7 +249,7 @@ impl<C: LineCode> Inside<C> {
         if self.place > 0 || levels.len() < chips {
             return None;
         }
-        bit_of_block::<C>(self.mark, &levels[..chips])
+        C::block_bit(self.mark, &levels[..chips])
     }
 
     /// Takes the whole block of a bit at once, as pushes of its levels would, where none of it was
@@ -270,7 +270,7 @@ impl<C: LineCode> Inside<C> {
             put,
             last: _,
         } = self;
-        let _pushed = out.push(bit);
+        out.push_reserved(bit);
         Inside {
             mark: C::after(mark, bit),
             place: 0,
@@ -317,47 +317,7 @@ fn still_fits<C: LineCode>(mark: C::Mark, bit: bool, place: u32, fits: bool, lev
     requires { place < C.CHIPS }
     ensures { IsTrue result ↔ (IsTrue fits × (slice_get (C.table.block (C.context_of mark) bit) place ≡ Some level)) }
 {
-    fits & (C::level(mark, bit, place) == level)
-}
-
-/// The bit whose block the levels are; none exactly where they are the block of neither bit.
-fn bit_of_block<C: LineCode>(mark: C::Mark, levels: &[bool]) -> Option<bool>
-    requires { length levels.now ≡ C.CHIPS }
-    ensures some { IfSome result (λ bit. levels.now ≡ C.table.block (C.context_of mark) bit) }
-    ensures none { IfNone result ((bit : Bool) → levels.now ≢ C.table.block (C.context_of mark) bit) }
-{
-    let likely = likely_bit::<C>(mark, levels);
-    if is_block::<C>(mark, likely, levels) {
-        return Some(likely);
-    }
-    let other = !likely;
-    if is_block::<C>(mark, other, levels) {
-        return Some(other);
-    }
-    None
-}
-
-/// The bit whose block the levels are, if they are one, in a code that tells the bit by the first
-/// level of its block or by the one in its middle, as each code of the standard does. It is only a
-/// guess, which saves looking at the blocks of both bits, and jumps that depend on the bit.
-fn likely_bit<C: LineCode>(mark: C::Mark, levels: &[bool]) -> bool
-    requires { length levels.now ≡ C.CHIPS }
-{
-    let middle = C::CHIPS / 2;
-    (C::level(mark, true, 0) == levels[0])
-        & (C::level(mark, true, middle) == levels[middle as usize])
-}
-
-/// Whether the levels are the block of a bit.
-fn is_block<C: LineCode>(mark: C::Mark, bit: bool, levels: &[bool]) -> bool
-    requires { length levels.now ≡ C.CHIPS }
-    ensures { IsTrue result ↔ (levels.now ≡ C.table.block (C.context_of mark) bit) }
-{
-    let mut fits = true;
-    for place in 0..C::CHIPS {
-        fits = still_fits::<C>(mark, bit, place, fits, levels[place as usize]);
-    }
-    fits
+    fits & (C::block(mark, bit)[place as usize] == level)
 }
 
 /// Whether no block is begun, and the last bit is a dummy's.

@@ -1,6 +1,10 @@
 -- Miller-modulated subcarrier (6.3.1.3.2.3 and 6.3.1.3.2.4). A symbol has 2 M levels, M of 2, 4 or 8: two halves of M levels.
-use Rattle.std.specs.Prelude.{ℕ, zero, suc, ◌*◌, Bool, true, false, not, List, [], ◌∷◌, ◌++◌}
+use Rattle.std.specs.Prelude.{◌≡◌, ◌⊎◌, ℕ, zero, suc, ◌*◌, Bool, true, false, not, List, [], ◌∷◌, ◌++◌}
 use Rattle.line_code.specs.Table.{Context, Table}
+
+-- M of one of the three codes
+abbrev pub IsOneOfThree : ℕ → Type 0
+IsOneOfThree m = (m ≡ 2) ⊎ ((m ≡ 4) ⊎ (m ≡ 8))
 
 -- a number of levels of the subcarrier: high and low in turn, the first of them high in phase 0, which is false
 abbrev pub carrier : ℕ → Bool → List Bool

@@ -44,8 +44,12 @@ impl LineCode for Miller2 {
         subcarrier::after_lead()
     }
 
-    fn level(mark: SymbolBefore, bit: bool, at: u32) -> bool {
-        subcarrier::block_level(2, mark, bit, at)
+    fn block(mark: SymbolBefore, bit: bool) -> &'static [bool] {
+        subcarrier::block(2, mark, bit)
+    }
+
+    fn block_bit(mark: SymbolBefore, levels: &[bool]) -> Option<bool> {
+        subcarrier::block_bit(2, mark, levels)
     }
 
     fn after(mark: SymbolBefore, bit: bool) -> SymbolBefore {
@@ -86,8 +90,12 @@ impl LineCode for Miller4 {
         subcarrier::after_lead()
     }
 
-    fn level(mark: SymbolBefore, bit: bool, at: u32) -> bool {
-        subcarrier::block_level(4, mark, bit, at)
+    fn block(mark: SymbolBefore, bit: bool) -> &'static [bool] {
+        subcarrier::block(4, mark, bit)
+    }
+
+    fn block_bit(mark: SymbolBefore, levels: &[bool]) -> Option<bool> {
+        subcarrier::block_bit(4, mark, levels)
     }
 
     fn after(mark: SymbolBefore, bit: bool) -> SymbolBefore {
@@ -128,8 +136,12 @@ impl LineCode for Miller8 {
         subcarrier::after_lead()
     }
 
-    fn level(mark: SymbolBefore, bit: bool, at: u32) -> bool {
-        subcarrier::block_level(8, mark, bit, at)
+    fn block(mark: SymbolBefore, bit: bool) -> &'static [bool] {
+        subcarrier::block(8, mark, bit)
+    }
+
+    fn block_bit(mark: SymbolBefore, levels: &[bool]) -> Option<bool> {
+        subcarrier::block_bit(8, mark, levels)
     }
 
     fn after(mark: SymbolBefore, bit: bool) -> SymbolBefore {

@@ -1,7 +1,7 @@
 //! What the three codes share. The number `m` is M of the standard: a symbol has `2 * m` levels, two
 //! halves of `m` levels each, and the subcarrier inverts at each level.
-ghost use Rattle.std.specs.Prelude.{◌≡◌, ℕ, ◌*◌, ◌<◌, ◌≤◌, false, true, ◌++◌, Some, length, slice_get};
-ghost use Rattle.miller_line.specs.Miller.{carrier, symbol, start_phase, middle_phase, miller_preamble, miller_lead, miller_block, miller_next};
+ghost use Rattle.std.specs.Prelude.{◌≡◌, ◌≢◌, ◌↔◌, ℕ, ◌*◌, ◌<◌, ◌≤◌, Bool, false, true, ◌++◌, Some, IfSome, IfNone, IsTrue, length, slice_get};
+ghost use Rattle.miller_line.specs.Miller.{IsOneOfThree, carrier, symbol, start_phase, middle_phase, miller_preamble, miller_lead, miller_block, miller_next};
 ghost use Rattle.miller_line.specs.SymbolContext.{context};
 
 /// The symbol before a bit's block.
@@ -30,24 +30,54 @@ const PREAMBLE_PHASES: [bool; 12] = [
     false, false, false, true, true, true, true, false, false, true, true, false,
 ];
 
+/// The levels of each symbol with M = 2, by the phase at its start and by its bit.
+const SYMBOLS_2: [[[bool; 4]; 2]; 2] = [
+    [[true, false, true, false], [true, false, false, true]],
+    [[false, true, false, true], [false, true, true, false]],
+];
+
+/// The levels of each symbol with M = 4, by the phase at its start and by its bit.
+const SYMBOLS_4: [[[bool; 8]; 2]; 2] = [
+    [
+        [true, false, true, false, true, false, true, false],
+        [true, false, true, false, false, true, false, true],
+    ],
+    [
+        [false, true, false, true, false, true, false, true],
+        [false, true, false, true, true, false, true, false],
+    ],
+];
+
+/// The levels of each symbol with M = 8, by the phase at its start and by its bit.
+const SYMBOLS_8: [[[bool; 16]; 2]; 2] = [
+    [
+        [
+            true, false, true, false, true, false, true, false, true, false, true, false, true,
+            false, true, false,
+        ],
+        [
+            true, false, true, false, true, false, true, false, false, true, false, true, false,
+            true, false, true,
+        ],
+    ],
+    [
+        [
+            false, true, false, true, false, true, false, true, false, true, false, true, false,
+            true, false, true,
+        ],
+        [
+            false, true, false, true, false, true, false, true, true, false, true, false, true,
+            false, true, false,
+        ],
+    ],
+];
+
 /// The level of the subcarrier at the place `at`, counted from where it has this phase: high and low
 /// in turn, the first of them high in phase 0, which is `false`.
 fn carrier_level(phase: bool, at: u32) -> bool
     ensures { (n : ℕ) → at < n → slice_get (carrier n phase) at ≡ Some result }
 {
     if at % 2 == 0 { !phase } else { phase }
-}
-
-/// The level of a symbol at the place `at`, by the phases of its halves.
-fn symbol_level(m: u32, start: bool, middle: bool, at: u32) -> bool
-    requires { at < 2 * m }
-    ensures { slice_get (symbol m start middle) at ≡ Some result }
-{
-    if at < m {
-        carrier_level(start, at)
-    } else {
-        carrier_level(middle, at - m)
-    }
 }
 
 /// The phase at the start of a bit's symbol: a data-0 after a data-0 inverts it there.
@@ -118,13 +148,62 @@ pub fn after_lead() -> SymbolBefore
     }
 }
 
-/// The level of a bit's block at the place `at`, counted from 0.
-pub fn block_level(m: u32, before: SymbolBefore, bit: bool, at: u32) -> bool
-    requires { at < 2 * m }
-    ensures { slice_get (miller_block m (context before) bit) at ≡ Some result }
+/// The levels of a symbol, by the phase at its start and by its bit.
+fn symbol_of(m: u32, start: bool, bit: bool) -> &'static [bool]
+    requires { IsOneOfThree m }
+    ensures { result.now ≡ symbol m start (middle_phase start bit) }
 {
-    let start = phase_at_start(before, bit);
-    symbol_level(m, start, phase_at_middle(start, bit), at)
+    match m {
+        2 => &SYMBOLS_2[start as usize][bit as usize],
+        4 => &SYMBOLS_4[start as usize][bit as usize],
+        _ => &SYMBOLS_8[start as usize][bit as usize],
+    }
+}
+
+/// The levels of a bit's block.
+pub fn block(m: u32, before: SymbolBefore, bit: bool) -> &'static [bool]
+    requires { IsOneOfThree m }
+    ensures { result.now ≡ miller_block m (context before) bit }
+{
+    symbol_of(m, phase_at_start(before, bit), bit)
+}
+
+/// The bit of a symbol: a data-1 inverts the phase in the middle, so that its halves begin with different
+/// levels.
+fn bit_of_symbol(m: u32, levels: &[bool]) -> bool
+    requires factor { IsOneOfThree m }
+    requires whole { length levels.now ≡ 2 * m }
+    ensures { (start bit : Bool) → levels.now ≡ symbol m start (middle_phase start bit) → result ≡ bit }
+{
+    levels[0] != levels[m as usize]
+}
+
+/// Whether the levels are those of a block.
+fn is_block(levels: &[bool], block: &[bool]) -> bool
+    requires { length levels.now ≡ length block.now }
+    ensures { IsTrue result ↔ (levels.now ≡ block.now) }
+{
+    // The loop goes on to the end, so that the compiler can look at many levels at once.
+    let mut same = true;
+    for (at, level) in levels.iter().enumerate() {
+        same &= *level == block[at];
+    }
+    same
+}
+
+/// The bit whose block the levels are; none exactly where they are the block of neither bit.
+pub fn block_bit(m: u32, before: SymbolBefore, levels: &[bool]) -> Option<bool>
+    requires factor { IsOneOfThree m }
+    requires whole { length levels.now ≡ 2 * m }
+    ensures some { IfSome result (λ bit. levels.now ≡ miller_block m (context before) bit) }
+    ensures none { IfNone result ((bit : Bool) → levels.now ≢ miller_block m (context before) bit) }
+{
+    let bit = bit_of_symbol(m, levels);
+    if is_block(levels, block(m, before, bit)) {
+        Some(bit)
+    } else {
+        None
+    }
 }
 
 /// What stands before the bit that follows a bit.

@@ -14,5 +14,5 @@ returns-clause-reads g c =
     let state : InsideValue = record { context = context; place = inside.place; zero_fits = inside.zero_fits; one_fits = inside.one_fits; taken = inside.taken; put = inside.put; last = inside.last } in
     let fresh : state.place ≡ 0 = ap (λ (s : InsideValue). s.place) c.self.view_is ∙ c.requires.fresh in
     let read = reads_block t g.C.LineCode.CHIPS g.met.C.LineCode.even trext state levels c.args.out.now.items c.args.bit r fresh in
-    let put = ap (λ (s : BitString). s.items) (c.push-pushed.ensures.room c.requires.room) in
+    let put = ap (λ (s : BitString). s.items) c.push_reserved.ensures in
     rw (c.after.ensures, c.CHIPS.ensures, put) read)
