@@ -103,6 +103,19 @@ fn push_part(text: &mut String, words: &[u16]) -> Result<(), OutOfMemory>
     push_upper_hexadecimal(text, digits)
 }
 
+/// Writes words in hexadecimal digits at the end of the text.
+fn push_parts(text: &mut String, words: &[u16]) -> Result<(), OutOfMemory>
+    ensures { OnOk result (string_bytes text.new ≡ string_bytes text.old ++ flat_map hex_word words.now) }
+{
+    let mut rest = words;
+    while !rest.is_empty() {
+        let (part, behind) = rest.split_at(rest.len().min(PART));
+        push_part(text, part)?;
+        rest = behind;
+    }
+    Ok(())
+}
+
 /// Writes a number below 16 as one upper-case hexadecimal digit at the end of the text.
 pub fn push_hex_digit(text: &mut String, value: u8) -> Result<(), OutOfMemory>
     requires { value < 16 }
@@ -136,11 +149,5 @@ pub fn push_words(text: &mut String, words: &[u16]) -> Result<(), OutOfMemory>
     if words.is_empty() {
         return text.push('-');
     }
-    let mut rest = words;
-    while !rest.is_empty() {
-        let (part, behind) = rest.split_at(rest.len().min(PART));
-        push_part(text, part)?;
-        rest = behind;
-    }
-    Ok(())
+    push_parts(text, words)
 }
