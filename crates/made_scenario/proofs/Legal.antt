@@ -1,7 +1,6 @@
 -- A made scenario keeps the limits of scenarios.
 use Rattle.std.proofs.Common.{◌≡◌, ℕ, zero, suc, ◌+◌, ◌*◌, ◌<◌, ◌≤◌, ◌^◌, List, [], ◌∷◌, ◌++◌, map, length, refl, ◌∙◌, arith, length-append}
 use Rattle.std.specs.List.{AllByRecursion}
-use Rattle.core.proofs.slice.Lists.{all_by_recursion_push as all-push}
 use Rattle.std.proofs.lemmas.List.{length-map}
 use Rattle.std.proofs.lemmas.List.Elements.{All-from_recursion}
 use Rattle.made_scenario.specs.Made.{made, made_link, made_round, made_tag, draw_words, drawn_at, generator_of, numbers_below, words_of_tag}
@@ -17,6 +16,10 @@ all-map : {A : Type 0} {B : Type 0} (P : A → Type 0) (Q : B → Type 0) (f : A
     → AllByRecursion P list → AllByRecursion Q (map f list)
 all-map P Q f holds [] all = tt
 all-map P Q f holds (item ∷ list) all = (holds item all.0, all-map P Q f holds list all.1)
+
+all-push : {A : Type 0} (P : A → Type 0) (list : List A) (last : A) → AllByRecursion P list → P last → AllByRecursion P (list ++ last ∷ [])
+all-push P [] last all holds = (holds, tt)
+all-push P (item ∷ list) last all holds = (all.0, all-push P list last all.1 holds)
 
 numbers-small : (bound count : ℕ) → count ≤ bound → AllByRecursion (λ number. number < bound) (numbers_below count)
 unfolding numbers_below

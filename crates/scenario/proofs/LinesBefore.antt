@@ -4,7 +4,6 @@ use Rattle.std.proofs.lemmas.Bool.{eqb-true, eqb-false}
 use Rattle.std.proofs.lemmas.List.{length-append}
 use Rattle.std.proofs.lemmas.List.Elements.{filter-append}
 use Rattle.std.specs.List.{AllByRecursion}
-use Rattle.core.proofs.slice.Lists.{all_by_recursion_push as all-push}
 use Rattle.access_ops.specs.declared.OpList.{OpList}
 use Rattle.air_events.specs.Entries.{no_entry}
 use Rattle.air_events.specs.declared.Entry.{Entry}
@@ -25,6 +24,10 @@ use Rattle.scenario.specs.Faults.{DisagreesBy}
 use Rattle.scenario.specs.LinesBefore.{is_tag, is_air, is_step, tags_in, airs_in, steps_in, ops_behind, IsFullBefore, turn_of, ComesBefore, ChoosesOther, KeepsOrderBehind, ChoosesFirst, DisagreesWith}
 
 -- lists with one more
+
+all-push : {A : Type 0} (P : A → Type 0) (xs : List A) (x : A) → AllByRecursion P xs → P x → AllByRecursion P (xs ++ x ∷ [])
+all-push P [] x all last = (last, tt)
+all-push P (first ∷ xs) x all last = (all.0, all-push P xs x all.1 last)
 
 all-front : {A : Type 0} (P : A → Type 0) (xs : List A) (x : A) → AllByRecursion P (xs ++ x ∷ []) → AllByRecursion P xs
 all-front P [] x all = tt
