@@ -20,7 +20,7 @@ use Rattle.air_events.specs.declared.Event.{Event}
 use Rattle.air_events.specs.declared.Several.{Several}
 use Rattle.air_world.proofs.Answering.{SendsInRange, StaysLegal, events-legal, given-of-answers}
 use Rattle.air_world.proofs.Growth.{dialogue-holds, listing-holds, answer-holds, always-holds, steps-hold}
-use Rattle.air_world.proofs.LegalStart.{start-legal, ops-legal, selection-legal}
+use Rattle.air_world.proofs.LegalStart.{start-legal, selection-legal}
 use Rattle.air_world.proofs.Tags.{tags-exchanged, tags-befell, tags-operated, tags-ended}
 use Rattle.air_world.specs.History.{operation_reception, past_behind_dialogue, ack_reception, past_behind_ack, slot_reception, past_behind_slot, past_behind_round, past_behind_step}
 use Rattle.air_world.specs.ScenarioStart.{start_of, history}
@@ -240,7 +240,7 @@ step-legal laws start tags (steps.Select command) past is legal = legal-sent law
 step-legal laws start tags steps.Nak past is legal = legal-sent laws start 0 0 commands.Nak past tt legal
 step-legal laws start tags (steps.Event event number) past is legal = legal-befell laws start event number past legal
 step-legal laws start tags (steps.Round spec operations) past is legal =
-    round-legal laws start operations spec past (ops-legal operations.ops is.1.ops) is.0.legal legal
+    round-legal laws start operations spec past (recursion_from_All IsLegalOp operations.ops is.1.ops) is.0.legal legal
 
 history-legal : Laws → (scenario : Scenario) → IsScenario scenario → AreLegalBehind (start_of scenario) (history scenario)
 history-legal laws scenario is =

@@ -1,11 +1,7 @@
 -- The tags of a scenario are legal at its start, and its steps are legal.
 use Rattle.std.proofs.Common.{ℕ, ◌/◌, ◌%◌, ◌^◌, ◌<◌, List, [], ◌∷◌, map, subst, arith}
 use Rattle.std.proofs.lemmas.List.Elements.{All-cons, All-from_recursion, recursion_from_All}
-use Rattle.std.specs.Prelude.{All}
 use Rattle.std.specs.List.{AllByRecursion}
-use Rattle.access_ops.specs.OperationLaws.{IsLegalOp}
-use Rattle.access_ops.specs.declared.Op.{Op}
-use Rattle.access_ops.specs.declared.Op.TheVariants as ops
 use Rattle.air_channel.specs.Air.{AreLegalTags}
 use Rattle.air_world.specs.ScenarioStart.{start_of, tag_of}
 use Rattle.bit_strings.specs.NumberLaws.{value_of-below}
@@ -19,7 +15,6 @@ use Rattle.reply_grammar.specs.Table.{AreWords}
 use Rattle.scenario.specs.Limits.{IsStep, IsScenario}
 use Rattle.scenario.specs.declared.values.Scenario.{Scenario}
 use Rattle.scenario.specs.declared.values.Step.TheVariants as steps
-use Rattle.scenario_lines.specs.LineForm.{IsOp}
 use Rattle.scenario_lines.specs.TagForm.{IsTag}
 use Rattle.scenario_lines.specs.TagLaws.{banks-legal}
 use Rattle.scenario_lines.specs.declared.tag.TagSpec.{TagSpec}
@@ -70,24 +65,7 @@ new-legal-each (tag ∷ tags) are = (new-legal tag are.0, new-legal-each tags ar
 pub start-legal : (scenario : Scenario) → IsScenario scenario → AreLegalTags (start_of scenario).tags
 start-legal scenario is = new-legal-each scenario.tags (recursion_from_All IsTag scenario.tags is.tags)
 
--- the numbers of an operation of a step are within their fields
-op-legal : (op : Op) → IsOp op → IsLegalOp op
-op-legal (ops.Read bank pointer count) is = (omega (arith, is.0), is.1)
-op-legal (ops.Write bank pointer word) is = (omega (arith, is.0), is.1)
-op-legal (ops.BlockWrite bank pointer words) is = (omega (arith, is.0), is.1.some, is.1.room, recursion_from_All IsWord words is.1.small)
-op-legal (ops.BlockErase bank pointer count) is = (omega (arith, is.0), is.1, is.2)
-op-legal (ops.Lock payload) is = omega (arith, is)
-op-legal (ops.Access password) is = is
-op-legal (ops.Kill password) is = is
-
-ops-legal-each : (ops : List Op) → AllByRecursion IsOp ops → AllByRecursion IsLegalOp ops
-ops-legal-each [] are = tt
-ops-legal-each (op ∷ ops) are = (op-legal op are.0, ops-legal-each ops are.1)
-
-pub ops-legal : (ops : List Op) → All IsOp ops → AllByRecursion IsLegalOp ops
-ops-legal ops are = ops-legal-each ops (recursion_from_All IsOp ops are)
-
--- ... and those of a Select step
+-- the numbers of a Select step are within their fields
 pub selection-legal : (tags : ℕ) (command : Command) → IsStep tags (steps.Select command) → IsLegalCommand command
 selection-legal tags (commands.Select target action bank pointer mask) is = (is.action, omega (arith, is.pointer), is.mask)
 selection-legal tags command is = absurd is

@@ -6,7 +6,8 @@ use Rattle.std.proofs.lemmas.List.Elements.{All-from_recursion}
 use Rattle.made_scenario.specs.Made.{made, made_link, made_round, made_tag, draw_words, drawn_at, generator_of, numbers_below, words_of_tag}
 use Rattle.pie_line.specs.Link.{IsLegalLink}
 use Rattle.scenario.specs.Limits.{IsScenario, IsEntry, IsStep, IsOpList, most_tags, no_operations}
-use Rattle.scenario_lines.specs.LineForm.{IsOp, IsRound}
+use Rattle.access_ops.specs.OperationLaws.{IsLegalOp}
+use Rattle.scenario_lines.specs.LineForm.{IsRound}
 use Rattle.value_text.specs.ValueText.{IsWordList}
 use Rattle.scenario_lines.specs.TagForm.{IsTag}
 
@@ -86,7 +87,7 @@ round-legal = record {
 }
 
 no-operations-legal : IsOpList no_operations
-no-operations-legal = record { only = tt; ops = All-from_recursion IsOp [] tt; few = omega arith }
+no-operations-legal = record { only = tt; ops = All-from_recursion IsLegalOp [] tt; few = omega arith }
 
 pub made-legal : (seed tags : ℕ) → tags ≤ most_tags → IsScenario (made seed tags)
 made-legal seed tags few =

@@ -14,7 +14,8 @@ use Rattle.scenario.specs.Standing.{AgreesWith, DraftValue, Follows, HasRoom, Ke
 use Rattle.scenario.specs.LineLaws.{LineLaws}
 use Rattle.scenario.specs.Faults.{Disagrees, DisagreesBy, HasPlace, IsFaultyAt, IsFaultyBefore, IsTooMuch, SaysNothing, fault_of_line}
 use Rattle.scenario.proofs.Places.{GoesOn}
-use Rattle.scenario.proofs.Taken.{no_disagreement, spelled_begins}
+use Rattle.scenario_lines.specs.LineBeginnings.{spelled_begins}
+use Rattle.scenario.proofs.Taken.{no_disagreement}
 use Rattle.scenario.proofs.Texts.{spells_text}
 
 -- the reason for which a line doesn't agree with the lines before it, with all that is known then

@@ -19,7 +19,8 @@ use Rattle.scenario_lines.specs.declared.line.Happening.TheVariants as happening
 use Rattle.scenario_lines.specs.declared.line.Line.{Line}
 use Rattle.scenario_lines.specs.declared.line.Line.TheVariants as lines
 use Rattle.scenario_lines.specs.TagForm.{IsTag}
-use Rattle.scenario_lines.specs.LineForm.{IsChoice, IsEpc, IsEvent, IsExchange, IsHappening, IsOp, IsPlace, IsRound}
+use Rattle.access_ops.specs.OperationLaws.{IsLegalOp}
+use Rattle.scenario_lines.specs.LineForm.{IsChoice, IsEpc, IsEvent, IsExchange, IsHappening, IsPlace, IsRound}
 use Rattle.scenario.specs.declared.values.Step.{Step}
 use Rattle.scenario.specs.declared.values.Step.TheVariants as steps
 use Rattle.scenario.specs.ScenarioText.{air_lines, entry_lines, only_lines, operation_lines, scenario_lines, step_lines}
@@ -173,7 +174,7 @@ happening_keeps tags exchange entry (happenings.Choice choice) number is names e
 }
 
 no_operations_keep : IsOpList no_operations
-no_operations_keep = record { only = tt; ops = All-nil IsOp; few = omega arith }
+no_operations_keep = record { only = tt; ops = All-nil IsLegalOp; few = omega arith }
 
 -- where there is no step, there is none before the last
 no_step_before : (before : List Step) (round : Option SpecValue) (operations : OpList) → with_last before round operations ≡ [] → before ≡ []
@@ -313,12 +314,12 @@ only_keeps draft epc keeps is =
     operations_keep draft (record { only = Some epc; ops = draft.operations.ops }) keeps
     (record { only = is; ops = keeps.operations.ops; few = keeps.operations.few })
 
-op_keeps : (draft : DraftValue) (op : Op) → Keeps draft → IsOp op → length draft.operations.ops < most_ops → Keeps (with_op draft op)
+op_keeps : (draft : DraftValue) (op : Op) → Keeps draft → IsLegalOp op → length draft.operations.ops < most_ops → Keeps (with_op draft op)
 op_keeps draft op keeps is room =
     operations_keep draft (record { only = draft.operations.only; ops = draft.operations.ops ++ op ∷ [] }) keeps
     (record {
       only = keeps.operations.only;
-      ops = All-push IsOp draft.operations.ops op keeps.operations.ops is;
+      ops = All-push IsLegalOp draft.operations.ops op keeps.operations.ops is;
       few = omega (arith, length-append draft.operations.ops (op ∷ []));
     })
 

@@ -17,7 +17,7 @@ use Rattle.scenario.specs.Faults.{DisagreesBy, HasPlace, IsFaultyAt, IsFaultyBef
 use Rattle.scenario.proofs.Decisions.{chooses_once_decided, has_room_decided, keeps_order_decided, may_stand_decided, names_tag_decided, text_decided}
 use Rattle.scenario.proofs.Leading.{leads_one}
 use Rattle.scenario.proofs.Settled.{said_scenario}
-use Rattle.scenario.proofs.Taken.{spelled_begins}
+use Rattle.scenario_lines.specs.LineBeginnings.{spelled_begins}
 use Rattle.scenario.proofs.Texts.{some_line, text_of_lines, text_spelled}
 
 -- the fields spell a line that may follow

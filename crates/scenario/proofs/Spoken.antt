@@ -16,7 +16,8 @@ use Rattle.scenario_lines.specs.declared.line.Happening.TheVariants as happening
 use Rattle.scenario_lines.specs.declared.line.Line.{Line}
 use Rattle.scenario_lines.specs.declared.line.Line.TheVariants as lines
 use Rattle.scenario_lines.specs.TagForm.{IsTag}
-use Rattle.scenario_lines.specs.LineForm.{IsChoice, IsEpc, IsEvent, IsExchange, IsLinkForm, IsOp, IsPlace, IsRound}
+use Rattle.access_ops.specs.OperationLaws.{IsLegalOp}
+use Rattle.scenario_lines.specs.LineForm.{IsChoice, IsEpc, IsEvent, IsExchange, IsLinkForm, IsPlace, IsRound}
 use Rattle.access_ops.specs.declared.Op.{Op}
 use Rattle.access_ops.specs.declared.OpList.{OpList}
 use Rattle.q_round.specs.SpecValue.{SpecValue}
@@ -284,18 +285,18 @@ speak_only draft spec (Some epc) is =
     } in
     (follows, refl)
 
-speak_ops : (draft : DraftValue) (spec : SpecValue) (only : Option (List ℕ)) (before todo : List Op) → All IsOp todo
+speak_ops : (draft : DraftValue) (spec : SpecValue) (only : Option (List ℕ)) (before todo : List Op) → All IsLegalOp todo
     → length before + length todo ≤ most_ops
     → Leads (within (on_round draft spec only before)) (map lines.Op todo) (within (on_round draft spec only (before ++ todo)))
 speak_ops draft spec only before [] are few = rw append-nil refl
 speak_ops draft spec only before (op ∷ todo) are few =
     let follows : Follows (within (on_round draft spec only before)) (lines.Op op) = record {
-      is = record { form = All-head IsOp op todo are; coherent = tt };
+      is = record { form = All-head IsLegalOp op todo are; coherent = tt };
       stands = λ none. cc;
       room = omega (arith, few);
       agrees = record { names = tt; order = tt; once = tt };
     } in
-    let others = speak_ops draft spec only (before ++ op ∷ []) todo (All-tail IsOp op todo are) (omega (arith, few, length-append before (op ∷ []))) in (
+    let others = speak_ops draft spec only (before ++ op ∷ []) todo (All-tail IsLegalOp op todo are) (omega (arith, few, length-append before (op ∷ []))) in (
       follows,
       subst (λ (ops : List Op). Leads (within (on_round draft spec only (before ++ op ∷ []))) (map lines.Op todo) (within (on_round draft spec only ops)))
           (append_assoc before (op ∷ []) todo) others,

@@ -4,32 +4,14 @@ use Rattle.std.specs.Prelude.{IsErrAnd}
 use Rattle.scenario_lines.specs.declared.first_fields.Word.TheVariants as words
 use Rattle.scenario_lines.specs.declared.line.Line.{Line}
 use Rattle.scenario_lines.specs.declared.line.Line.TheVariants as lines
-use Rattle.scenario_lines.specs.Names.{air_kind, event_kind, op_kind}
-use Rattle.scenario_lines.specs.Spelling.{other_fields, word_of_line}
-use Rattle.scenario_lines.specs.LineFaults.{BeginsWith, HasKnownKind, IsFaultyLine, SpellsLine}
+use Rattle.scenario_lines.specs.Spelling.{word_of_line}
+use Rattle.scenario_lines.specs.LineFaults.{IsFaultyLine, SpellsLine}
 use Rattle.scenario_lines.specs.declared.fault.LineFault.{LineFault}
 use Rattle.scenario_lines.specs.declared.fault.LineFault.TheVariants as line_faults
 use Rattle.scenario.specs.declared.fault.Fault.{Fault}
 use Rattle.scenario.specs.declared.fault.Fault.TheVariants.{Extra, End, Version, Word as WordFault, Limit, Shape, Number, Tari, RtCal, TrCal, Pw, Pc, Tag, Order, Twice}
 use Rattle.scenario.specs.Standing.{Agrees, DraftValue, HasRoom, MayStand, Standing, after, ended, grown, within}
 use Rattle.scenario.specs.Faults.{DisagreesBy, HasPlace, IsFaultyAt, fault_of_line}
-
-known_kind : (said : Line) → HasKnownKind (word_of_line said) (other_fields said)
-known_kind lines.Version = tt
-known_kind (lines.Link link) = tt
-known_kind (lines.Tag tag) = tt
-known_kind (lines.Air exchange happening) = (air_kind happening, refl)
-known_kind (lines.Select selection) = tt
-known_kind lines.Nak = tt
-known_kind (lines.Event event tag) = (event_kind event, refl)
-known_kind (lines.Round spec) = tt
-known_kind (lines.Only epc) = tt
-known_kind (lines.Op op) = (op_kind op, refl)
-known_kind lines.End = tt
-
--- the fields of a line begin with its word
-pub spelled_begins : (fields : List (List ℕ)) (said : Line) → SpellsLine fields said → BeginsWith fields (word_of_line said)
-spelled_begins fields said spells = record { others = other_fields said; first = spells.spelling; kind = known_kind said }
 
 -- a line that has its place, and says nothing
 pub no_line : (standing : Standing) (fields : List (List ℕ)) → HasPlace standing fields → (reason : LineFault) → IsFaultyLine fields reason

@@ -5,7 +5,8 @@ use Rattle.access_ops.specs.declared.OpList.{OpList}
 use Rattle.command_grammar.specs.declared.commands.Command.TheVariants as commands
 use Rattle.pie_line.specs.Link.{IsLegalLink}
 use Rattle.scenario_lines.specs.TagForm.{IsTag}
-use Rattle.scenario_lines.specs.LineForm.{IsEvent, IsPlace, IsChoice, IsExchange, IsRound, IsSelection, IsEpc, IsOp}
+use Rattle.access_ops.specs.OperationLaws.{IsLegalOp}
+use Rattle.scenario_lines.specs.LineForm.{IsEvent, IsPlace, IsChoice, IsExchange, IsRound, IsSelection, IsEpc}
 use Rattle.scenario.specs.declared.values.Step.{Step}
 use Rattle.scenario.specs.declared.values.Step.TheVariants as steps
 use Rattle.scenario.specs.declared.values.Scenario.{Scenario}
@@ -48,7 +49,7 @@ Rises before (entry ∷ entries) = (before < entry.0) × Rises entry.0 entries
 -- the operations of a round, and the one EPC that they are for, where one is named
 pub record IsOpList (operations : OpList) : Type 0 where
   pub only : IfSome operations.only IsEpc
-  pub ops : All IsOp operations.ops
+  pub ops : All IsLegalOp operations.ops
   pub few : length operations.ops ≤ most_ops
 
 -- a step, where there are so many tags

@@ -9,7 +9,7 @@ use Rattle.text_fields.specs.Lines.{IsFieldText, line_feed, space}
 use Rattle.text_fields.specs.Binary.{binary, binary_digit}
 use Rattle.text_fields.specs.Hexadecimal.{hex_digit, hex_word, hex_words}
 use Rattle.text_fields.specs.CodeNames.{code_word}
-use Rattle.text_fields.specs.FieldTextLaws.{IsFieldText-binary, IsFieldText-decimal, IsFieldText-hex_word, IsFieldText-hex_words}
+use Rattle.text_fields.specs.FieldTextLaws.{IsFieldText-append as joined, IsFieldText-binary, IsFieldText-cons as before, IsFieldText-decimal, IsFieldText-hex_word, IsFieldText-hex_words, IsFieldText-one}
 use Rattle.command_text.specs.CommandText.{bank_word, flag_word, mask_bank_word, payload_digits, side_word}
 use Rattle.command_grammar.specs.declared.field_values.Bank.{Bank}
 use Rattle.command_grammar.specs.declared.field_values.Bank.TheVariants as all_banks
@@ -33,27 +33,6 @@ use Rattle.scenario_lines.specs.declared.first_fields.AirKind.TheVariants as air
 use Rattle.scenario_lines.specs.Names.{air_word, event_word, op_word, sel_text, word_text}
 use Rattle.value_text.specs.ValueText.{locks_text, pair_text, password_text}
 use Rattle.scenario_lines.specs.Spelling.{flag_text}
-
--- one visible byte
-IsFieldText-one : (byte : ℕ) → space < byte → IsFieldText (byte ∷ [])
-IsFieldText-one byte above = record {
-  filled = λ empty. cc;
-  no_space = All-cons (λ each. each ≢ space) byte [] (λ is. omega arith) (All-nil (λ each. each ≢ space));
-  no_line_feed = All-cons (λ each. each ≢ line_feed) byte [] (λ is. omega arith) (All-nil (λ each. each ≢ line_feed));
-}
-
--- two pieces one behind the other
-joined : (front back : List ℕ) → IsFieldText front → IsFieldText back → IsFieldText (front ++ back)
-joined [] back whole whole' = whole'
-joined (byte ∷ bytes) back whole whole' = record {
-  filled = λ empty. cc;
-  no_space = All-append (λ each. each ≢ space) (byte ∷ bytes) back whole.no_space whole'.no_space;
-  no_line_feed = All-append (λ each. each ≢ line_feed) (byte ∷ bytes) back whole.no_line_feed whole'.no_line_feed;
-}
-
--- a visible byte before a field
-before : (byte : ℕ) (text : List ℕ) → space < byte → IsFieldText text → IsFieldText (byte ∷ text)
-before byte text above whole = joined (byte ∷ []) text (IsFieldText-one byte above) whole
 
 pub number_text : (n : ℕ) → n < 2 ^ 32 → IsFieldText (decimal n)
 number_text n small = IsFieldText-decimal n small

@@ -10,6 +10,7 @@ pub mod LineTexts
 pub mod ToldNames
 pub mod ToldFields
 pub mod ToldLines
+pub mod BlockWords
 pub mod OneOp
 pub mod LineShapes
 pub mod LineReasons

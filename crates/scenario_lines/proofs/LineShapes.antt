@@ -9,9 +9,9 @@ use Rattle.scenario_lines.specs.declared.line.Line.TheVariants as lines
 use Rattle.scenario_lines.specs.declared.first_fields.Word.{Word}
 use Rattle.scenario_lines.specs.declared.first_fields.Word.TheVariants as words
 use Rattle.scenario_lines.specs.Names.{air_kind, air_word, event_kind, op_kind, word_text}
-use Rattle.scenario_lines.specs.LineForm.{HasForm, IsLine}
+use Rattle.scenario_lines.specs.LineForm.{HasForm}
 use Rattle.scenario_lines.specs.LineFaults.{BeginsWith, HasKnownKind, HasShape}
-use Rattle.scenario_lines.specs.Spelling.{happening_fields, line_fields, other_fields, word_of_line}
+use Rattle.scenario_lines.specs.Spelling.{happening_fields, other_fields, word_of_line}
 use Rattle.scenario_lines.proofs.Counted.{Filled}
 use Rattle.scenario_lines.proofs.AirFields.{event_filled, happening_filled}
 use Rattle.scenario_lines.proofs.OpFields.{op_filled}
@@ -22,23 +22,6 @@ use Rattle.scenario_lines.proofs.ToldNames.{word_told}
 pub begins_once : (fields : List (List ℕ)) (one other : Word) → BeginsWith fields one → BeginsWith fields other → one ≡ other
 begins_once fields one other begins begins' =
     word_told one other (same_fields (word_text one) (word_text other) begins.others begins'.others (sym begins.first ∙ begins'.first)).0
-
--- the kind of a line is one of its word's kinds
-known_kind : (line : Line) → HasKnownKind (word_of_line line) (other_fields line)
-known_kind lines.Version = tt
-known_kind (lines.Link link) = tt
-known_kind (lines.Tag tag) = tt
-known_kind (lines.Air exchange happening) = (air_kind happening, refl)
-known_kind (lines.Select selection) = tt
-known_kind lines.Nak = tt
-known_kind (lines.Event event tag) = (event_kind event, refl)
-known_kind (lines.Round spec) = tt
-known_kind (lines.Only epc) = tt
-known_kind (lines.Op op) = (op_kind op, refl)
-known_kind lines.End = tt
-
-pub begins : (line : Line) → IsLine line → BeginsWith (line_fields line) (word_of_line line)
-begins line is = record { others = other_fields line; first = refl; kind = known_kind line }
 
 -- fields of the right shape have a known kind
 pub shaped_known : (word : Word) (others : List (List ℕ)) → HasShape word others → HasKnownKind word others

@@ -4,6 +4,7 @@ use Rattle.std.specs.Prelude.{All, codes}
 use Rattle.std.proofs.lemmas.List.Elements.{All-cons, All-nil}
 use Rattle.access_ops.specs.declared.Op.{Op}
 use Rattle.access_ops.specs.declared.Op.TheVariants as ops
+use Rattle.access_ops.specs.OperationLaws.{IsLegalOp}
 use Rattle.air_events.specs.declared.Event.{Event}
 use Rattle.air_events.specs.declared.Event.TheVariants as events
 use Rattle.air_events.specs.declared.Choice.TheVariants as choices
@@ -17,7 +18,7 @@ use Rattle.scenario_lines.specs.declared.line.Happening.TheVariants as happening
 use Rattle.scenario_lines.specs.declared.line.Line.{Line}
 use Rattle.scenario_lines.specs.declared.line.Line.TheVariants as lines
 use Rattle.scenario_lines.specs.Names.{air_kind, event_kind, op_kind}
-use Rattle.scenario_lines.specs.LineForm.{HasForm, IsEvent, IsHappening, IsLine, IsLinkForm, IsOp, IsRound, IsSelection}
+use Rattle.scenario_lines.specs.LineForm.{HasForm, IsEvent, IsHappening, IsLine, IsLinkForm, IsRound, IsSelection}
 use Rattle.scenario_lines.specs.Spelling.{event_fields, happening_fields, line_fields, link_fields, op_fields, other_fields, round_fields, select_fields, tag_fields, word_of_line}
 use Rattle.scenario_lines.proofs.Filled.{air_word_is, any_bank_is, bank_text_is, code_text_is, event_word_is, flag_text_is, flag_word_is, locks_is, mask_is, number_text, one_word_is, op_word_is, password_is, payload_is, sel_text_is, side_text_is, word_text_is, words_is}
 
@@ -67,7 +68,7 @@ round_texts spec is =
     (with _ _ (number_text spec.q (omega (arith, is.legal.q))) (with _ _ (number_text spec.c (omega (arith, is.legal.step)))
     (only _ (number_text spec.limit (omega (arith, is.legal.limit))))))))
 
-op_texts : (op : Op) → IsOp op → Texts (op_fields op)
+op_texts : (op : Op) → IsLegalOp op → Texts (op_fields op)
 op_texts (ops.Read bank pointer count) is =
     with _ _ (any_bank_is bank) (with _ _ (number_text pointer (omega (arith, is.0))) (only _ (number_text count (omega (arith, is.1)))))
 op_texts (ops.Write bank pointer word) is =

@@ -7,6 +7,7 @@ use Rattle.command_text.specs.CommandText.{bank_word, flag_word, payload_digits}
 use Rattle.command_grammar.specs.declared.field_values.Bank.{Bank}
 use Rattle.access_ops.specs.declared.Op.{Op}
 use Rattle.access_ops.specs.declared.Op.TheVariants as ops
+use Rattle.access_ops.specs.OperationLaws.{IsLegalOp}
 use Rattle.air_events.specs.declared.Event.{Event}
 use Rattle.air_events.specs.declared.Event.TheVariants as events
 use Rattle.air_events.specs.declared.Choice.TheVariants as choices
@@ -27,7 +28,7 @@ use Rattle.scenario_lines.specs.declared.line.Line.TheVariants as lines
 use Rattle.scenario_lines.specs.Names.{air_kind, air_word, event_kind, event_word, op_kind, op_word}
 use Rattle.value_text.specs.ValueText.{IsWordList}
 use Rattle.scenario_lines.specs.TagForm.{IsTagForm, tag_of}
-use Rattle.scenario_lines.specs.LineForm.{HasForm, IsEvent, IsHappening, IsLinkForm, IsOp, IsPlace, IsRound, IsSelection, most_level, most_nanoseconds}
+use Rattle.scenario_lines.specs.LineForm.{HasForm, IsEvent, IsHappening, IsLinkForm, IsPlace, IsRound, IsSelection, most_level, most_nanoseconds}
 use Rattle.value_text.specs.ValueText.{password_text}
 use Rattle.scenario_lines.specs.Spelling.{event_fields, happening_fields, link_fields, op_fields, other_fields, round_fields, select_fields, tag_fields, word_of_line}
 use Rattle.scenario_lines.specs.Reading.{IsEventText, IsHappeningText, IsOpText}
@@ -35,6 +36,7 @@ use Rattle.scenario_lines.proofs.Decisions.{Any, Decided, Only, Spelled, behind_
 use Rattle.scenario_lines.proofs.FieldsDecided.{IsLasting, IsWithin, any_bank_decided, bank_decided, bit_decided, code_decided, decimal_decided, flag_decided, lasting_decided, locks_decided, mask_decided, password_decided, payload_decided, sel_decided, side_decided, tried, word_decided, words_decided}
 use Rattle.scenario_lines.proofs.ToldLines.{same_fields}
 use Rattle.scenario_lines.proofs.ToldNames.{air_word_told, event_word_told, op_word_told}
+use Rattle.scenario_lines.proofs.BlockWords.{block_of_list, list_of_block}
 
 -- no more fields
 abbrev nothing : Unit {0} → List (List ℕ)
@@ -281,22 +283,22 @@ at_place decided = then any_bank_decided (then (number 0 268435455) (then decide
 
 read_there : (fields : List (List ℕ)) → HasOp op_kinds.Read fields → Spelled (placed decimal) (IsPlaced (IsWithin 0 255)) fields
 read_there fields (ops.Read bank pointer count, text) =
-    ((bank, (pointer, (count, tt))), (tt, ((omega arith, text.is.0), ((omega arith, text.is.1), tt))), text.spelling)
+    ((bank, (pointer, (count, tt))), (tt, ((omega arith, omega (arith, text.is.0)), ((omega arith, text.is.1), tt))), text.spelling)
 read_there fields (op, text) = let is = text.same_kind in cc
 
 write_there : (fields : List (List ℕ)) → HasOp op_kinds.Write fields → Spelled (placed hex_word) (IsPlaced (λ word. word < 2 ^ 16)) fields
 write_there fields (ops.Write bank pointer word, text) =
-    ((bank, (pointer, (word, tt))), (tt, ((omega arith, text.is.0), (text.is.1, tt))), text.spelling)
+    ((bank, (pointer, (word, tt))), (tt, ((omega arith, omega (arith, text.is.0)), (text.is.1, tt))), text.spelling)
 write_there fields (op, text) = let is = text.same_kind in cc
 
 block_write_there : (fields : List (List ℕ)) → HasOp op_kinds.BlockWrite fields → Spelled (placed hex_words) (IsPlaced (IsWordList 1 255)) fields
 block_write_there fields (ops.BlockWrite bank pointer block, text) =
-    ((bank, (pointer, (block, tt))), (tt, ((omega arith, text.is.0), (text.is.1, tt))), text.spelling)
+    ((bank, (pointer, (block, tt))), (tt, ((omega arith, omega (arith, text.is.0)), (list_of_block block (text.is.1, text.is.2, text.is.3), tt))), text.spelling)
 block_write_there fields (op, text) = let is = text.same_kind in cc
 
 block_erase_there : (fields : List (List ℕ)) → HasOp op_kinds.BlockErase fields → Spelled (placed decimal) (IsPlaced (IsWithin 1 255)) fields
 block_erase_there fields (ops.BlockErase bank pointer count, text) =
-    ((bank, (pointer, (count, tt))), (tt, ((omega arith, text.is.0), ((text.is.1, text.is.2), tt))), text.spelling)
+    ((bank, (pointer, (count, tt))), (tt, ((omega arith, omega (arith, text.is.0)), ((text.is.1, text.is.2), tt))), text.spelling)
 block_erase_there fields (op, text) = let is = text.same_kind in cc
 
 lock_there : (fields : List (List ℕ)) → HasOp op_kinds.Lock fields → Spelled (with payload_digits nothing) (Both (λ n. n < 1048576) Any) fields
@@ -315,22 +317,28 @@ op_behind : (kind : OpKind) (fields : List (List ℕ)) → Decided (HasOp kind f
 op_behind op_kinds.Read fields =
     same_answer (λ found. (
       ops.Read found.0.0 found.0.1.0 found.0.1.1.0,
-      record { same_kind = refl; spelling = found.2; is = (found.1.1.0.1, found.1.1.1.0.1) },
+      record { same_kind = refl; spelling = found.2; is = (omega (arith, found.1.1.0.1), found.1.1.1.0.1) },
     )) (read_there fields) (at_place (number 0 255) fields)
 op_behind op_kinds.Write fields =
     same_answer (λ found. (
       ops.Write found.0.0 found.0.1.0 found.0.1.1.0,
-      record { same_kind = refl; spelling = found.2; is = (found.1.1.0.1, found.1.1.1.0) },
+      record { same_kind = refl; spelling = found.2; is = (omega (arith, found.1.1.0.1), found.1.1.1.0) },
     )) (write_there fields) (at_place word_decided fields)
 op_behind op_kinds.BlockWrite fields =
     same_answer (λ found. (
       ops.BlockWrite found.0.0 found.0.1.0 found.0.1.1.0,
-      record { same_kind = refl; spelling = found.2; is = (found.1.1.0.1, found.1.1.1.0) },
+      record {
+        same_kind = refl;
+        spelling = found.2;
+        is =
+            let block = block_of_list found.0.1.1.0 found.1.1.1.0 in
+            (omega (arith, found.1.1.0.1), block.0, block.1, block.2);
+      },
     )) (block_write_there fields) (at_place (words_decided 1 255) fields)
 op_behind op_kinds.BlockErase fields =
     same_answer (λ found. (
       ops.BlockErase found.0.0 found.0.1.0 found.0.1.1.0,
-      record { same_kind = refl; spelling = found.2; is = (found.1.1.0.1, found.1.1.1.0.0, found.1.1.1.0.1) },
+      record { same_kind = refl; spelling = found.2; is = (omega (arith, found.1.1.0.1), found.1.1.1.0.0, found.1.1.1.0.1) },
     )) (block_erase_there fields) (at_place (number 1 255) fields)
 op_behind op_kinds.Lock fields =
     same_answer (λ found. (ops.Lock found.0.0, record { same_kind = refl; spelling = found.2; is = omega (arith, found.1.0) })) (lock_there fields)
@@ -346,7 +354,7 @@ op_behind op_kinds.Kill fields =
 abbrev op_text : Op → List (List ℕ)
 op_text op = op_word (op_kind op) ∷ op_fields op
 
-op_decided : FieldsDecided op_text IsOp
+op_decided : FieldsDecided op_text IsLegalOp
 op_decided [] = inr (λ some. let same = some.2 in cc)
 op_decided (field ∷ fields) = elim (op_kind_decided field) [
   | inl known ↦ elim (op_behind known.0 fields) [
@@ -504,7 +512,7 @@ only_there : (others : List (List ℕ)) → FormedBehind words.Only others → S
 only_there others (lines.Only epc, form, same, is) = ((epc, tt), (form, tt), is)
 only_there others (line, form, same, is) = cc
 
-op_there : (others : List (List ℕ)) → FormedBehind words.Op others → Spelled op_text IsOp others
+op_there : (others : List (List ℕ)) → FormedBehind words.Op others → Spelled op_text IsLegalOp others
 op_there others (lines.Op op, form, same, is) = (op, form, is)
 op_there others (line, form, same, is) = cc
 

@@ -1,14 +1,14 @@
 -- The fields of an operation.
-use Rattle.std.proofs.Common.{◌≡◌, ℕ, List, [], ◌∷◌, ap, arith, refl, ◌∙◌}
+use Rattle.std.proofs.Common.{◌≡◌, ℕ, ◌<◌, ◌^◌, List, [], ◌∷◌, ap, arith, refl, ◌∙◌}
 use Rattle.std.specs.Fmt.{decimal}
 use Rattle.access_ops.specs.declared.Op.{Op}
 use Rattle.access_ops.specs.declared.Op.TheVariants as ops
+use Rattle.access_ops.specs.OperationLaws.{IsLegalOp}
 use Rattle.command_grammar.specs.declared.field_values.Bank.{Bank}
 use Rattle.command_text.specs.CommandText.{bank_word, payload_digits}
 use Rattle.text_fields.specs.Hexadecimal.{hex_word, hex_words}
 use Rattle.scenario_lines.specs.declared.first_fields.OpKind.{OpKind}
 use Rattle.scenario_lines.specs.Names.{op_field_count, op_kind}
-use Rattle.scenario_lines.specs.LineForm.{IsOp, IsPointer}
 use Rattle.value_text.specs.ValueText.{password_text}
 use Rattle.scenario_lines.specs.Spelling.{op_fields}
 use Rattle.scenario_lines.specs.LineFaults.{AreFilled}
@@ -18,13 +18,13 @@ use Rattle.scenario_lines.proofs.Filled.{any_bank_is, number_text, one_word_is, 
 one_field_filled : (field : List ℕ) → Filled field → AreFilled 1 (field ∷ [])
 one_field_filled field filled = one_more 0 field [] filled none_filled
 
-place_filled : (bank : Bank) (pointer : ℕ) (last : List ℕ) → IsPointer pointer → Filled last → AreFilled 3 (bank_word bank ∷ decimal pointer ∷ last ∷ [])
+place_filled : (bank : Bank) (pointer : ℕ) (last : List ℕ) → pointer < 2 ^ 28 → Filled last → AreFilled 3 (bank_word bank ∷ decimal pointer ∷ last ∷ [])
 place_filled bank pointer last is filled =
     one_more 2 (bank_word bank) (decimal pointer ∷ last ∷ []) (any_bank_is bank).filled
     (one_more 1 (decimal pointer) (last ∷ []) (number_text pointer (omega (arith, is))).filled (one_field_filled last filled))
 
 -- an operation has its fields
-pub op_filled : (op : Op) → IsOp op → AreFilled (op_field_count (op_kind op)) (op_fields op)
+pub op_filled : (op : Op) → IsLegalOp op → AreFilled (op_field_count (op_kind op)) (op_fields op)
 op_filled (ops.Read bank pointer count) is = place_filled bank pointer (decimal count) is.0 (number_text count (omega (arith, is.1))).filled
 op_filled (ops.Write bank pointer word) is = place_filled bank pointer (hex_word word) is.0 (one_word_is word).filled
 op_filled (ops.BlockWrite bank pointer words) is = place_filled bank pointer (hex_words words) is.0 (words_is words).filled
@@ -38,11 +38,11 @@ pub record AtPlace (op : Op) : Type 0 where
   pub bank : Bank
   pub pointer : ℕ
   pub last : List ℕ
-  pub is : IsPointer pointer
+  pub is : pointer < 2 ^ 28
   pub filled : Filled last
   pub fields : op_fields op ≡ bank_word bank ∷ decimal pointer ∷ last ∷ []
 
-placed_op : (op : Op) → op_field_count (op_kind op) ≡ 3 → IsOp op → AtPlace op
+placed_op : (op : Op) → op_field_count (op_kind op) ≡ 3 → IsLegalOp op → AtPlace op
 placed_op (ops.Read bank pointer count) three is = record {
   bank = bank;
   pointer = pointer;
@@ -79,11 +79,11 @@ placed_op (ops.Lock payload) three is = absurd (omega (arith, three))
 placed_op (ops.Access password) three is = absurd (omega (arith, three))
 placed_op (ops.Kill password) three is = absurd (omega (arith, three))
 
-pub at_place : (op : Op) (kind : OpKind) → op_kind op ≡ kind → op_field_count kind ≡ 3 → IsOp op → AtPlace op
+pub at_place : (op : Op) (kind : OpKind) → op_kind op ≡ kind → op_field_count kind ≡ 3 → IsLegalOp op → AtPlace op
 at_place op kind same three is = placed_op op (ap op_field_count same ∙ three) is
 
 pub bank_filled : (bank : Bank) → Filled (bank_word bank)
 bank_filled bank = (any_bank_is bank).filled
 
-pub pointer_filled : (pointer : ℕ) → IsPointer pointer → Filled (decimal pointer)
+pub pointer_filled : (pointer : ℕ) → pointer < 2 ^ 28 → Filled (decimal pointer)
 pointer_filled pointer is = (number_text pointer (omega (arith, is))).filled

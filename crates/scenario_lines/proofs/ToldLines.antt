@@ -8,6 +8,7 @@ use Rattle.text_fields.specs.CodeNames.{code_word}
 use Rattle.command_text.specs.CommandText.{bank_word, flag_word, mask_bank_word, payload_digits, side_word}
 use Rattle.access_ops.specs.declared.Op.{Op}
 use Rattle.access_ops.specs.declared.Op.TheVariants as ops
+use Rattle.access_ops.specs.OperationLaws.{IsLegalOp}
 use Rattle.air_events.specs.declared.Event.{Event}
 use Rattle.air_events.specs.declared.Event.TheVariants as events
 use Rattle.air_events.specs.declared.Choice.TheVariants as choices
@@ -21,13 +22,14 @@ use Rattle.scenario_lines.specs.declared.line.Line.{Line}
 use Rattle.scenario_lines.specs.declared.line.Line.TheVariants as lines
 use Rattle.scenario_lines.specs.Names.{air_kind, air_word, event_kind, event_word, op_kind, op_word, sel_text, word_text}
 use Rattle.scenario_lines.specs.TagForm.{IsTagForm}
-use Rattle.scenario_lines.specs.LineForm.{HasForm, IsEvent, IsHappening, IsLinkForm, IsOp, IsRound, IsSelection}
+use Rattle.scenario_lines.specs.LineForm.{HasForm, IsEvent, IsHappening, IsLinkForm, IsRound, IsSelection}
 use Rattle.scenario_lines.specs.LineFaults.{SpellsLine}
 use Rattle.value_text.specs.ValueText.{locks_text, password_text}
 use Rattle.scenario_lines.specs.Spelling.{event_fields, flag_text, happening_fields, line_fields, link_fields, op_fields, other_fields, round_fields, select_fields, tag_fields, word_of_line}
 use Rattle.scenario_lines.proofs.TagFields.{same_7, same_tag}
 use Rattle.scenario_lines.proofs.ToldNames.{air_word_told, any_bank_told, bank_told, code_told, event_word_told, flag_told, op_word_told, sel_told, side_told, word_told}
 use Rattle.scenario_lines.proofs.ToldFields.{flag_text_told, locks_told, password_told, payload_told}
+use Rattle.scenario_lines.proofs.BlockWords.{list_of_block}
 
 -- the first of two equal lists of fields, and those behind it
 pub same_fields : (a b : List ℕ) (behind behind' : List (List ℕ)) → a ∷ behind ≡ b ∷ behind' → (a ≡ b) × (behind ≡ behind')
@@ -155,7 +157,7 @@ round_told one other is is' same =
     }) other = rw (sel, session, target, q, c, limit) refl in
     whole
 
-pub op_told : (one other : Op) → IsOp one → IsOp other → op_kind one ≡ op_kind other → op_fields one ≡ op_fields other → one ≡ other
+pub op_told : (one other : Op) → IsLegalOp one → IsLegalOp other → op_kind one ≡ op_kind other → op_fields one ≡ op_fields other → one ≡ other
 op_told (ops.Read bank pointer count) (ops.Read bank' pointer' count') is is' kind same =
     let fields = same_3 (bank_word bank) (decimal pointer) (decimal count) (bank_word bank') (decimal pointer') (decimal count') same in
     let banks = any_bank_told bank bank' fields.0 in
@@ -172,7 +174,7 @@ op_told (ops.BlockWrite bank pointer block) (ops.BlockWrite bank' pointer' block
     let fields = same_3 (bank_word bank) (decimal pointer) (hex_words block) (bank_word bank') (decimal pointer') (hex_words block') same in
     let banks = any_bank_told bank bank' fields.0 in
     let pointers = decimal_told pointer pointer' (omega (arith, is.0)) (omega (arith, is'.0)) fields.1 in
-    let blocks = hex_words_told block block' is.1.small is'.1.small fields.2 in
+    let blocks = hex_words_told block block' (list_of_block block (is.1, is.2, is.3)).small (list_of_block block' (is'.1, is'.2, is'.3)).small fields.2 in
     cc
 op_told (ops.BlockErase bank pointer count) (ops.BlockErase bank' pointer' count') is is' kind same =
     let fields = same_3 (bank_word bank) (decimal pointer) (decimal count) (bank_word bank') (decimal pointer') (decimal count') same in
@@ -181,7 +183,7 @@ op_told (ops.BlockErase bank pointer count) (ops.BlockErase bank' pointer' count
     let counts = decimal_told count count' (omega (arith, is.2)) (omega (arith, is'.2)) fields.2 in
     cc
 op_told (ops.Lock payload) (ops.Lock payload') is is' kind same =
-    ap ops.Lock (payload_told payload payload' is is' (same_fields (payload_digits payload) (payload_digits payload') [] [] same).0)
+    ap ops.Lock (payload_told payload payload' (omega (arith, is)) (omega (arith, is')) (same_fields (payload_digits payload) (payload_digits payload') [] [] same).0)
 op_told (ops.Access password) (ops.Access password') is is' kind same =
     ap ops.Access (password_told password password' is is' (same_fields (password_text password) (password_text password') [] [] same).0)
 op_told (ops.Kill password) (ops.Kill password') is is' kind same =

@@ -4,4 +4,5 @@ pub mod TagLaws
 pub mod LineForm
 pub mod Spelling
 pub mod LineFaults
+pub mod LineBeginnings
 pub mod Reading

@@ -1,7 +1,6 @@
 -- Profile: what a line of a scenario may say.
-use Rattle.std.specs.Prelude.{◌≡◌, ◌≢◌, ℕ, ◌<◌, ◌≤◌, ◌^◌, true, List, length}
-use Rattle.access_ops.specs.declared.Op.{Op}
-use Rattle.access_ops.specs.declared.Op.TheVariants as ops
+use Rattle.std.specs.Prelude.{◌≡◌, ◌≢◌, ℕ, ◌<◌, ◌≤◌, true, List, length}
+use Rattle.access_ops.specs.OperationLaws.{IsLegalOp}
 use Rattle.command_grammar.specs.declared.field_values.FlagName.TheVariants.{S0}
 use Rattle.command_grammar.specs.declared.field_values.Sel.TheVariants.{All01}
 use Rattle.air_events.specs.declared.Event.{Event}
@@ -72,20 +71,6 @@ pub record IsSelection (selection : Selection) : Type 0 where
 abbrev pub IsEpc : List ℕ → Type 0
 IsEpc words = IsWordList 0 31 words
 
--- the number of a word in a bank, which an EBV of four blocks holds (6.3.2.11.3.2)
-abbrev pub IsPointer : ℕ → Type 0
-IsPointer pointer = pointer ≤ 268435455
-
--- what an operation names is in the ranges of its command's fields (6.3.2.11.3)
-abbrev pub IsOp : Op → Type 0
-IsOp (ops.Read bank pointer count) = IsPointer pointer × (count ≤ 255)
-IsOp (ops.Write bank pointer word) = IsPointer pointer × (word < 2 ^ 16)
-IsOp (ops.BlockWrite bank pointer words) = IsPointer pointer × IsWordList 1 255 words
-IsOp (ops.BlockErase bank pointer count) = IsPointer pointer × (1 ≤ count) × (count ≤ 255)
-IsOp (ops.Lock payload) = payload ≤ 1048575
-IsOp (ops.Access password) = password < 2 ^ 32
-IsOp (ops.Kill password) = password < 2 ^ 32
-
 -- each field of the line is of its form and in its range
 abbrev pub HasForm : Line → Type 0
 HasForm lines.Version = Unit {0}
@@ -97,7 +82,7 @@ HasForm lines.Nak = Unit {0}
 HasForm (lines.Event event tag) = IsEvent event tag
 HasForm (lines.Round spec) = IsRound spec
 HasForm (lines.Only words) = IsEpc words
-HasForm (lines.Op op) = IsOp op
+HasForm (lines.Op op) = IsLegalOp op
 HasForm lines.End = Unit {0}
 
 -- the fields of the line agree with one another

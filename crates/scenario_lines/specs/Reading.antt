@@ -2,6 +2,7 @@
 use Rattle.std.specs.Prelude.{◌≡◌, ◌≢◌, ◌≤◌, ℕ, List, [], ◌∷◌}
 use Rattle.std.specs.Fmt.{decimal}
 use Rattle.access_ops.specs.declared.Op.{Op}
+use Rattle.access_ops.specs.OperationLaws.{IsLegalOp}
 use Rattle.air_events.specs.declared.Event.{Event}
 use Rattle.pie_line.specs.Link.{LinkValue}
 use Rattle.pie_line.specs.declared.link.LinkRefusal.{LinkRefusal}
@@ -12,7 +13,7 @@ use Rattle.scenario_lines.specs.declared.fault.LineFault.{LineFault}
 use Rattle.scenario_lines.specs.declared.fault.LineFault.TheVariants.{Word as WordFault, Shape, Number, Tari, RtCal, TrCal, Pw, Pc}
 use Rattle.scenario_lines.specs.declared.tag.TagSpec.{TagSpec}
 use Rattle.scenario_lines.specs.TagForm.{IsTagForm, tag_of}
-use Rattle.scenario_lines.specs.LineForm.{IsLinkForm, IsEvent, IsHappening, IsExchange, IsOp}
+use Rattle.scenario_lines.specs.LineForm.{IsLinkForm, IsEvent, IsHappening, IsExchange}
 use Rattle.scenario_lines.specs.Spelling.{link_fields, tag_fields, event_fields, happening_fields, op_fields}
 use Rattle.scenario_lines.specs.Names.{event_kind, event_word, event_field_count, op_kind, op_word, op_field_count, air_kind, air_word, air_field_count}
 use Rattle.scenario_lines.specs.LineFaults.{AreFilled, HasKnownKind, HasShape, BreaksLink, BreaksPc}
@@ -98,7 +99,7 @@ MisreadsHappening kind fields fault = ⊥
 pub record IsOpText (kind : OpKind) (fields : List (List ℕ)) (op : Op) : Type 0 where
   pub same_kind : op_kind op ≡ kind
   pub spelling : fields ≡ op_fields op
-  pub is : IsOp op
+  pub is : IsLegalOp op
 
 -- the first reason for which fields behind the kind of an operation spell none
 abbrev pub MisreadsOp : OpKind → List (List ℕ) → LineFault → Type 0
@@ -110,7 +111,7 @@ MisreadsOp kind fields fault = ⊥
 abbrev pub MisreadsOpLine : List (List ℕ) → LineFault → Type 0
 MisreadsOpLine others WordFault = ¬ HasKnownKind words.Op others
 MisreadsOpLine others Shape = HasKnownKind words.Op others × (¬ HasShape words.Op others)
-MisreadsOpLine others Number = HasShape words.Op others × ((op : Op) → IsOp op → others ≢ op_word (op_kind op) ∷ op_fields op)
+MisreadsOpLine others Number = HasShape words.Op others × ((op : Op) → IsLegalOp op → others ≢ op_word (op_kind op) ∷ op_fields op)
 MisreadsOpLine others fault = ⊥
 
 -- the first reason for which fields behind `event` say nothing

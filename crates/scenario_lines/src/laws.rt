@@ -25,9 +25,9 @@ pub fn lines_are_told_apart()
 {}
 
 /// The fields of a line begin with its word.
-#[tactic(auto, using(crate::proofs::LineShapes::begins))]
+#[tactic(auto, using(crate::specs::LineBeginnings::begins))]
 pub fn lines_begin_with_their_word()
-    ensures { (line : Line) → IsLine line → BeginsWith (line_fields line) (word_of_line line) }
+    ensures { (line : Line) → BeginsWith (line_fields line) (word_of_line line) }
 {}
 
 /// Fields begin with at most one word.

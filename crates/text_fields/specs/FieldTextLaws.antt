@@ -1,5 +1,5 @@
 -- Spellings have visible bytes alone.
-use Rattle.std.proofs.Common.{◌≢◌, ◌<◌, ◌^◌, ◌/◌, ◌%◌, ℕ, Bool, true, false, List, [], ◌∷◌, length, map, arith, ap}
+use Rattle.std.proofs.Common.{◌≢◌, ◌<◌, ◌^◌, ◌/◌, ◌%◌, ℕ, Bool, true, false, List, [], ◌∷◌, ◌++◌, length, map, arith, ap}
 use Rattle.std.specs.Prelude.{All}
 use Rattle.std.specs.List.{flat_map}
 use Rattle.std.specs.Fmt.{decimal}
@@ -79,3 +79,20 @@ pub IsFieldText-hex_words : (words : List ℕ) → IsFieldText (hex_words words)
 IsFieldText-hex_words words = IsFieldText-or_hyphen (flat_map hex_word words) (hex_words-visible words)
 
 pub ruleset field_texts = (IsFieldText-decimal, IsFieldText-binary, IsFieldText-hex_byte, IsFieldText-hex_word, IsFieldText-hex_words)
+
+-- one visible byte
+pub IsFieldText-one : (byte : ℕ) → space < byte → IsFieldText (byte ∷ [])
+IsFieldText-one byte above = IsFieldText-visible (byte ∷ []) (λ empty. cc) (All-cons IsVisible byte [] above (All-nil IsVisible))
+
+-- two pieces one behind the other
+pub IsFieldText-append : (front back : List ℕ) → IsFieldText front → IsFieldText back → IsFieldText (front ++ back)
+IsFieldText-append [] back whole whole' = whole'
+IsFieldText-append (byte ∷ bytes) back whole whole' = record {
+  filled = λ empty. cc;
+  no_space = All-append (λ each. each ≢ space) (byte ∷ bytes) back whole.no_space whole'.no_space;
+  no_line_feed = All-append (λ each. each ≢ line_feed) (byte ∷ bytes) back whole.no_line_feed whole'.no_line_feed;
+}
+
+-- a visible byte before a field
+pub IsFieldText-cons : (byte : ℕ) (text : List ℕ) → space < byte → IsFieldText text → IsFieldText (byte ∷ text)
+IsFieldText-cons byte text above whole = IsFieldText-append (byte ∷ []) text (IsFieldText-one byte above) whole

@@ -1,11 +1,12 @@
 //! Only and op lines, read.
-ghost use Rattle.std.specs.Prelude.{◌≡◌, ◌≤◌, ℕ, List, IfOk, IfErr, IfSome, IsOkAnd, IsSomeAnd, [], ◌∷◌};
+ghost use Rattle.std.specs.Prelude.{◌≡◌, ◌≤◌, ◌<◌, ◌^◌, ℕ, List, IfOk, IfErr, IfSome, IsOkAnd, IsSomeAnd, [], ◌∷◌};
 ghost use Rattle.std.specs.Fmt.{decimal};
 ghost use Rattle.text_fields.specs.Hexadecimal.{hex_words};
 ghost use Rattle.command_text.specs.CommandText.{bank_word, payload_digits};
 ghost use Rattle.access_ops.specs.declared.Op.{Op};
+ghost use Rattle.access_ops.specs.OperationLaws.{IsLegalOp};
 ghost use Rattle.scenario_lines.specs.Names.{op_field_count, op_kind, op_word};
-ghost use Rattle.scenario_lines.specs.LineForm.{IsEpc, IsOp, IsPointer};
+ghost use Rattle.scenario_lines.specs.LineForm.{IsEpc};
 ghost use Rattle.scenario_lines.specs.Spelling.{op_fields};
 ghost use Rattle.scenario_lines.specs.LineFaults.{AreFilled};
 ghost use Rattle.scenario_lines.specs.Reading.{IsOpText, Misreads, MisreadsOp, MisreadsOpLine};
@@ -36,9 +37,9 @@ pub(crate) fn read_only(others: Fields) -> Result<EpcWords, LineFault>
 
 /// The operation of a kind at a place in a bank, by the last field of its line.
 fn op_at(kind: OpKind, bank: Bank, pointer: Pointer, last: &[u8]) -> Option<Op>
-    requires { IsPointer pointer }
-    ensures value { IfSome result (λ op. (op_kind op ≡ kind) × (op_fields op ≡ bank_word bank ∷ decimal pointer ∷ last.now ∷ []) × IsOp op) }
-    ensures only { (op : Op) → op_kind op ≡ kind → op_fields op ≡ bank_word bank ∷ decimal pointer ∷ last.now ∷ [] → IsOp op
+    requires { pointer < 2 ^ 28 }
+    ensures value { IfSome result (λ op. (op_kind op ≡ kind) × (op_fields op ≡ bank_word bank ∷ decimal pointer ∷ last.now ∷ []) × IsLegalOp op) }
+    ensures only { (op : Op) → op_kind op ≡ kind → op_fields op ≡ bank_word bank ∷ decimal pointer ∷ last.now ∷ [] → IsLegalOp op
         → IsSomeAnd result (λ it. it ≡ op) }
 {
     match kind {
@@ -97,8 +98,8 @@ fn payload_of(field: &[u8]) -> Option<Payload>
 
 /// The operation of a kind that names no place, by the one field of its line.
 fn op_of(kind: OpKind, field: &[u8]) -> Option<Op>
-    ensures value { IfSome result (λ op. (op_kind op ≡ kind) × (op_fields op ≡ field.now ∷ []) × IsOp op) }
-    ensures only { (op : Op) → op_kind op ≡ kind → op_fields op ≡ field.now ∷ [] → IsOp op → IsSomeAnd result (λ it. it ≡ op) }
+    ensures value { IfSome result (λ op. (op_kind op ≡ kind) × (op_fields op ≡ field.now ∷ []) × IsLegalOp op) }
+    ensures only { (op : Op) → op_kind op ≡ kind → op_fields op ≡ field.now ∷ [] → IsLegalOp op → IsSomeAnd result (λ it. it ≡ op) }
 {
     match kind {
         OpKind::Lock => {
@@ -175,8 +176,8 @@ fn op_behind(kind: OpKind, fields: Fields) -> Result<Op, LineFault>
 
 /// The operation that the fields behind `op` spell.
 pub(crate) fn read_op(mut others: Fields) -> Result<Op, LineFault>
-    ensures ok { IfOk result (λ op. (others.entry ≡ op_word (op_kind op) ∷ op_fields op) × IsOp op) }
-    ensures only { (op : Op) → IsOp op → others.entry ≡ op_word (op_kind op) ∷ op_fields op → IsOkAnd result (λ it. it ≡ op) }
+    ensures ok { IfOk result (λ op. (others.entry ≡ op_word (op_kind op) ∷ op_fields op) × IsLegalOp op) }
+    ensures only { (op : Op) → IsLegalOp op → others.entry ≡ op_word (op_kind op) ∷ op_fields op → IsOkAnd result (λ it. it ≡ op) }
     ensures refused { IfErr result (MisreadsOpLine others.entry) }
 {
     let Some(kind) = others.next() else {

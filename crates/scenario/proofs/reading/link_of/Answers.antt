@@ -4,7 +4,8 @@ use Rattle.scenario_lines.specs.LineFaults.{BeginsWith, IsFaultyLine}
 use Rattle.scenario_lines.specs.Spelling.{word_of_line}
 use Rattle.scenario.specs.Faults.{IsFaultyAt, fault_of_line}
 use Rattle.scenario.specs.Standing.{HasRoom, MayStand, begun}
-use Rattle.scenario.proofs.Taken.{no_line, of_fault, spelled_begins}
+use Rattle.scenario_lines.specs.LineBeginnings.{spelled_begins}
+use Rattle.scenario.proofs.Taken.{no_line, of_fault}
 use Rattle.scenario.proofs.reading.link_of.Goals as goal
 
 pub returns-in_default-clause-only : goal.returns-in_default-clause-only

@@ -6,7 +6,8 @@ use Rattle.scenario_lines.specs.LineFaults.{BeginsWith, IsFaultyLine, SpellsLine
 use Rattle.scenario_lines.specs.Spelling.{word_of_line}
 use Rattle.scenario.specs.Faults.{IsFaultyAt, fault_of_line}
 use Rattle.scenario.specs.Standing.{HasRoom, MayStand, within}
-use Rattle.scenario.proofs.Taken.{no_line, of_fault, spelled_begins, unfit}
+use Rattle.scenario_lines.specs.LineBeginnings.{spelled_begins}
+use Rattle.scenario.proofs.Taken.{no_line, of_fault, unfit}
 use Rattle.scenario.proofs.draft.Draft.next_said.Goals as goal
 
 pub returns-in_default-clause-only : goal.returns-in_default-clause-only

@@ -4,6 +4,7 @@ use Rattle.std.specs.Fmt.{decimal}
 use Rattle.text_fields.specs.Hexadecimal.{hex_word, hex_words}
 use Rattle.access_ops.specs.declared.Op.TheVariants as ops
 use Rattle.scenario_lines.specs.declared.first_fields.OpKind.TheVariants as op_kinds
+use Rattle.scenario_lines.proofs.BlockWords.{block_of_list}
 use Rattle.scenario_lines.proofs.OneOp.{one_op}
 use Rattle.scenario_lines.proofs.reading.op.op_at.Goals as goal
 
@@ -23,8 +24,9 @@ returns-in_ok-word-in-Write-clause-only c = λ op kind fields is.
 pub returns-in_ok-words-in-BlockWrite-clause-only : goal.returns-in_ok-words-in-BlockWrite-clause-only
 returns-in_ok-words-in-BlockWrite-clause-only c = λ op kind fields is.
     let value = c.in_ok-words-in-BlockWrite.ensures.value in
+    let block = block_of_list c.in_ok-words-in-BlockWrite.words value.1 in
     one_op c.args.bank c.args.pointer c.args.last.now (hex_words c.in_ok-words-in-BlockWrite.words) c.args.kind op_kinds.BlockWrite
-    (ops.BlockWrite c.args.bank c.args.pointer c.in_ok-words-in-BlockWrite.words) op c.in-BlockWrite.is refl refl (c.requires, value.1) value.0 kind fields is
+    (ops.BlockWrite c.args.bank c.args.pointer c.in_ok-words-in-BlockWrite.words) op c.in-BlockWrite.is refl refl (c.requires, block.0, block.1, block.2) value.0 kind fields is
 
 pub returns-in_ok-count-in-BlockErase-clause-only : goal.returns-in_ok-count-in-BlockErase-clause-only
 returns-in_ok-count-in-BlockErase-clause-only c = λ op kind fields is.

@@ -1,0 +1,27 @@
+-- The fields of a line begin with its word.
+use Rattle.std.proofs.Common.{List, ℕ, refl, subst, sym}
+use Rattle.scenario_lines.specs.declared.line.Line.{Line}
+use Rattle.scenario_lines.specs.declared.line.Line.TheVariants as lines
+use Rattle.scenario_lines.specs.Names.{air_kind, event_kind, op_kind}
+use Rattle.scenario_lines.specs.LineFaults.{BeginsWith, HasKnownKind, SpellsLine}
+use Rattle.scenario_lines.specs.Spelling.{line_fields, other_fields, word_of_line}
+
+-- the kind of a line is one of its word's kinds
+known_kind : (line : Line) → HasKnownKind (word_of_line line) (other_fields line)
+known_kind lines.Version = tt
+known_kind (lines.Link link) = tt
+known_kind (lines.Tag tag) = tt
+known_kind (lines.Air exchange happening) = (air_kind happening, refl)
+known_kind (lines.Select selection) = tt
+known_kind lines.Nak = tt
+known_kind (lines.Event event tag) = (event_kind event, refl)
+known_kind (lines.Round spec) = tt
+known_kind (lines.Only epc) = tt
+known_kind (lines.Op op) = (op_kind op, refl)
+known_kind lines.End = tt
+
+pub begins : (line : Line) → BeginsWith (line_fields line) (word_of_line line)
+begins line = record { others = other_fields line; first = refl; kind = known_kind line }
+
+pub spelled_begins : (fields : List (List ℕ)) (line : Line) → SpellsLine fields line → BeginsWith fields (word_of_line line)
+spelled_begins fields line spells = subst (λ it. BeginsWith it (word_of_line line)) (sym spells.spelling) (begins line)
