@@ -41,6 +41,14 @@ pub trait LineCode {
     fn block(mark: Self::Mark, bit: bool) -> &'static [bool]
         ensures { result.now ≡ table.block (context_of mark) bit };
 
+    /// The level of a bit's block at the place `at`, counted from 0.
+    fn level(mark: Self::Mark, bit: bool, at: u32) -> bool
+        requires { at < CHIPS }
+        ensures { slice_get (table.block (context_of mark) bit) at ≡ Some result }
+    {
+        Self::block(mark, bit)[at as usize]
+    }
+
     /// The bit whose block the levels are; none exactly where they are the block of neither bit.
     fn block_bit(mark: Self::Mark, levels: &[bool]) -> Option<bool>
         requires { length levels.now ≡ CHIPS }

@@ -317,7 +317,7 @@ fn still_fits<C: LineCode>(mark: C::Mark, bit: bool, place: u32, fits: bool, lev
     requires { place < C.CHIPS }
     ensures { IsTrue result ↔ (IsTrue fits × (slice_get (C.table.block (C.context_of mark) bit) place ≡ Some level)) }
 {
-    fits & (C::block(mark, bit)[place as usize] == level)
+    fits & (C::level(mark, bit, place) == level)
 }
 
 /// Whether no block is begun, and the last bit is a dummy's.
