@@ -11,12 +11,12 @@ use gen2_crc::{Crc5, Crc16};
 /// The check number of the bits so far, where one is still to come.
 #[derive(Clone, Copy)]
 pub(crate) enum Check {
-    /// That of a Query.
-    Short(Crc5),
     /// That of a Select or of an access command.
     Long(Crc16),
     /// None is to come.
     Over,
+    /// That of a Query.
+    Short(Crc5),
 }
 
 impl Check {
