@@ -55,7 +55,8 @@ impl Check {
             Check::Over => {}
         }
     }
-    /// Behind the start of a field: the check number is over with its own field.
+
+    /// A field begins. With its own one the check number is over.
     pub(crate) fn start(&mut self, field: Field)
         ensures counts { (bits : List Bool) → Counts self.old bits → Counts self.new bits }
         ensures kept { check_kept self.new ≡ kept_behind (check_kept self.old) field }
