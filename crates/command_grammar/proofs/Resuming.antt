@@ -1,6 +1,6 @@
 -- Reading goes on from each state for the bits that are still to come.
 use Rattle.std.proofs.Common.{◌≡◌, ℕ, suc, ◌+◌, ◌-◌, ◌≤◌, Bool, true, false, List, [], ◌∷◌, ◌++◌, length, Result, Ok, Err, refl, sym, ap, subst, ◌∙◌, append_assoc, append-nil, length-append, get_or, ◌<◌, take, drop, slice_index_or, inl, inr, arith}
-use Rattle.std.specs.Prelude.{◌⊎◌, Option}
+use Rattle.std.specs.Prelude.{◌⊎◌}
 use Rattle.std.proofs.lemmas.List.{take_all, take-append-drop}
 use Rattle.std.proofs.Math.Seq.{drop-cons}
 use Rattle.bit_strings.specs.Numbers.{field_of}
@@ -25,7 +25,7 @@ use Rattle.command_grammar.specs.declared.refusal.Reason.{Reason}
 use Rattle.command_grammar.specs.declared.refusal.Reason.TheVariants as reasons
 use Rattle.command_grammar.specs.Commands.{Spellings, SpellsCommand, IsCommandRefusedAt}
 use Rattle.command_grammar.specs.Reading.{Stop, Short, Bad, Reading, ◌>>=◌, Choice, child, all_kinds, lines, chosen_of, sides, changes, targets, masked_banks, all_banks, bit_at, bits_at, field_at, choice_at, exactly_at, count_at, words_at, ebv_at, crc5_at, crc16_at, block_at, first_block_at, last_block_at, query_rep_at, ack_at, query_at, query_adjust_at, select_at, req_rn_at, read_at, write_at, kill_at, lock_at, access_at, block_write_at, block_erase_at, fields_at, command_at, all_of}
-use Rattle.command_grammar.specs.Framing.{fields_of, command_of, only_whole, run, next_at, behind_code, number_then, stage_from, field_from, resume, Stands, IsAsked, kept_behind, AreServed}
+use Rattle.command_grammar.specs.Framing.{fields_of, command_of, only_whole, run, next_at, behind_code, number_then, stage_from, field_from, resume, Stands}
 use Rattle.command_grammar.proofs.Parts.{is_fork, fork-at, number-short, mask-short}
 use Rattle.command_grammar.proofs.SpellingLaws.{begun}
 use Rattle.command_grammar.proofs.Verdict.{all_whole, all_short, all_bad}
@@ -176,16 +176,6 @@ begins_field [] default kind v whole bits stage some e = absurd (omega arith)
 begins_field (field ∷ behind) default kind v whole bits stage some e =
     ap (λ (r : Reading Fields). r >>= λ x. run behind kind x.0 whole x.1) (sym e)
     ∙ ap (λ (others : List Field). stage_from stage v bits >>= λ x. run others kind x.0 whole x.1) (sym (take_all (length (field ∷ behind) - 1) behind (omega arith)))
-
--- ... and the check number is the one that it and those behind it ask for
-pub asks_first : (kept : Option Reason) (behind : List Field) (default : Field) → 1 ≤ length behind → AreServed kept behind → IsAsked kept (slice_index_or behind 0 default)
-asks_first kept [] default some served = absurd (omega arith)
-asks_first kept (field ∷ behind) default some served = served.0
-
-pub serves_others : (kept : Option Reason) (behind : List Field) (default : Field) → 1 ≤ length behind → AreServed kept behind → AreServed (kept_behind kept (slice_index_or behind 0 default)) (take (length behind - 1) (drop 1 behind))
-serves_others kept [] default some served = absurd (omega arith)
-serves_others kept (field ∷ behind) default some served =
-    subst (λ (others : List Field). AreServed (kept_behind kept field) others) (sym (take_all (length (field ∷ behind) - 1) behind (omega arith))) served.1
 
 -- ---- what comes of one bit more
 

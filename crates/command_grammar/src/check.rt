@@ -11,12 +11,12 @@ use gen2_crc::{Crc5, Crc16};
 /// The check number of the bits so far, where one is still to come.
 #[derive(Clone, Copy)]
 pub(crate) enum Check {
-    /// That of a Query.
-    Short(Crc5),
     /// That of a Select or of an access command.
     Long(Crc16),
     /// None is to come.
     Over,
+    /// That of a Query.
+    Short(Crc5),
 }
 
 impl Check {
@@ -55,7 +55,8 @@ impl Check {
             Check::Over => {}
         }
     }
-    /// Behind the start of a field: the check number is over with its own field.
+
+    /// A field begins. With its own one the check number is over.
     pub(crate) fn start(&mut self, field: Field)
         ensures counts { (bits : List Bool) → Counts self.old bits → Counts self.new bits }
         ensures kept { check_kept self.new ≡ kept_behind (check_kept self.old) field }

@@ -35,7 +35,8 @@ impl Number {
         }
     }
 
-    /// One bit more, behind which others come. Before the last bit that is `false`, and nothing changes.
+    /// One bit more, behind which others come. The last bit isn't taken: that is `false`, and nothing
+    /// changes.
     #[inline]
     fn take_inside(&mut self, bit: bool) -> bool
         requires { self.old.value < 2 ^ 30 }
@@ -70,8 +71,8 @@ impl Number {
         (self.value >> self.behind) % 2 == 1
     }
 
-    /// One bit more of a number that is known, behind which others come. Before the last bit, and where the
-    /// bit is another one, that is `false`, and nothing changes.
+    /// The next bit of a number that is known, behind which others come. The last bit isn't taken, nor one
+    /// that differs: that is `false`, and nothing changes.
     #[inline]
     fn pass_inside(&mut self, bit: bool) -> bool
         requires { self.old.behind ≤ 15 }
@@ -229,8 +230,9 @@ impl Stage {
         }
     }
 
-    /// One bit more inside a number, a mask or bits that are known. Elsewhere, with the last bit of them
-    /// and with a bit that isn't the known one that is `false`, and nothing changes.
+    /// One bit more inside a number, a mask or bits that are known, as most are. The last bit of these isn't
+    /// taken, nor one that differs from the known one, nor one elsewhere: that is `false`, and nothing
+    /// changes.
     #[inline(always)]
     pub(crate) fn take_inside(&mut self, bit: bool, fields: &mut Fields) -> bool
         requires { IsSound self.old fields.old }
@@ -248,7 +250,7 @@ impl Stage {
         }
     }
 
-    /// One bit more, at an edge: `take_inside` takes it nowhere else.
+    /// One bit more, of those that `take_inside` doesn't take.
     pub(crate) fn take(self, bit: bool, fields: &mut Fields) -> Next
         requires sound { IsSound self fields.old }
         requires edge { IsEdge self bit }
@@ -462,7 +464,8 @@ fn take_extension(block: Block, value: u32, bit: bool) -> Next
     }
 }
 
-/// A bit of a mask, behind which so many come: `false` before the last one.
+/// A bit of a mask, behind which so many come. The last bit isn't taken: that is `false`, and nothing
+/// changes.
 #[inline]
 fn mask_inside(behind: &mut u32, bit: bool, fields: &mut Fields) -> bool
     requires { length fields.old.mask + behind.old + 1 ≤ 255 }

@@ -70,8 +70,8 @@ impl State {
         self.take_edge(bit)
     }
 
-    /// Stands for one bit more inside a field, as most bits are. At any other place that is `false`, and
-    /// nothing changes.
+    /// Stands for one bit more inside a field, as most bits are. Another bit isn't taken: that is `false`,
+    /// and nothing changes.
     #[inline(always)]
     fn take_inside(&mut self, bit: bool) -> bool
         requires { IsOpen self.old None }
@@ -91,7 +91,8 @@ impl State {
         true
     }
 
-    /// Stands for one bit more that isn't inside a field, or says why no command goes on with it.
+    /// Stands for one bit more, of those that `take_inside` doesn't take, or says why no command goes on
+    /// with it.
     #[inline(never)]
     fn take_edge(&mut self, bit: bool) -> Option<Reason>
         requires open { IsOpen self.old None }

@@ -1,5 +1,5 @@
 use Rattle.std.proofs.Common.{◌++◌}
-use Rattle.command_grammar.proofs.Resuming.{begins_field, asks_first, serves_others}
+use Rattle.command_grammar.proofs.Resuming.{begins_field}
 use Rattle.command_grammar.proofs.state.State.begin.Goals as goal
 
 pub returns-in-len1-up-clause-reads : goal.returns-in-len1-up-clause-reads
