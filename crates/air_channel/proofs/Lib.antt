@@ -9,3 +9,4 @@ pub mod Seating
 pub mod Heard
 pub mod Calling
 pub mod Resting
+pub mod EachHeard
