@@ -5,7 +5,8 @@ kind `operations`, SIZE operations.
 Of decode lines each line is as long as a line may be (or a whole reply), and each stream, reply and sample group is a
 good one, so that the decoder goes over all of it. `scenario` is a scenario without steps, with as many tags of full banks as
 fit, and `long` one whose first tag line is as long as fits, so that its last field is refused. `run` is a scenario that is
-played: 256 tags, and rounds in each of which every tag is listed; `slots` the same with Q 15. `operations` is one such round with operations on each tag.
+played: 256 tags, and rounds in each of which every tag is listed; `slots` rounds with Q 15 that come to
+their limit of 70,000 slots. `operations` is one such round with operations on each tag.
 `names` is list lines, each of an SGTIN-96.
 """
 
@@ -143,9 +144,15 @@ def run(rounds, rng):
 
 
 def slots(rounds, rng):
-    """Rounds with Q 15, in whose frames of 32,768 slots the tags wait long."""
-    text = [f"round all 0 {'ab'[number % 2]} 15 300 70000\n" for number in range(rounds)]
-    return HEAD + population(rng) + "".join(text) + END
+    """Rounds that begin with Q 15 and go on to their limit. Each tag has one draw word, so that it draws the same slot each time: of half
+    the tags two and two draw one of the first slots, and collide there, which keeps Q between 14 and 15; the others wait far behind these."""
+    lines = []
+    for number in range(256):
+        epc = f"30003074257BF7194E400000{number:04X}"
+        draw = number // 2 if number < 128 else 10_000 + number
+        lines.append(f"tag 00000000 00000000 0000000000 {epc} E200{number:04X} {words(1, rng)} {draw:04X}\n")
+    text = [f"round all 0 {'ab'[number % 2]} 15 100 70000\n" for number in range(rounds)]
+    return HEAD + "".join(lines) + "".join(text) + END
 
 
 # How many bits and digits the company of an SGTIN-96 has, by the partition.

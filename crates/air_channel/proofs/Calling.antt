@@ -13,7 +13,7 @@ use Rattle.tag_machine.specs.Inventory.{slot_below, count_down}
 use Rattle.tag_machine.specs.Slots.{is_beyond_arbitrate}
 use Rattle.tag_machine.specs.Step.{step}
 use Rattle.tag_machine.specs.TagValue.{StateValue, ReadyState, ArbitrateState, ReplyState, AcknowledgedState, OpenState, SecuredState, KilledState, UnpoweredState, BodyValue, TagValue}
-use Rattle.air_channel.proofs.Heard.{called_outcome, standing_of_tag, sum-zero, zero-sum, later}
+use Rattle.air_channel.proofs.Heard.{standing_of_tag, sum-zero, zero-sum, later}
 use Rattle.air_channel.proofs.Seating.{length-tags_of, tag_at}
 use Rattle.air_channel.proofs.Slots.{same_waits}
 use Rattle.air_channel.specs.Air.{AreLegalTags}
@@ -66,7 +66,7 @@ bool_cases : (b : Bool) → (b ≡ true) ⊎ (b ≡ false)
 bool_cases true = inl refl
 bool_cases false = inr refl
 
-unless_stays : (misses : Bool) (command : Command) (tag : TagValue) → step command tag.state tag.body ≡ silent tag.state tag.body → silent tag.state tag.body ≡ outcome_unless misses command tag
+pub unless_stays : (misses : Bool) (command : Command) (tag : TagValue) → step command tag.state tag.body ≡ silent tag.state tag.body → silent tag.state tag.body ≡ outcome_unless misses command tag
 unless_stays true command tag is = refl
 unless_stays false command tag is = sym is
 
@@ -99,42 +99,11 @@ none_called_for command entry standings seats rest some = record {
   uncalled = λ number apart. ap (λ (l : List (Option Standing)). standing_at l number) rest.settled ∙ standing_of_tag (tags_of standings seats) number;
 }
 
--- all tags are called
-outcomes_all : (number : ℕ) (command : Command) (entry : Entry) (standings : List (Option Standing)) (tags : List TagValue) → length standings ≡ length tags
-    → ((k : ℕ) → k < length tags → standing_at standings k ≡ Some Called) → outcomes_called number command entry standings tags ≡ hearing_from number command entry tags
-outcomes_all number command entry [] [] same all = refl
-outcomes_all number command entry [] (tag ∷ tags) same all = absurd (omega (arith, same))
-outcomes_all number command entry (standing ∷ standings) [] same all = absurd (omega (arith, same))
-outcomes_all number command entry (standing ∷ standings) (tag ∷ tags) same all =
-    ap (λ (o : Outcome). o ∷ outcomes_called (number + 1) command entry standings tags) (called_outcome (is_missed number entry) command standing tag (all 0 (omega arith)))
-    ∙ ap (λ (l : List Outcome). outcome_unless (is_missed number entry) command tag ∷ l)
-    (outcomes_all (number + 1) command entry standings tags (omega (arith, same)) (λ k below. all (suc k) (omega (arith, below))))
-
 past_settled : (standings : List (Option Standing)) (seats : List TagValue) (number : ℕ) → length standings ≡ length seats → length seats ≤ number
     → standing_at standings number ≡ standing_in (get_or (tags_of standings seats) number no_tag).state
 past_settled standings seats number same past =
     get_or_past standings number None (rw same past)
     ∙ ap (λ (t : TagValue). standing_in t.state) (sym (get_or_past (tags_of standings seats) number no_tag (rw (length-tags_of standings seats same) past)))
-
-pub all_called_for : (command : Command) (entry : Entry) (standings called : List (Option Standing)) (seats seated : List TagValue) (steps stepped : ℕ) → AreAtRest standings seats
-    → CallsTags standings seats steps called seated stepped → ((k : ℕ) → k < length seats → standing_at called k ≡ Some Called)
-    → AreCalledFor command entry (tags_of standings seats) called seated
-all_called_for command entry standings called seats seated steps stepped rest calls all =
-    let whole : length called ≡ length seated = calls.whole ∙ rest.whole ∙ sym calls.seats_whole in
-    record {
-      outcomes =
-          outcomes_all 0 command entry called (tags_of called seated) (whole ∙ sym (length-tags_of called seated whole))
-          (λ k below. all k (rw (← calls.seats_whole, ← length-tags_of called seated whole) below))
-          ∙ ap (λ (l : List TagValue). hearing_from 0 command entry l) calls.tags;
-      whole = whole;
-      few = rw calls.seats_whole rest.few;
-      legal = calls.legal rest.legal;
-      uncalled = λ number apart.
-          elim (cases_lt number (length seats)) [
-            | inl within ↦ absurd (apart (all number within))
-            | inr past ↦ past_settled called seated number whole (rw calls.seats_whole past)
-          ];
-    }
 
 -- A QueryRep: the tags that are called hear it or miss it, and the others wait on or have no part in it.
 IsRep : ℕ → Bool → Option Standing → TagValue → Type 0

@@ -207,7 +207,7 @@ heard_skip command entry standings seats counted wanted from to now seated kept 
       legal = so_far.legal;
     }
 
-one_reply : (number : ℕ) (answer : Option Sent) → length (reply_of number answer) ≤ 1
+pub one_reply : (number : ℕ) (answer : Option Sent) → length (reply_of number answer) ≤ 1
 one_reply number None = omega arith
 one_reply number (Some sent) = omega arith
 
@@ -217,7 +217,7 @@ called_tag standing seat is = ap (λ (s : Option Standing). tag_seated s seat) i
 pub called_outcome : (misses : Bool) (command : Command) (standing : Option Standing) (tag : TagValue) → standing ≡ Some Called → outcome_called misses command standing tag ≡ outcome_unless misses command tag
 called_outcome misses command standing tag is = ap (λ (s : Option Standing). outcome_called misses command s tag) is
 
-step_most : (misses : Bool) → (if misses then 0 else 1) ≤ 1
+pub step_most : (misses : Bool) → (if misses then 0 else 1) ≤ 1
 step_most true = omega arith
 step_most false = omega arith
 

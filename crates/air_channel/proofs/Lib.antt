@@ -1,8 +1,6 @@
 pub mod Receiving
 pub mod Keeping
 pub mod Givings
-pub mod Sending
-pub mod Taking
 pub mod Populations
 pub mod Exchanging
 pub mod Links
@@ -11,3 +9,4 @@ pub mod Seating
 pub mod Heard
 pub mod Calling
 pub mod Resting
+pub mod EachHeard

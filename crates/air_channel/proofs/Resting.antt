@@ -184,16 +184,19 @@ pub befalls_steps : (standings called : List (Option Standing)) (number steps st
 befalls_steps standings called number steps stepped within is counts =
     omega (arith, counts, ap (λ (l : List (Option Standing)). called_in l) is, called_in-set standings number within)
 
--- all tags are settled, one after another
-pub record SettledBelow (seats : List TagValue) (number : ℕ) (standings : List (Option Standing)) : Type 0 where
+-- all tags are settled, from the last one on
+pub record SettledFrom (seats : List TagValue) (from : ℕ) (standings : List (Option Standing)) : Type 0 where
   pub whole : length standings ≡ length seats
-  pub each : (other : ℕ) → other < number → standing_at standings other ≡ standing_in (get_or seats other no_tag).state
+  pub each : (other : ℕ) → from ≤ other → other < length seats → standing_at standings other ≡ standing_in (get_or seats other no_tag).state
 
-pub settled_next : (seats : List TagValue) (number : ℕ) (standings after : List (Option Standing)) (standing : Option Standing) (seat d : TagValue) → SettledBelow seats number standings
-    → number < length seats → seat ≡ get_or seats number d → standing ≡ standing_in seat.state → after ≡ set standings number standing → SettledBelow seats (number + 1) after
-settled_next seats number standings after standing seat d so_far within at is put = record {
+pub settled_none : (seats : List TagValue) (from : ℕ) (standings : List (Option Standing)) → length standings ≡ length seats → length seats ≤ from → SettledFrom seats from standings
+settled_none seats from standings same past = record { whole = same; each = λ other least within. absurd (omega (arith, past, least, within)) }
+
+pub settled_next : (seats : List TagValue) (from number : ℕ) (standings after : List (Option Standing)) (standing : Option Standing) (seat d : TagValue) → SettledFrom seats from standings
+    → from ≡ number + 1 → number < length seats → seat ≡ get_or seats number d → standing ≡ standing_in seat.state → after ≡ set standings number standing → SettledFrom seats number after
+settled_next seats from number standings after standing seat d so_far next within at is put = record {
   whole = ap (λ (l : List (Option Standing)). length l) put ∙ length-set standings number standing ∙ so_far.whole;
-  each = λ other below.
+  each = λ other least inside.
       elim (eqb_tells other number) [
         | inl same ↦
             ap (λ n. standing_at after n) same.1
@@ -205,14 +208,14 @@ settled_next seats number standings after standing seat d so_far within at is pu
         | inr apart ↦
             ap (λ (l : List (Option Standing)). standing_at l other) put
             ∙ get_or-set_other standings number other standing None apart.1
-            ∙ so_far.each other (omega (arith, below, apart.1))
+            ∙ so_far.each other (omega (arith, least, apart.1, next)) inside
       ];
 }
 
-pub settled_all : (seats : List TagValue) (number : ℕ) (standings : List (Option Standing)) → SettledBelow seats number standings → length seats ≤ number → standings ≡ standings_of seats
-settled_all seats number standings so_far past =
+pub settled_all : (seats : List TagValue) (from : ℕ) (standings : List (Option Standing)) → SettledFrom seats from standings → from ≤ 0 → standings ≡ standings_of seats
+settled_all seats from standings so_far first =
     ext_get_or None standings (standings_of seats) (so_far.whole ∙ sym (length-map seats (λ (t : TagValue). standing_in t.state)))
-    (λ other below. so_far.each other (omega (arith, below, so_far.whole, past)) ∙ sym (standing_of_tag seats other))
+    (λ other below. so_far.each other (omega (arith, first)) (rw (← so_far.whole) below) ∙ sym (standing_of_tag seats other))
 
 settled_tags : (seats : List TagValue) → tags_of (standings_of seats) seats ≡ seats
 settled_tags [] = refl

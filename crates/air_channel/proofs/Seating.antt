@@ -272,23 +272,6 @@ due_all session standings called seats seated steps stepped so_far none number =
       | inr there ↦ inr there
     ]
 
--- All tags are called, from the last one on.
-pub record CalledFrom (standings : List (Option Standing)) (seats : List TagValue) (steps from : ℕ) (called : List (Option Standing)) (seated : List TagValue) (stepped : ℕ) : Type 0 where
-  pub calls : CallsTags standings seats steps called seated stepped
-  pub each : (number : ℕ) → from ≤ number → number < length standings → standing_at called number ≡ Some Called
-
-pub called_next : (standings called more : List (Option Standing)) (seats seated most : List TagValue) (steps stepped last from number : ℕ)
-    → CalledFrom standings seats steps from called seated stepped → from ≡ number + 1 → number < length standings → more ≡ set called number (Some Called)
-    → CallsTags called seated stepped more most last → CalledFrom standings seats steps number more most last
-called_next standings called more seats seated most steps stepped last from number so_far is within put calls = record {
-  calls = calls_more standings called more seats seated most steps stepped last so_far.calls calls;
-  each = λ other least inside.
-      elim (eqb_tells other number) [
-        | inl same ↦ this_stands called more number other (Some Called) put (rw so_far.calls.whole within) same.1
-        | inr apart ↦ other_stands called more number other (Some Called) put apart.1 ∙ so_far.each other (omega (arith, least, apart.1, is)) inside
-      ];
-}
-
 pub missed_fits : (items missed : List ℕ) (index count : ℕ) → items ≡ missed → All (λ tag. tag < count) missed → index < length items → count ≤ 256 → get_or items index 0 < 65536
 missed_fits items missed index count same all within few =
     let below : get_or missed index 0 < count = all index 0 (rw (← same) within) in

@@ -5,7 +5,6 @@ mod air;
 mod laws;
 mod population;
 mod receive_reply;
-mod receiver;
 mod replies;
 mod seat;
 mod transmit;

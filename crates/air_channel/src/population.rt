@@ -1,14 +1,16 @@
 //! Tags with numbers.
-ghost use Rattle.std.specs.Prelude.{◌≡◌, ℕ, ◌+◌, ◌*◌, ◌<◌, ◌≤◌, List, [], All, Some, map, length, vec_len, slice_get, slice_set, IfOk};
+ghost use Rattle.std.specs.Prelude.{◌≡◌, ℕ, ◌+◌, ◌*◌, ◌<◌, ◌≤◌, true, List, [], All, Some, None, map, length, vec_len, slice_get, slice_set, IfOk};
 ghost use Rattle.std.specs.Borrow.{sem};
+ghost use Rattle.tag_machine.specs.Answers.{silent};
 ghost use Rattle.tag_machine.specs.Hearing.{tag_value_of};
-ghost use Rattle.tag_machine.specs.TagValue.{IsLegalTag};
+ghost use Rattle.tag_machine.specs.Step.{step};
+ghost use Rattle.tag_machine.specs.TagValue.{BodyValue, IsLegalTag, StateValue};
 ghost use Rattle.air_channel.specs.Air.{AreLegalTags};
 ghost use Rattle.air_channel.specs.Exchange.{IsQueryRep, busy_from, is_missed, replies_from, tags_after, tags_after_event};
 ghost use Rattle.air_channel.specs.Hearing.{hearing_from, tags_after_events};
 ghost use Rattle.air_channel.specs.Kept.{RepliesStandFor};
 ghost use Rattle.air_channel.specs.Lent.{KeepsPopulation};
-ghost use Rattle.air_channel.specs.Seated.{AreAtRest, AreCalledFor, AreUncalledSettled, CallsTags, IsDueCalled, IsMissedCalled, called_in, outcomes_called, reaches_all, seats_written_back, standings_of, steps_back, tags_of};
+ghost use Rattle.air_channel.specs.Seated.{AreAtRest, AreCalledFor, AreUncalledSettled, CallsTags, IsDueCalled, IsMissedCalled, called_in, outcomes_called, reaches_all, seats_written_back, standing_in, standings_of, steps_back, tags_of};
 ghost use Rattle.air_channel.specs.Waiting.{standing_at};
 
 use crate::replies::Replies;
@@ -133,14 +135,7 @@ impl Population {
         ensures bound { IsQueryRep command.now → steps.new ≤ steps.old + 2 * busy_from 0 command.now entry.now self.old }
         ensures legal { AreLegalTags self.new }
     {
-        call_hearers(
-            self.seats.as_mut_slice(),
-            &mut self.waiting,
-            command,
-            entry,
-            steps,
-        );
-        hear_called(
+        hear_at_rest(
             self.seats.as_mut_slice(),
             &mut self.waiting,
             command,
@@ -164,12 +159,18 @@ fn seats_of(alloc: Global, tags: Vec<AnyTag>) -> Result<Vec<Seat>, OutOfMemory>
 }
 
 /// Lets each tag take part as its state says.
+///
+/// The tags leave their places from the first one on, and come to their new ones from the last one on, so that no tag has
+/// to pass another one.
 fn settle(seats: &[Seat], waiting: &mut Waiting)
     requires whole { length waiting.old ≡ length seats.now }
     requires few { length seats.now ≤ 256 }
     ensures { waiting.new ≡ standings_of seats.now }
 {
     for number in 0..seats.len() {
+        waiting.put(number as u16, None);
+    }
+    for number in (0..seats.len()).rev() {
         waiting.put(number as u16, seats[number].standing());
     }
 }
@@ -198,27 +199,52 @@ fn call<L: Ledger>(seats: &mut [Seat], waiting: &mut Waiting, number: u16, steps
     waiting.put(number, Some(Standing::Called));
 }
 
-/// Calls the tags that have to hear a command, or stay as they are where a session is counted down.
-fn call_hearers<L: Ledger>(
+/// Lets each tag hear a command, unless it misses it, in the order of their numbers. A tag hears it where it may change or answer.
+fn hear_at_rest<L: Ledger>(
     seats: &mut [Seat],
     waiting: &mut Waiting,
     command: &Command,
+    entry: &Entry,
+    replies: &mut Replies,
+    steps: &mut Steps<L>,
+)
+    requires rest { AreAtRest waiting.old seats.old }
+    requires begun { RepliesStandFor [] replies.old }
+    requires missed { All (λ tag. tag < length seats.old) entry.now.missed }
+    ensures tags { tags_of waiting.new seats.new ≡ tags_after (hearing_from 0 command.now entry.now (tags_of waiting.old seats.old)) }
+    ensures replies { RepliesStandFor (replies_from 0 (hearing_from 0 command.now entry.now (tags_of waiting.old seats.old))) replies.new }
+    ensures wanted { replies.new.wanted ≡ replies.old.wanted }
+    ensures counted { steps.new ≤ steps.old + 2 * length seats.old }
+    ensures bound { IsQueryRep command.now → steps.new ≤ steps.old + 2 * busy_from 0 command.now entry.now (tags_of waiting.old seats.old) }
+    ensures rest { AreAtRest waiting.new seats.new }
+{
+    if let Command::QueryRep { session } = command {
+        call_hearers(seats, waiting, *session, entry, steps);
+        hear_called(seats, waiting, command, entry, replies, steps);
+    } else if reaches_all(command) {
+        hear_all(seats, waiting, command, entry, replies, steps);
+    } else {
+        hear_called(seats, waiting, command, entry, replies, steps);
+    }
+}
+
+/// Calls the tags that have to hear a QueryRep of a session, or stay as they are where the session is counted down.
+fn call_hearers<L: Ledger>(
+    seats: &mut [Seat],
+    waiting: &mut Waiting,
+    session: Session,
     entry: &Entry,
     steps: &mut Steps<L>,
 )
     requires rest { AreAtRest waiting.old seats.old }
     requires missed { All (λ tag. tag < length seats.old) entry.now.missed }
-    ensures called { AreCalledFor command.now entry.now (tags_of waiting.old seats.old) waiting.new seats.new }
+    ensures called { AreCalledFor (Command.QueryRep session) entry.now (tags_of waiting.old seats.old) waiting.new seats.new }
     ensures counted { steps.new + called_in waiting.old ≤ steps.old + called_in waiting.new }
-    ensures bound { IsQueryRep command.now → called_in waiting.new ≤ busy_from 0 command.now entry.now (tags_of waiting.old seats.old) }
+    ensures bound { called_in waiting.new ≤ busy_from 0 (Command.QueryRep session) entry.now (tags_of waiting.old seats.old) }
 {
-    if let Command::QueryRep { session } = command {
-        call_missed(seats, waiting, *session, entry, steps);
-        call_due(seats, waiting, *session, steps);
-        waiting.count_down(*session);
-    } else if reaches_all(command) {
-        call_all(seats, waiting, steps);
-    }
+    call_missed(seats, waiting, session, entry, steps);
+    call_due(seats, waiting, session, steps);
+    waiting.count_down(session);
 }
 
 /// Calls the tags that wait in a session and miss its QueryRep, so that they aren't counted down.
@@ -258,16 +284,69 @@ fn call_due<L: Ledger>(
     }
 }
 
-/// Calls all tags.
-fn call_all<L: Ledger>(seats: &mut [Seat], waiting: &mut Waiting, steps: &mut Steps<L>)
-    requires whole { length waiting.old ≡ length seats.old }
-    requires few { length seats.old ≤ 256 }
-    ensures called { (number : ℕ) → number < length seats.old → standing_at waiting.new number ≡ Some Standing.Called }
-    ensures calls { CallsTags waiting.old seats.old steps.old waiting.new seats.new steps.new }
+/// Lets each tag hear a command, unless it misses it, in the order of their numbers. Each takes part afterwards as its
+/// state says.
+fn hear_all<L: Ledger>(
+    seats: &mut [Seat],
+    waiting: &mut Waiting,
+    command: &Command,
+    entry: &Entry,
+    replies: &mut Replies,
+    steps: &mut Steps<L>,
+)
+    requires rest { AreAtRest waiting.old seats.old }
+    requires begun { RepliesStandFor [] replies.old }
+    ensures tags { tags_of waiting.new seats.new ≡ tags_after (hearing_from 0 command.now entry.now (tags_of waiting.old seats.old)) }
+    ensures replies { RepliesStandFor (replies_from 0 (hearing_from 0 command.now entry.now (tags_of waiting.old seats.old))) replies.new }
+    ensures wanted { replies.new.wanted ≡ replies.old.wanted }
+    ensures counted { steps.new ≤ steps.old + 2 * length seats.old }
+    ensures rest { AreAtRest waiting.new seats.new }
 {
-    for number in (0..seats.len()).rev() {
-        call(seats, waiting, number as u16, steps);
+    hear_each(seats, waiting, command, entry, replies, steps);
+    settle(seats, waiting);
+}
+
+/// Lets each tag hear a command, unless it misses it, in the order of their numbers, with its slot counter written back.
+/// A QueryAdjust passes by the tags that take no part.
+fn hear_each<L: Ledger>(
+    seats: &mut [Seat],
+    waiting: &Waiting,
+    command: &Command,
+    entry: &Entry,
+    replies: &mut Replies,
+    steps: &mut Steps<L>,
+)
+    requires begun { RepliesStandFor [] replies.old }
+    requires rest { AreAtRest waiting.now seats.old }
+    ensures tags { seats.new ≡ tags_after (hearing_from 0 command.now entry.now (tags_of waiting.now seats.old)) }
+    ensures replies { RepliesStandFor (replies_from 0 (hearing_from 0 command.now entry.now (tags_of waiting.now seats.old))) replies.new }
+    ensures wanted { replies.new.wanted ≡ replies.old.wanted }
+    ensures counted { steps.new ≤ steps.old + 2 * length seats.old }
+    ensures legal { AreLegalTags seats.new }
+{
+    for number in 0..seats.len() {
+        if !is_passed(waiting, number as u16, command) {
+            write_back(seats, waiting, number as u16, steps);
+            let misses = is_missed(number as u32, entry);
+            replies.hear(&mut seats[number], misses, command, steps);
+        }
     }
+}
+
+/// Whether a tag stays as it is at a command since it takes no part in a round.
+fn is_passed(waiting: &Waiting, number: u16, command: &Command) -> bool
+    requires { number < length waiting.now }
+    ensures idle { result ≡ true → standing_at waiting.now number ≡ None }
+    ensures stays { result ≡ true → (state : StateValue) (body : BodyValue) → standing_in state ≡ None → step command.now state body ≡ silent state body }
+{
+    passes_idle(command) && !waiting.takes_part(number)
+}
+
+/// Whether a command leaves each tag as it is that takes no part in a round.
+fn passes_idle(command: &Command) -> bool
+    ensures { result ≡ true → (state : StateValue) (body : BodyValue) → standing_in state ≡ None → step command.now state body ≡ silent state body }
+{
+    matches!(command, Command::QueryAdjust { .. })
 }
 
 /// Whether a command changes tags that wait for their slots, or take no part in a round.

@@ -13,3 +13,4 @@ pub mod Extended
 pub mod Replies
 pub mod DrawCounts
 pub mod Slots
+pub mod Reach

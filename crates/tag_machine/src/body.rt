@@ -1,16 +1,16 @@
 //! What a tag holds in every state.
-ghost use Rattle.std.specs.Prelude.{◌≡◌, ◌+◌, ◌==◌, ◌<◌, length, if◌then◌else◌};
+ghost use Rattle.std.specs.Prelude.{◌≡◌, ◌+◌, ◌^◌, ◌==◌, ◌<◌, length, if◌then◌else◌};
 ghost use Rattle.reply_grammar.specs.Table.{CanBeSent};
 ghost use Rattle.session_flags.specs.Flags.{new_flags, matches, flags_after_power_loss};
 ghost use Rattle.tag_memory.specs.Memory.{with_stored_crc};
 ghost use Rattle.tag_machine.specs.TagValue.{IsLegalBody};
-ghost use Rattle.tag_machine.specs.Draws.{draw_of, place_behind, body_after_draw, body_after_inversion};
+ghost use Rattle.tag_machine.specs.Draws.{draw_of, place_behind, slot_of_draw, body_after_draw, body_after_inversion};
 ghost use Rattle.tag_machine.specs.Inventory.{epc_reply, selected_body};
 ghost use Rattle.tag_machine.specs.Events.{body_after_expiry};
 
 mod access;
 
-use bit_strings::{Action, Pointer, Session};
+use bit_strings::{Action, Pointer, QValue, Session};
 use command_grammar::{FlagName, Mask, MaskBank, Sel, Side};
 use lock_rules::Locks;
 use reply_grammar::Reply;
@@ -93,14 +93,28 @@ impl Body {
         &self.flags
     }
 
+    /// The slot that the next draw gives: the last Q bits of its word (6.3.2.4.8 Slot counter).
+    pub fn next_slot(&self, q: QValue) -> u16
+        ensures value { result ≡ slot_of_draw q self.now }
+        ensures range { result < 2 ^ 15 }
+    {
+        self.next_word() % (1 << q.get())
+    }
+
+    /// The word that the next draw gives.
+    fn next_word(&self) -> u16
+        ensures { result ≡ draw_of self.now }
+    {
+        self.words.words()[self.place]
+    }
+
     /// Draws a word (6.3.2.5 Tag random or pseudo-random number generator).
     pub fn draw(&mut self) -> u16
         ensures word { result ≡ draw_of self.old }
         ensures after { self.new ≡ body_after_draw self.old }
     {
-        let words = self.words.words();
-        let word = words[self.place];
-        self.place = next_place(self.place, words.len());
+        let word = self.next_word();
+        self.place = next_place(self.place, self.words.words().len());
         word
     }
 

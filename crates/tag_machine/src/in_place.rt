@@ -3,28 +3,33 @@
 ghost use Rattle.std.specs.Prelude.{◌≡◌, ◌+◌, ℕ, true, false, if◌then◌else◌};
 ghost use Rattle.tag_machine.specs.Answers.{silent};
 ghost use Rattle.tag_machine.specs.Hearing.{tag_value_of};
+ghost use Rattle.tag_machine.specs.Draws.{enter};
 ghost use Rattle.tag_machine.specs.Inventory.{query_rep};
-ghost use Rattle.tag_machine.specs.States.{arbitrate_state, ready_state};
+ghost use Rattle.tag_machine.specs.Reach.{reaches_waiting};
 ghost use Rattle.tag_machine.specs.Step.{step};
 ghost use Rattle.tag_machine.specs.TagValue.{ArbitrateState, BodyValue, IsLegalTag, ReadyState};
 
 use crate::any_tag::AnyTag;
-use crate::states::{Arbitrate, Ready};
+use crate::inventory::adjusted;
+use crate::states::{Arbitrate, Ready, Slot};
 use crate::steps::Steps;
 use crate::tag::Tag;
-use bit_strings::Session;
-use command_grammar::Command;
+use bit_strings::{QValue, Session};
+use command_grammar::{Command, UpDn};
 use std::sync::ledger::Ledger;
 
-/// Whether a tag that waits stays as it is at a command, and silent, by whether it waits in a round: in ready at all but Query
-/// and Select, and in arbitrate at all but those, QueryRep and QueryAdjust.
-fn is_ignored(command: &Command, in_round: bool) -> bool
-    ensures ready { result ≡ true → in_round ≡ false → (body : BodyValue) → step command.now ReadyState body ≡ silent ReadyState body }
-    ensures arbitrate { result ≡ true → in_round ≡ true → (session q slot : ℕ) (body : BodyValue) → step command.now (ArbitrateState session q slot) body ≡ silent (ArbitrateState session q slot) body }
+/// Whether a command may change a tag that waits for its slot, or takes no part in a round: a Select, Query, QueryRep or
+/// QueryAdjust.
+pub fn reaches_waiting(command: &Command) -> bool
+    ensures value { result ≡ reaches_waiting command.now }
+    ensures ready { result ≡ false → (body : BodyValue) → step command.now ReadyState body ≡ silent ReadyState body }
+    ensures arbitrate { result ≡ false → (session q slot : ℕ) (body : BodyValue) → step command.now (ArbitrateState session q slot) body ≡ silent (ArbitrateState session q slot) body }
 {
     match command {
-        Command::Query { .. } | Command::Select { .. } => false,
-        Command::QueryRep { .. } | Command::QueryAdjust { .. } => !in_round,
+        Command::Query { .. }
+        | Command::QueryRep { .. }
+        | Command::QueryAdjust { .. }
+        | Command::Select { .. } => true,
         Command::Ack { .. }
         | Command::Nak
         | Command::ReqRn { .. }
@@ -34,48 +39,81 @@ fn is_ignored(command: &Command, in_round: bool) -> bool
         | Command::Lock { .. }
         | Command::Access { .. }
         | Command::BlockWrite { .. }
-        | Command::BlockErase { .. } => true,
-    }
-}
-
-impl Ready {
-    /// Whether a tag in ready ignores a command.
-    fn ignores(self, command: &Command) -> bool
-        ensures { result ≡ true → (body : BodyValue) → step command.now (ready_state self) body ≡ silent (ready_state self) body }
-    {
-        is_ignored(command, false)
-    }
-}
-
-impl Arbitrate {
-    /// Whether a tag in arbitrate ignores a command.
-    fn ignores(self, command: &Command) -> bool
-        ensures { result ≡ true → (body : BodyValue) → step command.now (arbitrate_state self) body ≡ silent (arbitrate_state self) body }
-    {
-        is_ignored(command, true)
+        | Command::BlockErase { .. } => false,
     }
 }
 
 impl Tag<Ready> {
-    /// Hears a command that the tag ignores, and answers whether it did.
-    fn waits(&self, command: &Command) -> bool
-        ensures { result ≡ true → step command.now self.now.state self.now.body ≡ silent self.now.state self.now.body }
-    {
-        self.state.ignores(command)
-    }
-}
-
-impl Tag<Arbitrate> {
-    /// Hears a command that leaves the tag in arbitrate, and answers whether it did: one that it ignores, a QueryRep of another
-    /// session, or one by which the slot counter falls and doesn't become 0.
+    /// Hears a command that leaves the tag in ready, and answers whether it did: each but a Query that speaks to the tag.
     fn waits(&mut self, command: &Command) -> bool
         ensures heard { result ≡ true → step command.now self.old.state self.old.body ≡ silent self.new.state self.new.body }
         ensures left { result ≡ false → self.new ≡ self.old }
     {
         match command {
-            Command::QueryRep { session } => self.counts_down(*session),
-            _ => self.state.ignores(command),
+            Command::Query {
+                sel,
+                session,
+                target,
+                ..
+            } => !self.body.matches(*sel, *session, *target),
+            Command::Select {
+                target,
+                action,
+                bank,
+                pointer,
+                mask,
+            } => {
+                self.body.select(*target, *action, *bank, *pointer, mask);
+                true
+            }
+            Command::QueryRep { .. } | Command::QueryAdjust { .. } => true,
+            _ => !reaches_waiting(command),
         }
+    }
+}
+
+impl Tag<Arbitrate> {
+    /// Hears a command that leaves the tag in arbitrate, and answers whether it did: one that is not for the tag, a QueryRep by
+    /// which the slot counter falls and doesn't become 0, or a Query or QueryAdjust at which the tag draws another slot than 0.
+    fn waits(&mut self, command: &Command) -> bool
+        ensures heard { result ≡ true → step command.now self.old.state self.old.body ≡ silent self.new.state self.new.body }
+        ensures left { result ≡ false → self.new ≡ self.old }
+    {
+        let Arbitrate {
+            session: own,
+            q: own_q,
+            ..
+        } = self.state;
+        match command {
+            Command::QueryRep { session } => self.counts_down(*session),
+            Command::QueryAdjust { session, updn } => {
+                own != *session || self.enters(*session, adjusted(*updn, own_q))
+            }
+            Command::Query {
+                sel,
+                session,
+                target,
+                q,
+                ..
+            } => self.body.matches(*sel, *session, *target) && self.enters(*session, *q),
+            Command::Select { .. } => false,
+            _ => !reaches_waiting(command),
+        }
+    }
+
+    /// Draws a slot in a round, unless it is 0, and answers whether it did.
+    fn enters(&mut self, session: Session, q: QValue) -> bool
+        ensures heard { result ≡ true → enter session q self.old.body ≡ silent self.new.state self.new.body }
+        ensures left { result ≡ false → self.new ≡ self.old }
+    {
+        let slot = self.body.next_slot(q);
+        if slot == 0 {
+            return false;
+        }
+        self.body.draw();
+        let slot = Slot::new(slot);
+        self.state = Arbitrate { session, q, slot };
+        true
     }
 
     /// Hears a QueryRep that leaves the tag in arbitrate, and answers whether it did.
@@ -95,8 +133,8 @@ impl Tag<Arbitrate> {
 }
 
 impl AnyTag {
-    /// Hears a command where the tag only waits: in ready or arbitrate, where the command changes at most the slot
-    /// counter and no answer is sent. Answers whether it did; else the tag is left as it was, and has heard nothing.
+    /// Hears a command where the tag only waits: it is in ready or arbitrate and stays there, and sends no answer. Answers
+    /// whether it did; else the tag is left as it was, with no word drawn, and has heard nothing.
     ///
     /// Most tags only wait at most commands of a round, and a tag that is not moved is heard much faster.
     pub fn hear_in_place<L: Ledger>(&mut self, command: &Command, steps: &mut Steps<L>) -> bool

@@ -8,3 +8,5 @@ mod query_adjust;
 mod query_rep;
 mod select;
 mod slot;
+
+pub use query_adjust::adjusted;

@@ -117,7 +117,8 @@ impl Body {
         ensures { GivesOutcome (enter session q self) result out.old out.new }
     {
         let mut body = self;
-        let slot = body.draw() % (1 << q.get());
+        let slot = body.next_slot(q);
+        body.draw();
         if slot == 0 {
             return body.begin_reply(session, q, out);
         }

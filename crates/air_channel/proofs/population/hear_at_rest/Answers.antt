@@ -1,0 +1,54 @@
+use Rattle.std.proofs.Common.{◌∙◌, ap, subst, sym, arith, List}
+use Rattle.tag_machine.specs.Answers.{Outcome}
+use Rattle.air_channel.proofs.Calling.{none_called_for}
+use Rattle.air_channel.proofs.Seating.{called_most}
+use Rattle.air_channel.specs.Exchange.{replies_from, tags_after}
+use Rattle.air_channel.specs.Kept.{RepliesStandFor}
+use Rattle.air_channel.specs.Seated.{AreCalledFor, tags_of}
+use Rattle.air_channel.proofs.population.hear_at_rest.Goals as goal
+
+pub returns-in-QueryRep-clause-tags : goal.returns-in-QueryRep-clause-tags
+returns-in-QueryRep-clause-tags g c =
+    let called : AreCalledFor c.args.command.now c.args.entry.now (tags_of c.args.waiting.now c.args.seats.now) c.call_hearers.new.waiting c.call_hearers.new.seats =
+    rw c.in-QueryRep.is c.call_hearers.ensures.called in
+    c.hear_called.ensures.tags ∙ ap (λ (l : List Outcome). tags_after l) called.outcomes
+
+pub returns-in-QueryRep-clause-replies : goal.returns-in-QueryRep-clause-replies
+returns-in-QueryRep-clause-replies g c =
+    let called : AreCalledFor c.args.command.now c.args.entry.now (tags_of c.args.waiting.now c.args.seats.now) c.call_hearers.new.waiting c.call_hearers.new.seats =
+    rw c.in-QueryRep.is c.call_hearers.ensures.called in
+    subst (λ (l : List Outcome). RepliesStandFor (replies_from 0 l) c.hear_called.new.replies) called.outcomes c.hear_called.ensures.replies
+
+pub returns-in-QueryRep-clause-counted : goal.returns-in-QueryRep-clause-counted
+returns-in-QueryRep-clause-counted g c =
+    omega (
+      arith,
+      c.hear_called.ensures.counted,
+      c.call_hearers.ensures.counted,
+      called_most c.call_hearers.new.waiting,
+      c.call_hearers.ensures.called.whole,
+      c.call_hearers.auto.seats,
+    )
+
+pub returns-in-QueryRep-clause-bound : goal.returns-in-QueryRep-clause-bound
+returns-in-QueryRep-clause-bound g c = λ is.
+    rw c.in-QueryRep.is (omega (arith, c.hear_called.ensures.counted, c.call_hearers.ensures.counted, c.call_hearers.ensures.bound))
+
+pub returns-then-reaches_all-clause-bound : goal.returns-then-reaches_all-clause-bound
+returns-then-reaches_all-clause-bound g c = λ is. absurd (c.in_default.not-QueryRep is.0 is.1)
+
+pub returns-else-reaches_all-clause-bound : goal.returns-else-reaches_all-clause-bound
+returns-else-reaches_all-clause-bound g c = λ is. absurd (c.in_default.not-QueryRep is.0 is.1)
+
+pub returns-else-reaches_all-clause-tags : goal.returns-else-reaches_all-clause-tags
+returns-else-reaches_all-clause-tags g c =
+    let called = none_called_for c.args.command.now c.args.entry.now c.args.waiting.now c.args.seats.now c.requires.rest (sym c.reaches_all.ensures ∙ c.if-reaches_all.false) in
+    c.hear_called-else-reaches_all.ensures.tags ∙ ap (λ (l : List Outcome). tags_after l) called.outcomes
+
+pub returns-else-reaches_all-clause-replies : goal.returns-else-reaches_all-clause-replies
+returns-else-reaches_all-clause-replies g c =
+    let called = none_called_for c.args.command.now c.args.entry.now c.args.waiting.now c.args.seats.now c.requires.rest (sym c.reaches_all.ensures ∙ c.if-reaches_all.false) in
+    subst (λ (l : List Outcome). RepliesStandFor (replies_from 0 l) c.hear_called-else-reaches_all.new.replies) called.outcomes c.hear_called-else-reaches_all.ensures.replies
+
+pub returns-else-reaches_all-clause-counted : goal.returns-else-reaches_all-clause-counted
+returns-else-reaches_all-clause-counted g c = omega (arith, c.hear_called-else-reaches_all.ensures.counted, called_most c.args.waiting.now, c.requires.rest.whole)
