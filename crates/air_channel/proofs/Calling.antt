@@ -11,6 +11,7 @@ use Rattle.tag_machine.specs.Answers.{Outcome, silent}
 use Rattle.tag_machine.specs.Draws.{begin_reply}
 use Rattle.tag_machine.specs.Inventory.{slot_below, count_down}
 use Rattle.tag_machine.specs.Slots.{is_beyond_arbitrate}
+use Rattle.tag_machine.specs.Reach.{reaches_waiting}
 use Rattle.tag_machine.specs.Step.{step}
 use Rattle.tag_machine.specs.TagValue.{StateValue, ReadyState, ArbitrateState, ReplyState, AcknowledgedState, OpenState, SecuredState, KilledState, UnpoweredState, BodyValue, TagValue}
 use Rattle.air_channel.proofs.Heard.{standing_of_tag, sum-zero, zero-sum, later}
@@ -19,7 +20,7 @@ use Rattle.air_channel.proofs.Slots.{same_waits}
 use Rattle.air_channel.specs.Air.{AreLegalTags}
 use Rattle.air_channel.specs.Exchange.{outcome_unless, is_missed, is_busy, busy_from}
 use Rattle.air_channel.specs.Hearing.{hearing_from}
-use Rattle.air_channel.specs.Seated.{with_slot, tag_seated, tags_of, standing_in, standings_of, called_in, outcome_called, outcomes_called, AreAtRest, AreCalledFor, CallsTags, IsMissedCalled, IsDueCalled, reaches_all}
+use Rattle.air_channel.specs.Seated.{with_slot, tag_seated, tags_of, standing_in, standings_of, called_in, outcome_called, outcomes_called, AreAtRest, AreCalledFor, CallsTags, IsMissedCalled, IsDueCalled}
 use Rattle.air_channel.specs.Seats.{no_tag}
 use Rattle.air_channel.specs.Waiting.{standing_at, is_called, waits_in, counted_down}
 use Rattle.air_channel.specs.declared.waiting.Standing.{Standing}
@@ -39,7 +40,7 @@ stays_in F ready arbitrate killed unpowered (SecuredState held) body none = absu
 stays_in F ready arbitrate killed unpowered KilledState body none = killed body
 stays_in F ready arbitrate killed unpowered UnpoweredState body none = unpowered body
 
-stays : (command : Command) (state : StateValue) (body : BodyValue) → reaches_all command ≡ false → is_called (standing_in state) ≡ false → step command state body ≡ silent state body
+stays : (command : Command) (state : StateValue) (body : BodyValue) → reaches_waiting command ≡ false → is_called (standing_in state) ≡ false → step command state body ≡ silent state body
 stays (commands.QueryRep session) state body some none = absurd (cc)
 stays (commands.Ack rn) state body some none = stays_in (λ s b. step (commands.Ack rn) s b) (λ b. refl) (λ session q slot b. refl) (λ b. refl) (λ b. refl) state body none
 stays (commands.Query dr line_code trext sel session target q) state body some none = absurd (cc)
@@ -70,7 +71,7 @@ pub unless_stays : (misses : Bool) (command : Command) (tag : TagValue) → step
 unless_stays true command tag is = refl
 unless_stays false command tag is = sym is
 
-outcome_kept : (misses : Bool) (command : Command) (tag : TagValue) → reaches_all command ≡ false → outcome_called misses command (standing_in tag.state) tag ≡ outcome_unless misses command tag
+outcome_kept : (misses : Bool) (command : Command) (tag : TagValue) → reaches_waiting command ≡ false → outcome_called misses command (standing_in tag.state) tag ≡ outcome_unless misses command tag
 outcome_kept misses command tag some =
     elim (bool_cases (is_called (standing_in tag.state))) [
       | inl called ↦ ap (λ (b : Bool). if b then outcome_unless misses command tag else silent tag.state tag.body) called
@@ -79,7 +80,7 @@ outcome_kept misses command tag some =
           ∙ unless_stays misses command tag (stays command tag.state tag.body some none)
     ]
 
-outcomes_kept : (number : ℕ) (command : Command) (entry : Entry) (tags : List TagValue) → reaches_all command ≡ false
+outcomes_kept : (number : ℕ) (command : Command) (entry : Entry) (tags : List TagValue) → reaches_waiting command ≡ false
     → outcomes_called number command entry (standings_of tags) tags ≡ hearing_from number command entry tags
 outcomes_kept number command entry [] some = refl
 outcomes_kept number command entry (tag ∷ tags) some =
@@ -87,7 +88,7 @@ outcomes_kept number command entry (tag ∷ tags) some =
     ∙ ap (λ (l : List Outcome). outcome_unless (is_missed number entry) command tag ∷ l) (outcomes_kept (number + 1) command entry tags some)
 
 -- nothing has to be called
-pub none_called_for : (command : Command) (entry : Entry) (standings : List (Option Standing)) (seats : List TagValue) → AreAtRest standings seats → reaches_all command ≡ false
+pub none_called_for : (command : Command) (entry : Entry) (standings : List (Option Standing)) (seats : List TagValue) → AreAtRest standings seats → reaches_waiting command ≡ false
     → AreCalledFor command entry (tags_of standings seats) standings seats
 none_called_for command entry standings seats rest some = record {
   outcomes =

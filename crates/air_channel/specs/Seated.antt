@@ -3,7 +3,6 @@ use Rattle.std.proofs.Common.{◌≡◌, ◌≢◌, ℕ, ◌+◌, ◌≤◌, ◌
 use Rattle.std.specs.Prelude.{slice_set}
 use Rattle.air_events.specs.declared.Entry.{Entry}
 use Rattle.command_grammar.specs.declared.commands.Command.{Command}
-use Rattle.command_grammar.specs.declared.commands.Command.TheVariants as commands
 use Rattle.tag_machine.specs.TagValue.{StateValue, ReadyState, ArbitrateState, ReplyState, AcknowledgedState, OpenState, SecuredState, KilledState, UnpoweredState, TagValue}
 use Rattle.tag_machine.specs.Answers.{Outcome, silent}
 use Rattle.air_channel.specs.Air.{AreLegalTags}
@@ -104,23 +103,6 @@ IsDueCalled session before after =
 -- the tags that aren't called take part as their states say
 abbrev pub AreUncalledSettled : List (Option Standing) → List TagValue → Type 0
 AreUncalledSettled standings tags = (number : ℕ) → standing_at standings number ≢ Some Called → standing_at standings number ≡ standing_in (get_or tags number no_tag).state
-
--- each tag reaches a command that changes tags which wait, or take no part
-abbrev pub reaches_all : Command → Bool
-reaches_all (commands.QueryRep session) = true
-reaches_all (commands.Ack rn) = false
-reaches_all (commands.Query dr line_code trext sel session target q) = true
-reaches_all (commands.QueryAdjust session updn) = true
-reaches_all (commands.Select target action bank pointer mask) = true
-reaches_all commands.Nak = false
-reaches_all (commands.ReqRn rn) = false
-reaches_all (commands.Read bank pointer count rn) = false
-reaches_all (commands.Write bank pointer covered rn) = false
-reaches_all (commands.Kill covered rn) = false
-reaches_all (commands.Lock payload rn) = false
-reaches_all (commands.Access covered rn) = false
-reaches_all (commands.BlockWrite bank pointer words rn) = false
-reaches_all (commands.BlockErase bank pointer count rn) = false
 
 -- tags were called for a command: what comes of it for all tags comes of it for those that are called
 pub record AreCalledFor (command : Command) (entry : Entry) (tags : List TagValue) (standings : List (Option Standing)) (seats : List TagValue) : Type 0 where

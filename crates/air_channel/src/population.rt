@@ -10,7 +10,7 @@ ghost use Rattle.air_channel.specs.Exchange.{IsQueryRep, busy_from, is_missed, r
 ghost use Rattle.air_channel.specs.Hearing.{hearing_from, tags_after_events};
 ghost use Rattle.air_channel.specs.Kept.{RepliesStandFor};
 ghost use Rattle.air_channel.specs.Lent.{KeepsPopulation};
-ghost use Rattle.air_channel.specs.Seated.{AreAtRest, AreCalledFor, AreUncalledSettled, CallsTags, IsDueCalled, IsMissedCalled, called_in, outcomes_called, reaches_all, seats_written_back, standing_in, standings_of, steps_back, tags_of};
+ghost use Rattle.air_channel.specs.Seated.{AreAtRest, AreCalledFor, AreUncalledSettled, CallsTags, IsDueCalled, IsMissedCalled, called_in, outcomes_called, seats_written_back, standing_in, standings_of, steps_back, tags_of};
 ghost use Rattle.air_channel.specs.Waiting.{standing_at};
 
 use crate::replies::Replies;
@@ -21,7 +21,7 @@ use command_grammar::Command;
 use std::alloc::Global;
 use std::marker::Model;
 use std::sync::ledger::Ledger;
-use tag_machine::{AnyTag, Entry, Event, Steps};
+use tag_machine::{AnyTag, Entry, Event, Steps, reaches_waiting};
 
 /// Tags, numbered from 0, of which there are at most 256.
 ///
@@ -221,7 +221,7 @@ fn hear_at_rest<L: Ledger>(
     if let Command::QueryRep { session } = command {
         call_hearers(seats, waiting, *session, entry, steps);
         hear_called(seats, waiting, command, entry, replies, steps);
-    } else if reaches_all(command) {
+    } else if reaches_waiting(command) {
         hear_all(seats, waiting, command, entry, replies, steps);
     } else {
         hear_called(seats, waiting, command, entry, replies, steps);
@@ -347,28 +347,6 @@ fn passes_idle(command: &Command) -> bool
     ensures { result ≡ true → (state : StateValue) (body : BodyValue) → standing_in state ≡ None → step command.now state body ≡ silent state body }
 {
     matches!(command, Command::QueryAdjust { .. })
-}
-
-/// Whether a command changes tags that wait for their slots, or take no part in a round.
-fn reaches_all(command: &Command) -> bool
-    ensures { result ≡ reaches_all command.now }
-{
-    match command {
-        Command::Query { .. }
-        | Command::QueryRep { .. }
-        | Command::QueryAdjust { .. }
-        | Command::Select { .. } => true,
-        Command::Ack { .. }
-        | Command::Nak
-        | Command::ReqRn { .. }
-        | Command::Read { .. }
-        | Command::Write { .. }
-        | Command::Kill { .. }
-        | Command::Lock { .. }
-        | Command::Access { .. }
-        | Command::BlockWrite { .. }
-        | Command::BlockErase { .. } => false,
-    }
 }
 
 /// Lets each tag that is called hear a command, unless it misses it, in the order of their numbers. Each takes part

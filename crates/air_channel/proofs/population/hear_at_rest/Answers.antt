@@ -34,21 +34,21 @@ pub returns-in-QueryRep-clause-bound : goal.returns-in-QueryRep-clause-bound
 returns-in-QueryRep-clause-bound g c = λ is.
     rw c.in-QueryRep.is (omega (arith, c.hear_called.ensures.counted, c.call_hearers.ensures.counted, c.call_hearers.ensures.bound))
 
-pub returns-then-reaches_all-clause-bound : goal.returns-then-reaches_all-clause-bound
-returns-then-reaches_all-clause-bound g c = λ is. absurd (c.in_default.not-QueryRep is.0 is.1)
+pub returns-then-reaches_waiting-clause-bound : goal.returns-then-reaches_waiting-clause-bound
+returns-then-reaches_waiting-clause-bound g c = λ is. absurd (c.in_default.not-QueryRep is.0 is.1)
 
-pub returns-else-reaches_all-clause-bound : goal.returns-else-reaches_all-clause-bound
-returns-else-reaches_all-clause-bound g c = λ is. absurd (c.in_default.not-QueryRep is.0 is.1)
+pub returns-else-reaches_waiting-clause-bound : goal.returns-else-reaches_waiting-clause-bound
+returns-else-reaches_waiting-clause-bound g c = λ is. absurd (c.in_default.not-QueryRep is.0 is.1)
 
-pub returns-else-reaches_all-clause-tags : goal.returns-else-reaches_all-clause-tags
-returns-else-reaches_all-clause-tags g c =
-    let called = none_called_for c.args.command.now c.args.entry.now c.args.waiting.now c.args.seats.now c.requires.rest (sym c.reaches_all.ensures ∙ c.if-reaches_all.false) in
-    c.hear_called-else-reaches_all.ensures.tags ∙ ap (λ (l : List Outcome). tags_after l) called.outcomes
+pub returns-else-reaches_waiting-clause-tags : goal.returns-else-reaches_waiting-clause-tags
+returns-else-reaches_waiting-clause-tags g c =
+    let called = none_called_for c.args.command.now c.args.entry.now c.args.waiting.now c.args.seats.now c.requires.rest (sym c.reaches_waiting.ensures.value ∙ c.if-reaches_waiting.false) in
+    c.hear_called-else-reaches_waiting.ensures.tags ∙ ap (λ (l : List Outcome). tags_after l) called.outcomes
 
-pub returns-else-reaches_all-clause-replies : goal.returns-else-reaches_all-clause-replies
-returns-else-reaches_all-clause-replies g c =
-    let called = none_called_for c.args.command.now c.args.entry.now c.args.waiting.now c.args.seats.now c.requires.rest (sym c.reaches_all.ensures ∙ c.if-reaches_all.false) in
-    subst (λ (l : List Outcome). RepliesStandFor (replies_from 0 l) c.hear_called-else-reaches_all.new.replies) called.outcomes c.hear_called-else-reaches_all.ensures.replies
+pub returns-else-reaches_waiting-clause-replies : goal.returns-else-reaches_waiting-clause-replies
+returns-else-reaches_waiting-clause-replies g c =
+    let called = none_called_for c.args.command.now c.args.entry.now c.args.waiting.now c.args.seats.now c.requires.rest (sym c.reaches_waiting.ensures.value ∙ c.if-reaches_waiting.false) in
+    subst (λ (l : List Outcome). RepliesStandFor (replies_from 0 l) c.hear_called-else-reaches_waiting.new.replies) called.outcomes c.hear_called-else-reaches_waiting.ensures.replies
 
-pub returns-else-reaches_all-clause-counted : goal.returns-else-reaches_all-clause-counted
-returns-else-reaches_all-clause-counted g c = omega (arith, c.hear_called-else-reaches_all.ensures.counted, called_most c.args.waiting.now, c.requires.rest.whole)
+pub returns-else-reaches_waiting-clause-counted : goal.returns-else-reaches_waiting-clause-counted
+returns-else-reaches_waiting-clause-counted g c = omega (arith, c.hear_called-else-reaches_waiting.ensures.counted, called_most c.args.waiting.now, c.requires.rest.whole)
