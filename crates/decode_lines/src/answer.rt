@@ -13,7 +13,8 @@ ghost use Rattle.epc_sgtin.specs.UriFaults.{RefusesUri};
 use crate::fault::FaultReason;
 use crate::raw_field::RawField;
 use crate::request::{
-    MOST_INTERVALS, MOST_LEVELS, MOST_NANOSECONDS, MOST_SAMPLES, Request, pie_fields, request_of,
+    MOST_INTERVALS, MOST_LEVELS, MOST_NANOSECONDS, MOST_SAMPLES, MOST_WORDS, Request, pie_fields,
+    request_of,
 };
 use air_channel::receive;
 use bit_strings::{Bits, Code, Levels, OutOfMemory};
@@ -30,14 +31,14 @@ use sgtin_text::{push_epc_fault, push_name, push_sgtin_words, push_uri_fault};
 use std::alloc::Global;
 use text_fields::{Digits, Fields, HexBytes, Words, push_bits, push_number};
 
-/// Room for the levels, bits, intervals and samples of the longest line, taken once for all lines.
+/// Room for the levels, bits, intervals, samples and words of the longest line, taken once for all lines.
 #[derive(Drop)]
 pub struct Workspace {
-    alloc: Global,
     levels: Levels,
     bits: Bits,
     intervals: Intervals,
     samples: Vec<u8>,
+    words: Vec<u16>,
     ghost levels_room: { levels.capacity ≡ most_levels },
     ghost bits_room: { bits.capacity ≡ most_levels },
     ghost intervals_room: { intervals.capacity ≡ 20000 },
@@ -50,12 +51,13 @@ impl Workspace {
         let bits = Bits::new(alloc, MOST_LEVELS)?;
         let intervals = Intervals::new(alloc, MOST_INTERVALS)?;
         let samples = Vec::with_capacity(alloc, MOST_SAMPLES as usize)?;
+        let words = Vec::with_capacity(alloc, MOST_WORDS as usize)?;
         Ok(Workspace {
-            alloc,
             levels,
             bits,
             intervals,
             samples,
+            words,
         })
     }
 
@@ -211,12 +213,12 @@ impl Workspace {
         push_commanded(text, &outcome)
     }
 
-    /// Adds the trade item number that words carry, or why they carry none. Each line takes memory for its words.
-    fn answer_sgtin(&self, words: &Words, text: &mut String) -> Result<(), OutOfMemory>
+    /// Adds the trade item number that words carry, or why they carry none.
+    fn answer_sgtin(&mut self, words: &Words, text: &mut String) -> Result<(), OutOfMemory>
         ensures { OnOk result (AddsAnswer (Request.Sgtin words.now) (string_bytes text.old) (string_bytes text.new)) }
     {
-        let words = words.to_vec(self.alloc)?;
-        let outcome = Sgtin::decode(&words);
+        words.copy_to(&mut self.words)?;
+        let outcome = Sgtin::decode(&self.words);
         push_named(text, &outcome)
     }
 }

@@ -30,7 +30,7 @@ pub const MOST_BITS: u32 = 8_240;
 pub const MOST_INTERVALS: u32 = 20_000;
 
 /// The greatest number of an EPC's words in a line.
-const MOST_WORDS: u32 = 31;
+pub const MOST_WORDS: u32 = 31;
 
 /// The greatest interval in a line, in nanoseconds.
 pub const MOST_NANOSECONDS: u32 = 999_999;

@@ -1,20 +1,18 @@
 -- Decimal digits with leading zeros.
-use Rattle.std.proofs.Common.{◌≡◌, ◌⊎◌, ℕ, zero, suc, ◌+◌, ◌-◌, ◌*◌, ◌/◌, ◌%◌, ◌^◌, ◌<◌, ◌≤◌, true, List, [], ◌∷◌, ◌++◌, length, take, get_or, refl, sym, ◌∙◌, ap, subst, arith, inl, inr, append_assoc, length-append, append-nil, drop, add-one, lit<}
-use Rattle.std.specs.Prelude.{Result, Ok}
+use Rattle.std.proofs.Common.{◌≡◌, ◌⊎◌, ℕ, zero, suc, ◌+◌, ◌-◌, ◌*◌, ◌/◌, ◌%◌, ◌^◌, ◌<◌, ◌≤◌, true, false, List, [], ◌∷◌, ◌++◌, length, take, get_or, refl, sym, ◌∙◌, ap, subst, arith, inl, inr, append_assoc, length-append, append-nil, drop, add-one, lit<}
 use Rattle.std.specs.Char.{digit_value}
 use Rattle.std.specs.Fmt.{decimal}
-use Rattle.std.specs.Str.Parse.{digits_value, ParsesUnsigned}
+use Rattle.std.specs.Str.Parse.{digits_value}
 use Rattle.std.specs.Int.{IsInRange}
 use Rattle.std.proofs.Math.Nat.{pow-suc, one-le-pow, mod-eq_of_lt}
+use Rattle.std.proofs.lemmas.Bool.{false≢true}
 use Rattle.std.proofs.lemmas.Bool.Decides.{nat_tests}
-use Rattle.std.proofs.lemmas.Fmt.{decimal_by_steps, IsAscii-from_digits}
-use Rattle.std.proofs.lemmas.Str.{IsUtf8-from_ascii}
-use Rattle.std.proofs.lemmas.Str.Parse.{IsDigitsTest, IsNumeralModel, numerals_by_value, digits_value_short, parse_gives}
-use Rattle.std.specs.Str.{IsUtf8}
+use Rattle.std.proofs.lemmas.Fmt.{decimal_by_steps}
+use Rattle.std.proofs.lemmas.Str.Parse.{IsDigitsTest, IsNumeralModel, numerals_by_value, digits_value_short}
 use Rattle.std.proofs.lemmas.Int.Digits.{digits_value_push, digits_value_more, digits_value-lt}
 use Rattle.std.specs.Prelude.{slice_set}
 use Rattle.std.proofs.Math.ListN.{length-set}
-use Rattle.std.proofs.lemmas.List.{drop_all, drop-set, take_more, take_all}
+use Rattle.std.proofs.lemmas.List.{length-take-le, drop_all, drop-set, take_more, take_all}
 use Rattle.std.proofs.lemmas.List.Elements.{All-nil, All-cons, All-head, All-tail, All-push, All-get_or}
 use Rattle.epc_sgtin.specs.Uri.{padded}
 use Rattle.epc_sgtin.specs.UriFaults.{is_digit, AreDigits}
@@ -156,14 +154,24 @@ digits_test = record {
 pub numerals : IsNumeralModel AreDigits (digits_value 10)
 numerals = numerals_by_value AreDigits digits_test
 
-pub IsUtf8-digits : (part : List ℕ) → AreDigits part → IsUtf8 part
-IsUtf8-digits part are = IsUtf8-from_ascii part (IsAscii-from_digits part (numerals.to part are))
-
 pub digits_value-below : (part : List ℕ) → AreDigits part → digits_value 10 part < 10 ^ length part
 digits_value-below part are = digits_value-lt 10 part (numerals.to part are)
 
--- std reads a few digits as the number that they write
-pub digits_parse : {E : Type 0} (part : List ℕ) (answer : Result ℕ E) → AreDigits part → 1 ≤ length part → length part ≤ 12 → ParsesUnsigned 64 10 part answer
-    → answer ≡ Ok (digits_value 10 part)
-digits_parse part answer are some few parses =
-    parse_gives numerals 64 part answer parses are (omega arith) (omega (arith, digits_value_short numerals part 12 are few))
+-- the digits of a front are digits, and write a number below 10 to the power of 12
+pub digits_begun : (part : List ℕ) (i number : ℕ) → length part ≤ 12 → i < length part → AreDigits (take i part) → number ≡ digits_value 10 (take i part)
+    → number < 10 ^ 12
+digits_begun part i number few here are is =
+    omega (arith, is, digits_value_short numerals (take i part) 12 are (omega (arith, few, here, length-take-le i part (omega (arith, here)))))
+
+-- a front that is one digit longer
+pub one_digit_more : (part : List ℕ) (i number : ℕ) → i < length part → is_digit (get_or part i 0) ≡ true → AreDigits (take i part)
+    → number ≡ digits_value 10 (take i part)
+    → AreDigits (take (i + 1) part) × (10 * number + (get_or part i 0 - 48) ≡ digits_value 10 (take (i + 1) part))
+one_digit_more part i number here digit are is = (
+  subst AreDigits (sym (take_more part i 0 here)) (All-push (λ byte. is_digit byte ≡ true) (take i part) (get_or part i 0) are digit),
+  omega (arith, is, digits_value_more 10 part i here, digit-digit_value (get_or part i 0) digit),
+)
+
+-- a byte that is no digit stands among no digits
+pub no_digit : (part : List ℕ) (i : ℕ) → i < length part → is_digit (get_or part i 0) ≡ false → ¬ AreDigits part
+no_digit part i here other are = false≢true (sym other ∙ All-get_or (λ byte. is_digit byte ≡ true) part i 0 here are)

@@ -1,8 +1,8 @@
 //! Decimal digits with leading zeros.
-ghost use Rattle.std.specs.Prelude.{◌≡◌, ℕ, ◌+◌, ◌^◌, ◌<◌, ◌≤◌, ◌↔◌, length, IsTrue, IfSome, IfNone};
+ghost use Rattle.std.specs.Prelude.{◌≡◌, ℕ, ◌+◌, ◌^◌, ◌<◌, ◌≤◌, length, IfSome, IfNone};
 ghost use Rattle.std.specs.Fmt.{decimal};
 ghost use Rattle.epc_sgtin.specs.Uri.{padded};
-ghost use Rattle.epc_sgtin.specs.UriFaults.{AreDigits};
+ghost use Rattle.epc_sgtin.specs.UriFaults.{AreDigits, is_digit};
 
 /// Writes the last digits of a value, as many as there is room for.
 pub(crate) fn write_digits(value: u64, digits: &mut [u8])
@@ -33,11 +33,11 @@ pub(crate) fn digit_count(value: u64) -> usize
     count
 }
 
-/// Whether each byte is a decimal digit.
-pub(crate) fn are_digits(part: &[u8]) -> bool
-    ensures { IsTrue result ↔ AreDigits part.now }
+/// Whether a byte is a decimal digit.
+fn is_digit(byte: u8) -> bool
+    ensures { result ≡ is_digit byte }
 {
-    part.iter().all(|byte| matches!(*byte, b'0'..=b'9'))
+    matches!(byte, b'0'..=b'9')
 }
 
 /// The number that 1 to 12 digits write; none exactly where the bytes are no digits.
@@ -49,11 +49,12 @@ pub(crate) fn number_of(part: &[u8]) -> Option<u64>
     ensures spelled { IfSome result (λ number. part.now ≡ padded number (length part.now)) }
     ensures none { IfNone result (¬ AreDigits part.now) }
 {
-    if !are_digits(part) {
-        return None;
+    let mut number = 0;
+    for byte in part {
+        if !is_digit(*byte) {
+            return None;
+        }
+        number = 10 * number + u64::from(*byte - b'0');
     }
-    let Ok(text) = str::from_utf8(part) else {
-        return None;
-    };
-    text.parse().ok()
+    Some(number)
 }

@@ -1,26 +1,77 @@
 -- What a walk over a list of intervals keeps, and what it comes to.
-use Rattle.std.proofs.Common.{◌≡◌, ℕ, ◌+◌, ◌<◌, ◌≤◌, Bool, true, Result, Ok, Err, List, [], ◌∷◌, ◌++◌, length, get_or, take, drop, sym, subst, inl}
+use Rattle.std.proofs.Common.{◌≡◌, ℕ, ◌+◌, ◌-◌, ◌<◌, ◌≤◌, true, Result, Ok, Err, List, [], ◌∷◌, ◌++◌, length, get_or, take, drop, sym, subst, ap, inl, arith, ◌∙◌, append_assoc, length-append}
+use Rattle.std.specs.Prelude.{All}
 use Rattle.std.specs.Result.{MatchResult, IfErr, is_err}
-use Rattle.std.proofs.lemmas.List.{take_more, take_all, take-append-drop}
+use Rattle.std.proofs.lemmas.List.{append-nil, take_all}
 use Rattle.std.proofs.lemmas.Bool.{false≢true}
 use Rattle.std.proofs.lemmas.Result.{MatchResult-weaker}
 use Rattle.bit_strings.specs.BitString.{BitString}
 use Rattle.pie_line.specs.declared.frame.FrameKind.{FrameKind}
 use Rattle.pie_line.specs.declared.frame.PieRefusal.{PieRefusal}
-use Rattle.pie_line.specs.Pie.{IsFrame, Frames}
+use Rattle.pie_line.specs.Pie.{IsFrame, Frames, longest_interval}
 use Rattle.pie_line.specs.FrameLaws.{refuses-no_frame}
 use Rattle.pie_line.specs.Refusal.{IsFrameRefusedAt, RefusesFrame}
 use Rattle.pie_line.specs.Edges.{EdgesValue, EdgesStandFor, IsEdgesAnswer}
 use Rattle.pie_line.specs.declared.edges.Edge.TheVariants.{Refused}
+use Rattle.pie_line.specs.DataSymbols.{GoesOver}
+use Rattle.pie_line.proofs.TakenSymbols.{left_all}
 use Rattle.pie_line.proofs.Leads.{refused-more}
 use Rattle.pie_line.proofs.Standings.{stands-refused}
 
--- the decoder was given the intervals before this place, and the buffer has the bits that were read from them
-pub record IsDecoding (edges : EdgesValue) (out : BitString) (capacity : ℕ) (intervals : List ℕ) (at : ℕ) : Type 0 where
-  pub stands : EdgesStandFor edges out.items (take at intervals)
-  pub counted : edges.count ≤ at
-  pub read : length out.items ≤ at
+-- the decoder was given the intervals before the rest, and the buffer has the bits that were read from them
+pub record IsDecoding (edges : EdgesValue) (out : BitString) (capacity : ℕ) (intervals rest : List ℕ) : Type 0 where
+  pub taken : List ℕ
+  pub cut : intervals ≡ taken ++ rest
+  pub stands : EdgesStandFor edges out.items taken
+  pub counted : edges.count ≤ length taken
+  pub read : length out.items ≤ length taken
   pub room : out.capacity ≡ capacity
+  pub each : All (λ interval. interval ≤ longest_interval) rest
+
+-- what a slice's pattern leaves behind its first item
+behind_one : (rest : List ℕ) → 1 ≤ length rest → rest ≡ get_or rest 0 0 ∷ take (length rest - 1) (drop 1 rest)
+behind_one [] one = absurd (omega (arith, one))
+behind_one (interval ∷ behind) one = ap (λ (list : List ℕ). interval ∷ list) (sym (take_all (length (interval ∷ behind) - 1) behind (omega arith)))
+
+-- the next interval was given too
+pub given_more : (edges edges' : EdgesValue) (out out' : BitString) (capacity : ℕ) (intervals rest : List ℕ) → 1 ≤ length rest
+    → (so_far : IsDecoding edges out capacity intervals rest) → EdgesStandFor edges' out'.items (so_far.taken ++ get_or rest 0 0 ∷ [])
+    → edges'.count ≤ edges.count + 1 → length out'.items ≤ length out.items + 1 → out'.capacity ≡ out.capacity
+    → IsDecoding edges' out' capacity intervals (take (length rest - 1) (drop 1 rest))
+given_more edges edges' out out' capacity intervals rest one so_far stands counted read room =
+    let last = get_or rest 0 0 ∷ [] in
+    let behind = take (length rest - 1) (drop 1 rest) in record {
+      taken = so_far.taken ++ last;
+      cut = so_far.cut ∙ ap (λ (list : List ℕ). so_far.taken ++ list) (behind_one rest one) ∙ sym (append_assoc so_far.taken last behind);
+      stands = stands;
+      counted = omega (arith, counted, so_far.counted, length-append so_far.taken last);
+      read = omega (arith, read, so_far.read, length-append so_far.taken last);
+      room = room ∙ so_far.room;
+      each = left_all (λ interval. interval ≤ longest_interval) rest (length rest - 1) 1 so_far.each;
+    }
+
+-- and so were the data symbols behind it
+pub gone_over : (edges edges' : EdgesValue) (out out' : BitString) (capacity : ℕ) (intervals behind rest : List ℕ)
+    → IsDecoding edges out capacity intervals behind → GoesOver edges edges' out.items out'.items behind rest → out'.capacity ≡ out.capacity
+    → All (λ interval. interval ≤ longest_interval) rest → IsDecoding edges' out' capacity intervals rest
+gone_over edges edges' out out' capacity intervals behind rest so_far over room each = record {
+  taken = so_far.taken ++ over.taken;
+  cut = so_far.cut ∙ ap (λ (list : List ℕ). so_far.taken ++ list) over.cut ∙ sym (append_assoc so_far.taken over.taken rest);
+  stands = over.stands so_far.taken so_far.stands;
+  counted = omega (arith, over.counted, so_far.counted, length-append so_far.taken over.taken);
+  read = omega (arith, over.few, so_far.read, length-append so_far.taken over.taken);
+  room = room ∙ so_far.room;
+  each = each;
+}
+
+-- there are as many places as intervals
+pub has_room : (edges : EdgesValue) (out : BitString) (capacity : ℕ) (intervals rest : List ℕ) → IsDecoding edges out capacity intervals rest
+    → length intervals ≤ capacity → (length out.items + length rest ≤ out.capacity) × (edges.count + length rest ≤ length intervals)
+has_room edges out capacity intervals rest so_far room =
+    let count = ap length so_far.cut in (
+      omega (arith, count, length-append so_far.taken rest, so_far.read, so_far.room, room),
+      omega (arith, count, length-append so_far.taken rest, so_far.counted),
+    )
 
 -- what is refused is no frame
 pub refused-no_frame : (result : Result FrameKind PieRefusal) (xs : List ℕ) → is_err result ≡ true → IfErr result (λ refusal. RefusesFrame refusal xs) → ¬ Frames xs
@@ -28,18 +79,23 @@ refused-no_frame (Ok kind) xs is err f = false≢true is
 refused-no_frame (Err refusal) xs is err f = refuses-no_frame refusal xs err f
 
 -- a refusal before the end of the list is that of the whole list
-pub walk-refused : (edges : EdgesValue) (refusal : PieRefusal) (out : List Bool) (xs : List ℕ) (at : ℕ) → at < length xs →
-    IsEdgesAnswer (Refused refusal) edges out (take at xs ++ get_or xs at 0 ∷ []) → RefusesFrame refusal xs
-walk-refused edges refusal out xs at inside a =
-    let ys = take (at + 1) xs in
+pub walk_refused : (edges edges' : EdgesValue) (refusal : PieRefusal) (out : BitString) (capacity : ℕ) (xs rest : List ℕ) → 1 ≤ length rest →
+    (so_far : IsDecoding edges out capacity xs rest) → IsEdgesAnswer (Refused refusal) edges' out.items (so_far.taken ++ get_or rest 0 0 ∷ []) → RefusesFrame refusal xs
+walk_refused edges edges' refusal out capacity xs rest one so_far a =
+    let last = get_or rest 0 0 ∷ [] in
+    let behind = take (length rest - 1) (drop 1 rest) in
     let P : List ℕ → Type 0 = λ zs. (place : ℕ) × IsFrameRefusedAt refusal zs place in
-    let r : P ys = subst P (sym (take_more xs at 0 inside)) (stands-refused edges refusal out (take at xs ++ get_or xs at 0 ∷ []) a.0 a.1) in
-    inl (subst P (take-append-drop (at + 1) xs) (refused-more refusal ys (drop (at + 1) xs) r))
+    let r : P (so_far.taken ++ last) = stands-refused edges' refusal out.items (so_far.taken ++ last) a.0 a.1 in
+    let whole : (so_far.taken ++ last) ++ behind ≡ xs =
+    append_assoc so_far.taken last behind ∙ sym (so_far.cut ∙ ap (λ (list : List ℕ). so_far.taken ++ list) (behind_one rest one)) in
+    inl (subst P whole (refused-more refusal (so_far.taken ++ last) behind r))
 
 -- after the last interval
-pub walk-ended : (result : Result FrameKind PieRefusal) (out : List Bool) (xs : List ℕ) (at : ℕ) → length xs ≤ at →
-    MatchResult result (λ kind. IsFrame kind out (take at xs)) (λ refusal. RefusesFrame refusal (take at xs)) → IfErr result (λ refusal. RefusesFrame refusal xs)
-walk-ended result out xs at end m =
-    let n : take at xs ≡ xs = take_all at xs end in
-    let P : List ℕ → Type 0 = λ ys. MatchResult result (λ kind. IsFrame kind out ys) (λ refusal. RefusesFrame refusal ys) in
-    MatchResult-weaker result (subst P n m) (λ kind f. tt) (λ refusal r. r)
+pub all_taken : (edges : EdgesValue) (out : BitString) (capacity : ℕ) (xs rest : List ℕ) → length rest < 1 → (so_far : IsDecoding edges out capacity xs rest)
+    → EdgesStandFor edges out.items xs
+all_taken edges out capacity xs [] none so_far = subst (EdgesStandFor edges out.items) (sym (so_far.cut ∙ append-nil so_far.taken)) so_far.stands
+all_taken edges out capacity xs (x ∷ rest) none so_far = absurd (omega (arith, none))
+
+pub walk_ended : (result : Result FrameKind PieRefusal) (out : BitString) (xs : List ℕ)
+    → MatchResult result (λ kind. IsFrame kind out.items xs) (λ refusal. RefusesFrame refusal xs) → IfErr result (λ refusal. RefusesFrame refusal xs)
+walk_ended result out xs m = MatchResult-weaker result m (λ kind f. tt) (λ refusal r. r)

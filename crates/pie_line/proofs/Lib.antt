@@ -3,7 +3,9 @@ pub mod Completions
 pub mod Decisions
 pub mod Decoding
 pub mod FrameAnswers
+pub mod GoneOver
 pub mod Leads
 pub mod Standings
 pub mod Symbols
+pub mod TakenSymbols
 pub mod Writing

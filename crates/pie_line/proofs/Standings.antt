@@ -27,6 +27,12 @@ pub stands-refused : (edges : EdgesValue) (refusal : PieRefusal) (bits : List Bo
     (at : ℕ) × IsFrameRefusedAt refusal xs at
 stands-refused edges refusal bits xs is s = MatchResult-at_err (Reads edges.count bits xs) (Knows xs) refusal is s
 
+pub standing-so : (edges : EdgesValue) (place : FrameState) (bits : List Bool) (xs : List ℕ) → edges.standing ≡ Ok place →
+    (edges.count ≡ length xs) × LeadsToState place bits xs → EdgesStandFor edges bits xs
+standing-so edges place bits xs is at =
+    let P : Result FrameState PieRefusal → Type 0 = λ standing. MatchResult standing (Reads edges.count bits xs) (Knows xs) in
+    subst P (sym is) at
+
 -- after a refusal every interval is answered by the same one
 pub refused-again : (edges : EdgesValue) (refusal : PieRefusal) (x : ℕ) (bits : List Bool) (xs : List ℕ) → edges.standing ≡ Err refusal → EdgesStandFor edges bits xs →
     IsEdgesAnswer (Refused refusal) edges bits (xs ++ x ∷ [])

@@ -1,3 +1,4 @@
+pub mod DataSymbols
 pub mod Edges
 pub mod FrameAnswer
 pub mod FrameLaws

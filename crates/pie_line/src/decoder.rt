@@ -46,12 +46,15 @@ fn decode_intervals(intervals: &[u32], out: &mut Bits) -> Result<FrameKind, PieR
     ensures capacity { out.new.capacity ≡ out.old.capacity }
 {
     let mut edges = Edges::new();
-    for &interval in intervals {
-        match edges.push(interval) {
+    let mut rest = intervals;
+    while let [interval, behind @ ..] = rest {
+        match edges.push(*interval) {
             Edge::More => {}
             Edge::Bit(bit) => out.push_reserved(bit),
             Edge::Refused(refusal) => return Err(refusal),
         }
+        // Most intervals are those of data symbols, which are taken a pair at a time.
+        rest = edges.take_symbols(behind, out);
     }
     edges.finish()
 }

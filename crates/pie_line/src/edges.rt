@@ -1,11 +1,13 @@
 //! A decoder that takes one interval at a time.
-ghost use Rattle.std.specs.Prelude.{◌≡◌, ◌+◌, ◌<◌, ◌≤◌, ℕ, Bool, List, [], ◌∷◌, ◌++◌, MatchResult};
+ghost use Rattle.std.specs.Prelude.{◌≡◌, ◌+◌, ◌<◌, ◌≤◌, ℕ, Bool, List, [], ◌∷◌, ◌++◌, All, MatchResult, length};
 ghost use Rattle.pie_line.specs.Refusal.{refusal_at};
 ghost use Rattle.bit_strings.specs.BitString.{most_counted};
 ghost use Rattle.pie_line.specs.Pie.{longest_interval};
 
 use crate::frame_state::FrameState;
+use crate::symbol_pairs::push_symbols;
 use crate::{FrameKind, PieRefusal};
+use bit_strings::Bits;
 use std::marker::Model;
 
 /// What an interval brought.
@@ -62,6 +64,7 @@ impl Edges {
     ghost use Rattle.pie_line.specs.Pie.{IsFrame};
     ghost use Rattle.pie_line.specs.Refusal.{RefusesFrame};
     ghost use Rattle.pie_line.specs.Edges.{EdgesValue, EdgesStandFor, IsEdgesAnswer};
+    ghost use Rattle.pie_line.specs.DataSymbols.{GoesOver};
 
     /// A decoder that was given no interval.
     pub fn new() -> Edges
@@ -98,6 +101,24 @@ impl Edges {
             Some(bit) => Edge::Bit(bit),
             None => Edge::More,
         }
+    }
+
+    /// Takes the data symbols with which the intervals begin, where the decoder stands before a data symbol,
+    /// and adds their bits to those that were read before. Gives the intervals that are left.
+    pub(crate) fn take_symbols<'a>(&mut self, intervals: &'a [u32], out: &mut Bits) -> &'a [u32]
+        requires room { length out.old.items + length intervals.now ≤ out.old.capacity }
+        requires each { All (λ interval. interval ≤ longest_interval) intervals.now }
+        requires count { self.old.count + length intervals.now ≤ most_counted }
+        ensures taken { GoesOver self.old self.new out.old.items out.new.items intervals.now result.now }
+        ensures each { All (λ interval. interval ≤ longest_interval) result.now }
+        ensures capacity { out.new.capacity ≡ out.old.capacity }
+    {
+        let Ok(FrameState::High { kind }) = self.standing else {
+            return intervals;
+        };
+        let rest = push_symbols(kind, intervals, out);
+        self.count += (intervals.len() - rest.len()) as u32;
+        rest
     }
 
     /// The kind of the frame that the intervals are, or why they are none.

@@ -11,6 +11,7 @@ mod intervals;
 mod laws;
 mod link;
 mod ranges;
+mod symbol_pairs;
 
 pub use bit_strings::Code;
 pub use decoder::decode_frame;

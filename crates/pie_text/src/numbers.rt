@@ -101,8 +101,7 @@ fn push_numbers(line: &[u8], most_items: u32, most: u32, out: &mut Intervals) ->
         let Some((number, end)) = leading_number(text, most) else {
             return false;
         };
-        // There is room for each number.
-        let _ = out.push(number);
+        out.push_reserved(number);
         rest = behind_field(text, end);
     }
     true

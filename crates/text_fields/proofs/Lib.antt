@@ -1,3 +1,4 @@
+mod UpperHexadecimal
 pub mod DecimalDigits
 pub mod EachByte
 pub mod HexText

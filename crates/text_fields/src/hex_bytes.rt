@@ -1,10 +1,8 @@
 //! Bytes that are read as hexadecimal digits of either case.
-ghost use Rattle.std.specs.Prelude.{◌≡◌, ◌≤◌, ◌<◌, ◌↔◌, ℕ, true, List, length, IsTrue, IfOk, IfSome, IsSomeAnd};
+ghost use Rattle.std.specs.Prelude.{◌≡◌, ◌≤◌, ◌<◌, ◌↔◌, ℕ, true, List, length, IsTrue, IfSome, IsSomeAnd};
 ghost use Rattle.std.specs.List.{AllPass};
 ghost use Rattle.hex.specs.Hex.{decode_of, hex_digit_value, is_hex_digit};
 
-use bit_strings::OutOfMemory;
-use std::alloc::{AllocError, Global};
 use std::marker::Model;
 
 /// At least one byte, which a field spells in two hexadecimal digits a byte, of either case. A
@@ -86,18 +84,6 @@ impl<'a> HexBytes<'a> {
             let high = digit_number(self.digits[2 * at]);
             let low = digit_number(self.digits[2 * at + 1]);
             out[at] = high * 16 + low;
-        }
-    }
-
-    /// The bytes, in memory of their own.
-    #[tactic(auto, using(crate::proofs::HexText::text))]
-    pub fn decode(&self, alloc: Global) -> Result<Vec<u8>, OutOfMemory>
-        ensures { IfOk result (λ bytes. bytes.items ≡ self.now) }
-    {
-        match hex::decode(alloc, self.digits) {
-            Ok(bytes) => Ok(bytes),
-            // The digits were checked, so nothing but memory can be wanting.
-            Err(_) => Err(AllocError),
         }
     }
 }

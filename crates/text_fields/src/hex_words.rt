@@ -1,7 +1,9 @@
 //! Words and bytes in hexadecimal digits.
-ghost use Rattle.std.specs.Prelude.{◌≡◌, ◌<◌, ◌≤◌, ◌^◌, ◌++◌, ℕ, [], ◌∷◌, IfSome, OnOk};
+ghost use Rattle.std.specs.Prelude.{◌≡◌, ◌<◌, ◌≤◌, ◌*◌, ◌^◌, ◌++◌, ℕ, [], ◌∷◌, length, IfSome, OnOk};
+ghost use Rattle.std.specs.List.{AllPass, flat_map};
 ghost use Rattle.std.specs.String.{string_bytes};
 ghost use Rattle.text_fields.specs.Hexadecimal.{hex_byte, hex_digit, hex_word, hex_words};
+ghost use Rattle.text_fields.specs.WordLists.{is_upper_hex_digit};
 
 use bit_strings::OutOfMemory;
 
@@ -40,17 +42,78 @@ pub fn word(field: &[u8]) -> Option<u16>
     Some(u16::from_be_bytes([high, low]))
 }
 
+/// How many words are written at once.
+const PART: usize = 16;
+
 /// The digit of a number below 16.
-fn digit_of(value: u8) -> char
+fn digit_of(value: u8) -> u8
     requires { value < 16 }
     ensures { result ≡ hex_digit value }
 {
-    let digit = if value < 10 {
+    if value < 10 {
         b'0' + value
     } else {
         b'A' + (value - 10)
-    };
-    char::from(digit)
+    }
+}
+
+/// The four digits of a word.
+fn word_digits(word: u16) -> [u8; 4]
+    ensures { result ≡ hex_word word }
+{
+    let [high, low] = word.to_be_bytes();
+    [
+        digit_of(high / 16),
+        digit_of(high % 16),
+        digit_of(low / 16),
+        digit_of(low % 16),
+    ]
+}
+
+/// Writes the digits of words over others.
+fn write_words(words: &[u16], digits: &mut [u8])
+    requires { length digits.old ≡ 4 * length words.now }
+    ensures { digits.new ≡ flat_map hex_word words.now }
+{
+    for (at, word) in words.iter().enumerate() {
+        digits[4 * at..4 * at + 4].copy_from_slice(&word_digits(*word));
+    }
+}
+
+/// Writes upper-case hexadecimal digits at the end of the text.
+fn push_upper_hexadecimal(text: &mut String, digits: &[u8]) -> Result<(), OutOfMemory>
+    requires { AllPass is_upper_hex_digit digits.now }
+    ensures { OnOk result (string_bytes text.new ≡ string_bytes text.old ++ digits.now) }
+{
+    match str::from_utf8(digits) {
+        Ok(digits) => text.push_str(digits),
+        // Digits are ASCII.
+        Err(_) => unreachable!(),
+    }
+}
+
+/// Writes at most [`PART`] words in hexadecimal digits at the end of the text.
+fn push_part(text: &mut String, words: &[u16]) -> Result<(), OutOfMemory>
+    requires { length words.now ≤ PART }
+    ensures { OnOk result (string_bytes text.new ≡ string_bytes text.old ++ flat_map hex_word words.now) }
+{
+    let mut room = [b'0'; 4 * PART];
+    let digits = &mut room[..4 * words.len()];
+    write_words(words, digits);
+    push_upper_hexadecimal(text, digits)
+}
+
+/// Writes words in hexadecimal digits at the end of the text.
+fn push_parts(text: &mut String, words: &[u16]) -> Result<(), OutOfMemory>
+    ensures { OnOk result (string_bytes text.new ≡ string_bytes text.old ++ flat_map hex_word words.now) }
+{
+    let mut rest = words;
+    while !rest.is_empty() {
+        let (part, behind) = rest.split_at(rest.len().min(PART));
+        push_part(text, part)?;
+        rest = behind;
+    }
+    Ok(())
 }
 
 /// Writes a number below 16 as one upper-case hexadecimal digit at the end of the text.
@@ -58,7 +121,7 @@ pub fn push_hex_digit(text: &mut String, value: u8) -> Result<(), OutOfMemory>
     requires { value < 16 }
     ensures { OnOk result (string_bytes text.new ≡ string_bytes text.old ++ hex_digit value ∷ []) }
 {
-    text.push(digit_of(value))
+    text.push(char::from(digit_of(value)))
 }
 
 /// Writes a byte in two upper-case hexadecimal digits at the end of the text. After an error the text
@@ -75,9 +138,7 @@ pub fn push_byte_hex(text: &mut String, byte: u8) -> Result<(), OutOfMemory>
 pub fn push_word(text: &mut String, word: u16) -> Result<(), OutOfMemory>
     ensures { OnOk result (string_bytes text.new ≡ string_bytes text.old ++ hex_word word) }
 {
-    let [high, low] = word.to_be_bytes();
-    push_byte_hex(text, high)?;
-    push_byte_hex(text, low)
+    push_upper_hexadecimal(text, &word_digits(word))
 }
 
 /// Writes words in hexadecimal digits without anything between them, or a hyphen for none, at the end
@@ -88,8 +149,5 @@ pub fn push_words(text: &mut String, words: &[u16]) -> Result<(), OutOfMemory>
     if words.is_empty() {
         return text.push('-');
     }
-    for word in words {
-        push_word(text, *word)?;
-    }
-    Ok(())
+    push_parts(text, words)
 }

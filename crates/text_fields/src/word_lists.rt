@@ -1,5 +1,5 @@
 //! Lists of words as fields.
-ghost use Rattle.std.specs.Prelude.{◌≡◌, ◌≢◌, ◌≤◌, ◌<◌, ◌^◌, ◌%◌, ℕ, ◌↔◌, List, [], ◌∷◌, ◌++◌, length, slice_get, All, IsTrue, IfOk, IfSome, IfNone, IsSomeAnd};
+ghost use Rattle.std.specs.Prelude.{◌≡◌, ◌≢◌, ◌≤◌, ◌<◌, ◌^◌, ◌%◌, ℕ, ◌↔◌, List, [], ◌∷◌, ◌++◌, length, slice_get, All, IsTrue, IfOk, OnOk, IfSome, IfNone, IsSomeAnd};
 ghost use Rattle.std.specs.List.{AllPass};
 ghost use Rattle.text_fields.specs.Binary.{hyphen, or_hyphen};
 ghost use Rattle.text_fields.specs.Hexadecimal.{hex_word, hex_words};
@@ -29,13 +29,23 @@ impl<'a> Model for Words<'a> {
     ghost invariant = { λ a. AreWordDigits a.digits.now };
 }
 
+/// Whether a byte is an upper-case hexadecimal digit.
+fn is_upper_hex_digit(byte: u8) -> bool
+    ensures { result ≡ is_upper_hex_digit byte }
+{
+    matches!(byte, b'0'..=b'9' | b'A'..=b'F')
+}
+
 /// Whether each byte is an upper-case hexadecimal digit.
 fn is_upper_hexadecimal(digits: &[u8]) -> bool
     ensures { IsTrue result ↔ AllPass is_upper_hex_digit digits.now }
 {
-    digits
-        .iter()
-        .all(|digit| matches!(*digit, b'0'..=b'9' | b'A'..=b'F'))
+    // The loop goes on to the end, so that the compiler can look at many digits at once.
+    let mut hexadecimal = true;
+    for digit in digits {
+        hexadecimal &= is_upper_hex_digit(*digit);
+    }
+    hexadecimal
 }
 
 /// The first word of digits that spell words, and the digits behind it; none exactly where there are no
@@ -89,16 +99,25 @@ impl<'a> Words<'a> {
         Some(word)
     }
 
+    /// Writes the words into a list in place of what it holds. After an error it holds some of them.
+    pub fn copy_to(&self, out: &mut Vec<u16>) -> Result<(), OutOfMemory>
+        ensures { OnOk result (out.new.items ≡ self.now) }
+    {
+        out.clear();
+        let mut rest = self.digits;
+        while let Some((word, behind)) = split_word(rest) {
+            out.push(word)?;
+            rest = behind;
+        }
+        Ok(())
+    }
+
     /// The words, in memory of their own.
     pub fn to_vec(&self, alloc: Global) -> Result<Vec<u16>, OutOfMemory>
         ensures { IfOk result (λ words. words.items ≡ self.now) }
     {
         let mut words = Vec::with_capacity(alloc, self.digits.len() / 4)?;
-        let mut rest = self.digits;
-        while let Some((word, behind)) = split_word(rest) {
-            words.push(word)?;
-            rest = behind;
-        }
+        self.copy_to(&mut words)?;
         Ok(words)
     }
 }

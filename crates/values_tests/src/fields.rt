@@ -178,10 +178,9 @@ fn words_have_one_spelling(rt: HostRuntime) -> Result<(), Fail> {
 fn bytes_are_read_in_either_case(rt: HostRuntime) -> Result<(), Fail> {
     let read = HexBytes::new(b"00fFa90E", 4).ok_or("no bytes")?;
     assert_eq!(rt; read.len(), 4);
-    assert_eq!(rt;
-        read.decode(rt.alloc())?.as_slice(),
-        [0x00, 0xFF, 0xA9, 0x0E].as_slice()
-    );
+    let mut bytes = [0; 4];
+    read.decode_to(&mut bytes);
+    assert_eq!(rt; bytes, [0x00, 0xFF, 0xA9, 0x0E]);
     for (field, most, wanted) in [
         (b"00".as_slice(), 1, true),
         (b"0000", 1, false),

@@ -30,6 +30,11 @@ returns-in_default-leading_number-clause-all c =
           absurd (c.in_default-leading_number.ensures.none first.0 first.1 (first_number c.args.most first.0 c.in-Some.text.now first.1 first.2 are)),
     )
 
+pub push_reserved-requires : goal.push_reserved-requires
+push_reserved-requires c =
+    let so_far = c.loop-rest.invariant in
+    omega (arith, so_far.few, c.if-len-most_items.false, c.len.ensures.count, so_far.capacity, c.requires.room)
+
 pub loop-rest-preserved : goal.loop-rest-preserved
 loop-rest-preserved c =
     let so_far = c.loop-rest.invariant in
@@ -41,14 +46,13 @@ loop-rest-preserved c =
     ∙ c.behind_field-rest.ensures.fields (lacks_space c.args.most field (omega arith) reads.0) in
     let count = ap length next in
     let room : length c.loop-rest.out.items < c.args.most_items = omega (arith, so_far.few, c.if-len-most_items.false, c.len.ensures.count) in
-    let free : length c.loop-rest.out.items < c.loop-rest.out.capacity = omega (arith, room, so_far.capacity, c.requires.room) in
-    let pushed = c.push.ensures.room free in
+    let pushed = c.push_reserved.ensures in
     let items = ap (λ (list : IntervalList). list.items) pushed in
     let longer = ap length items ∙ length-append c.loop-rest.out.items (c.in-Some-leading_number.number ∷ []) in
     record {
       count = omega (arith, so_far.count, count, longer);
       few = omega (arith, longer, room);
-      values = holds_next _ c.loop-rest.out.items c.push.new.self.items field _ rest c.in-Some-leading_number.number so_far.values next reads.1 items;
+      values = holds_next _ c.loop-rest.out.items c.push_reserved.new.self.items field _ rest c.in-Some-leading_number.number so_far.values next reads.1 items;
       numbers = (
         λ all. All-tail (IsNumber c.args.most) field rest (rw next at (so_far.numbers.0 all)),
         λ are. so_far.numbers.1 (rw next (All-cons (IsNumber c.args.most) field rest reads.0 are)),

@@ -6,6 +6,6 @@ use Rattle.decode_lines.proofs.answer.Workspace.answer_sgtin.Goals as goal
 
 pub returns : goal.returns
 returns c =
-    let same = c.deref.ensures.value ∙ c.in_ok-words.ensures in
+    let same = c.deref.ensures.value ∙ c.in_ok-copy_to.ensures in
     let right = named_right c.args.words.now _ c.decode-outcome.result same c.decode-outcome.ensures.ok c.decode-outcome.ensures.refused in
     on_ok_weaker c.push_named.result (λ line. record { answer = named c.decode-outcome.result; right = right; line = line }) c.push_named.ensures
