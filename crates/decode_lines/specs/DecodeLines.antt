@@ -9,8 +9,6 @@ use Rattle.decode_lines.specs.declared.request.Request.{Request}
 use Rattle.decode_lines.specs.declared.fault.FaultReason.{FaultReason}
 use Rattle.decode_lines.specs.declared.fault.FaultReason.TheVariants.{End, Word, Shape, Number}
 use Rattle.decode_lines.specs.declared.fault.DecodeFault.{DecodeFault}
-use Rattle.decode_lines.specs.declared.fault.Unanswered.{Unanswered}
-use Rattle.decode_lines.specs.declared.fault.Unanswered.TheVariants.{Fault, OutOfMemory}
 
 -- the bytes are lines that ask for these requests, in order, and nothing stands behind the last line feed
 pub record AsksFor (bytes : List ℕ) (requests : List Request) : Type 0 where
@@ -59,8 +57,3 @@ pub record IsFaultText (bytes text : List ℕ) : Type 0 where
   pub fault : DecodeFault
   pub first : IsFirstFault bytes fault
   pub line : text ≡ fault_line fault
-
--- why the lines of the bytes have no answers: the first faulty line; or there was no memory, which says nothing of the bytes
-abbrev pub RefusesLines : List ℕ → Unanswered → Type 0
-RefusesLines bytes (Fault fault) = IsFirstFault bytes fault
-RefusesLines bytes OutOfMemory = Unit {0}

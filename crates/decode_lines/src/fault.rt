@@ -1,10 +1,10 @@
-//! Why the lines of an input have no answers.
+//! The faults of lines.
 ghost use Rattle.std.specs.Prelude.{◌≡◌, IfOk};
 ghost use Rattle.std.specs.String.{string_bytes};
 ghost use Rattle.decode_lines.specs.DecodeLines.{fault_line};
 
 use bit_strings::OutOfMemory;
-use std::alloc::{AllocError, Global};
+use std::alloc::Global;
 use text_fields::push_number;
 
 /// Why a line is refused, in the order in which the reasons are looked for.
@@ -27,26 +27,6 @@ pub struct DecodeFault {
     pub line: u32,
     /// The first reason that applies to it.
     pub reason: FaultReason,
-}
-
-/// Why the lines of an input have no answers.
-#[derive(Clone, Copy, Debug, PartialEq, Eq)]
-pub enum Unanswered {
-    /// A line is faulty.
-    Fault(DecodeFault),
-    /// There was no memory.
-    OutOfMemory,
-}
-
-impl From<AllocError> for Unanswered {
-    ghost use Rattle.std.specs.Prelude.{◌≡◌};
-    ghost use Rattle.decode_lines.specs.declared.fault.Unanswered.TheVariants.{OutOfMemory};
-
-    ghost from_gives = { λ _ unanswered. unanswered ≡ OutOfMemory };
-
-    fn from(_error: AllocError) -> Unanswered {
-        Unanswered::OutOfMemory
-    }
 }
 
 /// The line that reports a fault.

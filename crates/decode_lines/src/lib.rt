@@ -8,12 +8,13 @@ mod laws;
 mod lines;
 mod raw_field;
 mod request;
+mod source;
 
-pub use fault::{DecodeFault, FaultReason, Unanswered, fault_text};
+pub use fault::{DecodeFault, FaultReason, fault_text};
 pub use laws::{
     decode_lines_are_not_faulty, decode_lines_have_a_text, decode_lines_have_one_text,
     requests_have_an_answer,
 };
-pub use lines::answer_lines;
 pub use raw_field::RawField;
 pub use request::{Request, RequestKind};
+pub use source::answer_source;

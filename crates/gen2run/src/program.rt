@@ -1,12 +1,12 @@
 //! The top call: what the program does for its words.
-ghost use Rattle.std.specs.Prelude.{◌≡◌, false, Result, ◌≤◌, ◌↔◌, ◌⊎◌, ℕ, List, length, Some};
+ghost use Rattle.std.specs.Prelude.{◌≡◌, ◌≢◌, false, Result, ◌≤◌, ◌↔◌, ◌⊎◌, ℕ, List, length, Some};
 ghost use Rattle.air_io.specs.Flow.{FaultsRose};
 ghost use Rattle.gen2run.specs.declared.forms.Form.{Form};
 ghost use Rattle.gen2run.specs.Form.{texts, has_input, AskFor, HasForm, IsForm};
 ghost use Rattle.gen2run.specs.Defined.{IsGrammaticalOf, WritesOf, RefusesOf, DefinesOf, HeadlineOf, InventoryOf};
 ghost use Rattle.gen2run.specs.Outcome.{input_limit, status_of, WritesWhole, WritesFront, ReadsWithin, ReadsTooMuch, EndsSo, SpeaksOfNoInput, Tells};
 
-use crate::decode::decode_input;
+use crate::decode::decode_source;
 use crate::ending::{WriteEnd, Wrote};
 use crate::forms::{Form, form_of};
 use crate::generated::write_summary;
@@ -23,12 +23,12 @@ use inventory::{
 use std::alloc::Global;
 
 /// How many bytes of input are read at most.
-const MOST_INPUT_BYTES: u32 = 16_777_216;
+pub(crate) const MOST_INPUT_BYTES: u32 = 16_777_216;
 
 /// Does what the words ask for: reads the input to its end, and writes the defined text.
 ///
-/// The words are looked at first, then the input is read, then its grammar is checked as a whole, and
-/// then the work is done.
+/// The words are looked at first. Nothing is written before the input is read to its end and its grammar is
+/// checked as a whole.
 pub fn gen2run<I: Source, O: Sink>(
     alloc: Global,
     words: &[String],
@@ -113,6 +113,9 @@ fn answer_input<I: Source, O: Sink>(
     if !form.has_input() {
         return status_of(write_defined(alloc, form, &[], output));
     }
+    if form == Form::Decode {
+        return decode_source(alloc, input, output);
+    }
     let bytes = match read_to_end(alloc, input, MOST_INPUT_BYTES) {
         Ok(bytes) => bytes,
         Err(ReadEnd::Fault) => return Status::ReadFault,
@@ -123,7 +126,7 @@ fn answer_input<I: Source, O: Sink>(
 }
 
 /// The status of an end of the writing.
-fn status_of(end: Result<Wrote, WriteEnd>) -> Status
+pub(crate) fn status_of(end: Result<Wrote, WriteEnd>) -> Status
     ensures { result ≡ status_of end }
 {
     match end {
@@ -134,7 +137,8 @@ fn status_of(end: Result<Wrote, WriteEnd>) -> Status
     }
 }
 
-/// Writes the text that the form defines for the bytes of its input.
+/// Writes the text that the form defines for the bytes of its input, where it is read before anything is
+/// done with it.
 fn write_defined<O: Sink>(
     alloc: Global,
     form: Form,
@@ -143,10 +147,12 @@ fn write_defined<O: Sink>(
 ) -> Result<Wrote, WriteEnd>
     requires form { IsForm form }
     requires limit { length bytes.now ≤ input_limit }
+    requires whole { form ≢ Form.Decode }
     ensures { EndsSo form bytes.now (O.written output.old) (O.written output.new) (O.faults output.old) (O.faults output.new) result }
 {
     match form {
-        Form::Decode => decode_input(alloc, bytes, output),
+        // Captures are answered as they are read.
+        Form::Decode => unreachable!(),
         Form::Run(mode) => run_input(alloc, mode, bytes, output),
         Form::Names => names_input(bytes, output),
         Form::Gen { seed, tags } => write_summary(alloc, seed, tags, output),
