@@ -42,7 +42,6 @@ impl Seat {
         ensures value { result ≡ tag_value_of tag }
         ensures legal { IsLegalTag result }
     {
-        tag.audit();
         Seat { tag: Some(tag) }
     }
 

@@ -39,7 +39,8 @@ use Rattle.tag_machine.specs.Inventory.{take_part, body_after_close, query, unle
 use Rattle.tag_machine.specs.Access.{held_state, first_level, new_held, give_handle, give_cover, req_rn_held, req_rn, with_handle, unless_any_half, is_password, unless_other_half, uncover, refuse, read_answer, read_held, read, memory_outcome, write_held, write, whole_of, keep_half, kill_half, kill_held, kill, has_user, locks_outcome, lock, access_half, access_held, access, block_write, block_erase}
 use Rattle.tag_machine.specs.Events.{after_timeout, tag_without_power, after_off, after_on, body_after_expiry, after_expiry, tag_after_event}
 use Rattle.tag_machine.specs.Step.{step}
-use Rattle.tag_machine.proofs.LegalMemory.{AreSound, written_sound, erased_sound, stored_crc_sound}
+use Rattle.tag_memory.specs.Memory.{AreSound}
+use Rattle.tag_machine.proofs.LegalMemory.{written_sound, erased_sound, stored_crc_sound}
 
 abbrev IsLegalAt : StateValue → BodyValue → Type 0
 IsLegalAt state body = IsLegalTag (record { state = state; body = body })

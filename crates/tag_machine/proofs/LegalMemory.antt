@@ -13,13 +13,8 @@ use Rattle.lock_rules.specs.declared.terms.ErrorCode.TheVariants.{Overrun, Locke
 use Rattle.lock_rules.specs.declared.terms.Level.{Level}
 use Rattle.bit_strings.specs.Words.{bits_of_words}
 use Rattle.reply_grammar.specs.Table.{AreWords}
-use Rattle.tag_memory.specs.Memory.{Banks, IsLegalMemory, AreBanksOfWords, bank_of, pc_of, epc_of, length_in, stored_crc_of, with_stored_crc}
+use Rattle.tag_memory.specs.Memory.{Banks, IsLegalMemory, AreBanksOfWords, AreSound, bank_of, pc_of, epc_of, length_in, stored_crc_of, with_stored_crc}
 use Rattle.tag_memory.specs.Access.{may_write_word, all_words, with_words_at, banks_with_words_at, length_fits, banks_after_write, banks_after_erase}
-
--- legal banks whose words are numbers of 16 bits
-pub record AreSound (banks : Banks) : Type 0 where
-  pub legal : IsLegalMemory banks
-  pub words : AreBanksOfWords banks
 
 abbrev IsWord : ℕ → Type 0
 IsWord word = word < 2 ^ 16

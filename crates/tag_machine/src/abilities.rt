@@ -1,11 +1,14 @@
 //! Which states hear which commands. A command that a state doesn't hear is no call of a tag in it.
-ghost use Rattle.std.specs.Prelude.{◌≡◌};
+ghost use Rattle.std.specs.Prelude.{◌≡◌, ◌+◌};
+ghost use Rattle.tag_machine.specs.Hearing.{tag_value_of};
 
 use crate::any_tag::AnyTag;
 use crate::body::Body;
 use crate::states::{Acknowledged, Arbitrate, InReply, Opened, Ready, Secured, State};
+use crate::steps::Steps;
 use crate::tag::Tag;
 use bit_strings::{QValue, Session};
+use std::sync::ledger::Ledger;
 
 /// A state that hears Query and Select: each but killed and without power.
 pub trait Present: State {
@@ -31,6 +34,18 @@ pub trait InTurn: InRound {
 
 /// A state with a handle, in which a tag hears the access commands: open or secured.
 pub trait WithHandle: InTurn {}
+
+impl<S: Present> Tag<S> {
+    /// The tag that hears a command, which is one step.
+    pub(crate) fn one_step<L: Ledger>(self, steps: &mut Steps<L>) -> AnyTag
+        ensures tag { tag_value_of result ≡ self }
+        ensures counted { steps.new ≡ steps.old + 1 }
+    {
+        steps.tick();
+        let Tag { state, body } = self;
+        state.tag(body)
+    }
+}
 
 impl Present for Ready {
     fn tag(self, body: Body) -> AnyTag {

@@ -70,6 +70,7 @@ impl AnyTag {
     pub fn state(&self) -> StateName
         ensures value { result ≡ name_of (tag_value_of self.now).state }
         ensures typed { result ≡ typed_name_of self.now }
+        ensures legal { IsLegalTag (tag_value_of self.now) }
     {
         match self {
             AnyTag::Ready(tag) => tag.state.name(),
@@ -85,25 +86,10 @@ impl AnyTag {
 
     /// Whether the tag has power and isn't killed.
     pub fn present(&self) -> bool
-        ensures { result ≡ is_present (tag_value_of self.now).state }
+        ensures value { result ≡ is_present (tag_value_of self.now).state }
+        ensures legal { IsLegalTag (tag_value_of self.now) }
     {
         !matches!(self.state(), StateName::Killed | StateName::Unpowered)
-    }
-
-    /// Changes nothing: each tag is legal.
-    pub fn audit(&self)
-        ensures { IsLegalTag (tag_value_of self.now) }
-    {
-        match self {
-            AnyTag::Ready(tag) => tag.audit(),
-            AnyTag::Arbitrate(tag) => tag.audit(),
-            AnyTag::InReply(tag) => tag.audit(),
-            AnyTag::Acknowledged(tag) => tag.audit(),
-            AnyTag::Opened(tag) => tag.audit(),
-            AnyTag::Secured(tag) => tag.audit(),
-            AnyTag::Killed(tag) => tag.audit(),
-            AnyTag::Unpowered(tag) => tag.audit(),
-        }
     }
 
     /// What the tag holds in every state.
@@ -111,14 +97,14 @@ impl AnyTag {
         ensures { result.now ≡ (tag_value_of self.now).body }
     {
         match self {
-            AnyTag::Ready(tag) => tag.body(),
-            AnyTag::Arbitrate(tag) => tag.body(),
-            AnyTag::InReply(tag) => tag.body(),
-            AnyTag::Acknowledged(tag) => tag.body(),
-            AnyTag::Opened(tag) => tag.body(),
-            AnyTag::Secured(tag) => tag.body(),
-            AnyTag::Killed(tag) => tag.body(),
-            AnyTag::Unpowered(tag) => tag.body(),
+            AnyTag::Ready(tag) => &tag.body,
+            AnyTag::Arbitrate(tag) => &tag.body,
+            AnyTag::InReply(tag) => &tag.body,
+            AnyTag::Acknowledged(tag) => &tag.body,
+            AnyTag::Opened(tag) => &tag.body,
+            AnyTag::Secured(tag) => &tag.body,
+            AnyTag::Killed(tag) => &tag.body,
+            AnyTag::Unpowered(tag) => &tag.body,
         }
     }
 
@@ -126,20 +112,23 @@ impl AnyTag {
     pub fn flags(&self) -> &Flags
         ensures { result.now ≡ (tag_value_of self.now).body.flags }
     {
-        self.body().flags()
+        let body = self.body();
+        &body.flags
     }
 
     /// The pairs of lock bits.
     pub fn locks(&self) -> &Locks
         ensures { result.now ≡ (tag_value_of self.now).body.locks }
     {
-        self.body().locks()
+        let body = self.body();
+        &body.locks
     }
 
     /// The memory.
     pub fn memory(&self) -> &Memory
         ensures { result.now ≡ (tag_value_of self.now).body.memory }
     {
-        self.body().memory()
+        let body = self.body();
+        &body.memory
     }
 }

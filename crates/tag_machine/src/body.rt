@@ -21,22 +21,21 @@ use tag_memory::Memory;
 /// What a tag holds in every state. A contract sees the record of it.
 #[derive(Drop)]
 pub struct Body {
-    memory: Memory,
-    locks: Locks,
-    flags: Flags,
+    pub memory: Memory,
+    pub locks: Locks,
+    pub flags: Flags,
     words: DrawWords,
     place: usize,
 }
 
 impl Model for Body {
-    ghost use Rattle.std.specs.Prelude.{◌<◌, length};
-    ghost use Rattle.tag_machine.specs.TagValue.{BodyValue};
+    ghost use Rattle.tag_machine.specs.TagValue.{BodyValue, IsLegalBody};
 
     ghost Value = { BodyValue };
 
     ghost view = { λ body. record { memory = body.memory; locks = body.locks; flags = body.flags; words = body.words; place = body.place } };
 
-    ghost invariant = { λ body. body.place < length body.words };
+    ghost invariant = { λ body. IsLegalBody (record { memory = body.memory; locks = body.locks; flags = body.flags; words = body.words; place = body.place }) };
 }
 
 /// The place behind this one, among so many.
@@ -53,7 +52,6 @@ impl Body {
     pub fn new(memory: Memory, locks: Locks, words: DrawWords) -> Body
         ensures { result ≡ record { memory = memory; locks = locks; flags = new_flags; words = words; place = 0 } }
     {
-        let _ = words.words();
         Body {
             memory,
             locks,
@@ -61,36 +59,6 @@ impl Body {
             words,
             place: 0,
         }
-    }
-
-    /// Changes nothing: each body is legal.
-    pub fn audit(&self)
-        ensures { IsLegalBody self.now }
-    {
-        let _ = self.words.words();
-        self.memory.audit();
-        let _ = self.place;
-    }
-
-    /// The memory.
-    pub fn memory(&self) -> &Memory
-        ensures { result.now ≡ self.now.memory }
-    {
-        &self.memory
-    }
-
-    /// The pairs of lock bits.
-    pub fn locks(&self) -> &Locks
-        ensures { result.now ≡ self.now.locks }
-    {
-        &self.locks
-    }
-
-    /// The inventoried flags and the selected flag.
-    pub fn flags(&self) -> &Flags
-        ensures { result.now ≡ self.now.flags }
-    {
-        &self.flags
     }
 
     /// The slot that the next draw gives: the last Q bits of its word (6.3.2.4.8 Slot counter).
@@ -156,7 +124,8 @@ impl Body {
 
     /// Computes StoredCRC again, as power-on does.
     pub fn power_on(&mut self)
-        ensures { self.new ≡ record self.old { memory = with_stored_crc self.old.memory } }
+        ensures value { self.new ≡ record self.old { memory = with_stored_crc self.old.memory } }
+        ensures legal { IsLegalBody self.new }
     {
         self.memory.power_on();
     }

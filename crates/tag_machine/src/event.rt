@@ -104,18 +104,6 @@ impl AnyTag {
         }
     }
 
-    /// What an event does to the tag, by the kind of the event.
-    fn befall(self, event: Event) -> AnyTag
-        ensures { tag_value_of result ≡ tag_after_event event (tag_value_of self).state (tag_value_of self).body }
-    {
-        match event {
-            Event::Timeout => self.time_out(),
-            Event::Off => self.lose_power(),
-            Event::On => self.get_power(),
-            Event::Expire(flag) => self.expire(flag),
-        }
-    }
-
     /// What an event does to the tag:
     ///
     /// - `Timeout` takes a tag in reply or acknowledged back to arbitrate (6.3.1.6 Link timing, T2).
@@ -129,8 +117,11 @@ impl AnyTag {
         ensures step { tag_value_of result ≡ tag_after_event event (tag_value_of self).state (tag_value_of self).body }
         ensures legal { IsLegalTag (tag_value_of result) }
     {
-        let tag = self.befall(event);
-        tag.audit();
-        tag
+        match event {
+            Event::Timeout => self.time_out(),
+            Event::Off => self.lose_power(),
+            Event::On => self.get_power(),
+            Event::Expire(flag) => self.expire(flag),
+        }
     }
 }

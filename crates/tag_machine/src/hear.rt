@@ -95,8 +95,6 @@ impl AnyTag {
         ensures absent { is_present (tag_value_of self).state ≡ false → (tag_value_of result.tag ≡ tag_value_of self) × (result.answered ≡ Answered.Silent) }
     {
         steps.tick();
-        let heard = self.take(command, out);
-        heard.tag.audit();
-        heard
+        self.take(command, out)
     }
 }

@@ -48,6 +48,7 @@ impl Tag<Ready> {
     fn waits(&mut self, command: &Command) -> bool
         ensures heard { result ≡ true → step command.now self.old.state self.old.body ≡ silent self.new.state self.new.body }
         ensures left { result ≡ false → self.new ≡ self.old }
+        ensures legal { IsLegalTag self.new }
     {
         match command {
             Command::Query {
@@ -78,12 +79,10 @@ impl Tag<Arbitrate> {
     fn waits(&mut self, command: &Command) -> bool
         ensures heard { result ≡ true → step command.now self.old.state self.old.body ≡ silent self.new.state self.new.body }
         ensures left { result ≡ false → self.new ≡ self.old }
+        ensures legal { IsLegalTag self.new }
     {
-        let Arbitrate {
-            session: own,
-            q: own_q,
-            ..
-        } = self.state;
+        let own = self.state.session;
+        let own_q = self.state.q;
         match command {
             Command::QueryRep { session } => self.counts_down(*session),
             Command::QueryAdjust { session, updn } => {
@@ -105,6 +104,7 @@ impl Tag<Arbitrate> {
     fn enters(&mut self, session: Session, q: QValue) -> bool
         ensures heard { result ≡ true → enter session q self.old.body ≡ silent self.new.state self.new.body }
         ensures left { result ≡ false → self.new ≡ self.old }
+        ensures legal { IsLegalTag self.new }
     {
         let slot = self.body.next_slot(q);
         if slot == 0 {
@@ -120,6 +120,7 @@ impl Tag<Arbitrate> {
     fn counts_down(&mut self, session: Session) -> bool
         ensures heard { result ≡ true → query_rep session self.old.state self.old.body ≡ silent self.new.state self.new.body }
         ensures left { result ≡ false → self.new ≡ self.old }
+        ensures legal { IsLegalTag self.new }
     {
         if self.state.session == session {
             let slot = self.state.slot.below();
@@ -133,10 +134,11 @@ impl Tag<Arbitrate> {
 }
 
 impl AnyTag {
-    /// Hears a command where the tag only waits: it is in ready or arbitrate and stays there, and sends no answer. Answers
-    /// whether it did; else the tag is left as it was, with no word drawn, and has heard nothing.
+    /// Hears a command where the tag only waits: it is in ready or arbitrate and stays there, and sends no answer, or it is
+    /// killed or without power. Answers whether it did; else the tag is left as it was, with no word drawn, and has heard nothing.
     ///
     /// Most tags only wait at most commands of a round, and a tag that is not moved is heard much faster.
+    #[tactic(auto, using(crate::proofs::Absent::absent))]
     pub fn hear_in_place<L: Ledger>(&mut self, command: &Command, steps: &mut Steps<L>) -> bool
         ensures heard { result ≡ true → step command.now (tag_value_of self.old).state (tag_value_of self.old).body ≡ silent (tag_value_of self.new).state (tag_value_of self.new).body }
         ensures left { result ≡ false → self.new ≡ self.old }
@@ -146,17 +148,11 @@ impl AnyTag {
         let heard = match self {
             AnyTag::Ready(tag) => tag.waits(command),
             AnyTag::Arbitrate(tag) => tag.waits(command),
-            AnyTag::InReply(_)
-            | AnyTag::Acknowledged(_)
-            | AnyTag::Opened(_)
-            | AnyTag::Secured(_)
-            | AnyTag::Killed(_)
-            | AnyTag::Unpowered(_) => false,
+            other => !other.present(),
         };
         if heard {
             steps.tick();
         }
-        self.audit();
         heard
     }
 }

@@ -13,20 +13,6 @@ use crate::tag::Tag;
 use bit_strings::{Bits, QValue, Session};
 use reply_grammar::{Reply, encode_reply};
 
-/// Changes nothing: a reply that can be sent brings 512 words at most.
-fn audit(reply: &Reply)
-    requires { CanBeSent reply.now }
-    ensures { HasFewWords reply.now }
-{
-    match reply {
-        Reply::Words(words) => {
-            let _ = words.len();
-        }
-        Reply::Rn16(_) | Reply::Epc { .. } | Reply::Handle(_) => {}
-        Reply::Header | Reply::Error(_) => {}
-    }
-}
-
 /// No answer.
 pub fn unanswered(tag: AnyTag, out: &mut Bits) -> Heard
     ensures { GivesOutcome (silent (tag_value_of tag).state (tag_value_of tag).body) result out.old out.new }
@@ -42,9 +28,9 @@ pub fn unanswered(tag: AnyTag, out: &mut Bits) -> Heard
 pub fn answer(tag: AnyTag, reply: &Reply, handle: u16, out: &mut Bits) -> Heard
     requires room { reply_room ≤ out.old.capacity }
     requires sendable { CanBeSent reply.now }
+    requires few { HasFewWords reply.now }
     ensures { GivesOutcome (plain (tag_value_of tag).state (tag_value_of tag).body reply.now handle) result out.old out.new }
 {
-    audit(reply);
     encode_reply(reply, handle, out);
     Heard {
         tag,
@@ -56,9 +42,9 @@ pub fn answer(tag: AnyTag, reply: &Reply, handle: u16, out: &mut Bits) -> Heard
 pub fn answer_extended(tag: AnyTag, reply: &Reply, handle: u16, out: &mut Bits) -> Heard
     requires room { reply_room ≤ out.old.capacity }
     requires sendable { CanBeSent reply.now }
+    requires few { HasFewWords reply.now }
     ensures { GivesOutcome (extended (tag_value_of tag).state (tag_value_of tag).body reply.now handle) result out.old out.new }
 {
-    audit(reply);
     encode_reply(reply, handle, out);
     Heard {
         tag,

@@ -1,6 +1,5 @@
 //! The states of a tag, each with the numbers that it holds (6.3.2.4 Tag states and slot counter).
 ghost use Rattle.std.specs.Prelude.{◌≡◌, ◌<◌, ◌^◌};
-ghost use Rattle.tag_machine.specs.TagValue.{IsWordOrNone, IsHalfOrNone, IsLegalHeld};
 
 use bit_strings::{QValue, Session};
 use std::marker::Model;
@@ -28,7 +27,7 @@ pub enum StateName {
 
 /// A state of a tag.
 pub trait State: Copy {
-    ghost use Rattle.tag_machine.specs.TagValue.{StateValue, IsLegalState};
+    ghost use Rattle.tag_machine.specs.TagValue.{StateValue};
     ghost use Rattle.tag_machine.specs.Names.{name_of};
 
     ghost value: { Self → StateValue };
@@ -36,10 +35,6 @@ pub trait State: Copy {
     /// The name of the state.
     fn name(&self) -> StateName
         ensures { result ≡ name_of (value self.now) };
-
-    /// Changes nothing: each number is in its range.
-    fn audit(&self)
-        ensures { IsLegalState (value self.now) };
 }
 
 /// Powered, and in no round (6.3.2.4.1 Ready state).
@@ -161,41 +156,6 @@ impl Slot {
     }
 }
 
-/// Changes nothing: a word is a number of 16 bits.
-fn audit_word(word: Option<u16>)
-    ensures { IsWordOrNone word }
-{
-    match word {
-        Some(_word) => {}
-        None => {}
-    }
-}
-
-/// Changes nothing: a half is a number of 16 bits.
-fn audit_half(half: Option<Half>)
-    ensures { IsHalfOrNone half }
-{
-    match half {
-        Some(half) => {
-            let _value = half.value;
-        }
-        None => {}
-    }
-}
-
-impl Held {
-    /// Changes nothing: each number is in its range.
-    fn audit(&self)
-        ensures { IsLegalHeld self.now }
-    {
-        let _ = self.session.get();
-        let _ = self.q.get();
-        let _handle = self.handle;
-        audit_word(self.cover);
-        audit_half(self.half);
-    }
-}
-
 impl State for Ready {
     ghost use Rattle.tag_machine.specs.States.{ready_state};
 
@@ -204,8 +164,6 @@ impl State for Ready {
     fn name(&self) -> StateName {
         StateName::Ready
     }
-
-    fn audit(&self) {}
 }
 
 impl State for Arbitrate {
@@ -215,12 +173,6 @@ impl State for Arbitrate {
 
     fn name(&self) -> StateName {
         StateName::Arbitrate
-    }
-
-    fn audit(&self) {
-        let _ = self.session.get();
-        let _ = self.q.get();
-        let _ = self.slot.get();
     }
 }
 
@@ -232,12 +184,6 @@ impl State for InReply {
     fn name(&self) -> StateName {
         StateName::InReply
     }
-
-    fn audit(&self) {
-        let _ = self.session.get();
-        let _ = self.q.get();
-        let _rn = self.rn;
-    }
 }
 
 impl State for Acknowledged {
@@ -247,12 +193,6 @@ impl State for Acknowledged {
 
     fn name(&self) -> StateName {
         StateName::Acknowledged
-    }
-
-    fn audit(&self) {
-        let _ = self.session.get();
-        let _ = self.q.get();
-        let _rn = self.rn;
     }
 }
 
@@ -264,10 +204,6 @@ impl State for Opened {
     fn name(&self) -> StateName {
         StateName::Opened
     }
-
-    fn audit(&self) {
-        self.held.audit();
-    }
 }
 
 impl State for Secured {
@@ -277,10 +213,6 @@ impl State for Secured {
 
     fn name(&self) -> StateName {
         StateName::Secured
-    }
-
-    fn audit(&self) {
-        self.held.audit();
     }
 }
 
@@ -292,8 +224,6 @@ impl State for Killed {
     fn name(&self) -> StateName {
         StateName::Killed
     }
-
-    fn audit(&self) {}
 }
 
 impl State for Unpowered {
@@ -304,6 +234,4 @@ impl State for Unpowered {
     fn name(&self) -> StateName {
         StateName::Unpowered
     }
-
-    fn audit(&self) {}
 }

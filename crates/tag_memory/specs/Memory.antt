@@ -77,3 +77,8 @@ pub record AreBanksOfWords (banks : Banks) : Type 0 where
   pub epc : AreWords banks.epc
   pub tid : AreWords banks.tid
   pub user : AreWords banks.user
+
+-- legal banks whose words are numbers of 16 bits
+pub record AreSound (banks : Banks) : Type 0 where
+  pub legal : IsLegalMemory banks
+  pub words : AreBanksOfWords banks

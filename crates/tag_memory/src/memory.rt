@@ -1,10 +1,10 @@
 //! The banks of a tag.
-ghost use Rattle.std.specs.Prelude.{◌≡◌, ◌/◌, ◌%◌, ◌^◌, ◌<◌, ◌≤◌, ◌↔◌, List, Bool, ◌++◌, length, take, true, false, Err, IsNone, IfOk, slice_get};
+ghost use Rattle.std.specs.Prelude.{◌≡◌, ◌/◌, ◌%◌, ◌^◌, ◌<◌, ◌≤◌, ◌↔◌, List, Bool, ◌∷◌, ◌++◌, length, take, true, false, Err, IsNone, IfOk, slice_get};
 ghost use Rattle.bit_strings.specs.Numbers.{field_of, value_of};
 ghost use Rattle.bit_strings.specs.Words.{bits_of_words};
 ghost use Rattle.gen2_crc.specs.Crc.{RegisterStandsFor, crc16_of};
 ghost use Rattle.reply_grammar.specs.Table.{AreWords};
-ghost use Rattle.tag_memory.specs.Memory.{IsLegalMemory, AreBanksOfWords, bank_of, bank_named, pc_of, epc_of, kill_word_of, access_word_of, length_in, stored_crc_of, with_stored_crc};
+ghost use Rattle.tag_memory.specs.Memory.{IsLegalMemory, AreSound, bank_of, bank_named, pc_of, epc_of, kill_word_of, access_word_of, length_in, stored_crc_of, with_stored_crc};
 ghost use Rattle.tag_memory.specs.Image.{sizes_fit, pc_fits, image_banks, banks_of};
 
 mod access;
@@ -29,13 +29,13 @@ pub struct Memory {
 }
 
 impl Model for Memory {
-    ghost use Rattle.tag_memory.specs.Memory.{Banks, IsLegalMemory};
+    ghost use Rattle.tag_memory.specs.Memory.{Banks, AreSound};
 
     ghost Value = { Banks };
 
     ghost view = { λ m. record { reserved = m.reserved; epc = m.epc.items; tid = m.tid.items; user = m.user.items } };
 
-    ghost invariant = { λ m. IsLegalMemory (record { reserved = m.reserved; epc = m.epc.items; tid = m.tid.items; user = m.user.items }) };
+    ghost invariant = { λ m. AreSound (record { reserved = m.reserved; epc = m.epc.items; tid = m.tid.items; user = m.user.items }) };
 }
 
 /// Whether the banks of an image have the sizes that a tag's banks may have.
@@ -85,11 +85,6 @@ fn crc16_of_words(words: &[u16]) -> u16
     crc.value()
 }
 
-/// Changes nothing: each word is a number of 16 bits.
-fn audit_words(_words: &[u16])
-    ensures { AreWords _words.now }
-{}
-
 /// Whether the EPC that the PC of an image announces lies inside its bank.
 fn has_room_for_epc(image: &BankImage) -> bool
     requires { 1 ≤ length image.now.epc }
@@ -99,6 +94,25 @@ fn has_room_for_epc(image: &BankImage) -> bool
     2 + length_in_pc(words[0]) <= 1 + words.len()
 }
 
+/// A bank with these words.
+fn bank_with(alloc: Global, words: &[u16]) -> Result<Vec<u16>, AllocError>
+    ensures value { IfOk result (λ bank. bank.items ≡ words.now) }
+    ensures words { AreWords words.now }
+{
+    Vec::from_slice(alloc, words)
+}
+
+/// An EPC bank with these words behind 0000h in the place of StoredCRC.
+fn epc_bank_with(alloc: Global, words: &[u16]) -> Result<Vec<u16>, AllocError>
+    ensures value { IfOk result (λ bank. bank.items ≡ 0 ∷ words.now) }
+    ensures words { AreWords words.now }
+{
+    let mut bank = Vec::with_capacity(alloc, 33)?;
+    bank.push(0)?;
+    bank.extend_from_slice(words)?;
+    Ok(bank)
+}
+
 impl Memory {
     /// The banks of an image, with 0000h in the place of StoredCRC.
     fn without_crc(alloc: Global, image: &BankImage) -> Result<Memory, AllocError>
@@ -106,11 +120,9 @@ impl Memory {
         requires pc { pc_fits image.now ≡ true }
         ensures { IfOk result (λ memory. memory ≡ image_banks image.now) }
     {
-        let mut epc = Vec::with_capacity(alloc, 33)?;
-        epc.push(0)?;
-        epc.extend_from_slice(image.epc.as_slice())?;
-        let tid = Vec::from_slice(alloc, image.tid.as_slice())?;
-        let user = Vec::from_slice(alloc, image.user.as_slice())?;
+        let epc = epc_bank_with(alloc, image.epc.as_slice())?;
+        let tid = bank_with(alloc, image.tid.as_slice())?;
+        let user = bank_with(alloc, image.user.as_slice())?;
         let (kill0, kill1) = halves(image.kill);
         let (access0, access1) = halves(image.access);
         Ok(Memory {
@@ -143,7 +155,8 @@ impl Memory {
     /// What power-on does to the memory: StoredCRC is computed again, and nothing else changes
     /// (6.3.2.1.2.1; that it is computed at no other time is profile).
     pub fn power_on(&mut self)
-        ensures { self.new ≡ with_stored_crc self.old }
+        ensures value { self.new ≡ with_stored_crc self.old }
+        ensures sound { AreSound self.new }
     {
         let end = 2 + length_in_pc(self.epc[1]);
         self.epc[0] = crc16_of_words(&self.epc[1..end]);
@@ -153,6 +166,7 @@ impl Memory {
     pub fn bank(&self, bank: Bank) -> &[u16]
         ensures value { result.now ≡ bank_of self.now bank }
         ensures legal { IsLegalMemory self.now }
+        ensures sound { AreSound self.now }
     {
         match bank {
             Bank::Reserved => &self.reserved,
@@ -160,17 +174,6 @@ impl Memory {
             Bank::Tid => &self.tid,
             Bank::User => &self.user,
         }
-    }
-
-    /// Changes nothing: each memory is legal, and each of its words is a number of 16 bits.
-    pub fn audit(&self)
-        ensures legal { IsLegalMemory self.now }
-        ensures words { AreBanksOfWords self.now }
-    {
-        audit_words(&self.reserved);
-        audit_words(&self.epc);
-        audit_words(&self.tid);
-        audit_words(&self.user);
     }
 
     /// The whole of a bank that a Select may name.

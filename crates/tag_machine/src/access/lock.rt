@@ -55,7 +55,6 @@ impl Tag<Secured> {
         ensures step { GivesOutcome (lock payload rn self.state self.body) result out.old out.new }
         ensures counted { steps.new ≡ steps.old + 1 }
     {
-        steps.tick();
-        AnyTag::Secured(self).lock(payload, rn, out)
+        self.one_step(steps).lock(payload, rn, out)
     }
 }

@@ -120,9 +120,7 @@ impl<S: WithHandle> Tag<S> {
         ensures step { GivesOutcome (read bank pointer count rn self.state self.body) result out.old out.new }
         ensures counted { steps.new ≡ steps.old + 1 }
     {
-        steps.tick();
-        let Tag { state, body } = self;
-        state.tag(body).read(bank, pointer, count, rn, out)
+        self.one_step(steps).read(bank, pointer, count, rn, out)
     }
 
     /// With the handle and a cover the tag writes the covered number XOR the cover, and answers the header or an error. The
@@ -141,9 +139,7 @@ impl<S: WithHandle> Tag<S> {
         ensures step { GivesOutcome (write bank pointer covered rn self.state self.body) result out.old out.new }
         ensures counted { steps.new ≡ steps.old + 1 }
     {
-        steps.tick();
-        let Tag { state, body } = self;
-        state.tag(body).write(bank, pointer, covered, rn, out)
+        self.one_step(steps).write(bank, pointer, covered, rn, out)
     }
 
     /// With the handle the tag writes all the words or none, and answers the header or an error. With another number nothing
@@ -161,9 +157,8 @@ impl<S: WithHandle> Tag<S> {
         ensures step { GivesOutcome (block_write bank pointer words.now rn self.state self.body) result out.old out.new }
         ensures counted { steps.new ≡ steps.old + 1 }
     {
-        steps.tick();
-        let Tag { state, body } = self;
-        state.tag(body).block_write(bank, pointer, words, rn, out)
+        self.one_step(steps)
+            .block_write(bank, pointer, words, rn, out)
     }
 
     /// With the handle the tag erases so many words or none, and answers the header or an error. With another number nothing
@@ -181,8 +176,7 @@ impl<S: WithHandle> Tag<S> {
         ensures step { GivesOutcome (block_erase bank pointer count rn self.state self.body) result out.old out.new }
         ensures counted { steps.new ≡ steps.old + 1 }
     {
-        steps.tick();
-        let Tag { state, body } = self;
-        state.tag(body).block_erase(bank, pointer, count, rn, out)
+        self.one_step(steps)
+            .block_erase(bank, pointer, count, rn, out)
     }
 }

@@ -46,7 +46,7 @@ impl TagWithHandle {
         ensures { GivesOutcome (kill_whole self.level password self.held self.body) result out.old out.new }
     {
         let TagWithHandle { level, held, body } = self;
-        let own = body.kill_word();
+        let own = body.memory.kill_word();
         let handle = held.handle;
         if own == 0 {
             let held = Held { half: None, ..held };
@@ -74,7 +74,7 @@ impl TagWithHandle {
             held,
             body,
         } = self;
-        if body.access_word() != password {
+        if body.memory.access_word() != password {
             return body.go_back(held.session, held.q, out);
         }
         let handle = held.handle;
@@ -144,9 +144,7 @@ impl<S: WithHandle> Tag<S> {
         ensures step { GivesOutcome (kill covered rn self.state self.body) result out.old out.new }
         ensures counted { steps.new ≡ steps.old + 1 }
     {
-        steps.tick();
-        let Tag { state, body } = self;
-        state.tag(body).kill(covered, rn, out)
+        self.one_step(steps).kill(covered, rn, out)
     }
 
     /// With the handle and a cover, a first Access keeps its half and answers the handle; with a second one the tag is in
@@ -164,8 +162,6 @@ impl<S: WithHandle> Tag<S> {
         ensures step { GivesOutcome (access covered rn self.state self.body) result out.old out.new }
         ensures counted { steps.new ≡ steps.old + 1 }
     {
-        steps.tick();
-        let Tag { state, body } = self;
-        state.tag(body).access(covered, rn, out)
+        self.one_step(steps).access(covered, rn, out)
     }
 }

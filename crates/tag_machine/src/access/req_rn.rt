@@ -24,7 +24,7 @@ impl Body {
         ensures { GivesOutcome (give_handle session q self) result out.old out.new }
     {
         let mut body = self;
-        let level = if body.access_word() == 0 {
+        let level = if body.memory.access_word() == 0 {
             Level::Secured
         } else {
             Level::Opened
@@ -117,8 +117,6 @@ impl<S: InTurn> Tag<S> {
         ensures step { GivesOutcome (req_rn rn self.state self.body) result out.old out.new }
         ensures counted { steps.new ≡ steps.old + 1 }
     {
-        steps.tick();
-        let Tag { state, body } = self;
-        state.tag(body).req_rn(rn, out)
+        self.one_step(steps).req_rn(rn, out)
     }
 }

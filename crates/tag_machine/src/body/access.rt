@@ -2,8 +2,8 @@
 ghost use Rattle.std.specs.Prelude.{◌≡◌, [], ◌∷◌};
 ghost use Rattle.reply_grammar.specs.Table.{CanBeSent};
 ghost use Rattle.lock_rules.specs.Lock.{locks_after};
-ghost use Rattle.tag_memory.specs.Memory.{kill_word_of, access_word_of};
 ghost use Rattle.tag_memory.specs.Access.{words_read, banks_after_write, banks_after_erase};
+ghost use Rattle.tag_machine.specs.Answers.{HasFewWords};
 ghost use Rattle.tag_machine.specs.Access.{has_user, read_answer, change_answer, changed_or};
 
 use super::Body;
@@ -13,24 +13,11 @@ use lock_rules::Level;
 use reply_grammar::{ReadWords, Reply};
 
 impl Body {
-    /// The kill password.
-    pub fn kill_word(&self) -> u32
-        ensures { result ≡ kill_word_of self.now.memory }
-    {
-        self.memory.kill_word()
-    }
-
-    /// The access password.
-    pub fn access_word(&self) -> u32
-        ensures { result ≡ access_word_of self.now.memory }
-    {
-        self.memory.access_word()
-    }
-
     /// What a Read answers: the words, or an error.
     pub fn read(&self, level: Level, bank: Bank, pointer: Pointer, count: u8) -> Reply
         ensures value { result ≡ read_answer (words_read self.now.memory self.now.locks level bank pointer count) }
         ensures sendable { CanBeSent result }
+        ensures few { HasFewWords result }
     {
         let mut words = ReadWords::new();
         match self
@@ -47,6 +34,7 @@ impl Body {
         ensures answer { result ≡ change_answer (banks_after_write self.old.memory self.old.locks level bank pointer (word ∷ [])) }
         ensures after { self.new ≡ record self.old { memory = changed_or self.old.memory (banks_after_write self.old.memory self.old.locks level bank pointer (word ∷ [])) } }
         ensures sendable { CanBeSent result }
+        ensures few { HasFewWords result }
     {
         match self.memory.write(bank, pointer, word, level, &self.locks) {
             Ok(()) => Reply::Header,
@@ -65,6 +53,7 @@ impl Body {
         ensures answer { result ≡ change_answer (banks_after_write self.old.memory self.old.locks level bank pointer words.now) }
         ensures after { self.new ≡ record self.old { memory = changed_or self.old.memory (banks_after_write self.old.memory self.old.locks level bank pointer words.now) } }
         ensures sendable { CanBeSent result }
+        ensures few { HasFewWords result }
     {
         match self
             .memory
@@ -86,6 +75,7 @@ impl Body {
         ensures answer { result ≡ change_answer (banks_after_erase self.old.memory self.old.locks level bank pointer count) }
         ensures after { self.new ≡ record self.old { memory = changed_or self.old.memory (banks_after_erase self.old.memory self.old.locks level bank pointer count) } }
         ensures sendable { CanBeSent result }
+        ensures few { HasFewWords result }
     {
         match self
             .memory
@@ -101,6 +91,7 @@ impl Body {
         ensures answer { result ≡ change_answer (locks_after self.old.locks payload (has_user self.old)) }
         ensures after { self.new ≡ record self.old { locks = changed_or self.old.locks (locks_after self.old.locks payload (has_user self.old)) } }
         ensures sendable { CanBeSent result }
+        ensures few { HasFewWords result }
     {
         let has_user = self.memory.size(Bank::User) > 0;
         match self.locks.apply(payload, has_user) {

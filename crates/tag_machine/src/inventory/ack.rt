@@ -71,8 +71,6 @@ impl<S: InTurn> Tag<S> {
         ensures step { GivesOutcome (ack rn self.state self.body) result out.old out.new }
         ensures counted { steps.new ≡ steps.old + 1 }
     {
-        steps.tick();
-        let Tag { state, body } = self;
-        state.tag(body).ack(rn, out)
+        self.one_step(steps).ack(rn, out)
     }
 }

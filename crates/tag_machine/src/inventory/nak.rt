@@ -38,8 +38,6 @@ impl<S: InRound> Tag<S> {
         ensures step { GivesOutcome (nak self.state self.body) result out.old out.new }
         ensures counted { steps.new ≡ steps.old + 1 }
     {
-        steps.tick();
-        let Tag { state, body } = self;
-        state.tag(body).nak(out)
+        self.one_step(steps).nak(out)
     }
 }

@@ -103,8 +103,6 @@ impl<S: Present> Tag<S> {
         ensures step { GivesOutcome (query sel session target q self.state self.body) result out.old out.new }
         ensures counted { steps.new ≡ steps.old + 1 }
     {
-        steps.tick();
-        let Tag { state, body } = self;
-        state.tag(body).query(sel, session, target, q, out)
+        self.one_step(steps).query(sel, session, target, q, out)
     }
 }

@@ -71,8 +71,6 @@ impl<S: InRound> Tag<S> {
         ensures step { GivesOutcome (query_adjust session updn self.state self.body) result out.old out.new }
         ensures counted { steps.new ≡ steps.old + 1 }
     {
-        steps.tick();
-        let Tag { state, body } = self;
-        state.tag(body).query_adjust(session, updn, out)
+        self.one_step(steps).query_adjust(session, updn, out)
     }
 }

@@ -120,8 +120,6 @@ impl<S: InRound> Tag<S> {
         ensures step { GivesOutcome (query_rep session self.state self.body) result out.old out.new }
         ensures counted { steps.new ≡ steps.old + 1 }
     {
-        steps.tick();
-        let Tag { state, body } = self;
-        state.tag(body).query_rep(session, out)
+        self.one_step(steps).query_rep(session, out)
     }
 }

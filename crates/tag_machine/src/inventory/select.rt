@@ -103,10 +103,7 @@ impl<S: Present> Tag<S> {
         ensures step { GivesOutcome (select target action bank pointer mask.now self.state self.body) result out.old out.new }
         ensures counted { steps.new ≡ steps.old + 1 }
     {
-        steps.tick();
-        let Tag { state, body } = self;
-        state
-            .tag(body)
+        self.one_step(steps)
             .select(target, action, bank, pointer, mask, out)
     }
 }

@@ -1,6 +1,7 @@
 //! What Read, Write, BlockWrite and BlockErase do with the banks (6.3.2.11.3).
 ghost use Rattle.std.specs.Prelude.{◌≡◌, ◌+◌, ◌-◌, ◌<◌, ◌≤◌, ◌↔◌, IsTrue, Ok, Err, IfOk, IfErr, OnOk, OnErr, true, [], ◌∷◌, length, replicate, slice_index};
-ghost use Rattle.tag_memory.specs.Memory.{IsLegalMemory, bank_of};
+ghost use Rattle.reply_grammar.specs.Table.{AreWords};
+ghost use Rattle.tag_memory.specs.Memory.{AreSound, bank_of};
 ghost use Rattle.tag_memory.specs.Access.{field_at, may_read_word, may_write_word, all_words, open_end, words_read, with_words_at, banks_with_words_at, length_fits, banks_after_write, banks_after_erase};
 
 use super::{Memory, length_in_pc};
@@ -81,7 +82,9 @@ fn word_after(old: &[u16], from: usize, words: &[u16], place: usize) -> u16
 /// Writes words over those of a bank from a place on.
 fn replace(old: &mut [u16], from: usize, words: &[u16])
     requires { from + length words.now ≤ length old.old }
-    ensures { old.new ≡ with_words_at old.old from words.now }
+    ensures value { old.new ≡ with_words_at old.old from words.now }
+    ensures whole { length old.new ≡ length old.old }
+    ensures words { AreWords old.new }
 {
     let end = from + words.len();
     old[from..end].copy_from_slice(words);
@@ -170,7 +173,8 @@ impl Memory {
     fn put(&mut self, bank: Bank, from: usize, words: &[u16])
         requires inside { from + length words.now ≤ length (bank_of self.old bank) }
         requires length { length_fits (banks_with_words_at self.old bank from words.now) ≡ true }
-        ensures { self.new ≡ banks_with_words_at self.old bank from words.now }
+        ensures value { self.new ≡ banks_with_words_at self.old bank from words.now }
+        ensures sound { AreSound self.new }
     {
         match bank {
             Bank::Reserved => replace(&mut self.reserved, from, words),
@@ -192,6 +196,7 @@ impl Memory {
         requires { length words.now ≤ 255 }
         ensures ok { OnOk result (banks_after_write self.old locks.now level bank pointer words.now ≡ Ok self.new) }
         ensures err { IfErr result (λ code. (banks_after_write self.old locks.now level bank pointer words.now ≡ Err code) × (self.new ≡ self.old)) }
+        ensures sound { AreSound self.new }
     {
         let from = pointer.get() as usize;
         let end = from + words.len();
@@ -219,6 +224,7 @@ impl Memory {
     ) -> Result<(), ErrorCode>
         ensures ok { OnOk result (banks_after_write self.old locks.now level bank pointer (word ∷ []) ≡ Ok self.new) }
         ensures err { IfErr result (λ code. (banks_after_write self.old locks.now level bank pointer (word ∷ []) ≡ Err code) × (self.new ≡ self.old)) }
+        ensures sound { AreSound self.new }
     {
         self.change(bank, pointer, &[word], level, locks)
     }
@@ -235,6 +241,7 @@ impl Memory {
     ) -> Result<(), ErrorCode>
         ensures ok { OnOk result (banks_after_write self.old locks.now level bank pointer words.now ≡ Ok self.new) }
         ensures err { IfErr result (λ code. (banks_after_write self.old locks.now level bank pointer words.now ≡ Err code) × (self.new ≡ self.old)) }
+        ensures sound { AreSound self.new }
     {
         self.change(bank, pointer, words.as_slice(), level, locks)
     }
@@ -251,6 +258,7 @@ impl Memory {
     ) -> Result<(), ErrorCode>
         ensures ok { OnOk result (banks_after_erase self.old locks.now level bank pointer count ≡ Ok self.new) }
         ensures err { IfErr result (λ code. (banks_after_erase self.old locks.now level bank pointer count ≡ Err code) × (self.new ≡ self.old)) }
+        ensures sound { AreSound self.new }
     {
         self.change(bank, pointer, erased_words(count), level, locks)
     }

@@ -7,5 +7,5 @@ returns c = record {
   tag = refl;
   answered = refl;
   bits = c.encode_reply.ensures.bits;
-  in_range = (is_reply c.args.reply.now c.args.handle c.encode_reply.new.out.items c.encode_reply.ensures.answers, c.ranges.handle.fits, c.audit.ensures);
+  in_range = (is_reply c.args.reply.now c.args.handle c.encode_reply.new.out.items c.encode_reply.ensures.answers, c.ranges.handle.fits, c.requires.few);
 }

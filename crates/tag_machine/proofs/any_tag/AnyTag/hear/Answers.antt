@@ -9,18 +9,18 @@ use Rattle.tag_machine.proofs.any_tag.AnyTag.hear.Goals as goal
 
 pub returns-clause-isolated : goal.returns-clause-isolated
 returns-clause-isolated g c =
-    rw c.take-heard.ensures.tag (isolated c.args.command.now (tag_value_of c.args.self).state (tag_value_of c.args.self).body)
+    rw c.take.ensures.tag (isolated c.args.command.now (tag_value_of c.args.self).state (tag_value_of c.args.self).body)
 
 pub returns-clause-marked : goal.returns-clause-marked
 returns-clause-marked g c =
-    marked c.args.command.now (tag_value_of c.args.self).state (tag_value_of c.args.self).body c.take-heard.result.answered c.take-heard.ensures.answered
+    marked c.args.command.now (tag_value_of c.args.self).state (tag_value_of c.args.self).body c.take.result.answered c.take.ensures.answered
 
 pub returns-clause-refused : goal.returns-clause-refused
 returns-clause-refused g c = λ sent code is error.
-    ap (λ (tag : TagValue). tag.body) c.take-heard.ensures.tag
+    ap (λ (tag : TagValue). tag.body) c.take.ensures.tag
     ∙ (answers_as c.args.command.now (tag_value_of c.args.self).state (tag_value_of c.args.self).body).refused sent code is error
 
 pub returns-clause-absent : goal.returns-clause-absent
 returns-clause-absent g c = λ gone.
     let same = absent c.args.command.now (tag_value_of c.args.self).state (tag_value_of c.args.self).body gone in
-    (c.take-heard.ensures.tag ∙ ap (λ (o : Outcome). o.tag) same, c.take-heard.ensures.answered ∙ ap (λ (o : Outcome). mark_of o.answer) same)
+    (c.take.ensures.tag ∙ ap (λ (o : Outcome). o.tag) same, c.take.ensures.answered ∙ ap (λ (o : Outcome). mark_of o.answer) same)
