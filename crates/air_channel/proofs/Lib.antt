@@ -1,6 +1,8 @@
 pub mod Receiving
 pub mod Keeping
 pub mod Givings
+pub mod Sending
+pub mod Taking
 pub mod Populations
 pub mod Exchanging
 pub mod Links

@@ -11,6 +11,7 @@ pub mod Seats
 pub mod Kept
 pub mod Giving
 pub mod Hearing
+pub mod Taken
 pub mod Rooms
 pub mod Lent
 pub mod Wheel

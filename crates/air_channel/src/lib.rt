@@ -5,6 +5,7 @@ mod air;
 mod laws;
 mod population;
 mod receive_reply;
+mod receiver;
 mod replies;
 mod seat;
 mod transmit;

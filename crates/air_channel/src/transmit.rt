@@ -1,11 +1,17 @@
 //! A command on its way from the interrogator to the tags.
-ghost use Rattle.std.specs.Prelude.{◌≡◌, ◌≤◌, All, length};
+ghost use Rattle.std.specs.Prelude.{◌≡◌, ◌+◌, ◌<◌, ◌≤◌, ◌++◌, ◌∷◌, ℕ, List, [], All, length};
+ghost use Rattle.bit_strings.specs.BitString.{most_counted};
 ghost use Rattle.command_grammar.specs.Commands.{IsLegalCommand};
+ghost use Rattle.pie_line.specs.Pie.{longest_interval};
 ghost use Rattle.air_channel.specs.Channel.{lead_of, wave_for};
+ghost use Rattle.air_channel.specs.Taken.{HasTaken};
 
+use crate::receiver::Receiver;
 use bit_strings::Bits;
-use command_grammar::{Command, decode_command, encode_command};
-use pie_line::{Intervals, Lead, Link, decode_frame, encode_frame};
+use command_grammar::{Command, encode_command};
+use pie_line::{
+    Intervals, LONGEST_HEADER, Lead, Link, header_interval, symbol_intervals, written_frame,
+};
 
 /// Sends a command as a frame, and gives what the tags read from that frame, which is the command again. `bits` is
 /// a buffer with room for 8,400 bits, and `frame` has the frame afterwards.
@@ -26,14 +32,36 @@ pub(crate) fn transmit(
     ensures frame_capacity { frame.new.capacity ≡ frame.old.capacity }
 {
     encode_command(command, bits);
-    encode_frame(link, lead_of(command), bits, frame);
-    let Ok(_) = decode_frame(frame, bits) else {
-        unreachable!()
-    };
-    match decode_command(bits.as_slice()) {
-        Ok(command) => command,
-        Err(_) => unreachable!(),
+    written_frame();
+    let lead = lead_of(command);
+    let mut receiver = Receiver::new();
+    frame.clear();
+    for place in 0..LONGEST_HEADER {
+        if let Some(interval) = header_interval(link, lead, place) {
+            send(interval, frame, &mut receiver);
+        }
     }
+    for &bit in bits.as_slice() {
+        let (high, low) = symbol_intervals(link, bit);
+        send(high, frame, &mut receiver);
+        send(low, frame, &mut receiver);
+    }
+    receiver.command()
+}
+
+/// Sends one more interval of a frame, in nanoseconds. The receiver takes it as it is made.
+fn send(interval: u32, frame: &mut Intervals, receiver: &mut Receiver)
+    requires interval { interval ≤ longest_interval }
+    requires room { length frame.old.items < frame.old.capacity }
+    requires count { receiver.old.edges.count < most_counted }
+    ensures frame { frame.new.items ≡ frame.old.items ++ interval ∷ [] }
+    ensures capacity { frame.new.capacity ≡ frame.old.capacity }
+    ensures taken { (intervals : List ℕ) → HasTaken receiver.old.edges receiver.old.framer intervals
+        → HasTaken receiver.new.edges receiver.new.framer (intervals ++ interval ∷ []) }
+    ensures count { receiver.new.edges.count ≤ receiver.old.edges.count + 1 }
+{
+    frame.push_reserved(interval);
+    receiver.take(interval);
 }
 
 /// With which header the frame of a command begins (6.3.1.2.8).

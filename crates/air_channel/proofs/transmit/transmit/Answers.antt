@@ -1,28 +1,30 @@
-use Rattle.std.proofs.Common.{◌∙◌, ap, sym}
-use Rattle.command_grammar.specs.Commands.{SpellsCommand}
-use Rattle.pie_line.specs.Pie.{kind_of}
+use Rattle.std.proofs.Common.{◌≤◌, ◌∙◌, ap, sym, subst, refl, arith}
+use Rattle.std.specs.Prelude.{All}
+use Rattle.command_grammar.specs.Commands.{spelling_of}
+use Rattle.pie_line.specs.Link.{IsLegalLink}
+use Rattle.pie_line.specs.Pie.{IsFrame, kind_of, longest_interval}
+use Rattle.air_channel.specs.Channel.{lead_of}
+use Rattle.air_channel.proofs.Sending.{whole_wave}
 use Rattle.air_channel.proofs.transmit.transmit.Goals as goal
 
--- the frame is read
-pub unreachable-requires : goal.unreachable-requires
-unreachable-requires c =
-    let read = c.decode_frame.ensures.only (kind_of c.args.link.now c.lead_of.result) c.encode_command.new.out.items c.encode_frame.ensures.frame in
-    let same = sym c.in_default.is ∙ read.0 in
-    cc
+-- at the end the frame is the whole wave of the command
+pub returns-clause-wave : goal.returns-clause-wave
+returns-clause-wave c =
+    whole_wave c.args.link.now (lead_of c.args.command.now) c.loop-bit.frame.items c.as_slice-bit-items.result.now (spelling_of c.args.command.now) c.loop-bit.bit-index c.loop-bit.invariant.0
+    (c.as_slice-bit-items.ensures.value ∙ ap (λ bits. bits.items) c.encode_command.ensures.spelled) c.loop-bit-test.false
 
--- ... and its bits are those of the command
-pub unreachable-requires-in-Err : goal.unreachable-requires-in-Err
-unreachable-requires-in-Err c =
-    let read = c.decode_frame.ensures.only (kind_of c.args.link.now c.lead_of.result) c.encode_command.new.out.items c.encode_frame.ensures.frame in
-    let spells : SpellsCommand c.args.command.now c.as_slice.result.now =
-    record { legal = c.encode_command.ensures.legal; spelled = c.as_slice.ensures.value ∙ read.1 ∙ ap (λ bits. bits.items) c.encode_command.ensures.spelled } in
-    let same = sym c.in-Err.is ∙ c.decode_command.ensures.only c.args.command.now spells in
-    cc
+pub returns-clause-each : goal.returns-clause-each
+returns-clause-each c =
+    let legal : IsLegalLink c.args.link.now = c.loop-place.invariant.2 (omega (arith, c.loop-place-test.false)) in
+    subst (λ frame. All (λ interval. interval ≤ longest_interval) frame) (sym (returns-clause-wave c))
+    (c.written_frame.ensures.each c.args.link.now (lead_of c.args.command.now) (spelling_of c.args.command.now) legal)
 
 pub returns-clause-heard : goal.returns-clause-heard
 returns-clause-heard c =
-    let read = c.decode_frame.ensures.only (kind_of c.args.link.now c.lead_of.result) c.encode_command.new.out.items c.encode_frame.ensures.frame in
-    let spells : SpellsCommand c.args.command.now c.as_slice.result.now =
-    record { legal = c.encode_command.ensures.legal; spelled = c.as_slice.ensures.value ∙ read.1 ∙ ap (λ bits. bits.items) c.encode_command.ensures.spelled } in
-    let same = sym c.in-Ok-decode_command.is ∙ c.decode_command.ensures.only c.args.command.now spells in
-    cc
+    let link = c.args.link.now in
+    let lead = lead_of c.args.command.now in
+    let legal : IsLegalLink link = c.loop-place.invariant.2 (omega (arith, c.loop-place-test.false)) in
+    let frame : IsFrame (kind_of link lead) (spelling_of c.args.command.now) c.loop-bit.frame.items =
+    subst (λ frame. IsFrame (kind_of link lead) (spelling_of c.args.command.now) frame) (sym (returns-clause-wave c))
+    (c.written_frame.ensures.frame link lead (spelling_of c.args.command.now) legal) in
+    c.command.ensures c.loop-bit.frame.items (kind_of link lead) (spelling_of c.args.command.now) c.args.command.now c.loop-bit.invariant.3 frame (record { legal = c.encode_command.ensures.legal; spelled = refl })

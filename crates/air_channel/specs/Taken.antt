@@ -1,0 +1,14 @@
+-- Profile: a tag's receiver, which is given the intervals of a frame one by one and reads a command from them bit by bit.
+use Rattle.std.specs.Prelude.{ℕ, Bool, List}
+use Rattle.command_grammar.specs.Framing.{FramerValue, FramerStandsFor}
+use Rattle.pie_line.specs.Edges.{EdgesValue, EdgesStandFor}
+
+-- the bits that were read from the intervals, all of which the framer was given
+pub record TakenBits (edges : EdgesValue) (framer : FramerValue) (intervals : List ℕ) : Type 0 where
+  pub bits : List Bool
+  pub read : EdgesStandFor edges bits intervals
+  pub framed : FramerStandsFor framer bits
+
+-- the receiver was given these intervals
+unfoldable pub HasTaken : EdgesValue → FramerValue → List ℕ → Type 0
+HasTaken edges framer intervals = TakenBits edges framer intervals

@@ -1,0 +1,65 @@
+//! What a tag makes of a frame: its intervals, one by one, to bits, and these to a command.
+ghost use Rattle.std.specs.Prelude.{◌≡◌, ◌+◌, ◌<◌, ◌≤◌, ◌++◌, ◌∷◌, ℕ, Bool, List, []};
+ghost use Rattle.bit_strings.specs.BitString.{most_counted};
+ghost use Rattle.command_grammar.specs.Commands.{SpellsCommand};
+ghost use Rattle.command_grammar.specs.declared.commands.Command.{Command};
+ghost use Rattle.pie_line.specs.Pie.{IsFrame, longest_interval};
+ghost use Rattle.pie_line.specs.declared.frame.FrameKind.{FrameKind};
+ghost use Rattle.air_channel.specs.Taken.{HasTaken};
+
+use command_grammar::{Command, Framer};
+use pie_line::{Edge, Edges, one_answer};
+
+/// A tag's receiver. It keeps neither intervals nor bits.
+#[derive(Drop)]
+pub(crate) struct Receiver {
+    edges: Edges,
+    framer: Framer,
+}
+
+impl Receiver {
+    /// A receiver that was given no interval.
+    #[tactic(auto, unfolding(crate::specs::Taken::HasTaken))]
+    pub(crate) fn new() -> Receiver
+        ensures taken { HasTaken result.edges result.framer [] }
+        ensures count { result.edges.count ≡ 0 }
+    {
+        Receiver {
+            edges: Edges::new(),
+            framer: Framer::new(),
+        }
+    }
+
+    /// Takes one more interval, in nanoseconds.
+    #[tactic(auto, unfolding(crate::specs::Taken::HasTaken))]
+    pub(crate) fn take(&mut self, interval: u32)
+        requires interval { interval ≤ longest_interval }
+        requires count { self.old.edges.count < most_counted }
+        ensures taken { (intervals : List ℕ) → HasTaken self.old.edges self.old.framer intervals
+            → HasTaken self.new.edges self.new.framer (intervals ++ interval ∷ []) }
+        ensures count { self.new.edges.count ≤ self.old.edges.count + 1 }
+    {
+        if let Edge::Bit(bit) = self.edges.push(interval) {
+            self.framer.push(bit);
+        }
+    }
+
+    /// The command of the frame that the receiver was given.
+    #[tactic(auto, unfolding(crate::specs::Taken::HasTaken))]
+    pub(crate) fn command(self) -> Command
+        requires { (intervals : List ℕ) × (kind : FrameKind) × (bits : List Bool) × (command : Command) × HasTaken self.edges self.framer intervals
+            × IsFrame kind bits intervals × SpellsCommand command bits }
+        ensures { (intervals : List ℕ) (kind : FrameKind) (bits : List Bool) (command : Command) → HasTaken self.edges self.framer intervals
+            → IsFrame kind bits intervals → SpellsCommand command bits → result ≡ command }
+    {
+        let Receiver { edges, framer } = self;
+        one_answer();
+        let Ok(_) = edges.finish() else {
+            unreachable!()
+        };
+        match framer.finish() {
+            Ok(command) => command,
+            Err(_) => unreachable!(),
+        }
+    }
+}
