@@ -339,14 +339,7 @@ fn is_passed(waiting: &Waiting, number: u16, command: &Command) -> bool
     ensures idle { result ≡ true → standing_at waiting.now number ≡ None }
     ensures stays { result ≡ true → (state : StateValue) (body : BodyValue) → standing_in state ≡ None → step command.now state body ≡ silent state body }
 {
-    passes_idle(command) && !waiting.takes_part(number)
-}
-
-/// Whether a command leaves each tag as it is that takes no part in a round.
-fn passes_idle(command: &Command) -> bool
-    ensures { result ≡ true → (state : StateValue) (body : BodyValue) → standing_in state ≡ None → step command.now state body ≡ silent state body }
-{
-    matches!(command, Command::QueryAdjust { .. })
+    matches!(command, Command::QueryAdjust { .. }) && !waiting.takes_part(number)
 }
 
 /// Lets each tag that is called hear a command, unless it misses it, in the order of their numbers. Each takes part

@@ -49,7 +49,7 @@ impl Model for Replies {
 }
 
 /// What the channel gives of the replies.
-#[derive(Clone, Copy, Debug, PartialEq, Eq)]
+#[derive(Clone, Copy)]
 pub(crate) enum Giving {
     /// Nothing.
     Nothing,

@@ -14,7 +14,7 @@ const SLOTS: u32 = 32_768;
 const CALLED: u32 = 131_072;
 
 /// How a tag takes part in a round.
-#[derive(Clone, Copy, Debug, PartialEq, Eq)]
+#[derive(Clone, Copy)]
 pub(crate) enum Standing {
     /// It waits in a round of the session with this number, and has this slot counter.
     Waits(u8, u16),
