@@ -81,6 +81,3 @@ pub struct OpList {
     /// The operations, in order.
     pub ops: List<Op>,
 }
-
-#[cfg(test)]
-mod tests;

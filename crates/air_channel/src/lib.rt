@@ -18,6 +18,3 @@ pub use line_codes::Code;
 pub use population::Population;
 pub use receive_reply::receive;
 pub use reply_grammar::{Expect, Received, Reply};
-
-#[cfg(test)]
-mod tests;

@@ -4,8 +4,6 @@
 mod commands;
 mod names;
 mod refusals;
-#[cfg(test)]
-mod tests;
 
 pub use commands::{push_command, push_next_payload};
 pub use names::{bank_name, bit_name, flag_name, side_name};

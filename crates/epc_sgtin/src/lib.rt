@@ -12,8 +12,6 @@ mod halves;
 mod laws;
 mod partitions;
 mod tag_uri;
-#[cfg(test)]
-mod tests;
 mod value;
 
 pub use encoding::EpcFault;

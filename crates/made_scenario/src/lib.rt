@@ -6,6 +6,3 @@ mod making;
 mod parts;
 
 pub use making::made_scenario;
-
-#[cfg(test)]
-mod tests;

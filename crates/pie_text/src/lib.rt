@@ -5,8 +5,6 @@
 mod frames;
 mod leading;
 mod numbers;
-#[cfg(test)]
-mod tests;
 
 pub use frames::{push_frame, push_pie_refusal};
 pub use numbers::{NotNumbers, Numbers, read_numbers};

@@ -15,6 +15,3 @@ pub use laws::{round_facts, round_laws};
 pub use pie_line::Link;
 pub use round::{Next, Round, RoundEnd};
 pub use round_spec::RoundSpec;
-
-#[cfg(test)]
-mod tests;

@@ -4,8 +4,6 @@
 mod expectation;
 mod laws;
 mod printing;
-#[cfg(test)]
-mod tests;
 
 pub use expectation::expect_of;
 pub use laws::{expectations_are_field_texts, expectations_are_told_apart};

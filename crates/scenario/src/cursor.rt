@@ -7,9 +7,6 @@ use bit_strings::List;
 use std::alloc::Global;
 use std::marker::Model;
 
-#[cfg(test)]
-mod tests;
-
 /// The entry of an exchange of which nothing is said.
 pub fn empty_entry(alloc: Global) -> Entry
     ensures { result ≡ no_entry }

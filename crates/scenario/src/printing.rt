@@ -22,9 +22,6 @@ use scenario_lines::{
 };
 use std::alloc::Global;
 
-#[cfg(test)]
-mod tests;
-
 /// Writes the lines of tags.
 fn push_tags(text: &mut String, tags: &[TagSpec]) -> Result<(), OutOfMemory>
     ensures { OnOk result (string_bytes text.new ≡ string_bytes text.old ++ text_with (map line_text (map lines.Tag tags.now))) }

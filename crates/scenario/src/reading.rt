@@ -19,9 +19,6 @@ use scenario_lines::{BegunLine, Line, Word};
 use std::alloc::Global;
 use text_fields::split_line;
 
-#[cfg(test)]
-mod tests;
-
 /// Whether a line is the version that a scenario begins with.
 fn is_version(line: &[u8]) -> bool
     ensures { IsTrue result ↔ (line.now ≡ line_text Line.Version) }

@@ -8,9 +8,6 @@ use bit_strings::OutOfMemory;
 use std::alloc::Global;
 use text_fields::push_number;
 
-#[cfg(test)]
-mod tests;
-
 /// The line that reports a fault: the number of the faulty line, counted from 1, and the reason.
 pub fn fault_text(alloc: Global, number: u32, fault: Fault) -> Result<String, OutOfMemory>
     ensures { IfOk result (λ text. string_bytes text ≡ fault_line number fault) }

@@ -10,8 +10,6 @@ mod link;
 mod op;
 mod round;
 mod tag;
-#[cfg(test)]
-mod tests;
 
 pub use air::{push_air, push_event};
 use bit_strings::OutOfMemory;

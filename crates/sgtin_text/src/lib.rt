@@ -5,8 +5,6 @@
 mod laws;
 mod naming;
 mod printing;
-#[cfg(test)]
-mod tests;
 
 pub use laws::lines_have_names;
 pub use naming::named;

@@ -34,144 +34,147 @@ fn sl_after(does: Does, sl: bool) -> bool {
     }
 }
 
-fn named(flags: &Flags, target: FlagName) -> Side {
+/// What the action of each number does with a flag of a tag that matches and of another.
+const ACTIONS: [(Does, Does); 8] = [
+    (Does::AssertOrA, Does::DeassertOrB),
+    (Does::AssertOrA, Does::Nothing),
+    (Does::Nothing, Does::DeassertOrB),
+    (Does::NegateOrSwap, Does::Nothing),
+    (Does::DeassertOrB, Does::AssertOrA),
+    (Does::DeassertOrB, Does::Nothing),
+    (Does::Nothing, Does::AssertOrA),
+    (Does::Nothing, Does::NegateOrSwap),
+];
+
+const ALL_A: Flags = Flags {
+    s0: Side::A,
+    s1: Side::A,
+    s2: Side::A,
+    s3: Side::A,
+    sl: false,
+};
+
+const MIXED: Flags = Flags {
+    s0: Side::B,
+    s1: Side::A,
+    s2: Side::B,
+    s3: Side::B,
+    sl: true,
+};
+
+/// The flags of which the target is done this with.
+fn after(before: Flags, target: FlagName, does: Does) -> Flags {
+    let mut flags = before;
     match target {
-        FlagName::S0 => flags.s0,
-        FlagName::S1 => flags.s1,
-        FlagName::S2 => flags.s2,
-        _ => flags.s3,
+        FlagName::S0 => flags.s0 = side_after(does, before.s0),
+        FlagName::S1 => flags.s1 = side_after(does, before.s1),
+        FlagName::S2 => flags.s2 = side_after(does, before.s2),
+        FlagName::S3 => flags.s3 = side_after(does, before.s3),
+        FlagName::Sl => flags.sl = sl_after(does, before.sl),
     }
+    flags
+}
+
+/// Whether a Select with the action does this with the target, and nothing with the other flags.
+fn selects(before: Flags, target: FlagName, number: u8, matching: bool, does: Does) -> bool {
+    let Some(action) = Action::new(number) else {
+        return false;
+    };
+    let mut flags = before;
+    flags.select(target, action, matching);
+    flags == after(before, target, does)
 }
 
 #[test]
-fn select_goes_by_the_table(rt: HostRuntime) -> Result<(), Fail> {
-    use Does::{AssertOrA, DeassertOrB, NegateOrSwap, Nothing};
-    let table = [
-        (AssertOrA, DeassertOrB),
-        (AssertOrA, Nothing),
-        (Nothing, DeassertOrB),
-        (NegateOrSwap, Nothing),
-        (DeassertOrB, AssertOrA),
-        (DeassertOrB, Nothing),
-        (Nothing, AssertOrA),
-        (Nothing, NegateOrSwap),
-    ];
-    let all_a = Flags::new();
-    let mixed = Flags {
-        s0: Side::B,
-        s1: Side::A,
-        s2: Side::B,
-        s3: Side::B,
-        sl: true,
-    };
-    for before in [all_a, mixed] {
-        for target in [FlagName::S0, FlagName::S1, FlagName::S2, FlagName::S3] {
-            for (number, (at_match, at_mismatch)) in table.iter().enumerate() {
-                let action = Action::new(number as u8).ok_or("an action")?;
-                for (matching, does) in [(true, *at_match), (false, *at_mismatch)] {
-                    let mut flags = before;
-                    flags.select(target, action, matching);
-                    for other in [FlagName::S0, FlagName::S1, FlagName::S2, FlagName::S3] {
-                        let was = named(&before, other);
-                        let want = if other == target {
-                            side_after(does, was)
-                        } else {
-                            was
-                        };
-                        assert!(rt;
-                            named(&flags, other) == want,
-                            "{target:?} {number} {matching}"
-                        );
-                    }
-                    assert_eq!(rt; flags.sl(), before.sl(), "{target:?} {number} {matching}");
-                    let mut flags = before;
-                    flags.select(FlagName::Sl, action, matching);
-                    assert_eq!(rt;
-                        flags.sl(),
-                        sl_after(does, before.sl),
-                        "{number} {matching}"
-                    );
-                }
+fn select_goes_by_the_table(rt: HostRuntime) {
+    assert!(rt; Flags::new() == ALL_A);
+    for before in [ALL_A, MIXED] {
+        for target in [
+            FlagName::S0,
+            FlagName::S1,
+            FlagName::S2,
+            FlagName::S3,
+            FlagName::Sl,
+        ] {
+            for (number, (at_match, at_mismatch)) in (0..).zip(ACTIONS) {
+                assert!(rt;
+                    selects(before, target, number, true, at_match)
+                        && selects(before, target, number, false, at_mismatch),
+                    "{target:?} {number}"
+                );
             }
         }
     }
-    Ok(())
 }
+
+/// Whether the flags, all A, match as they should before and after the one of the session is inverted.
+fn is_inverted(flags: &mut Flags, session: Session) -> bool {
+    let before = flags.matches(Sel::All00, session, Side::A)
+        && !flags.matches(Sel::Sl, session, Side::A)
+        && flags.matches(Sel::NotSl, session, Side::A);
+    flags.invert(session);
+    before
+        && flags.side(session) == Side::B
+        && flags.matches(Sel::All01, session, Side::B)
+        && !flags.matches(Sel::All01, session, Side::A)
+}
+
+const ALL_B: Flags = Flags {
+    s0: Side::B,
+    s1: Side::B,
+    s2: Side::B,
+    s3: Side::B,
+    sl: true,
+};
 
 #[test]
 fn flags_of_one_tag(rt: HostRuntime) -> Result<(), Fail> {
     let mut flags = Flags::new();
     for number in 0..4u8 {
         let session = Session::new(number).ok_or("a session")?;
-        assert!(rt; flags.matches(Sel::All00, session, Side::A));
-        assert!(rt; !flags.matches(Sel::Sl, session, Side::A));
-        assert!(rt; flags.matches(Sel::NotSl, session, Side::A));
-        flags.invert(session);
-        assert!(rt; flags.side(session) == Side::B);
-        assert!(rt; flags.matches(Sel::All01, session, Side::B));
-        assert!(rt; !flags.matches(Sel::All01, session, Side::A));
+        assert!(rt; is_inverted(&mut flags, session), "{number}");
     }
     flags.sl = true;
-    let all_b = flags;
+    assert!(rt; flags == ALL_B);
     flags.lose_power();
-    assert!(rt;
-        flags
-            == Flags {
-                s0: Side::A,
-                ..all_b
-            }
-    );
-    // A flag, whether the tag has power, whether it takes part in a round, and what is then left.
-    let table = [
-        (FlagName::S0, false, false, all_b),
-        (
-            FlagName::S1,
-            true,
-            false,
-            Flags {
-                s1: Side::A,
-                ..all_b
-            },
-        ),
-        (FlagName::S1, true, true, all_b),
-        (
-            FlagName::S1,
-            false,
-            false,
-            Flags {
-                s1: Side::A,
-                ..all_b
-            },
-        ),
-        (FlagName::S2, true, false, all_b),
-        (
-            FlagName::S2,
-            false,
-            false,
-            Flags {
-                s2: Side::A,
-                ..all_b
-            },
-        ),
-        (FlagName::S3, true, true, all_b),
-        (
-            FlagName::S3,
-            false,
-            false,
-            Flags {
-                s3: Side::A,
-                ..all_b
-            },
-        ),
-        (FlagName::Sl, true, false, all_b),
-        (FlagName::Sl, false, false, Flags { sl: false, ..all_b }),
-    ];
-    for (flag, powered, takes_part, want) in table {
-        let mut flags = all_b;
-        flags.expire(flag, powered, takes_part);
-        assert!(rt; flags == want, "{flag:?} {powered} {takes_part}");
-    }
+    assert!(rt; flags == after(ALL_B, FlagName::S0, Does::AssertOrA));
     Ok(())
+}
+
+/// A flag, whether the tag has power, whether it takes part in a round, and whether the flag is lost.
+const ENDS: [(FlagName, bool, bool, bool); 10] = [
+    (FlagName::S0, false, false, false),
+    (FlagName::S1, true, false, true),
+    (FlagName::S1, true, true, false),
+    (FlagName::S1, false, false, true),
+    (FlagName::S2, true, false, false),
+    (FlagName::S2, false, false, true),
+    (FlagName::S3, true, true, false),
+    (FlagName::S3, false, false, true),
+    (FlagName::Sl, true, false, false),
+    (FlagName::Sl, false, false, true),
+];
+
+/// Whether the flag, of all that are B or set, ends so.
+fn ends(flag: FlagName, powered: bool, takes_part: bool, is_lost: bool) -> bool {
+    let mut flags = ALL_B;
+    flags.expire(flag, powered, takes_part);
+    let does = match (is_lost, flag) {
+        (false, _) => Does::Nothing,
+        (true, FlagName::Sl) => Does::DeassertOrB,
+        (true, _) => Does::AssertOrA,
+    };
+    flags == after(ALL_B, flag, does)
+}
+
+#[test]
+fn persistence_ends(rt: HostRuntime) {
+    for (flag, powered, takes_part, is_lost) in ENDS {
+        assert!(rt;
+            ends(flag, powered, takes_part, is_lost),
+            "{flag:?} {powered} {takes_part}"
+        );
+    }
 }
 
 /// The mask with these characters, 0 and 1.
@@ -183,41 +186,42 @@ fn mask_of(text: &str) -> Mask {
     mask
 }
 
+/// 1010 0001 1011 0010, 0000 0000 1111 1111
+const BANK: &[u16] = &[0xA1B2, 0x00FF];
+
+/// A bank, the place and the mask, and whether the mask matches.
+const MASKS: [(&[u16], u32, &str, bool); 18] = [
+    (BANK, 0, "1", true),
+    (BANK, 0, "0", false),
+    (BANK, 0, "1010000110110010", true),
+    (BANK, 12, "00100000", true),
+    (BANK, 12, "00100001", false),
+    (BANK, 31, "1", true),
+    (BANK, 31, "0", false),
+    (BANK, 31, "11", false),
+    (BANK, 32, "1", false),
+    (BANK, 32, "", true),
+    (BANK, 33, "", false),
+    (BANK, 0, "", true),
+    (BANK, 24, "11111111", true),
+    (BANK, 24, "111111111", false),
+    (BANK, 268_435_455, "", false),
+    (&[], 0, "", true),
+    (&[], 1, "", false),
+    (&[], 0, "0", false),
+];
+
+/// Whether the mask matches, if it has a place.
+fn matches(bank: &[u16], place: u32, text: &str) -> Option<bool> {
+    let pointer = Pointer::new(place)?;
+    Some(mask_matches(bank, pointer, &mask_of(text)))
+}
+
 #[test]
-fn masks_at_the_edges_of_a_bank(rt: HostRuntime) -> Result<(), Fail> {
-    // 1010 0001 1011 0010, 0000 0000 1111 1111
-    let bank = [0xA1B2u16, 0x00FF];
-    let table = [
-        (0u32, "1", true),
-        (0, "0", false),
-        (0, "1010000110110010", true),
-        (12, "00100000", true),
-        (12, "00100001", false),
-        (31, "1", true),
-        (31, "0", false),
-        (31, "11", false),
-        (32, "1", false),
-        (32, "", true),
-        (33, "", false),
-        (0, "", true),
-        (24, "11111111", true),
-        (24, "111111111", false),
-        (268_435_455, "", false),
-    ];
-    for (place, text, want) in table {
-        let pointer = Pointer::new(place).ok_or("a pointer")?;
-        assert_eq!(rt;
-            mask_matches(&bank, pointer, &mask_of(text)),
-            want,
-            "{place} {text}"
-        );
+fn masks_at_the_edges_of_a_bank(rt: HostRuntime) {
+    for (bank, place, text, want) in MASKS {
+        assert!(rt; matches(bank, place, text) == Some(want), "{place} {text}");
     }
-    let start = Pointer::new(0).ok_or("a pointer")?;
-    let behind = Pointer::new(1).ok_or("a pointer")?;
-    assert!(rt; mask_matches(&[], start, &Mask::new()));
-    assert!(rt; !mask_matches(&[], behind, &Mask::new()));
-    assert!(rt; !mask_matches(&[], start, &mask_of("0")));
-    Ok(())
 }
 
 #[test]

@@ -2,7 +2,7 @@
 //! the standard; power-on, and the slot counter.
 ghost use Rattle.std.specs.Prelude.{◌≡◌, ◌<◌};
 
-use crate::bench::{after, made, memory, played};
+use crate::bench::{after, assert_played, made, memory};
 use crate::inventory_tables::LISTS;
 use crate::rows::{GUARDED_RN, PLAIN};
 use crate::says::Says::Query;
@@ -17,45 +17,52 @@ use std::test::Fail;
 use tag_machine::{AnyTag, Arbitrate, Event, Steps, Tag};
 
 #[test]
-fn lists_of_inventory_commands(rt: HostRuntime) -> Result<(), Fail> {
-    played(&rt, rt.alloc(), &LISTS)
+fn lists_of_inventory_commands(rt: HostRuntime) {
+    assert_played(&rt, &LISTS);
+}
+
+/// A tag whose EPC was changed from 1234 to 5678 before it was made, so that its StoredCRC is still that of 1234.
+fn changed_tag(alloc: Global) -> Option<AnyTag> {
+    let locks = Locks::from_bits(0x2A5)?;
+    let open = Locks::from_bits(0)?;
+    let mut memory = memory(alloc, &PLAIN)?;
+    let place = Pointer::new(2)?;
+    let words = DrawWords::new(alloc, &[0x0001]).ok()?;
+    match memory.write(Bank::Epc, place, 0x5678, Level::Opened, &open) {
+        Ok(()) => Some(AnyTag::new(memory, locks, words)),
+        Err(_) => None,
+    }
+}
+
+/// Whether the tag has power or not, its locks, and an EPC bank with this StoredCRC.
+fn is_changed(tag: &AnyTag, present: bool, stored_crc: u16) -> bool {
+    tag.present() == present
+        && tag.locks().bits() == 0x2A5
+        && tag.memory().words(MaskBank::Epc) == [stored_crc, 0x0800, 0x5678].as_slice()
 }
 
 #[test]
 fn power_on_computes_the_stored_crc(rt: HostRuntime) -> Result<(), Fail> {
-    let alloc = rt.alloc();
-    let locks = Locks::from_bits(0x2A5).ok_or("ten bits")?;
-    let open = Locks::from_bits(0).ok_or("ten bits")?;
-    let mut memory = memory(alloc, &PLAIN)?;
-    let word = Pointer::new(2).ok_or("a pointer")?;
-    assert!(rt;
-        memory
-            .write(Bank::Epc, word, 0x5678, Level::Opened, &open)
-            .is_ok()
-    );
-    let words = DrawWords::new(alloc, &[0x0001])?;
-    let tag = AnyTag::new(memory, locks, words);
-    assert!(rt; tag.present());
-    assert!(rt; tag.locks().bits() == 0x2A5);
-    assert!(rt; tag.memory().words(MaskBank::Epc) == [0xED3A, 0x0800, 0x5678].as_slice());
-    let tag = tag.event(Event::On);
-    assert!(rt; tag.memory().words(MaskBank::Epc) == [0xED3A, 0x0800, 0x5678].as_slice());
-    let tag = tag.event(Event::Off);
-    assert!(rt; !tag.present());
-    assert!(rt; tag.memory().words(MaskBank::Epc) == [0xED3A, 0x0800, 0x5678].as_slice());
-    let tag = tag.event(Event::On);
-    assert!(rt; tag.present());
-    assert!(rt; tag.memory().words(MaskBank::Epc) == [0xA57A, 0x0800, 0x5678].as_slice());
-    assert!(rt; tag.locks().bits() == 0x2A5);
+    let mut tag = changed_tag(rt.alloc()).ok_or("a tag")?;
+    assert!(rt; is_changed(&tag, true, 0xED3A));
+    // At On of a tag that has power nothing is computed.
+    for (event, present, stored_crc) in [
+        (Event::On, true, 0xED3A),
+        (Event::Off, false, 0xED3A),
+        (Event::On, true, 0xA57A),
+    ] {
+        tag = tag.event(event);
+        assert!(rt; is_changed(&tag, present, stored_crc), "{event:?}");
+    }
     Ok(())
 }
 
 /// A tag in arbitrate with session 1 and slot 2.
-fn waiting(alloc: Global) -> Result<Tag<Arbitrate>, Fail> {
+fn waiting(alloc: Global) -> Option<Tag<Arbitrate>> {
     let (tag, _, _) = after(alloc, made(alloc, &GUARDED_RN)?, Query(1, Side::A, 3))?;
     match tag {
-        AnyTag::Arbitrate(tag) => Ok(tag),
-        _ => Err(Fail::from("a tag in arbitrate")),
+        AnyTag::Arbitrate(tag) => Some(tag),
+        _ => None,
     }
 }
 
@@ -71,12 +78,10 @@ fn set_counted<L: Ledger>(blank: Blank, tag: &mut Tag<Arbitrate>, slot: u16)
 
 #[test]
 fn the_slot_counter_can_be_set(rt: HostRuntime) -> Result<(), Fail> {
-    let alloc = rt.alloc();
-    let mut tag = waiting(alloc)?;
+    let mut tag = waiting(rt.alloc()).ok_or("a tag in arbitrate")?;
     let before = (tag.session().get(), tag.slot());
     set_counted::<Brand>(Blank::new(1), &mut tag, 32767);
     let after = (tag.session().get(), tag.slot());
-    assert!(rt; before == (1, 2));
-    assert!(rt; after == (1, 32767));
+    assert_eq!(rt; (before, after), ((1, 2), (1, 32767)));
     Ok(())
 }

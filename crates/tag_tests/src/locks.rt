@@ -12,130 +12,150 @@ fn bit(number: u32, place: u32) -> bool
     (number >> place) & 1 == 1
 }
 
+const FIELDS: [Field; 5] = [
+    Field::KillWord,
+    Field::AccessWord,
+    Field::Epc,
+    Field::Tid,
+    Field::User,
+];
+
+/// A pair, and whether it allows a write in open and in secured.
+const PAIRS: [(u16, bool, bool); 4] = [
+    (0b00, true, true),
+    (0b01, true, true),
+    (0b10, false, true),
+    (0b11, false, false),
+];
+
+/// The locks of a tag of which the field at a place has a pair, and each other field the opposite.
+fn locks_with(pair: u16, place: usize) -> Option<Locks> {
+    let mut pairs = 0u16;
+    for other in 0..5usize {
+        let two = if other == place {
+            pair % 4
+        } else {
+            3 - pair % 4
+        };
+        pairs = pairs % 256 * 4 + two;
+    }
+    Locks::from_bits(pairs)
+}
+
+/// Whether a write and a read of the field are allowed in open, and then in secured.
+fn allowed(locks: &Locks, field: Field) -> [bool; 4] {
+    [
+        locks.may_write(field, Level::Opened),
+        locks.may_write(field, Level::Secured),
+        locks.may_read(field, Level::Opened),
+        locks.may_read(field, Level::Secured),
+    ]
+}
+
 #[test]
 fn pairs_allow_by_the_table(rt: HostRuntime) -> Result<(), Fail> {
-    let fields = [
-        Field::KillWord,
-        Field::AccessWord,
-        Field::Epc,
-        Field::Tid,
-        Field::User,
-    ];
-    // The pair, and whether it allows a write in open and in secured.
-    let table = [
-        (0b00, true, true),
-        (0b01, true, true),
-        (0b10, false, true),
-        (0b11, false, false),
-    ];
-    for (pair, opened, secured) in table {
-        for (place, field) in fields.iter().enumerate() {
-            // The pairs of all other fields are the opposite.
-            let mut pairs = 0u16;
-            for other in 0..5usize {
-                pairs = pairs % 256 * 4 + if other == place { pair } else { 3 - pair };
-            }
-            let locks = Locks::from_bits(pairs).ok_or("ten bits")?;
-            assert_eq!(rt;
-                locks.may_write(*field, Level::Opened),
-                opened,
-                "{field:?} {pair}"
-            );
-            assert_eq!(rt;
-                locks.may_write(*field, Level::Secured),
-                secured,
-                "{field:?} {pair}"
-            );
-            let password = place < 2;
-            assert_eq!(rt;
-                locks.may_read(*field, Level::Opened),
-                opened || !password,
-                "{field:?} {pair}"
-            );
-            assert_eq!(rt;
-                locks.may_read(*field, Level::Secured),
-                secured || !password,
-                "{field:?} {pair}"
-            );
+    for (pair, opened, secured) in PAIRS {
+        for (place, field) in FIELDS.iter().enumerate() {
+            let locks = locks_with(pair, place).ok_or("ten bits")?;
+            // Only the passwords are guarded against a read.
+            let read = place >= 2;
+            let wanted = [opened, secured, opened || read, secured || read];
+            assert!(rt; allowed(&locks, *field) == wanted, "{field:?} {pair}");
         }
     }
     Ok(())
 }
 
-#[test]
-fn locks_of_one_tag(rt: HostRuntime) -> Result<(), Fail> {
-    let open = Locks::from_bits(0).ok_or("ten bits")?;
-    // The EPC bank is locked for good.
-    let forever = Payload::new(0x0C030).ok_or("twenty bits")?;
-    let locked = open.apply(forever, true);
-    let want = Locks::from_bits(0b00_00_11_00_00).ok_or("ten bits")?;
-    assert!(rt; locked == Ok(want));
-    assert_eq!(rt; want.bits(), 0b00_00_11_00_00);
-    // Then it is asked to be open again.
-    let open_again = Payload::new(0x0C000).ok_or("twenty bits")?;
-    assert!(rt; want.apply(open_again, true) == Err(ErrorCode::Locked));
-    assert_eq!(rt; ErrorCode::Locked.code(), 4);
-    assert_eq!(rt; ErrorCode::Overrun.code(), 3);
-    assert_eq!(rt; ErrorCode::Other.code(), 0);
-    assert!(rt; Locks::from_bits(1024) == None);
-    assert!(rt; Locks::from_bits(1023).is_some());
-    Ok(())
+/// The locks of these bits after this payload, of a tag with a User bank.
+fn applied(bits: u16, payload: u32) -> Option<Result<u16, ErrorCode>> {
+    let locks = Locks::from_bits(bits)?;
+    let payload = Payload::new(payload)?;
+    Some(locks.apply(payload, true).map(|after| after.bits()))
 }
 
 #[test]
-fn every_mask_goes_by_the_three_rules(rt: HostRuntime) -> Result<(), Fail> {
-    for state in [
-        0b00_00_00_00_00u16,
+fn locks_of_one_tag(rt: HostRuntime) {
+    // The EPC bank is locked for good. Then it is asked to be open again.
+    assert_eq!(rt; applied(0, 0x0C030), Some(Ok(0b00_00_11_00_00)));
+    assert_eq!(rt;
+        applied(0b00_00_11_00_00, 0x0C000),
+        Some(Err(ErrorCode::Locked))
+    );
+    let codes = [
+        ErrorCode::Locked.code(),
+        ErrorCode::Overrun.code(),
+        ErrorCode::Other.code(),
+    ];
+    assert_eq!(rt; codes, [4, 3, 0]);
+    assert!(rt; Locks::from_bits(1024).is_none() && Locks::from_bits(1023).is_some());
+}
+
+/// What the mask and the action make of held lock bits, by hand, bit by bit: the even places are the permalocks.
+fn by_hand(held: u32, mask: u32, action: u32) -> Result<u32, ErrorCode> {
+    let mut after = 0u32;
+    for place in 0..10u32 {
+        let permalock_place = place / 2 * 2;
+        let permalocked = bit(held, permalock_place);
+        let taken = bit(mask, place);
+        let acted = bit(action, place);
+        if place == permalock_place && permalocked && taken && !acted {
+            return Err(ErrorCode::Locked);
+        }
+        let new = if !permalocked && taken {
+            acted
+        } else {
+            bit(held, place)
+        };
+        if new {
+            after |= 1 << place;
+        }
+    }
+    Ok(after)
+}
+
+/// An action, and whether the tag has a User bank.
+const ACTIONS: [(u32, bool); 4] = [
+    (0, true),
+    (0b01_01_01_01_01, true),
+    (0b11_10_01_00_11, true),
+    (0b1111111111, false),
+];
+
+/// Whether the Lock of a mask and an action goes by the three rules.
+fn goes_by_the_rules(held: u16, mask: u32, action: u32, has_user: bool) -> bool {
+    let Some(before) = Locks::from_bits(held) else {
+        return false;
+    };
+    if mask >= 1024 || action >= 1024 {
+        return false;
+    }
+    let Some(payload) = Payload::new(mask * 1024 + action) else {
+        return false;
+    };
+    let got = before.apply(payload, has_user);
+    let wanted = if !has_user && mask & 3 != 0 {
+        Err(ErrorCode::Overrun)
+    } else {
+        by_hand(u32::from(held), mask, action)
+    };
+    got.map(|locks| u32::from(locks.bits())) == wanted
+}
+
+#[test]
+fn every_mask_goes_by_the_three_rules(rt: HostRuntime) {
+    for held in [
+        0b00_00_00_00_00,
         0b10_10_10_10_10,
         0b01_11_00_10_01,
         0b11_11_11_11_11,
     ] {
-        let held = u32::from(state);
-        let before = Locks::from_bits(state).ok_or("ten bits")?;
-        for mask in 0..1024u32 {
-            for (action, has_user) in [
-                (0u32, true),
-                (0b01_01_01_01_01, true),
-                (0b11_10_01_00_11, true),
-                (0b1111111111, false),
-            ] {
-                let payload = Payload::new(mask * 1024 + action).ok_or("twenty bits")?;
-                // By hand, bit by bit: the even places are the permalocks.
-                let mut refused = false;
-                let mut after = 0u32;
-                for place in 0..10u32 {
-                    let permalock_place = place / 2 * 2;
-                    let permalocked = bit(held, permalock_place);
-                    if place == permalock_place
-                        && permalocked
-                        && bit(mask, place)
-                        && !bit(action, place)
-                    {
-                        refused = true;
-                    }
-                    let new = if !permalocked && bit(mask, place) {
-                        bit(action, place)
-                    } else {
-                        bit(held, place)
-                    };
-                    if new {
-                        after |= 1 << place;
-                    }
-                }
-                let got = before.apply(payload, has_user);
-                if !has_user && mask & 3 != 0 {
-                    assert!(rt; got == Err(ErrorCode::Overrun), "{state} {mask} {action}");
-                } else if refused {
-                    assert!(rt; got == Err(ErrorCode::Locked), "{state} {mask} {action}");
-                } else {
-                    assert_eq!(rt;
-                        got.map(|locks| u32::from(locks.bits())),
-                        Ok(after),
-                        "{state} {mask} {action}"
-                    );
-                }
+        for mask in 0..1024 {
+            for (action, has_user) in ACTIONS {
+                assert!(rt;
+                    goes_by_the_rules(held, mask, action, has_user),
+                    "{held} {mask} {action}"
+                );
             }
         }
     }
-    Ok(())
 }

@@ -6,7 +6,6 @@ use command_grammar::{Bank, BlockWords, MaskBank};
 use lock_rules::{ErrorCode, Level, Locks};
 use reply_grammar::ReadWords;
 use std::alloc::{AllocError, Global};
-use std::process::Abort;
 use std::test::Fail;
 use tag_memory::{BankImage, ImageRefusal, Memory};
 
@@ -31,14 +30,15 @@ fn image(alloc: Global, epc: &[u16], tid: &[u16], user: &[u16]) -> Result<BankIm
 }
 
 /// A memory with two words in each bank but Reserved, behind StoredCRC.
-fn two_words_each(alloc: Global) -> Result<Memory, Fail> {
+fn two_words_each(alloc: Global) -> Option<Memory> {
     let image = image(
         alloc,
         &[0x0800, 0x1234],
         &[0xE200, 0x0003],
         &[0x1111, 0x2222],
-    )?;
-    Ok(Memory::new(alloc, &image)?)
+    )
+    .ok()?;
+    Memory::new(alloc, &image).ok()
 }
 
 /// The first words of those, as many as there are of so many.
@@ -49,68 +49,84 @@ fn first(alloc: Global, words: &[u16], count: u16) -> Result<List<u16>, AllocErr
     }
 }
 
-fn pointer(place: u32) -> Result<Pointer, Fail> {
-    Ok(Pointer::new(place).ok_or("a pointer")?)
+/// How many words there are from PC on, of TID and of User, what PC says, and how many words the EPC bank then has.
+type Image = (u16, u16, u16, u16, Result<u32, ImageRefusal>);
+
+const IMAGES: [Image; 12] = [
+    (0, 2, 0, 0, Err(ImageRefusal::Size)),
+    (1, 2, 0, 0x0000, Ok(2)),
+    (32, 16, 512, 0xF800, Ok(33)),
+    (33, 2, 0, 0x0000, Err(ImageRefusal::Size)),
+    (1, 1, 0, 0x0000, Err(ImageRefusal::Size)),
+    (1, 17, 0, 0x0000, Err(ImageRefusal::Size)),
+    (1, 2, 513, 0x0000, Err(ImageRefusal::Size)),
+    (1, 1, 0, 0x0800, Err(ImageRefusal::Size)),
+    (1, 2, 0, 0x0800, Err(ImageRefusal::Pc)),
+    (2, 2, 0, 0x0800, Ok(3)),
+    (2, 2, 0, 0x1000, Err(ImageRefusal::Pc)),
+    (31, 2, 0, 0xF800, Err(ImageRefusal::Pc)),
+];
+
+/// How many words the EPC bank of such a memory has.
+fn epc_words(
+    alloc: Global,
+    (epc, tid, user, pc): (u16, u16, u16, u16),
+) -> Result<Result<u32, ImageRefusal>, AllocError> {
+    let zeros = [0u16; 513];
+    let mut words = zeros;
+    words[0] = pc;
+    let image = BankImage {
+        kill: 0,
+        access: 0,
+        epc: first(alloc, &words, epc)?,
+        tid: first(alloc, &zeros, tid)?,
+        user: first(alloc, &zeros, user)?,
+    };
+    Ok(Memory::new(alloc, &image).map(|memory| memory.size(Bank::Epc)))
 }
 
 #[test]
 fn images_are_refused_by_size_then_by_pc(rt: HostRuntime) -> Result<(), Fail> {
-    let alloc = rt.alloc();
-    let zeros = [0u16; 513];
-    // Words from PC on, of TID and of User, with what PC says.
-    let table = [
-        (0u8, 2u8, 0u16, 0u16, Err(ImageRefusal::Size)),
-        (1, 2, 0, 0x0000, Ok(2)),
-        (32, 16, 512, 0xF800, Ok(33)),
-        (33, 2, 0, 0x0000, Err(ImageRefusal::Size)),
-        (1, 1, 0, 0x0000, Err(ImageRefusal::Size)),
-        (1, 17, 0, 0x0000, Err(ImageRefusal::Size)),
-        (1, 2, 513, 0x0000, Err(ImageRefusal::Size)),
-        (1, 1, 0, 0x0800, Err(ImageRefusal::Size)),
-        (1, 2, 0, 0x0800, Err(ImageRefusal::Pc)),
-        (2, 2, 0, 0x0800, Ok(3)),
-        (2, 2, 0, 0x1000, Err(ImageRefusal::Pc)),
-        (31, 2, 0, 0xF800, Err(ImageRefusal::Pc)),
-    ];
-    for (epc, tid, user, pc, want) in table {
-        let mut words = zeros;
-        words[0] = pc;
-        let image = BankImage {
-            kill: 0,
-            access: 0,
-            epc: first(alloc, &words, epc.into())?,
-            tid: first(alloc, &zeros, tid.into())?,
-            user: first(alloc, &zeros, user)?,
-        };
-        let got = Memory::new(alloc, &image);
-        assert!(rt;
-            got.map(|memory| memory.size(Bank::Epc)) == want,
-            "{epc} {tid} {user} {pc}"
-        );
+    for (epc, tid, user, pc, wanted) in IMAGES {
+        let size = epc_words(rt.alloc(), (epc, tid, user, pc))?;
+        assert!(rt; size == wanted, "{epc} {tid} {user} {pc}");
     }
     Ok(())
 }
 
+/// A memory whose User bank has no words, with the EPC 1234.
+fn small(alloc: Global) -> Option<Memory> {
+    let image = image(alloc, &[0x0800, 0x1234], &[0xE200, 0x0001], &[]).ok()?;
+    Memory::new(alloc, &image).ok()
+}
+
 #[test]
-fn stored_crc_is_computed_when_made_and_at_power_on(rt: HostRuntime) -> Result<(), Fail> {
-    let alloc = rt.alloc();
-    let open = Locks::from_bits(0).ok_or("ten bits")?;
-    let image = image(alloc, &[0x0800, 0x1234], &[0xE200, 0x0001], &[])?;
-    let mut memory = Memory::new(alloc, &image)?;
-    assert!(rt; memory.words(MaskBank::Epc) == [0xED3A, 0x0800, 0x1234].as_slice());
-    assert!(rt; memory.words(MaskBank::Tid) == [0xE200, 0x0001].as_slice());
-    assert_eq!(rt; memory.words(MaskBank::User).len(), 0);
-    assert_eq!(rt; memory.kill_word(), 0xAABB_CCDD);
-    assert_eq!(rt; memory.access_word(), 0x1234_5678);
-    assert_eq!(rt; memory.pc(), 0x0800);
-    assert!(rt; memory.epc().as_slice() == [0x1234].as_slice());
-    assert_eq!(rt; memory.get(Bank::Reserved, 1), Some(0xCCDD));
-    assert_eq!(rt; memory.get(Bank::Reserved, 4), None);
+fn words_and_banks(rt: HostRuntime) -> Result<(), Fail> {
+    let memory = small(rt.alloc()).ok_or("a memory")?;
     assert!(rt;
-        memory
-            .write(Bank::Epc, pointer(2)?, 0x5678, Level::Opened, &open)
-            .is_ok()
+        memory.words(MaskBank::Epc) == [0xED3A, 0x0800, 0x1234].as_slice()
+            && memory.words(MaskBank::Tid) == [0xE200, 0x0001].as_slice()
+            && memory.words(MaskBank::User).is_empty()
     );
+    let passwords = [memory.kill_word(), memory.access_word()];
+    assert_eq!(rt; passwords, [0xAABB_CCDD, 0x1234_5678]);
+    let words = [memory.get(Bank::Reserved, 1), memory.get(Bank::Reserved, 4)];
+    assert_eq!(rt; words, [Some(0xCCDD), None]);
+    assert!(rt; memory.pc() == 0x0800 && memory.epc().as_slice() == [0x1234].as_slice());
+    Ok(())
+}
+
+/// Writes the EPC 5678.
+fn write_epc(memory: &mut Memory) -> Option<Result<(), ErrorCode>> {
+    let open = Locks::from_bits(0)?;
+    let place = Pointer::new(2)?;
+    Some(memory.write(Bank::Epc, place, 0x5678, Level::Opened, &open))
+}
+
+#[test]
+fn stored_crc_is_computed_at_power_on(rt: HostRuntime) -> Result<(), Fail> {
+    let mut memory = small(rt.alloc()).ok_or("a memory")?;
+    assert_eq!(rt; write_epc(&mut memory), Some(Ok(())));
     assert!(rt; memory.words(MaskBank::Epc) == [0xED3A, 0x0800, 0x5678].as_slice());
     memory.power_on();
     assert!(rt; memory.words(MaskBank::Epc) == [0xA57A, 0x0800, 0x5678].as_slice());
@@ -163,26 +179,17 @@ const READS_OF_NO_EPC: [Read; 2] = [
     (Bank::Epc, 2, 0, O, Ok(&[0x5678])),
 ];
 
-fn check_reads(
-    rt: &impl Abort,
-    memory: &Memory,
-    locks: &Locks,
-    reads: &[Read],
-) -> Result<(), Fail> {
+/// Whether a Read of a memory with these locks leaves the words, or is refused so with none.
+fn is_read(memory: &Memory, locks: &Locks, read: &Read) -> Option<bool> {
+    let (bank, place, count, level, want) = *read;
     let mut out = ReadWords::new();
-    for (bank, place, count, level, want) in reads {
-        let _ = out.push(0x1111);
-        let got = memory.read(*bank, pointer(*place)?, *count, *level, locks, &mut out);
-        let (came, words) = match want {
-            Ok(words) => (Ok(()), *words),
-            Err(code) => (Err(*code), [].as_slice()),
-        };
-        assert!(rt;
-            got == came && holds(&out, words),
-            "{bank:?} {place} {count}"
-        );
-    }
-    Ok(())
+    out.push(0x1111).ok()?;
+    let got = memory.read(bank, Pointer::new(place)?, count, level, locks, &mut out);
+    let (came, words) = match want {
+        Ok(words) => (Ok(()), words),
+        Err(code) => (Err(code), [].as_slice()),
+    };
+    Some(got == came && holds(&out, words))
 }
 
 #[test]
@@ -195,7 +202,11 @@ fn reads_at_the_edges(rt: HostRuntime) -> Result<(), Fail> {
         &[0xE200, 0x0003],
         &[0x1111, 0x2222],
     )?;
-    check_reads(&rt, &Memory::new(alloc, &image)?, &locks, &READS)
+    let memory = Memory::new(alloc, &image)?;
+    for read in &READS {
+        assert!(rt; is_read(&memory, &locks, read) == Some(true), "{read:?}");
+    }
+    Ok(())
 }
 
 #[test]
@@ -203,95 +214,123 @@ fn an_epc_of_no_words_ends_with_pc(rt: HostRuntime) -> Result<(), Fail> {
     let alloc = rt.alloc();
     let open = Locks::from_bits(0).ok_or("ten bits")?;
     let image = image(alloc, &[0x0000, 0x5678], &[0xE200, 0x0003], &[])?;
-    check_reads(&rt, &Memory::new(alloc, &image)?, &open, &READS_OF_NO_EPC)
-}
-
-#[test]
-fn writes_at_the_edges(rt: HostRuntime) -> Result<(), Fail> {
-    let alloc = rt.alloc();
-    let mut memory = two_words_each(alloc)?;
-    // The EPC bank and the kill password want the secured state, the access password and TID are shut.
-    let locks = Locks::from_bits(0b10_11_10_11_00).ok_or("ten bits")?;
-    let table = [
-        (
-            Bank::Epc,
-            0u32,
-            0u16,
-            Level::Secured,
-            Err(ErrorCode::Locked),
-        ),
-        (Bank::Epc, 3, 0, Level::Secured, Err(ErrorCode::Overrun)),
-        (Bank::Epc, 1, 0x1000, Level::Opened, Err(ErrorCode::Overrun)),
-        (Bank::Epc, 1, 0x07FF, Level::Opened, Err(ErrorCode::Locked)),
-        (Bank::Epc, 1, 0x07FF, Level::Secured, Ok(())),
-        (Bank::Tid, 0, 1, Level::Secured, Err(ErrorCode::Locked)),
-        (Bank::Tid, 2, 1, Level::Secured, Err(ErrorCode::Overrun)),
-        (Bank::Reserved, 1, 1, Level::Opened, Err(ErrorCode::Locked)),
-        (Bank::Reserved, 1, 1, Level::Secured, Ok(())),
-        (Bank::Reserved, 2, 1, Level::Secured, Err(ErrorCode::Locked)),
-    ];
-    for (bank, place, word, level, want) in table {
-        let before = memory.get(bank, place);
-        let got = memory.write(bank, pointer(place)?, word, level, &locks);
-        assert!(rt; got == want, "{bank:?} {place} {word}");
-        let after = if want.is_ok() { Some(word) } else { before };
-        assert_eq!(rt; memory.get(bank, place), after, "{bank:?} {place} {word}");
+    let memory = Memory::new(alloc, &image)?;
+    for read in &READS_OF_NO_EPC {
+        assert!(rt; is_read(&memory, &open, read) == Some(true), "{read:?}");
     }
     Ok(())
 }
 
+/// A bank, the pointer, the word and the level of a Write, and what comes of it.
+type Write = (Bank, u32, u16, Level, Result<(), ErrorCode>);
+
+const WRITES: [Write; 10] = [
+    (Bank::Epc, 0, 0, S, Err(ErrorCode::Locked)),
+    (Bank::Epc, 3, 0, S, Err(ErrorCode::Overrun)),
+    (Bank::Epc, 1, 0x1000, O, Err(ErrorCode::Overrun)),
+    (Bank::Epc, 1, 0x07FF, O, Err(ErrorCode::Locked)),
+    (Bank::Epc, 1, 0x07FF, S, Ok(())),
+    (Bank::Tid, 0, 1, S, Err(ErrorCode::Locked)),
+    (Bank::Tid, 2, 1, S, Err(ErrorCode::Overrun)),
+    (Bank::Reserved, 1, 1, O, Err(ErrorCode::Locked)),
+    (Bank::Reserved, 1, 1, S, Ok(())),
+    (Bank::Reserved, 2, 1, S, Err(ErrorCode::Locked)),
+];
+
+/// Whether the Write goes so, and changes the word or nothing there.
+fn is_written(memory: &mut Memory, locks: &Locks, write: &Write) -> Option<bool> {
+    let (bank, place, word, level, want) = *write;
+    let before = memory.get(bank, place);
+    let got = memory.write(bank, Pointer::new(place)?, word, level, locks);
+    let after = if want.is_ok() { Some(word) } else { before };
+    Some(got == want && memory.get(bank, place) == after)
+}
+
+#[test]
+fn writes_at_the_edges(rt: HostRuntime) -> Result<(), Fail> {
+    let mut memory = two_words_each(rt.alloc()).ok_or("a memory")?;
+    // The EPC bank and the kill password want the secured state, the access password and TID are shut.
+    let locks = Locks::from_bits(0b10_11_10_11_00).ok_or("ten bits")?;
+    for write in &WRITES {
+        assert!(rt;
+            is_written(&mut memory, &locks, write) == Some(true),
+            "{write:?}"
+        );
+    }
+    Ok(())
+}
+
+/// A bank, the pointer, and what comes of the words AAAA BBBB and then of their erasure.
+type Block = (Bank, u32, Result<(), ErrorCode>, Result<(), ErrorCode>);
+
+const OVERRUN: Result<(), ErrorCode> = Err(ErrorCode::Overrun);
+
+/// As PC, AAAAh and BBBBh announce more words than the bank has, and 0000h none.
+const BLOCKS: [Block; 5] = [
+    (Bank::User, 1, OVERRUN, OVERRUN),
+    (Bank::User, 0, Ok(()), Ok(())),
+    (Bank::Epc, 0, OVERRUN, Err(ErrorCode::Locked)),
+    (Bank::Epc, 1, OVERRUN, Ok(())),
+    (Bank::Reserved, 2, Ok(()), Ok(())),
+];
+
+/// The words at a place and behind it.
+fn pair(memory: &Memory, bank: Bank, place: u32) -> [Option<u16>; 2] {
+    let behind = if place < 100 {
+        memory.get(bank, place + 1)
+    } else {
+        None
+    };
+    [memory.get(bank, place), behind]
+}
+
+/// Writes the words AAAA BBBB.
+fn block_write(memory: &mut Memory, bank: Bank, place: u32) -> Option<Result<(), ErrorCode>> {
+    let open = Locks::from_bits(0)?;
+    let mut words = BlockWords::first(0xAAAA);
+    words.push(0xBBBB).ok()?;
+    Some(memory.block_write(bank, Pointer::new(place)?, &words, Level::Opened, &open))
+}
+
+/// Erases two words.
+fn block_erase(memory: &mut Memory, bank: Bank, place: u32) -> Option<Result<(), ErrorCode>> {
+    let open = Locks::from_bits(0)?;
+    let both = Count1::new(2)?;
+    Some(memory.block_erase(bank, Pointer::new(place)?, both, Level::Opened, &open))
+}
+
+/// Whether a block is written and erased so, and the words are those of it or the same.
+fn is_block(memory: &mut Memory, block: &Block) -> bool {
+    let (bank, place, written, erased) = *block;
+    let before = pair(memory, bank, place);
+    let got = block_write(memory, bank, place);
+    let with_words = pair(memory, bank, place);
+    let wanted = if written.is_ok() {
+        [Some(0xAAAA), Some(0xBBBB)]
+    } else {
+        before
+    };
+    if got != Some(written) || with_words != wanted {
+        return false;
+    }
+    let got = block_erase(memory, bank, place);
+    let wanted = if erased.is_ok() {
+        [Some(0), Some(0)]
+    } else {
+        with_words
+    };
+    got == Some(erased) && pair(memory, bank, place) == wanted
+}
+
 #[test]
 fn blocks_are_written_whole_or_not_at_all(rt: HostRuntime) -> Result<(), Fail> {
-    let alloc = rt.alloc();
-    let mut memory = two_words_each(alloc)?;
-    let open = Locks::from_bits(0).ok_or("ten bits")?;
-    let mut words = BlockWords::first(0xAAAA);
-    let _ = words.push(0xBBBB);
-    let both = Count1::new(2).ok_or("a count")?;
+    let mut memory = two_words_each(rt.alloc()).ok_or("a memory")?;
+    let got = block_write(&mut memory, Bank::User, 1);
     assert!(rt;
-        memory.block_write(Bank::User, pointer(1)?, &words, Level::Opened, &open)
-            == Err(ErrorCode::Overrun)
+        got == Some(OVERRUN) && memory.words(MaskBank::User) == [0x1111, 0x2222].as_slice()
     );
-    assert!(rt; memory.words(MaskBank::User) == [0x1111, 0x2222].as_slice());
-    // A bank, the pointer, and what comes of the words and then of their erasure. As PC, AAAAh and BBBBh announce
-    // more words than the bank has, and 0000h none.
-    let table = [
-        (
-            Bank::User,
-            1u32,
-            Err(ErrorCode::Overrun),
-            Err(ErrorCode::Overrun),
-        ),
-        (Bank::User, 0, Ok(()), Ok(())),
-        (
-            Bank::Epc,
-            0,
-            Err(ErrorCode::Overrun),
-            Err(ErrorCode::Locked),
-        ),
-        (Bank::Epc, 1, Err(ErrorCode::Overrun), Ok(())),
-        (Bank::Reserved, 2, Ok(()), Ok(())),
-    ];
-    for (bank, place, written, erased) in table {
-        let before = (memory.get(bank, place), memory.get(bank, place + 1));
-        let got = memory.block_write(bank, pointer(place)?, &words, Level::Opened, &open);
-        assert!(rt; got == written, "{bank:?} {place}");
-        let with_words = if written.is_ok() {
-            (Some(0xAAAA), Some(0xBBBB))
-        } else {
-            before
-        };
-        let after = (memory.get(bank, place), memory.get(bank, place + 1));
-        assert!(rt; after == with_words, "{bank:?} {place}");
-        let got = memory.block_erase(bank, pointer(place)?, both, Level::Opened, &open);
-        assert!(rt; got == erased, "{bank:?} {place}");
-        let without = if erased.is_ok() {
-            (Some(0), Some(0))
-        } else {
-            with_words
-        };
-        let after = (memory.get(bank, place), memory.get(bank, place + 1));
-        assert!(rt; after == without, "{bank:?} {place}");
+    for block in &BLOCKS {
+        assert!(rt; is_block(&mut memory, block), "{block:?}");
     }
     Ok(())
 }

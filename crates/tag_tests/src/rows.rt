@@ -25,6 +25,9 @@ pub type Row = (Says, Want, Is, Then);
 /// What a tag is made of, the rows that lead it to its state, and the rows of the table.
 pub type Table = (Given, [&'static [Row]; 2], &'static [Row]);
 
+/// Stands in a failed test for a tag that couldn't be made.
+pub const NOT_MADE: Row = (Says::Nak, Want::Nothing, Is::Killed, Then::Same);
+
 /// A Query of session 0, for all tags with the flag A, with Q 0.
 pub const QUERY: Says = Says::Query(0, Side::A, 0);
 

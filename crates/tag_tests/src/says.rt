@@ -3,7 +3,6 @@
 use air_events::Event;
 use bit_strings::{Action, Code, Count1, Payload, Pointer, QValue, Session};
 use command_grammar::{Bank, BlockWords, Command, FlagName, Mask, MaskBank, Sel, Side, UpDn};
-use std::test::Fail;
 
 /// A command or an event in short. The last number of an access command is the tag's number.
 #[derive(Clone, Copy, Debug)]
@@ -31,38 +30,30 @@ pub enum Says {
     Befalls(Event),
 }
 
-fn session(number: u8) -> Result<Session, Fail> {
-    Ok(Session::new(number).ok_or("a session")?)
-}
-
-fn pointer(place: u32) -> Result<Pointer, Fail> {
-    Ok(Pointer::new(place).ok_or("a pointer")?)
-}
-
 fn block(words: [u16; 2]) -> BlockWords {
     let mut block = BlockWords::first(words[0]);
     let _ = block.push(words[1]);
     block
 }
 
-fn query(sel: Sel, number: u8, target: Side, q: u8) -> Result<Command, Fail> {
-    Ok(Command::Query {
+fn query(sel: Sel, number: u8, target: Side, q: u8) -> Option<Command> {
+    Some(Command::Query {
         dr: false,
         code: Code::Fm0,
         trext: false,
         sel,
-        session: session(number)?,
+        session: Session::new(number)?,
         target,
-        q: QValue::new(q).ok_or("a Q")?,
+        q: QValue::new(q)?,
     })
 }
 
-fn select(target: FlagName, action: u8, mask: Mask) -> Result<Command, Fail> {
-    Ok(Command::Select {
+fn select(target: FlagName, action: u8, mask: Mask) -> Option<Command> {
+    Some(Command::Select {
         target,
-        action: Action::new(action).ok_or("an action")?,
+        action: Action::new(action)?,
         bank: MaskBank::Epc,
-        pointer: pointer(0)?,
+        pointer: Pointer::new(0)?,
         mask,
     })
 }
@@ -76,67 +67,67 @@ fn other_mask() -> Mask {
 
 impl Says {
     /// The command of the inventory; none where it is another or an event.
-    fn inventory(self) -> Result<Option<Command>, Fail> {
-        Ok(Some(match self {
+    fn inventory(self) -> Option<Command> {
+        Some(match self {
             Says::Query(number, target, q) => query(Sel::All00, number, target, q)?,
             Says::QuerySel(sel) => query(sel, 0, Side::A, 0)?,
             Says::QueryRep(number) => Command::QueryRep {
-                session: session(number)?,
+                session: Session::new(number)?,
             },
             Says::QueryAdjust(number, updn) => Command::QueryAdjust {
-                session: session(number)?,
+                session: Session::new(number)?,
                 updn,
             },
             Says::Ack(rn) => Command::Ack { rn },
             Says::Nak => Command::Nak,
             Says::Select(target, action) => select(target, action, Mask::new())?,
             Says::SelectOthers(target, action) => select(target, action, other_mask())?,
-            _ => return Ok(None),
-        }))
+            _ => return None,
+        })
     }
 
     /// The access command; none where it is another or an event.
-    fn access(self) -> Result<Option<Command>, Fail> {
-        Ok(Some(match self {
+    fn access(self) -> Option<Command> {
+        Some(match self {
             Says::ReqRn(rn) => Command::ReqRn { rn },
             Says::Read(bank, place, count, rn) => Command::Read {
                 bank,
-                pointer: pointer(place)?,
+                pointer: Pointer::new(place)?,
                 count,
                 rn,
             },
             Says::Write(bank, place, covered, rn) => Command::Write {
                 bank,
-                pointer: pointer(place)?,
+                pointer: Pointer::new(place)?,
                 covered,
                 rn,
             },
             Says::Kill(covered, rn) => Command::Kill { covered, rn },
             Says::Lock(payload, rn) => Command::Lock {
-                payload: Payload::new(payload).ok_or("a payload")?,
+                payload: Payload::new(payload)?,
                 rn,
             },
             Says::Access(covered, rn) => Command::Access { covered, rn },
             Says::BlockWrite(bank, place, words, rn) => Command::BlockWrite {
                 bank,
-                pointer: pointer(place)?,
+                pointer: Pointer::new(place)?,
                 words: block(words),
                 rn,
             },
             Says::BlockErase(bank, place, count, rn) => Command::BlockErase {
                 bank,
-                pointer: pointer(place)?,
-                count: Count1::new(count).ok_or("a count")?,
+                pointer: Pointer::new(place)?,
+                count: Count1::new(count)?,
                 rn,
             },
-            _ => return Ok(None),
-        }))
+            _ => return None,
+        })
     }
 
-    /// The command; none for an event.
-    pub fn command(self) -> Result<Option<Command>, Fail> {
-        match self.inventory()? {
-            Some(command) => Ok(Some(command)),
+    /// The command; none for an event, or where a number of it has no place in a command.
+    pub fn command(self) -> Option<Command> {
+        match self.inventory() {
+            Some(command) => Some(command),
             None => self.access(),
         }
     }

@@ -3,89 +3,104 @@ use air_io::{
     MemSink, MemSource, ReadEnd, Sink, Source, SureSink, SureSource, Take, WriteFailed,
     read_to_end, write_all,
 };
-use std::alloc::{AllocError, Global};
-use std::test::Fail;
+use std::alloc::Global;
 
-// `count` bytes of which each counts on from the one before.
-fn counted_bytes(alloc: Global, count: u32) -> Result<Vec<u8>, AllocError> {
-    let mut bytes = Vec::with_capacity(alloc, count as usize)?;
+/// So many bytes of which each counts on from the one before.
+fn counted_bytes(alloc: Global, count: u32) -> Option<Vec<u8>> {
+    let mut bytes = Vec::new(alloc);
     for i in 0..count {
-        bytes.push((i % 256) as u8)?;
+        bytes.push((i % 256) as u8).ok()?;
     }
-    Ok(bytes)
+    Some(bytes)
 }
 
-#[test]
-fn a_source_is_read_up_to_the_limit(rt: HostRuntime) -> Result<(), Fail> {
-    let alloc = rt.alloc();
-    for (count, limit, is_read) in [
-        (0, 0, true),
-        (1, 0, false),
-        (5, 5, true),
-        (5, 4, false),
-        (5, u32::MAX, true),
-        // More than one buffer.
-        (140_000, 140_000, true),
-        (140_000, 139_999, false),
-    ] {
-        let mut source = SureSource::new(counted_bytes(alloc, count)?);
-        match read_to_end(alloc, &mut source, limit) {
-            Ok(bytes) => {
-                assert!(rt; is_read, "{count} bytes, limit {limit}");
-                assert_eq!(rt; bytes.as_slice(), counted_bytes(alloc, count)?.as_slice());
-                assert_eq!(rt; source.read(&mut [0]), Take::End);
-            }
-            Err(end) => {
-                assert!(rt; !is_read, "{count} bytes, limit {limit}");
-                assert_eq!(rt; end, ReadEnd::TooLong);
-            }
+/// How many bytes a source has, the limit, and whether they are read; 140,000 are more than one buffer.
+const LENGTHS: [(u32, u32, bool); 7] = [
+    (0, 0, true),
+    (1, 0, false),
+    (5, 5, true),
+    (5, 4, false),
+    (5, u32::MAX, true),
+    (140_000, 140_000, true),
+    (140_000, 139_999, false),
+];
+
+/// Whether so many bytes are read to their end, or are too long.
+fn is_read_within(alloc: Global, count: u32, limit: u32, is_read: bool) -> Option<bool> {
+    let wanted = counted_bytes(alloc, count)?;
+    let mut source = SureSource::new(counted_bytes(alloc, count)?);
+    match read_to_end(alloc, &mut source, limit) {
+        Ok(bytes) => {
+            let is_end = source.read(&mut [0]) == Take::End;
+            Some(is_read && is_end && bytes.as_slice() == wanted.as_slice())
         }
+        Err(end) => Some(!is_read && end == ReadEnd::TooLong),
     }
-    Ok(())
 }
 
 #[test]
-fn a_failed_read_ends_the_reading(rt: HostRuntime) -> Result<(), Fail> {
-    let alloc = rt.alloc();
-    for failing in [1, 2] {
-        let numbers = vec![in alloc; failing]?;
-        let mut source = MemSource::new([1, 2, 3].to_vec(alloc)?, numbers);
-        let result = read_to_end(alloc, &mut source, 9);
-        assert_eq!(rt; result.err(), Some(ReadEnd::Fault), "call {failing} fails");
+fn a_source_is_read_up_to_the_limit(rt: HostRuntime) {
+    for (count, limit, is_read) in LENGTHS {
+        let read = is_read_within(rt.alloc(), count, limit, is_read);
+        assert!(rt; read == Some(true), "{count} bytes, limit {limit}");
     }
+}
 
+/// The list of one number.
+fn one_number(alloc: Global, number: u64) -> Option<Vec<u64>> {
+    let mut numbers = Vec::new(alloc);
+    numbers.push(number).ok()?;
+    Some(numbers)
+}
+
+/// Whether the bytes 1, 2 and 3 are read, where the read of this number fails, or why not.
+fn reads(alloc: Global, failing: u64) -> Option<Result<bool, ReadEnd>> {
+    let bytes = [1, 2, 3].to_vec(alloc).ok()?;
+    let mut source = MemSource::new(bytes, one_number(alloc, failing)?);
+    match read_to_end(alloc, &mut source, 9) {
+        Ok(read) => Some(Ok(read.as_slice() == [1, 2, 3].as_slice())),
+        Err(end) => Some(Err(end)),
+    }
+}
+
+#[test]
+fn a_failed_read_ends_the_reading(rt: HostRuntime) {
     // The second call meets the end, so there is no third.
-    let mut source = MemSource::new([1, 2, 3].to_vec(alloc)?, vec![in alloc; 3]?);
-    let bytes = read_to_end(alloc, &mut source, 9).ok().ok_or("refused")?;
-    assert_eq!(rt; bytes.as_slice(), [1, 2, 3].as_slice());
-    Ok(())
+    for (failing, wanted) in [
+        (1, Err(ReadEnd::Fault)),
+        (2, Err(ReadEnd::Fault)),
+        (3, Ok(true)),
+    ] {
+        assert!(rt;
+            reads(rt.alloc(), failing) == Some(wanted),
+            "call {failing} fails"
+        );
+    }
+}
+
+/// The room of a sink, the number of the write that fails, and what of the bytes 1, 2 and 3, 4 is written.
+const WRITES: [(u32, u64, &[u8]); 5] = [
+    (4, 9, &[1, 2, 3, 4]),
+    (3, 9, &[1, 2]),
+    (1, 9, &[]),
+    (4, 1, &[]),
+    (4, 2, &[1, 2]),
+];
+
+/// Whether just these bytes are written.
+fn are_written(alloc: Global, room: u32, failing: u64, written: &[u8]) -> Option<bool> {
+    let mut sink = MemSink::new(alloc, room, one_number(alloc, failing)?).ok()?;
+    let is_whole = write_pieces(&mut sink).is_ok();
+    Some(is_whole == (written.len() == 4) && sink.as_slice() == written)
 }
 
 #[test]
-fn a_failed_write_ends_the_writing(rt: HostRuntime) -> Result<(), Fail> {
-    let alloc = rt.alloc();
-    for (room, failing, written) in [
-        (4, 9, [1, 2, 3, 4].as_slice()),
-        (3, 9, [1, 2].as_slice()),
-        (1, 9, [].as_slice()),
-        (4, 1, [].as_slice()),
-        (4, 2, [1, 2].as_slice()),
-    ] {
-        let mut sink = MemSink::new(alloc, room, vec![in alloc; failing]?)?;
-        let result = write_pieces(&mut sink);
-        assert_eq!(rt;
-            result.is_ok(),
-            written.len() == 4,
-            "room {room}, call {failing} fails"
-        );
-        assert_eq!(rt;
-            sink.as_slice(),
-            written,
-            "room {room}, call {failing} fails"
-        );
+fn a_failed_write_ends_the_writing(rt: HostRuntime) {
+    for (room, failing, written) in WRITES {
+        let is_so = are_written(rt.alloc(), room, failing, written);
+        assert!(rt; is_so == Some(true), "room {room}, call {failing} fails");
     }
     assert_eq!(rt; write_pieces(&mut SureSink::new()), Ok(()));
-    Ok(())
 }
 
 fn write_pieces(out: &mut impl Sink) -> Result<(), WriteFailed> {

@@ -1,29 +1,29 @@
 //! Check numbers from outside: the catalogue's check of each, and an EPC reply.
 use bit_strings::Bits;
 use gen2_crc::{Crc16, crc5, crc16, residue_ok};
+use std::alloc::Global;
 use std::test::Fail;
 
 /// The bits of these bytes, each most significant bit first.
-fn bits_of(rt: &HostRuntime, bytes: &[u8]) -> Result<Bits, Fail> {
-    let mut bits = Bits::new(rt.alloc(), 80)?;
+fn bits_of(alloc: Global, bytes: &[u8]) -> Option<Bits> {
+    let mut bits = Bits::new(alloc, 80).ok()?;
     for byte in bytes {
-        bits.put_field(u32::from(*byte), 8)?;
+        bits.put_field(u32::from(*byte), 8).ok()?;
     }
-    Ok(bits)
+    Some(bits)
 }
 
 #[test]
 fn catalogue_checks(rt: HostRuntime) -> Result<(), Fail> {
-    let bits = bits_of(&rt, b"123456789")?;
+    let bits = bits_of(rt.alloc(), b"123456789").ok_or("bits")?;
     assert!(rt; bits.len() == 72);
-    assert_eq!(rt; crc16(&bits, 72), 0xd64e);
-    assert_eq!(rt; crc5(&bits, 72), 0);
+    assert_eq!(rt; (crc16(&bits, 72), crc5(&bits, 72)), (0xd64e, 0));
     Ok(())
 }
 
 #[test]
 fn reply_checks(rt: HostRuntime) -> Result<(), Fail> {
-    let mut reply = bits_of(&rt, &[0x08, 0x00, 0x12, 0x34])?;
+    let mut reply = bits_of(rt.alloc(), &[0x08, 0x00, 0x12, 0x34]).ok_or("bits")?;
     let mut crc = Crc16::new();
     for bit in reply.as_slice() {
         crc.push(*bit);

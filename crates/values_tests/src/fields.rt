@@ -1,44 +1,56 @@
 //! Fields and lines of texts, read and written, against texts written out by hand.
 use bit_strings::{Bits, Code};
+use std::alloc::Global;
 use std::test::Fail;
 use text_fields::*;
 
+const MOST: u32 = u32::MAX;
+
+/// A field, the greatest number, and the number that the field is.
+const NUMBERS: [(&[u8], u32, Option<u32>); 18] = [
+    (b"0", MOST, Some(0)),
+    (b"7", 7, Some(7)),
+    (b"8", 7, None),
+    (b"10", MOST, Some(10)),
+    (b"4294967295", MOST, Some(4294967295)),
+    (b"4294967295", 4294967294, None),
+    (b"4294967296", MOST, None),
+    (b"99999999999999999999", MOST, None),
+    (b"", MOST, None),
+    (b"00", MOST, None),
+    (b"01", MOST, None),
+    (b"+1", MOST, None),
+    (b"-1", MOST, None),
+    (b"1 ", MOST, None),
+    (b" 1", MOST, None),
+    (b"1a", MOST, None),
+    (b"0x1", MOST, None),
+    (b"\xff", MOST, None),
+];
+
 #[test]
 fn numbers_have_one_spelling(rt: HostRuntime) {
-    let most = u32::MAX;
-    for (field, at_most, wanted) in [
-        (b"0".as_slice(), most, Some(0)),
-        (b"7", 7, Some(7)),
-        (b"8", 7, None),
-        (b"10", most, Some(10)),
-        (b"4294967295", most, Some(4294967295)),
-        (b"4294967295", 4294967294, None),
-        (b"4294967296", most, None),
-        (b"99999999999999999999", most, None),
-        (b"", most, None),
-        (b"00", most, None),
-        (b"01", most, None),
-        (b"+1", most, None),
-        (b"-1", most, None),
-        (b"1 ", most, None),
-        (b" 1", most, None),
-        (b"1a", most, None),
-        (b"0x1", most, None),
-        (b"\xff", most, None),
-    ] {
-        assert_eq!(rt; number(field, at_most), wanted);
+    for (field, at_most, wanted) in NUMBERS {
+        assert!(rt; number(field, at_most) == wanted, "{field:?}");
     }
 }
 
+fn is_number_text(alloc: Global, number: u32, wanted: &str) -> bool {
+    let mut text = String::new(alloc);
+    push_number(&mut text, number).is_ok() && text.as_str() == wanted
+}
+
 #[test]
-fn numbers_are_written(rt: HostRuntime) -> Result<(), Fail> {
-    let mut text = String::new(rt.alloc());
-    for number in [0, 9, 10, 65535, 4294967295] {
-        push_number(&mut text, number)?;
-        text.push(' ')?;
+fn numbers_are_written(rt: HostRuntime) {
+    for (number, wanted) in [
+        (0, "0"),
+        (9, "9"),
+        (10, "10"),
+        (65535, "65535"),
+        (4294967295, "4294967295"),
+    ] {
+        assert!(rt; is_number_text(rt.alloc(), number, wanted), "{wanted}");
     }
-    assert_eq!(rt; text.as_str(), "0 9 10 65535 4294967295 ");
-    Ok(())
 }
 
 #[test]
@@ -55,46 +67,57 @@ fn flags_are_one_digit(rt: HostRuntime) {
     }
 }
 
-#[test]
-fn bits_are_read_and_written(rt: HostRuntime) -> Result<(), Fail> {
-    let mut bits = Bits::new(rt.alloc(), 70)?;
-    for (field, most, wanted) in [
-        (b"-".as_slice(), 8, Some("-")),
-        (b"-", 0, Some("-")),
-        (b"0", 8, Some("0")),
-        (b"10010", 8, Some("10010")),
-        (b"11110000", 8, Some("11110000")),
-        (
-            b"1011001110001111101100111000111110110011100011111011001110001111010011",
-            70,
-            Some("1011001110001111101100111000111110110011100011111011001110001111010011"),
-        ),
-        (b"111100001", 8, None),
-        (b"1", 0, None),
-        (b"", 8, None),
-        (b"012", 8, None),
-        (b"-1", 8, None),
-        (b"--", 8, None),
-        (b"0 1", 8, None),
-    ] {
-        let mut text = String::new(rt.alloc());
-        let read = match Digits::new(field, most) {
-            Some(digits) => {
-                assert!(rt; digits.len() <= bits.capacity());
-                digits.copy_to(&mut bits);
-                push_bits(&mut text, bits.as_slice())?;
-                Some(text.as_str())
-            }
-            None => None,
-        };
-        assert_eq!(rt; read, wanted);
+/// A field, how many digits it may have, and the bits that it is, written again.
+const BITS: [(&[u8], u32, Option<&str>); 13] = [
+    (b"-", 8, Some("-")),
+    (b"-", 0, Some("-")),
+    (b"0", 8, Some("0")),
+    (b"10010", 8, Some("10010")),
+    (b"11110000", 8, Some("11110000")),
+    (
+        b"1011001110001111101100111000111110110011100011111011001110001111010011",
+        70,
+        Some("1011001110001111101100111000111110110011100011111011001110001111010011"),
+    ),
+    (b"111100001", 8, None),
+    (b"1", 0, None),
+    (b"", 8, None),
+    (b"012", 8, None),
+    (b"-1", 8, None),
+    (b"--", 8, None),
+    (b"0 1", 8, None),
+];
+
+/// Whether the field is read as these bits, or is none.
+fn are_bits(alloc: Global, field: &[u8], most: u32, wanted: Option<&str>) -> Option<bool> {
+    let (digits, wanted) = match (Digits::new(field, most), wanted) {
+        (Some(digits), Some(wanted)) => (digits, wanted),
+        (None, None) => return Some(true),
+        _ => return Some(false),
+    };
+    let mut bits = Bits::new(alloc, 70).ok()?;
+    if digits.len() > bits.capacity() {
+        return None;
     }
-    Ok(())
+    digits.copy_to(&mut bits);
+    let mut text = String::new(alloc);
+    push_bits(&mut text, bits.as_slice()).ok()?;
+    Some(text.as_str() == wanted)
 }
 
 #[test]
-fn next_fields_are_written(rt: HostRuntime) -> Result<(), Fail> {
-    let mut text = String::new(rt.alloc());
+fn bits_are_read_and_written(rt: HostRuntime) {
+    for (field, most, wanted) in BITS {
+        assert!(rt;
+            are_bits(rt.alloc(), field, most, wanted) == Some(true),
+            "{field:?}"
+        );
+    }
+}
+
+/// Fields of each kind, one behind another.
+fn next_fields(alloc: Global) -> Result<String, Fail> {
+    let mut text = String::new(alloc);
     push_named_number(&mut text, "lock", 7)?;
     push_next_name(&mut text, "epc")?;
     push_next_number(&mut text, 4294967295)?;
@@ -103,66 +126,99 @@ fn next_fields_are_written(rt: HostRuntime) -> Result<(), Fail> {
     push_next_words(&mut text, &[])?;
     push_next_bits(&mut text, &[true, false])?;
     push_next_bits(&mut text, &[])?;
-    assert_eq!(rt; text.as_str(), "lock 7 epc 4294967295 0A9F 300000EF - 10 -");
-    let mut text = String::new(rt.alloc());
-    push_named_word(&mut text, "ack", 0x001D)?;
-    assert_eq!(rt; text.as_str(), "ack 001D");
-    Ok(())
+    push_named_word(&mut text, " ack", 0x001D)?;
+    Ok(text)
 }
 
 #[test]
-fn lines_and_fields_are_cut(rt: HostRuntime) -> Result<(), Fail> {
-    let (line, rest) = split_line(b"pie 1 2\n\nbits").ok_or("no line feed")?;
-    assert_eq!(rt; line, b"pie 1 2".as_slice());
-    let (empty, last) = split_line(rest).ok_or("no second line feed")?;
-    assert_eq!(rt; empty.len(), 0);
-    assert_eq!(rt; last, b"bits".as_slice());
-    assert!(rt; split_line(last).is_none());
-
-    let mut fields = Fields::new(line);
-    assert_eq!(rt; fields.next().ok_or("no field")?, b"pie".as_slice());
-    let (first, second) = two_fields(fields).ok_or("not two fields")?;
-    assert_eq!(rt; first, b"1".as_slice());
-    assert_eq!(rt; second, b"2".as_slice());
-
-    for (line, count) in [
-        (b"".as_slice(), 0),
-        (b"a", 1),
-        (b"a b", 2),
-        (b"a b c", 3),
-        (b"a b c d", 4),
-        (b"a b c d e", 5),
-        (b" a", 0),
-        (b"a ", 0),
-        (b"a  b", 0),
-    ] {
-        assert_eq!(rt; one_field(Fields::new(line)).is_some(), count == 1);
-        assert_eq!(rt; two_fields(Fields::new(line)).is_some(), count == 2);
-        assert_eq!(rt; three_fields(Fields::new(line)).is_some(), count == 3);
-        assert_eq!(rt; four_fields(Fields::new(line)).is_some(), count == 4);
-    }
+fn next_fields_are_written(rt: HostRuntime) -> Result<(), Fail> {
+    assert_eq!(rt;
+        next_fields(rt.alloc())?.as_str(),
+        "lock 7 epc 4294967295 0A9F 300000EF - 10 - ack 001D"
+    );
     Ok(())
 }
 
+/// Texts, each with its first line and what stands behind it.
+const LINES: [(&[u8], Option<(&[u8], &[u8])>); 3] = [
+    (b"pie 1 2\n\nbits", Some((b"pie 1 2", b"\nbits"))),
+    (b"\nbits", Some((b"", b"bits"))),
+    (b"bits", None),
+];
+
 #[test]
-fn words_have_one_spelling(rt: HostRuntime) -> Result<(), Fail> {
-    for (field, wanted) in [
-        (b"0000".as_slice(), Some(0)),
-        (b"FFFF", Some(0xFFFF)),
-        (b"1D0F", Some(0x1D0F)),
-        (b"A90E", Some(0xA90E)),
-        (b"1d0f", None),
-        (b"1D0", None),
-        (b"01D0F", None),
-        (b"", None),
-        (b"-", None),
-        (b"1D0G", None),
-        (b"1D0@", None),
-        (b"1D0:", None),
-    ] {
-        assert_eq!(rt; word(field), wanted);
+fn lines_are_cut(rt: HostRuntime) {
+    for (text, wanted) in LINES {
+        assert!(rt; split_line(text) == wanted, "{text:?}");
     }
-    let mut text = String::new(rt.alloc());
+}
+
+/// Lines, and how many fields they have; none where one is empty.
+const COUNTS: [(&[u8], usize); 9] = [
+    (b"", 0),
+    (b"a", 1),
+    (b"a b", 2),
+    (b"a b c", 3),
+    (b"a b c d", 4),
+    (b"a b c d e", 5),
+    (b" a", 0),
+    (b"a ", 0),
+    (b"a  b", 0),
+];
+
+/// Whether the line has one, two, three or four fields.
+fn counts(line: &[u8]) -> [bool; 4] {
+    [
+        one_field(Fields::new(line)).is_some(),
+        two_fields(Fields::new(line)).is_some(),
+        three_fields(Fields::new(line)).is_some(),
+        four_fields(Fields::new(line)).is_some(),
+    ]
+}
+
+#[test]
+fn fields_are_counted(rt: HostRuntime) {
+    for (line, count) in COUNTS {
+        let wanted = [count == 1, count == 2, count == 3, count == 4];
+        assert!(rt; counts(line) == wanted, "{line:?}");
+    }
+}
+
+#[test]
+fn fields_are_cut(rt: HostRuntime) {
+    let mut fields = Fields::new(b"pie 1 2");
+    let first: &[u8] = b"pie";
+    assert!(rt; fields.next() == Some(first));
+    let rest: (&[u8], &[u8]) = (b"1", b"2");
+    assert!(rt; two_fields(fields) == Some(rest));
+}
+
+/// A field, and the word that it is.
+const WORDS: [(&[u8], Option<u16>); 12] = [
+    (b"0000", Some(0)),
+    (b"FFFF", Some(0xFFFF)),
+    (b"1D0F", Some(0x1D0F)),
+    (b"A90E", Some(0xA90E)),
+    (b"1d0f", None),
+    (b"1D0", None),
+    (b"01D0F", None),
+    (b"", None),
+    (b"-", None),
+    (b"1D0G", None),
+    (b"1D0@", None),
+    (b"1D0:", None),
+];
+
+#[test]
+fn words_have_one_spelling(rt: HostRuntime) {
+    for (field, wanted) in WORDS {
+        assert!(rt; word(field) == wanted, "{field:?}");
+    }
+}
+
+/// A word, a byte, and lists of no word and of two.
+fn hexadecimals(alloc: Global) -> Result<String, Fail> {
+    let mut text = String::new(alloc);
     push_word(&mut text, 0x0A9F)?;
     text.push(' ')?;
     push_byte_hex(&mut text, 0x0B)?;
@@ -170,29 +226,37 @@ fn words_have_one_spelling(rt: HostRuntime) -> Result<(), Fail> {
     push_words(&mut text, &[])?;
     text.push(' ')?;
     push_words(&mut text, &[0x3000, 0x00EF])?;
-    assert_eq!(rt; text.as_str(), "0A9F 0B - 300000EF");
+    Ok(text)
+}
+
+#[test]
+fn words_are_written(rt: HostRuntime) -> Result<(), Fail> {
+    assert_eq!(rt; hexadecimals(rt.alloc())?.as_str(), "0A9F 0B - 300000EF");
     Ok(())
 }
+
+/// A field, how many bytes it may have, and whether it has as many at most.
+const BYTES: [(&[u8], u32, bool); 9] = [
+    (b"00", 1, true),
+    (b"0000", 1, false),
+    (b"", 1, false),
+    (b"-", 1, false),
+    (b"0", 1, false),
+    (b"000", 2, false),
+    (b"0g", 1, false),
+    (b"0x", 1, false),
+    (b"00", 0, false),
+];
 
 #[test]
 fn bytes_are_read_in_either_case(rt: HostRuntime) -> Result<(), Fail> {
     let read = HexBytes::new(b"00fFa90E", 4).ok_or("no bytes")?;
-    assert_eq!(rt; read.len(), 4);
+    assert!(rt; read.len() == 4);
     let mut bytes = [0; 4];
     read.decode_to(&mut bytes);
     assert_eq!(rt; bytes, [0x00, 0xFF, 0xA9, 0x0E]);
-    for (field, most, wanted) in [
-        (b"00".as_slice(), 1, true),
-        (b"0000", 1, false),
-        (b"", 1, false),
-        (b"-", 1, false),
-        (b"0", 1, false),
-        (b"000", 2, false),
-        (b"0g", 1, false),
-        (b"0x", 1, false),
-        (b"00", 0, false),
-    ] {
-        assert_eq!(rt; HexBytes::new(field, most).is_some(), wanted);
+    for (field, most, wanted) in BYTES {
+        assert!(rt; HexBytes::new(field, most).is_some() == wanted, "{field:?}");
     }
     Ok(())
 }

@@ -1,7 +1,8 @@
 //! Commands, read and written, and each refusal.
+use crate::lists::bits_of;
 use bit_strings::Bits;
 use command_grammar::*;
-use std::process::Abort;
+use std::alloc::Global;
 use std::test::Fail;
 
 /// The Framer that was given these digits, and its last answer.
@@ -47,235 +48,260 @@ const REFUSED: [(&str, u32, Reason); 20] = [
     ("00000", 4, Reason::Extra),
 ];
 
+/// Whether the digits are refused there for this reason, also in the end, and then with each further bit.
+fn is_refused(digits: &str, place: u32, reason: Reason) -> bool {
+    let bad = Pushed::Bad(place, reason);
+    let (framer, last) = fed(digits);
+    let end = framer.finish().err();
+    let (mut again, _) = fed(digits);
+    let pushed = [last, again.push(true), again.push(false)];
+    pushed == [bad, bad, bad] && end == Some(CommandRefusal::At(place, reason))
+}
+
 #[test]
 fn refusals(rt: HostRuntime) {
     for (digits, place, reason) in REFUSED {
-        let (framer, last) = fed(digits);
-        assert_eq!(rt; last, Pushed::Bad(place, reason), "{digits}");
-        assert_eq!(rt;
-            framer.finish().err(),
-            Some(CommandRefusal::At(place, reason)),
-            "{digits}"
-        );
-        let (mut again, _) = fed(digits);
-        assert_eq!(rt; again.push(true), Pushed::Bad(place, reason), "{digits}");
-        assert_eq!(rt; again.push(false), Pushed::Bad(place, reason), "{digits}");
+        assert!(rt; is_refused(digits, place, reason), "{digits}");
     }
-    let (framer, last) = fed("10");
-    assert_eq!(rt; last, Pushed::More);
-    assert_eq!(rt; framer.finish().err(), Some(CommandRefusal::Short(2)));
-    assert_eq!(rt;
-        Framer::new().finish().err(),
-        Some(CommandRefusal::Short(0))
-    );
 }
 
-/// Writes the command, reads it again, and compares its bits with these digits.
-fn spelled<R: Abort>(rt: &R, out: &mut Bits, command: Command, digits: &str) {
-    assert!(rt; out.capacity() >= 4170);
-    encode_command(&command, out);
-    assert_eq!(rt; out.len() as usize, digits.len(), "{digits}");
-    for (at, digit) in digits.as_bytes().iter().enumerate() {
-        assert_eq!(rt; out.get(at as u32), Some(*digit == b'1'), "{digits}");
-    }
+/// Whether the digits are the front of a command.
+fn is_front(digits: &str, count: u32) -> bool {
     let (framer, last) = fed(digits);
-    assert_eq!(rt; last, Pushed::Whole, "{digits}");
-    assert!(rt;
-        decode_command(out.as_slice()) == framer.finish(),
-        "{digits}"
-    );
-    let (framer, _) = fed(digits);
-    assert!(rt; framer.finish() == Ok(command), "{digits}");
+    last == Pushed::More && framer.finish().err() == Some(CommandRefusal::Short(count))
 }
 
 #[test]
-fn each_command(rt: HostRuntime) -> Result<(), Fail> {
-    let mut bits = Bits::new(rt.alloc(), 4170)?;
-    let out = &mut bits;
-    let session = Session::new(2).ok_or("session")?;
-    let third = Session::new(3).ok_or("session")?;
-    let first = Session::new(1).ok_or("session")?;
-    let zero = Session::new(0).ok_or("session")?;
-    let q = QValue::new(6).ok_or("q")?;
-    let q_zero = QValue::new(0).ok_or("q")?;
-    let action = Action::new(4).ok_or("action")?;
-    let payload = Payload::new(0x0C030).ok_or("payload")?;
-    let at_3 = Pointer::new(3).ok_or("pointer")?;
-    let at_128 = Pointer::new(128).ok_or("pointer")?;
-    let at_300 = Pointer::new(300).ok_or("pointer")?;
-    let at_16384 = Pointer::new(16384).ok_or("pointer")?;
-    let at_last = Pointer::new(268_435_455).ok_or("pointer")?;
-    let count = Count1::new(255).ok_or("count")?;
+fn fronts_are_short(rt: HostRuntime) {
+    assert!(rt; is_front("10", 2) && is_front("", 0));
+}
+
+/// Whether the digits are those of the command, and are read as it.
+fn is_spelled(alloc: Global, command: &Command, digits: &str) -> Option<bool> {
+    let mut out = Bits::new(alloc, 4170).ok()?;
+    if out.capacity() < 4170 {
+        return None;
+    }
+    encode_command(command, &mut out);
+    let wanted = bits_of(alloc, digits)?;
+    let (framer, last) = fed(digits);
+    let read = framer.finish();
+    let is_read = match &read {
+        Ok(it) => it == command,
+        Err(_) => false,
+    };
+    Some(
+        is_read
+            && last == Pushed::Whole
+            && out.as_slice() == wanted.as_slice()
+            && decode_command(out.as_slice()) == read,
+    )
+}
+
+/// A command, and its digits.
+type Spelled = (Command, &'static str);
+
+fn query(
+    (dr, code, trext): (bool, Code, bool),
+    (sel, session, target, q): (Sel, u8, Side, u8),
+) -> Option<Command> {
+    Some(Command::Query {
+        dr,
+        code,
+        trext,
+        sel,
+        session: Session::new(session)?,
+        target,
+        q: QValue::new(q)?,
+    })
+}
+
+fn adjust(session: u8, updn: UpDn) -> Option<Command> {
+    let session = Session::new(session)?;
+    Some(Command::QueryAdjust { session, updn })
+}
+
+fn select() -> Option<Command> {
     let mut mask = Mask::new();
     for bit in [true, false, true, true, false] {
-        let _ = mask.push(bit);
+        mask.push(bit).ok()?;
     }
-    let mut words = BlockWords::first(0xAAAA);
-    let _ = words.push(0x5555);
-    let rn = 0x1234;
-    spelled(&rt, out, Command::QueryRep { session }, "0010");
-    spelled(&rt, out, Command::Ack { rn: 0xA1B2 }, "011010000110110010");
-    let query = Command::Query {
-        dr: true,
-        code: Code::M4,
-        trext: true,
-        sel: Sel::Sl,
-        session: first,
-        target: Side::B,
-        q,
-    };
-    spelled(&rt, out, query, "1000110111011011011101");
-    let query = Command::Query {
-        dr: false,
-        code: Code::Fm0,
-        trext: false,
-        sel: Sel::All00,
-        session: zero,
-        target: Side::A,
-        q: q_zero,
-    };
-    spelled(&rt, out, query, "1000000000000000010000");
-    let adjust = Command::QueryAdjust {
-        session,
-        updn: UpDn::Up,
-    };
-    spelled(&rt, out, adjust, "100110110");
-    let adjust = Command::QueryAdjust {
-        session: zero,
-        updn: UpDn::Same,
-    };
-    spelled(&rt, out, adjust, "100100000");
-    let adjust = Command::QueryAdjust {
-        session: third,
-        updn: UpDn::Down,
-    };
-    spelled(&rt, out, adjust, "100111011");
-    let select = Command::Select {
+    Some(Command::Select {
         target: FlagName::Sl,
-        action,
+        action: Action::new(4)?,
         bank: MaskBank::Epc,
-        pointer: at_300,
+        pointer: Pointer::new(300)?,
         mask,
-    };
-    spelled(
-        &rt,
-        out,
-        select,
-        "1010100100011000001000101100000001011011001001111110001111",
-    );
-    spelled(&rt, out, Command::Nak, "11000000");
-    spelled(
-        &rt,
-        out,
-        Command::ReqRn { rn: 0xA1B2 },
-        "1100000110100001101100101000101101110010",
-    );
-    let read = Command::Read {
-        bank: Bank::Tid,
-        pointer: at_3,
-        count: 2,
-        rn,
-    };
-    spelled(
-        &rt,
-        out,
-        read,
-        "1100001010000000110000001000010010001101001101010111111011",
-    );
-    let write = Command::Write {
-        bank: Bank::User,
-        pointer: at_128,
-        covered: 0x5678,
-        rn,
-    };
-    spelled(
-        &rt,
-        out,
-        write,
-        "11000011111000000100000000010101100111100000010010001101001110101101110101",
-    );
-    let kill = Command::Kill {
-        covered: 0xBEEF,
-        rn,
-    };
-    spelled(
-        &rt,
-        out,
-        kill,
-        "11000100101111101110111100000010010001101000111110110010010",
-    );
-    let lock = Command::Lock { payload, rn };
-    spelled(
-        &rt,
-        out,
-        lock,
-        "110001010000110000000011000000010010001101001000010000001000",
-    );
-    let access = Command::Access {
-        covered: 0xBEEF,
-        rn,
-    };
-    spelled(
-        &rt,
-        out,
-        access,
-        "11000110101111101110111100010010001101001101110010000011",
-    );
-    let block_write = Command::BlockWrite {
+    })
+}
+
+fn inventory_commands() -> Option<[Spelled; 9]> {
+    let session = Session::new(2)?;
+    Some([
+        (Command::QueryRep { session }, "0010"),
+        (Command::Ack { rn: 0xA1B2 }, "011010000110110010"),
+        (
+            query((true, Code::M4, true), (Sel::Sl, 1, Side::B, 6))?,
+            "1000110111011011011101",
+        ),
+        (
+            query((false, Code::Fm0, false), (Sel::All00, 0, Side::A, 0))?,
+            "1000000000000000010000",
+        ),
+        (adjust(2, UpDn::Up)?, "100110110"),
+        (adjust(0, UpDn::Same)?, "100100000"),
+        (adjust(3, UpDn::Down)?, "100111011"),
+        (
+            select()?,
+            "1010100100011000001000101100000001011011001001111110001111",
+        ),
+        (Command::Nak, "11000000"),
+    ])
+}
+
+/// The handle of the access commands.
+const RN: u16 = 0x1234;
+
+fn block_write() -> Option<Command> {
+    let mut words = BlockWords::first(0xAAAA);
+    words.push(0x5555).ok()?;
+    Some(Command::BlockWrite {
         bank: Bank::Reserved,
-        pointer: at_last,
+        pointer: Pointer::new(268_435_455)?,
         words,
-        rn,
-    };
-    spelled(
-        &rt,
-        out,
-        block_write,
-        "110001110011111111111111111111111101111111000000101010101010101010010101010101010100010010001101000001011110101001",
-    );
-    let block_erase = Command::BlockErase {
-        bank: Bank::Epc,
-        pointer: at_16384,
-        count,
-        rn,
-    };
-    spelled(
-        &rt,
-        out,
-        block_erase,
-        "11001000011000000110000000000000001111111100010010001101000111100110110011",
-    );
+        rn: RN,
+    })
+}
+
+fn access_commands() -> Option<[Spelled; 8]> {
+    let rn = RN;
+    let at_3 = Pointer::new(3)?;
+    let at_128 = Pointer::new(128)?;
+    let at_16384 = Pointer::new(16384)?;
+    let payload = Payload::new(0x0C030)?;
+    let most = Count1::new(255)?;
+    let block_write = block_write()?;
+    Some([
+        (
+            Command::ReqRn { rn: 0xA1B2 },
+            "1100000110100001101100101000101101110010",
+        ),
+        (
+            Command::Read {
+                bank: Bank::Tid,
+                pointer: at_3,
+                count: 2,
+                rn,
+            },
+            "1100001010000000110000001000010010001101001101010111111011",
+        ),
+        (
+            Command::Write {
+                bank: Bank::User,
+                pointer: at_128,
+                covered: 0x5678,
+                rn,
+            },
+            "11000011111000000100000000010101100111100000010010001101001110101101110101",
+        ),
+        (
+            Command::Kill {
+                covered: 0xBEEF,
+                rn,
+            },
+            "11000100101111101110111100000010010001101000111110110010010",
+        ),
+        (
+            Command::Lock { payload, rn },
+            "110001010000110000000011000000010010001101001000010000001000",
+        ),
+        (
+            Command::Access {
+                covered: 0xBEEF,
+                rn,
+            },
+            "11000110101111101110111100010010001101001101110010000011",
+        ),
+        (
+            block_write,
+            "110001110011111111111111111111111101111111000000101010101010101010010101010101010100010010001101000001011110101001",
+        ),
+        (
+            Command::BlockErase {
+                bank: Bank::Epc,
+                pointer: at_16384,
+                count: most,
+                rn,
+            },
+            "11001000011000000110000000000000001111111100010010001101000111100110110011",
+        ),
+    ])
+}
+
+#[test]
+fn inventory_commands_are_spelled(rt: HostRuntime) -> Result<(), Fail> {
+    let commands = inventory_commands().ok_or("commands")?;
+    for (command, digits) in &commands {
+        assert!(rt;
+            is_spelled(rt.alloc(), command, digits) == Some(true),
+            "{digits}"
+        );
+    }
     Ok(())
 }
 
 #[test]
-fn longest(rt: HostRuntime) -> Result<(), Fail> {
-    let mut out = Bits::new(rt.alloc(), 4170)?;
+fn access_commands_are_spelled(rt: HostRuntime) -> Result<(), Fail> {
+    let commands = access_commands().ok_or("commands")?;
+    for (command, digits) in &commands {
+        assert!(rt;
+            is_spelled(rt.alloc(), command, digits) == Some(true),
+            "{digits}"
+        );
+    }
+    Ok(())
+}
+
+/// The bits of the longest command.
+fn longest_bits(alloc: Global) -> Option<Bits> {
+    let mut out = Bits::new(alloc, 4170).ok()?;
     let mut words = BlockWords::first(0xA5C3);
     for _ in 0..254 {
-        let _ = words.push(0xA5C3);
+        words.push(0xA5C3).ok()?;
     }
-    let pointer = Pointer::new(268_435_455).ok_or("pointer")?;
     let command = Command::BlockWrite {
         bank: Bank::User,
-        pointer,
+        pointer: Pointer::new(268_435_455)?,
         words,
         rn: 0xFFFF,
     };
+    if out.capacity() < 4170 {
+        return None;
+    }
     encode_command(&command, &mut out);
-    assert_eq!(rt; out.len(), 4162);
-    for (at, digit) in b"1111001000010000".iter().enumerate() {
-        assert_eq!(rt; out.get(4146 + at as u32), Some(*digit == b'1'));
-    }
+    Some(out)
+}
+
+/// What the last bit of the longest command gives, where each bit before it wants more, and a further bit.
+fn pushed(bits: &[bool], last: [bool; 2]) -> Option<[Pushed; 2]> {
     let mut framer = Framer::new();
-    let mut other = Framer::new();
-    for at in 0..4161 {
-        let bit = out.get(at) == Some(true);
-        assert_eq!(rt; framer.push(bit), Pushed::More);
-        let _ = other.push(bit);
+    for bit in bits.iter().take(4161) {
+        if framer.push(*bit) != Pushed::More {
+            return None;
+        }
     }
-    assert_eq!(rt; other.push(true), Pushed::Bad(4161, Reason::Crc16));
-    assert_eq!(rt; framer.push(false), Pushed::Whole);
-    assert_eq!(rt; framer.push(false), Pushed::Bad(4162, Reason::Extra));
+    Some([framer.push(last[0]), framer.push(last[1])])
+}
+
+#[test]
+fn longest(rt: HostRuntime) -> Result<(), Fail> {
+    let list = longest_bits(rt.alloc()).ok_or("a command")?;
+    let end = bits_of(rt.alloc(), "1111001000010000").ok_or("bits")?;
+    let bits = list.as_slice();
+    assert!(rt; bits.len() == 4162 && bits.ends_with(end.as_slice()));
+    let extra = Pushed::Bad(4162, Reason::Extra);
+    let wrong = Pushed::Bad(4161, Reason::Crc16);
+    assert!(rt; pushed(bits, [false, false]) == Some([Pushed::Whole, extra]));
+    assert!(rt; pushed(bits, [true, false]) == Some([wrong, wrong]));
     Ok(())
 }

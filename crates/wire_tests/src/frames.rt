@@ -1,10 +1,10 @@
 //! Frames in pulse-interval encoding, and links, against lists of intervals written out by hand.
-use bit_strings::{Bits, Full, OutOfMemory};
+use crate::lists::bits_of;
+use bit_strings::{Bits, Full};
 use pie_line::{
     Code, FrameKind, Intervals, Lead, Link, LinkRefusal, PieRefusal, decode_frame, encode_frame,
 };
 use std::alloc::Global;
-use std::process::Abort;
 use std::test::Fail;
 
 /// Delimiter, a Tari of 12,500 and an RTcal of 31,250.
@@ -15,249 +15,255 @@ const SYNC: FrameKind = FrameKind::FrameSync {
     rtcal: 31_250,
 };
 
-/// The bits of a text of zeros and ones.
-fn bits_of(rt: &impl Abort, alloc: Global, text: &str) -> Result<Bits, OutOfMemory> {
-    let mut bits = Bits::new(alloc, 100)?;
-    for &byte in text.as_bytes() {
-        assert_eq!(rt; bits.push(byte == b'1'), Ok(()));
+/// The list of the intervals of `front` and `rest`.
+fn intervals_of(alloc: Global, front: &[u32], rest: &[u32]) -> Option<Intervals> {
+    let mut intervals = Intervals::new(alloc, 100).ok()?;
+    for interval in front {
+        intervals.push(*interval).ok()?;
     }
-    Ok(bits)
+    for interval in rest {
+        intervals.push(*interval).ok()?;
+    }
+    Some(intervals)
 }
 
 /// What the intervals of `front` and `rest` are read as, with the bits.
 fn read(
-    rt: &impl Abort,
     alloc: Global,
     front: &[u32],
     rest: &[u32],
-) -> Result<(Result<FrameKind, PieRefusal>, Bits), OutOfMemory> {
-    let mut intervals = Intervals::new(alloc, 100)?;
-    for &interval in front {
-        assert_eq!(rt; intervals.push(interval), Ok(()));
+) -> Option<(Result<FrameKind, PieRefusal>, Bits)> {
+    let intervals = intervals_of(alloc, front, rest)?;
+    let mut out = Bits::new(alloc, 200).ok()?;
+    out.push(true).ok()?;
+    let are_short = intervals
+        .as_slice()
+        .iter()
+        .all(|interval| *interval <= 999_999);
+    if intervals.len() > 100 || out.capacity() != 200 || !are_short {
+        return None;
     }
-    for &interval in rest {
-        assert_eq!(rt; intervals.push(interval), Ok(()));
-    }
-    let mut out = Bits::new(alloc, 200)?;
-    assert_eq!(rt; out.push(true), Ok(()));
-    assert!(rt; intervals.len() <= 100 && out.capacity() == 200);
-    assert!(rt;
-        intervals
-            .as_slice()
-            .iter()
-            .all(|interval| *interval <= 999_999)
-    );
     let result = decode_frame(&intervals, &mut out);
-    Ok((result, out))
+    Some((result, out))
+}
+
+const PREAMBLE: FrameKind = FrameKind::Preamble {
+    tari: 12_500,
+    rtcal: 31_250,
+    trcal: 34_375,
+};
+
+const LONGEST_PREAMBLE: FrameKind = FrameKind::Preamble {
+    tari: 12_500,
+    rtcal: 31_250,
+    trcal: 93_750,
+};
+
+/// What follows the header, and the kind and the bits of the frame.
+const FRAMES: [(&[u32], FrameKind, &str); 8] = [
+    (
+        &[6_250, 6_250, 6_250, 6_250, 6_250, 6_250, 6_250, 6_250],
+        SYNC,
+        "0000",
+    ),
+    // The pivot is 15,625, and a symbol lasts at most 125,000.
+    (&[9_375, 6_250, 118_750, 6_250], SYNC, "11"),
+    (&[9_374, 6_250, 1, 1], SYNC, "00"),
+    (&[25_000, 6_250], SYNC, "1"),
+    (&[], SYNC, ""),
+    (&[28_125, 6_250], PREAMBLE, ""),
+    (&[28_125, 6_250, 6_250, 6_250, 124_999, 1], PREAMBLE, "01"),
+    (&[93_749, 1], LONGEST_PREAMBLE, ""),
+];
+
+/// Whether the intervals behind the header are read as this frame.
+fn is_frame(alloc: Global, rest: &[u32], kind: FrameKind, text: &str) -> Option<bool> {
+    let (result, out) = read(alloc, &HEADER, rest)?;
+    let bits = bits_of(alloc, text)?;
+    Some(result == Ok(kind) && out.as_slice() == bits.as_slice())
 }
 
 #[test]
-fn frames_are_read(rt: HostRuntime) -> Result<(), Fail> {
-    let preamble = FrameKind::Preamble {
-        tari: 12_500,
-        rtcal: 31_250,
-        trcal: 34_375,
-    };
-    let longest = FrameKind::Preamble {
-        tari: 12_500,
-        rtcal: 31_250,
-        trcal: 93_750,
-    };
-    let cases = [
-        (
-            [6_250, 6_250, 6_250, 6_250, 6_250, 6_250, 6_250, 6_250].as_slice(),
-            SYNC,
-            "0000",
-        ),
-        // The pivot is 15,625, and a symbol lasts at most 125,000.
-        ([9_375, 6_250, 118_750, 6_250].as_slice(), SYNC, "11"),
-        ([9_374, 6_250, 1, 1].as_slice(), SYNC, "00"),
-        ([25_000, 6_250].as_slice(), SYNC, "1"),
-        ([].as_slice(), SYNC, ""),
-        ([28_125, 6_250].as_slice(), preamble, ""),
-        (
-            [28_125, 6_250, 6_250, 6_250, 124_999, 1].as_slice(),
-            preamble,
-            "01",
-        ),
-        ([93_749, 1].as_slice(), longest, ""),
-    ];
-    for (rest, kind, bits) in cases {
-        let (result, out) = read(&rt, rt.alloc(), &HEADER, rest)?;
-        assert_eq!(rt; result, Ok(kind));
-        assert_eq!(rt; out.as_slice(), bits_of(&rt, rt.alloc(), bits)?.as_slice());
+fn frames_are_read(rt: HostRuntime) {
+    for (rest, kind, bits) in FRAMES {
+        assert!(rt;
+            is_frame(rt.alloc(), rest, kind, bits) == Some(true),
+            "{rest:?}"
+        );
     }
-    Ok(())
+}
+
+/// Intervals, and why they are refused.
+type Refused = (&'static [u32], PieRefusal);
+
+/// Behind the header.
+const SYMBOLS: &[Refused] = &[
+    // The first pair after RTcal.
+    (&[0], PieRefusal::Symbol(5)),
+    (&[93_749], PieRefusal::Unfinished(6)),
+    (&[93_750], PieRefusal::TrCal),
+    (&[6_250, 0], PieRefusal::Symbol(6)),
+    (&[25_000, 6_251], PieRefusal::TrCal),
+    (&[28_124, 6_250], PieRefusal::TrCal),
+    (&[93_749, 2], PieRefusal::TrCal),
+    // A later pair.
+    (&[9_375, 6_250, 118_751, 6_250], PieRefusal::Symbol(8)),
+    (&[9_375, 6_250, 118_750, 6_251], PieRefusal::Symbol(8)),
+    (&[9_375, 6_250, 124_999], PieRefusal::Unfinished(8)),
+    (&[9_375, 6_250, 125_000], PieRefusal::Symbol(7)),
+    (&[9_375, 6_250, 0], PieRefusal::Symbol(7)),
+    (&[28_125, 6_250, 6_250, 0], PieRefusal::Symbol(8)),
+];
+
+/// From the delimiter on.
+const HEADERS: &[Refused] = &[
+    (&[], PieRefusal::Unfinished(0)),
+    (&[11_874], PieRefusal::Delimiter),
+    (&[11_875], PieRefusal::Unfinished(1)),
+    (&[13_125], PieRefusal::Unfinished(1)),
+    (&[13_126], PieRefusal::Delimiter),
+    (&[0], PieRefusal::Delimiter),
+    (&[12_500, 6_250], PieRefusal::Unfinished(2)),
+    (&[12_500, 24_999], PieRefusal::Unfinished(2)),
+    (&[12_500, 25_000], PieRefusal::Tari),
+    (&[12_500, 0], PieRefusal::Tari),
+    (&[12_500, 6_249, 1], PieRefusal::Unfinished(3)),
+    (&[12_500, 6_248, 1], PieRefusal::Tari),
+    (&[12_500, 12_500, 12_500], PieRefusal::Unfinished(3)),
+    (&[12_500, 12_500, 12_501], PieRefusal::Tari),
+    (&[12_500, 6_250, 0], PieRefusal::Tari),
+];
+
+/// Behind the delimiter and Tari.
+const RTCALS: &[Refused] = &[
+    (&[37_499], PieRefusal::Unfinished(4)),
+    (&[37_500], PieRefusal::RtCal),
+    (&[0], PieRefusal::RtCal),
+    (&[25_000, 6_249], PieRefusal::RtCal),
+    (&[25_000, 12_501], PieRefusal::RtCal),
+    (&[31_250, 0], PieRefusal::RtCal),
+    // An RTcal of 37,500 is the longest for this Tari.
+    (&[25_000, 12_500, 112_499], PieRefusal::Unfinished(6)),
+    (&[25_000, 12_500, 112_500], PieRefusal::TrCal),
+];
+
+/// Why the intervals are refused, and how many bits are left then.
+fn refusal(alloc: Global, front: &[u32], rest: &[u32]) -> Option<(PieRefusal, u32)> {
+    match read(alloc, front, rest)? {
+        (Err(refusal), out) => Some((refusal, out.len())),
+        (Ok(_), _) => None,
+    }
 }
 
 #[test]
-fn symbols_are_bounded(rt: HostRuntime) -> Result<(), Fail> {
-    let cases = [
-        // The first pair after RTcal.
-        ([0].as_slice(), PieRefusal::Symbol(5)),
-        ([93_749].as_slice(), PieRefusal::Unfinished(6)),
-        ([93_750].as_slice(), PieRefusal::TrCal),
-        ([6_250, 0].as_slice(), PieRefusal::Symbol(6)),
-        ([25_000, 6_251].as_slice(), PieRefusal::TrCal),
-        ([28_124, 6_250].as_slice(), PieRefusal::TrCal),
-        ([93_749, 2].as_slice(), PieRefusal::TrCal),
-        // A later pair.
-        (
-            [9_375, 6_250, 118_751, 6_250].as_slice(),
-            PieRefusal::Symbol(8),
-        ),
-        (
-            [9_375, 6_250, 118_750, 6_251].as_slice(),
-            PieRefusal::Symbol(8),
-        ),
-        (
-            [9_375, 6_250, 124_999].as_slice(),
-            PieRefusal::Unfinished(8),
-        ),
-        ([9_375, 6_250, 125_000].as_slice(), PieRefusal::Symbol(7)),
-        ([9_375, 6_250, 0].as_slice(), PieRefusal::Symbol(7)),
-        ([28_125, 6_250, 6_250, 0].as_slice(), PieRefusal::Symbol(8)),
-    ];
-    for (rest, refusal) in cases {
-        let (result, out) = read(&rt, rt.alloc(), &HEADER, rest)?;
-        assert_eq!(rt; result, Err(refusal));
-        assert_eq!(rt; out.len(), 0);
+fn parts_are_bounded(rt: HostRuntime) {
+    let tari: &[u32] = &[12_500, 6_250, 6_250];
+    for (front, rows) in [(HEADER.as_slice(), SYMBOLS), (&[], HEADERS), (tari, RTCALS)] {
+        for (rest, wanted) in rows {
+            assert!(rt;
+                refusal(rt.alloc(), front, rest) == Some((*wanted, 0)),
+                "{rest:?}"
+            );
+        }
     }
-    Ok(())
 }
 
-#[test]
-fn headers_are_bounded(rt: HostRuntime) -> Result<(), Fail> {
-    let cases = [
-        ([].as_slice(), PieRefusal::Unfinished(0)),
-        ([11_874].as_slice(), PieRefusal::Delimiter),
-        ([11_875].as_slice(), PieRefusal::Unfinished(1)),
-        ([13_125].as_slice(), PieRefusal::Unfinished(1)),
-        ([13_126].as_slice(), PieRefusal::Delimiter),
-        ([0].as_slice(), PieRefusal::Delimiter),
-        ([12_500, 6_250].as_slice(), PieRefusal::Unfinished(2)),
-        ([12_500, 24_999].as_slice(), PieRefusal::Unfinished(2)),
-        ([12_500, 25_000].as_slice(), PieRefusal::Tari),
-        ([12_500, 0].as_slice(), PieRefusal::Tari),
-        ([12_500, 6_249, 1].as_slice(), PieRefusal::Unfinished(3)),
-        ([12_500, 6_248, 1].as_slice(), PieRefusal::Tari),
-        (
-            [12_500, 12_500, 12_500].as_slice(),
-            PieRefusal::Unfinished(3),
-        ),
-        ([12_500, 12_500, 12_501].as_slice(), PieRefusal::Tari),
-        ([12_500, 6_250, 0].as_slice(), PieRefusal::Tari),
-    ];
-    for (intervals, refusal) in cases {
-        let (result, _out) = read(&rt, rt.alloc(), intervals, &[])?;
-        assert_eq!(rt; result, Err(refusal));
+/// The frame of a Query behind a preamble.
+const QUERY: [u32; 51] = [
+    12_500, 6_250, 6_250, 25_000, 6_250, 43_750, 6_250, // delimiter, Tari, RTcal, TRcal
+    12_500, 6_250, 6_250, 6_250, 6_250, 6_250, 6_250, 6_250, // 1000
+    12_500, 6_250, 6_250, 6_250, 6_250, 6_250, 6_250, 6_250, // 1000
+    6_250, 6_250, 6_250, 6_250, 6_250, 6_250, 6_250, 6_250, // 0000
+    6_250, 6_250, 6_250, 6_250, 6_250, 6_250, 6_250, 6_250, // 0000
+    12_500, 6_250, 6_250, 6_250, 6_250, 6_250, 6_250, 6_250, // 1000
+    6_250, 6_250, 12_500, 6_250, // 01
+];
+
+/// The frame of a Query behind this lead.
+fn query_frame(alloc: Global, link: &Link, lead: Lead) -> Option<Intervals> {
+    let bits = bits_of(alloc, "1000100000000000100001")?;
+    let mut out = Intervals::new(alloc, 100).ok()?;
+    if out.capacity() != 100 || bits.len() > 22 {
+        return None;
     }
-    let cases = [
-        ([37_499].as_slice(), PieRefusal::Unfinished(4)),
-        ([37_500].as_slice(), PieRefusal::RtCal),
-        ([0].as_slice(), PieRefusal::RtCal),
-        ([25_000, 6_249].as_slice(), PieRefusal::RtCal),
-        ([25_000, 12_501].as_slice(), PieRefusal::RtCal),
-        ([31_250, 0].as_slice(), PieRefusal::RtCal),
-        // An RTcal of 37,500 is the longest for this Tari.
-        (
-            [25_000, 12_500, 112_499].as_slice(),
-            PieRefusal::Unfinished(6),
-        ),
-        ([25_000, 12_500, 112_500].as_slice(), PieRefusal::TrCal),
-    ];
-    for (rest, refusal) in cases {
-        let (result, _out) = read(&rt, rt.alloc(), &[12_500, 6_250, 6_250], rest)?;
-        assert_eq!(rt; result, Err(refusal));
-    }
-    Ok(())
+    encode_frame(link, lead, &bits, &mut out);
+    Some(out)
 }
 
 #[test]
 fn a_query_is_written(rt: HostRuntime) -> Result<(), Fail> {
     let link = Link::new(12_500, 31_250, 50_000, 6_250, true, Code::Fm0, false)
         .ok()
-        .ok_or("link")?;
+        .ok_or("a link")?;
+    let preamble = query_frame(rt.alloc(), &link, Lead::Preamble).ok_or("a frame")?;
+    let sync = query_frame(rt.alloc(), &link, Lead::FrameSync).ok_or("a frame")?;
     assert_eq!(rt; link.blf(), (64, 150_000));
-    let bits = bits_of(&rt, rt.alloc(), "1000100000000000100001")?;
-    let mut out = Intervals::new(rt.alloc(), 100)?;
-    assert!(rt; out.capacity() == 100 && bits.len() <= 22);
-    encode_frame(&link, Lead::Preamble, &bits, &mut out);
-    let front = [12_500, 6_250, 6_250, 25_000, 6_250, 43_750, 6_250];
-    assert_eq!(rt; out.len(), 51);
-    for (at, &interval) in front.iter().enumerate() {
-        assert_eq!(rt; out.get(at as u32), Some(interval));
-    }
-    for at in 0..22 {
-        let high = if bits.get(at) == Some(true) {
-            12_500
-        } else {
-            6_250
-        };
-        assert_eq!(rt; out.get(7 + 2 * at), Some(high));
-        assert_eq!(rt; out.get(8 + 2 * at), Some(6_250));
-    }
-    encode_frame(&link, Lead::FrameSync, &bits, &mut out);
-    assert_eq!(rt; out.len(), 49);
-    assert_eq!(rt; out.get(5), Some(12_500));
-    out.clear();
-    assert!(rt; out.is_empty());
+    assert!(rt; preamble.as_slice() == QUERY.as_slice());
+    // A frame-sync has no TRcal.
+    let intervals = sync.as_slice();
+    assert!(rt; intervals.len() == 49);
+    let (front, rest) = intervals.split_at(5);
+    assert!(rt; front == &QUERY[..5] && rest == &QUERY[7..]);
     Ok(())
+}
+
+/// Tari, RTcal, TRcal and PW.
+type Durations = (u32, u32, u32, u32);
+
+const LINKS: [(Durations, Result<(), LinkRefusal>); 17] = [
+    ((6_250, 15_625, 17_188, 2_000), Ok(())),
+    ((6_249, 15_625, 17_188, 2_000), Err(LinkRefusal::Tari)),
+    ((25_000, 75_000, 225_000, 13_125), Ok(())),
+    ((25_001, 75_000, 225_000, 13_125), Err(LinkRefusal::Tari)),
+    ((6_250, 15_624, 17_188, 2_000), Err(LinkRefusal::RtCal)),
+    ((25_000, 75_001, 225_000, 13_125), Err(LinkRefusal::RtCal)),
+    ((6_250, 15_625, 17_187, 2_000), Err(LinkRefusal::TrCal)),
+    ((25_000, 75_000, 225_001, 13_125), Err(LinkRefusal::TrCal)),
+    ((6_250, 15_625, 17_188, 1_999), Err(LinkRefusal::Pw)),
+    ((25_000, 75_000, 225_000, 6_625), Ok(())),
+    ((25_000, 75_000, 225_000, 6_624), Err(LinkRefusal::Pw)),
+    ((25_000, 75_000, 225_000, 13_126), Err(LinkRefusal::Pw)),
+    ((0, 0, 0, 0), Err(LinkRefusal::Tari)),
+    (
+        (u32::MAX, u32::MAX, u32::MAX, u32::MAX),
+        Err(LinkRefusal::Tari),
+    ),
+    (
+        (6_250, u32::MAX, u32::MAX, u32::MAX),
+        Err(LinkRefusal::RtCal),
+    ),
+    ((6_250, 15_625, u32::MAX, u32::MAX), Err(LinkRefusal::TrCal)),
+    ((6_250, 15_625, 17_188, u32::MAX), Err(LinkRefusal::Pw)),
+];
+
+/// Whether a link of these durations is made, and has them, or is refused so.
+fn is_bounded(durations: Durations, wanted: Result<(), LinkRefusal>) -> bool {
+    let (tari, rtcal, trcal, pw) = durations;
+    match Link::new(tari, rtcal, trcal, pw, false, Code::M4, true) {
+        Ok(link) => {
+            wanted == Ok(())
+                && (link.tari(), link.rtcal(), link.trcal(), link.pw()) == durations
+                && (link.dr(), link.code(), link.trext()) == (false, Code::M4, true)
+                && link.blf() == (8, trcal)
+        }
+        Err(refusal) => wanted == Err(refusal),
+    }
 }
 
 #[test]
 fn links_are_bounded(rt: HostRuntime) {
-    let cases = [
-        ((6_250, 15_625, 17_188, 2_000), Ok(())),
-        ((6_249, 15_625, 17_188, 2_000), Err(LinkRefusal::Tari)),
-        ((25_000, 75_000, 225_000, 13_125), Ok(())),
-        ((25_001, 75_000, 225_000, 13_125), Err(LinkRefusal::Tari)),
-        ((6_250, 15_624, 17_188, 2_000), Err(LinkRefusal::RtCal)),
-        ((25_000, 75_001, 225_000, 13_125), Err(LinkRefusal::RtCal)),
-        ((6_250, 15_625, 17_187, 2_000), Err(LinkRefusal::TrCal)),
-        ((25_000, 75_000, 225_001, 13_125), Err(LinkRefusal::TrCal)),
-        ((6_250, 15_625, 17_188, 1_999), Err(LinkRefusal::Pw)),
-        ((25_000, 75_000, 225_000, 6_625), Ok(())),
-        ((25_000, 75_000, 225_000, 6_624), Err(LinkRefusal::Pw)),
-        ((25_000, 75_000, 225_000, 13_126), Err(LinkRefusal::Pw)),
-        ((0, 0, 0, 0), Err(LinkRefusal::Tari)),
-        (
-            (u32::MAX, u32::MAX, u32::MAX, u32::MAX),
-            Err(LinkRefusal::Tari),
-        ),
-        (
-            (6_250, u32::MAX, u32::MAX, u32::MAX),
-            Err(LinkRefusal::RtCal),
-        ),
-        ((6_250, 15_625, u32::MAX, u32::MAX), Err(LinkRefusal::TrCal)),
-        ((6_250, 15_625, 17_188, u32::MAX), Err(LinkRefusal::Pw)),
-    ];
-    for ((tari, rtcal, trcal, pw), want) in cases {
-        let link = Link::new(tari, rtcal, trcal, pw, false, Code::M4, true);
-        match link {
-            Ok(link) => {
-                assert_eq!(rt; Ok(()), want);
-                assert_eq!(rt;
-                    (link.tari(), link.rtcal(), link.trcal(), link.pw()),
-                    (tari, rtcal, trcal, pw)
-                );
-                assert_eq!(rt;
-                    (link.dr(), link.code(), link.trext()),
-                    (false, Code::M4, true)
-                );
-                assert_eq!(rt; link.blf(), (8, trcal));
-            }
-            Err(refusal) => assert_eq!(rt; Err(refusal), want),
-        }
+    for (durations, wanted) in LINKS {
+        assert!(rt; is_bounded(durations, wanted), "{durations:?}");
     }
 }
 
 #[test]
 fn lists_have_a_capacity(rt: HostRuntime) -> Result<(), Fail> {
     let mut list = Intervals::new(rt.alloc(), 1)?;
-    assert_eq!(rt; list.push(7), Ok(()));
-    assert_eq!(rt; list.push(8), Err(Full));
-    assert_eq!(rt; list.as_slice(), [7].as_slice());
-    assert_eq!(rt; list.get(1), None);
+    let pushed = [list.push(7), list.push(8)];
+    assert_eq!(rt; pushed, [Ok(()), Err(Full)]);
+    assert!(rt; list.as_slice() == [7].as_slice() && list.get(1) == None);
+    list.clear();
+    assert!(rt; list.is_empty());
     Ok(())
 }

@@ -10,6 +10,8 @@ mod fm0;
 #[cfg(test)]
 mod frames;
 #[cfg(test)]
+mod lists;
+#[cfg(test)]
 mod miller;
 #[cfg(test)]
 mod replies;

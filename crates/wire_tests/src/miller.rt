@@ -1,114 +1,90 @@
-//! The Miller codes: leads, blocks and short streams, written out by hand.
-use bit_strings::Bits;
-use line_code::{LineCode, decode, encode};
+//! The Miller codes: leads and blocks, written out by hand. A list of levels is a text of 1 and 0, high and low.
+use line_code::LineCode;
 use miller_line::{Miller2, Miller4, Miller8, SymbolBefore};
-use std::alloc::Global;
-use std::process::Abort;
-use std::test::Fail;
 
-// The lead of these levels, written as a text of 1 and 0, high and low.
-fn assert_lead<C: LineCode>(rt: &impl Abort, trext: bool, lead: &[u8]) {
-    assert_eq!(rt; C::lead_len(trext) as usize, lead.len());
-    for (at, level) in lead.iter().enumerate() {
-        assert_eq!(rt; C::lead(trext, at as u32), *level == b'1', "at {at}");
+/// Whether the lead has these levels.
+fn is_lead<C: LineCode>(trext: bool, lead: &[u8]) -> bool {
+    if C::lead_len(trext) as usize != lead.len() {
+        return false;
     }
+    for (at, level) in lead.iter().enumerate() {
+        if C::lead(trext, at as u32) != (*level == b'1') {
+            return false;
+        }
+    }
+    true
 }
 
-// The block of these levels.
-fn assert_block<C: LineCode<Mark = SymbolBefore>>(
-    rt: &impl Abort,
+#[test]
+fn leads(rt: HostRuntime) {
+    assert!(rt; is_lead::<Miller2>(false, b"1010101010101010101010010101011010010110"));
+    assert!(rt;
+        is_lead::<Miller2>(
+            true,
+            b"1010101010101010101010101010101010101010101010101010101010101010101010010101011010010110",
+        )
+    );
+    assert!(rt;
+        is_lead::<Miller4>(
+            false,
+            b"10101010101010101010101010101010101010101010010101010101010110101010010101011010",
+        )
+    );
+}
+
+#[test]
+fn lead_lengths(rt: HostRuntime) {
+    let short = [
+        Miller2::lead_len(false),
+        Miller4::lead_len(false),
+        Miller8::lead_len(false),
+    ];
+    let long = [
+        Miller2::lead_len(true),
+        Miller4::lead_len(true),
+        Miller8::lead_len(true),
+    ];
+    assert_eq!(rt; short, [40, 80, 160]);
+    assert_eq!(rt; long, [88, 176, 352]);
+}
+
+/// Whether the block of a bit behind such a symbol has these levels.
+fn is_block<C: LineCode<Mark = SymbolBefore>>(
     before: SymbolBefore,
     bit: bool,
     block: &[u8],
-) {
-    assert_eq!(rt; C::CHIPS as usize, block.len());
-    for (at, level) in block.iter().enumerate() {
-        assert_eq!(rt; C::level(before, bit, at as u32), *level == b'1', "at {at}");
+) -> bool {
+    if C::CHIPS as usize != block.len() {
+        return false;
     }
+    for (at, level) in block.iter().enumerate() {
+        if C::level(before, bit, at as u32) != (*level == b'1') {
+            return false;
+        }
+    }
+    true
 }
 
 #[test]
-fn leads(rt: HostRuntime) -> Result<(), Fail> {
-    assert_lead::<Miller2>(&rt, false, b"1010101010101010101010010101011010010110");
-    assert_lead::<Miller2>(
-        &rt,
-        true,
-        b"1010101010101010101010101010101010101010101010101010101010101010101010010101011010010110",
-    );
-    assert_lead::<Miller4>(
-        &rt,
-        false,
-        b"10101010101010101010101010101010101010101010010101010101010110101010010101011010",
-    );
-    Ok(())
-}
-
-#[test]
-fn lead_lengths(rt: HostRuntime) -> Result<(), Fail> {
-    assert_eq!(rt; Miller2::lead_len(false), 40);
-    assert_eq!(rt; Miller2::lead_len(true), 88);
-    assert_eq!(rt; Miller4::lead_len(false), 80);
-    assert_eq!(rt; Miller4::lead_len(true), 176);
-    assert_eq!(rt; Miller8::lead_len(false), 160);
-    assert_eq!(rt; Miller8::lead_len(true), 352);
-    Ok(())
-}
-
-#[test]
-fn blocks(rt: HostRuntime) -> Result<(), Fail> {
+fn blocks(rt: HostRuntime) {
     let one_in_phase_0 = Miller2::after_lead();
     let one_in_phase_1 = Miller2::after(one_in_phase_0, true);
     let zero_in_phase_0 = Miller2::after(one_in_phase_0, false);
     let zero_in_phase_1 = Miller2::after(one_in_phase_1, false);
-
-    assert_block::<Miller2>(&rt, one_in_phase_0, false, b"1010");
-    assert_block::<Miller2>(&rt, one_in_phase_0, true, b"1001");
-    assert_block::<Miller2>(&rt, one_in_phase_1, false, b"0101");
-    assert_block::<Miller2>(&rt, one_in_phase_1, true, b"0110");
-    assert_block::<Miller2>(&rt, zero_in_phase_0, false, b"0101");
-    assert_block::<Miller2>(&rt, zero_in_phase_0, true, b"1001");
-    assert_block::<Miller2>(&rt, zero_in_phase_1, false, b"1010");
-    assert_block::<Miller2>(&rt, zero_in_phase_1, true, b"0110");
-
-    assert_block::<Miller4>(&rt, one_in_phase_0, true, b"10100101");
-    assert_block::<Miller4>(&rt, zero_in_phase_0, false, b"01010101");
-    assert_block::<Miller8>(&rt, one_in_phase_0, true, b"1010101001010101");
-    assert_block::<Miller8>(&rt, zero_in_phase_0, false, b"0101010101010101");
-    Ok(())
-}
-
-// The list of a text of 1 and 0, with room for a hundred.
-fn list_of(alloc: Global, text: &[u8]) -> Result<Bits, Fail> {
-    let mut list = Bits::new(alloc, 100)?;
-    for digit in text {
-        list.push(*digit == b'1')?;
+    for (before, bit, block) in [
+        (one_in_phase_0, false, b"1010"),
+        (one_in_phase_0, true, b"1001"),
+        (one_in_phase_1, false, b"0101"),
+        (one_in_phase_1, true, b"0110"),
+        (zero_in_phase_0, false, b"0101"),
+        (zero_in_phase_0, true, b"1001"),
+        (zero_in_phase_1, false, b"1010"),
+        (zero_in_phase_1, true, b"0110"),
+    ] {
+        assert!(rt; is_block::<Miller2>(before, bit, block));
     }
-    Ok(list)
-}
-
-#[test]
-fn streams(rt: HostRuntime) -> Result<(), Fail> {
-    // The bits and their levels in the code with M = 2 and TRext 0.
-    let streams: [(&[u8], &[u8]); 3] = [
-        (b"", b"10101010101010101010100101010110100101101001"),
-        (b"0", b"101010101010101010101001010101101001011010101001"),
-        (
-            b"00",
-            b"1010101010101010101010010101011010010110101001010110",
-        ),
-    ];
-    for (bits, levels) in streams {
-        let bits = list_of(rt.alloc(), bits)?;
-        let levels = list_of(rt.alloc(), levels)?;
-        let mut list = list_of(rt.alloc(), b"")?;
-        assert!(rt; levels.len() <= 100);
-        assert!(rt; list.capacity() == 100);
-        assert_eq!(rt; decode::<Miller2>(false, &levels, &mut list), Ok(()));
-        assert_eq!(rt; list.as_slice(), bits.as_slice());
-
-        assert!(rt; bits.len() < 10);
-        encode::<Miller2>(false, &bits, &mut list);
-        assert_eq!(rt; list.as_slice(), levels.as_slice());
-    }
-    Ok(())
+    assert!(rt; is_block::<Miller4>(one_in_phase_0, true, b"10100101"));
+    assert!(rt; is_block::<Miller4>(zero_in_phase_0, false, b"01010101"));
+    assert!(rt; is_block::<Miller8>(one_in_phase_0, true, b"1010101001010101"));
+    assert!(rt; is_block::<Miller8>(zero_in_phase_0, false, b"0101010101010101"));
 }

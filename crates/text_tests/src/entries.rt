@@ -1,7 +1,6 @@
 //! What is said of one exchange after another.
 
-use super::*;
-use air_events::Choice;
+use scenario::{Choice, EntryCursor, empty_entry};
 use std::test::Fail;
 
 #[test]

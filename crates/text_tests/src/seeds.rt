@@ -1,5 +1,5 @@
 //! The scenario of a seed against its text, whose words were computed by a generator written apart.
-use crate::made_scenario;
+use made_scenario::made_scenario;
 use scenario::print_scenario;
 use std::test::Fail;
 

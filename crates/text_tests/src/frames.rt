@@ -1,0 +1,110 @@
+//! Lists of intervals as fields, and frames and the refusals of intervals as texts written out by hand.
+use bit_strings::Bits;
+use pie_line::{FrameKind, Intervals, PieRefusal};
+use pie_text::{NotNumbers, Numbers, push_frame, push_pie_refusal, read_numbers};
+use std::alloc::Global;
+use text_fields::Fields;
+
+/// Fields, and the intervals that they are, of which there may be three.
+const NUMBERS: [(&[u8], Result<&[u32], NotNumbers>); 12] = [
+    (b"0", Ok(&[0])),
+    (b"12500", Ok(&[12_500])),
+    (b"1 999999 0", Ok(&[1, 999_999, 0])),
+    (b"", Err(NotNumbers::Shape)),
+    (b" 1", Err(NotNumbers::Shape)),
+    (b"1 ", Err(NotNumbers::Shape)),
+    (b"1  2", Err(NotNumbers::Shape)),
+    (b"1 2 3 4", Err(NotNumbers::Shape)),
+    (b"x  2", Err(NotNumbers::Shape)),
+    (b"1000000", Err(NotNumbers::Number)),
+    (b"1 01", Err(NotNumbers::Number)),
+    (b"1 -", Err(NotNumbers::Number)),
+];
+
+/// Whether the fields are these intervals, or are refused so.
+fn are_numbers(alloc: Global, line: &[u8], wanted: Result<&[u32], NotNumbers>) -> Option<bool> {
+    let mut intervals = Intervals::new(alloc, 3).ok()?;
+    if intervals.capacity() != 3 {
+        return None;
+    }
+    let read = read_numbers(Fields::new(line), 3, 999_999, &mut intervals);
+    let spelled = Numbers::new(Fields::new(line), 3, 999_999);
+    let is_read = match read {
+        Ok(()) => wanted == Ok(intervals.as_slice()),
+        Err(reason) => wanted == Err(reason),
+    };
+    Some(is_read && spelled.err() == wanted.err())
+}
+
+#[test]
+fn numbers_are_read(rt: HostRuntime) {
+    for (line, wanted) in NUMBERS {
+        assert!(rt;
+            are_numbers(rt.alloc(), line, wanted) == Some(true),
+            "{line:?}"
+        );
+    }
+}
+
+#[test]
+fn no_field_is_no_number(rt: HostRuntime) {
+    let mut none = Fields::new(b"1");
+    assert!(rt; none.next().is_some());
+    assert!(rt; Numbers::new(none, 3, 9).err() == Some(NotNumbers::Shape));
+}
+
+const SYNC: FrameKind = FrameKind::FrameSync {
+    tari: 12_500,
+    rtcal: 31_250,
+};
+
+const PREAMBLE: FrameKind = FrameKind::Preamble {
+    tari: 6_250,
+    rtcal: 15_625,
+    trcal: 17_188,
+};
+
+/// Whether the frame of these bits has this text.
+fn is_frame(alloc: Global, kind: &FrameKind, digits: &[u8], wanted: &str) -> Option<bool> {
+    let mut bits = Bits::new(alloc, 3).ok()?;
+    bits.copy_bytes(digits, b'1').ok()?;
+    let mut text = String::new(alloc);
+    push_frame(&mut text, kind, &bits).ok()?;
+    Some(text.as_str() == wanted)
+}
+
+#[test]
+fn frames_are_written(rt: HostRuntime) {
+    for (kind, digits, wanted) in [
+        (SYNC, b"".as_slice(), "sync 12500 31250 -"),
+        (PREAMBLE, b"100", "preamble 6250 15625 17188 100"),
+    ] {
+        assert!(rt;
+            is_frame(rt.alloc(), &kind, digits, wanted) == Some(true),
+            "{wanted}"
+        );
+    }
+}
+
+/// Refusals, and their texts.
+const REFUSALS: [(PieRefusal, &str); 6] = [
+    (PieRefusal::Delimiter, "refused delimiter"),
+    (PieRefusal::Tari, "refused tari"),
+    (PieRefusal::RtCal, "refused rtcal"),
+    (PieRefusal::TrCal, "refused trcal"),
+    (PieRefusal::Symbol(5), "refused symbol 5"),
+    (PieRefusal::Unfinished(0), "unfinished 0"),
+];
+
+/// Whether the refusal has this text.
+fn is_refusal_text(alloc: Global, refusal: PieRefusal, wanted: &str) -> bool {
+    let mut text = String::new(alloc);
+    push_pie_refusal(&mut text, refusal).is_ok() && text.as_str() == wanted
+}
+
+#[test]
+fn refusals_are_written(rt: HostRuntime) {
+    for (refusal, wanted) in REFUSALS {
+        assert!(rt; is_refusal_text(rt.alloc(), refusal, wanted), "{wanted}");
+    }
+}

@@ -1,0 +1,103 @@
+//! Which lines of a report have a name, and names, words and refusals as texts written out by hand.
+use epc_sgtin::{EpcFault, Sgtin, UriFault};
+use sgtin_text::{named, push_epc_fault, push_name, push_sgtin_words, push_uri_fault};
+use std::alloc::Global;
+use std::test::Fail;
+
+/// Lines, and whether they have a name.
+const LINES: [(&[u8], bool); 25] = [
+    (b"list 1 1 3000 3074257BF7194E4000001A85", true),
+    (b"list 17 1024 FFFF 3074257BF7194E4000001A85", true),
+    (b"list x - 0000 3074257BF7194E4000001A85", true),
+    // Another kind of line, or another number of fields.
+    (b"", false),
+    (b"list", false),
+    (b"seen 1 1 3000 3074257BF7194E4000001A85", false),
+    (b"LIST 1 1 3000 3074257BF7194E4000001A85", false),
+    (b"list 1 3000 3074257BF7194E4000001A85", false),
+    (b"list 1 1 3000 3074257BF7194E4000001A85 1", false),
+    (b"list 1 1 3000 3074257BF7194E4000001A85 ", false),
+    (b" list 1 1 3000 3074257BF7194E4000001A85", false),
+    (b"list  1 3000 3074257BF7194E4000001A85", false),
+    (b"list 1  3000 3074257BF7194E4000001A85", false),
+    // The PC is no word, or the EPC no six words.
+    (b"list 1 1  3074257BF7194E4000001A85", false),
+    (b"list 1 1 300 3074257BF7194E4000001A85", false),
+    (b"list 1 1 300a 3074257BF7194E4000001A85", false),
+    (b"list 1 1 3000 ", false),
+    (b"list 1 1 3000 -", false),
+    (b"list 1 1 3000 3074257BF7194E400000", false),
+    (b"list 1 1 3000 3074257BF7194E4000001A850000", false),
+    (b"list 1 1 3000 3074257bf7194e4000001a85", false),
+    // The words are refused.
+    (b"list 1 1 3000 3174257BF7194E4000001A85", false),
+    (b"list 1 1 3000 301C00000000000000000000", false),
+    (b"list 1 1 3000 3003FFFFFFFFFC0000000000", false),
+    (b"list 1 1 3000 3074000007D0900000000005", false),
+];
+
+#[test]
+fn lines_are_named(rt: HostRuntime) {
+    for (line, has_name) in LINES {
+        assert!(rt; named(line).is_some() == has_name, "{line:?}");
+    }
+}
+
+/// The name and the words as two lines.
+fn name_and_words(alloc: Global, sgtin: &Sgtin) -> Result<String, Fail> {
+    let mut text = String::new(alloc);
+    push_name(&mut text, sgtin)?;
+    text.push_str("\n")?;
+    push_sgtin_words(&mut text, &sgtin.encode())?;
+    Ok(text)
+}
+
+#[test]
+fn names_and_words_are_written(rt: HostRuntime) -> Result<(), Fail> {
+    let sgtin = named(b"list 1 1 3000 3074257BF7194E4000001A85").ok_or("a name")?;
+    assert!(rt; Sgtin::new(3, 7, 614_141, 812_345, 6_789) == Ok(sgtin));
+    assert_eq!(rt;
+        name_and_words(rt.alloc(), &sgtin)?.as_str(),
+        "name urn:epc:tag:sgtin-96:3.0614141.812345.6789\nsgtin 3074257BF7194E4000001A85",
+    );
+    Ok(())
+}
+
+/// Why words are refused, and the texts.
+const EPC_FAULTS: [(EpcFault, &str); 5] = [
+    (EpcFault::Length, "refused length"),
+    (EpcFault::Header, "refused header"),
+    (EpcFault::Partition, "refused partition"),
+    (EpcFault::Company, "refused company"),
+    (EpcFault::Item, "refused item"),
+];
+
+/// Why URIs are refused, and the texts.
+const URI_FAULTS: [(UriFault, &str); 6] = [
+    (UriFault::Prefix, "refused prefix"),
+    (UriFault::Parts, "refused parts"),
+    (UriFault::Filter, "refused filter"),
+    (UriFault::Company, "refused company"),
+    (UriFault::Item, "refused item"),
+    (UriFault::Serial, "refused serial"),
+];
+
+fn is_epc_text(alloc: Global, fault: EpcFault, wanted: &str) -> bool {
+    let mut text = String::new(alloc);
+    push_epc_fault(&mut text, fault).is_ok() && text.as_str() == wanted
+}
+
+fn is_uri_text(alloc: Global, fault: UriFault, wanted: &str) -> bool {
+    let mut text = String::new(alloc);
+    push_uri_fault(&mut text, fault).is_ok() && text.as_str() == wanted
+}
+
+#[test]
+fn refusals_are_written(rt: HostRuntime) {
+    for (fault, wanted) in EPC_FAULTS {
+        assert!(rt; is_epc_text(rt.alloc(), fault, wanted), "{wanted}");
+    }
+    for (fault, wanted) in URI_FAULTS {
+        assert!(rt; is_uri_text(rt.alloc(), fault, wanted), "{wanted}");
+    }
+}
