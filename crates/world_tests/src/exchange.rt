@@ -2,16 +2,14 @@
 ghost use Rattle.std.specs.Prelude.{◌≡◌, length, IsTrue};
 ghost use Rattle.air_channel.specs.Air.{NamesTags};
 
-use crate::worlds::{FIRST, SECOND, scenario_of};
+use crate::worlds::{FIRST, SECOND, numbered_tags, scenario_of};
 use air_channel::{Air, Code, Got};
 use air_world::set_up;
 use bit_strings::{Bits, QValue, Session};
 use command_grammar::{Command, Sel, Side};
 use scenario::{Entry, EntryCursor, Scenario, empty_entry};
 use std::alloc::Global;
-use std::fmt::Write;
 use std::marker::Brand;
-use std::process::Abort;
 use std::sync::ledger::{Blank, Ledger};
 use std::test::Fail;
 use tag_machine::Steps;
@@ -64,15 +62,15 @@ const TWO_TAGS: [Row; 11] = [
 ];
 
 /// The Query of a session with this Q.
-fn query(session: u8, q: u8) -> Result<Command, Fail> {
-    Ok(Command::Query {
+fn query(session: u8, q: u8) -> Option<Command> {
+    Some(Command::Query {
         dr: true,
         code: Code::Fm0,
         trext: false,
         sel: Sel::All00,
-        session: Session::new(session).ok_or("a session")?,
+        session: Session::new(session)?,
         target: Side::A,
-        q: QValue::new(q).ok_or("a Q")?,
+        q: QValue::new(q)?,
     })
 }
 
@@ -102,70 +100,62 @@ fn exchange(air: &mut Air, command: &Command, entry: &Entry) -> Got
     exchange_counted::<Brand>(Blank::new(1), air, command, entry)
 }
 
-// The list of a text of the digits 1 and 0.
-fn list_of(alloc: Global, text: &[u8]) -> Result<Bits, Fail> {
-    let mut list = Bits::new(alloc, 100)?;
-    list.copy_bytes(text, b'1')?;
-    Ok(list)
+/// The list of a text of the digits 1 and 0.
+fn list_of(alloc: Global, text: &[u8]) -> Option<Bits> {
+    let mut list = Bits::new(alloc, 100).ok()?;
+    list.copy_bytes(text, b'1').ok()?;
+    Some(list)
 }
 
-/// Sends a Query with Q 0, with what the scenario says of the first exchange.
-fn send_query(
-    rt: &impl Abort,
-    alloc: Global,
-    scenario: &Scenario,
-    air: &mut Air,
-) -> Result<Got, Fail> {
+/// Sends a Query with Q 0, with what the scenario says of the first exchange; none where that names no tag.
+fn send_query(alloc: Global, scenario: &Scenario, air: &mut Air) -> Option<Got> {
     let empty = empty_entry(alloc);
     let mut entries = EntryCursor::new(scenario.entries.as_slice(), &empty);
     let entry = entries.next_entry(1);
-    assert!(rt; names_tags(entry, air.len()));
-    Ok(exchange(air, &query(0, 0)?, entry))
+    let query = query(0, 0)?;
+    if !names_tags(entry, air.len()) {
+        return None;
+    }
+    Some(exchange(air, &query, entry))
 }
 
-/// The exchange of a row, with tags that reply at once.
-fn assert_row(
-    rt: &impl Abort,
-    alloc: Global,
-    first: &'static str,
-    second: &'static str,
-    row: Row,
-) -> Result<(), Fail> {
+/// Whether the exchange of a row goes so, with tags that reply at once.
+fn goes(alloc: Global, tags: [&str; 2], row: Row) -> Option<bool> {
     let (said, replies, levels) = row;
-    let scenario = scenario_of(alloc, &[first, second, said])?;
-    let mut air = set_up(alloc, &scenario)?;
-    let got = send_query(rt, alloc, &scenario, &mut air)?;
-    assert_eq!(rt; got == Got::Silence, levels.is_empty(), "{said}");
-    assert_eq!(rt; air.replies(), replies, "{said}");
+    let scenario = scenario_of(alloc, &[tags[0], tags[1], said])?;
+    let mut air = set_up(alloc, &scenario).ok()?;
+    let got = send_query(alloc, &scenario, &mut air)?;
     let stream = list_of(alloc, levels)?;
-    assert_eq!(rt; air.stream().as_slice(), stream.as_slice(), "{said}");
-    assert_eq!(rt; air.intervals().len(), 51);
-    assert_eq!(rt; air.exchanges(), 1);
-    Ok(())
+    Some(
+        (got == Got::Silence) == levels.is_empty()
+            && air.replies() == replies
+            && air.stream().as_slice() == stream.as_slice()
+            && (air.intervals().len(), air.exchanges()) == (51, 1),
+    )
 }
 
 #[test]
-fn no_tag_hears(rt: HostRuntime) -> Result<(), Fail> {
+fn no_tag_hears(rt: HostRuntime) {
     for row in NO_TAG {
-        assert_row(&rt, rt.alloc(), "", "", row)?;
+        assert!(rt; goes(rt.alloc(), ["", ""], row) == Some(true), "{row:?}");
     }
-    Ok(())
 }
 
 #[test]
-fn one_tag_hears(rt: HostRuntime) -> Result<(), Fail> {
+fn one_tag_hears(rt: HostRuntime) {
     for row in ONE_TAG {
-        assert_row(&rt, rt.alloc(), FIRST, "", row)?;
+        assert!(rt; goes(rt.alloc(), [FIRST, ""], row) == Some(true), "{row:?}");
     }
-    Ok(())
 }
 
 #[test]
-fn two_tags_hear(rt: HostRuntime) -> Result<(), Fail> {
+fn two_tags_hear(rt: HostRuntime) {
     for row in TWO_TAGS {
-        assert_row(&rt, rt.alloc(), FIRST, SECOND, row)?;
+        assert!(rt;
+            goes(rt.alloc(), [FIRST, SECOND], row) == Some(true),
+            "{row:?}"
+        );
     }
-    Ok(())
 }
 
 /// The intervals of the frames of a Query with Q 1 and of a QueryRep: the delimiter, a Tari of 12,500 and an
@@ -184,32 +174,38 @@ const FRAMES: [&[u32]; 2] = [
     ],
 ];
 
-#[test]
-fn frames_are_sent(rt: HostRuntime) -> Result<(), Fail> {
-    let scenario = scenario_of(rt.alloc(), &[])?;
-    let mut air = set_up(rt.alloc(), &scenario)?;
-    let entry = empty_entry(rt.alloc());
-    assert!(rt; air.intervals().is_empty());
-    assert!(rt; names_tags(&entry, air.len()));
-    exchange(&mut air, &query(0, 1)?, &entry);
-    assert_eq!(rt; air.intervals().as_slice(), FRAMES[0]);
-    assert_eq!(rt; air.exchanges(), 1);
-    assert!(rt; names_tags(&entry, air.len()));
-    let session = Session::new(0).ok_or("a session")?;
-    exchange(&mut air, &Command::QueryRep { session }, &entry);
-    assert_eq!(rt; air.intervals().as_slice(), FRAMES[1]);
-    assert_eq!(rt; air.exchanges(), 2);
-    Ok(())
+/// Sends the command, with nothing said of the exchange, and compares the frame and the number of exchanges.
+fn sends(air: &mut Air, command: &Command, empty: &Entry, frame: &[u32], exchanges: u64) -> bool {
+    if !names_tags(empty, air.len()) {
+        return false;
+    }
+    exchange(air, command, empty);
+    air.intervals().as_slice() == frame && air.exchanges() == exchanges
 }
 
-/// Adds a tag whose first draw word is its number, so that it chooses the slot of its number.
-fn push_waiting_tag(text: &mut String, k: u16) -> Result<(), Fail> {
-    let (epc, user) = (0x1A85 + u32::from(k), 0x0100 + u32::from(k));
-    let (second, third) = (0x1000 + u32::from(k), 0x2000 + u32::from(k));
-    writeln!(
-        text,
-        "tag 00000000 00000000 0000000000 30003074257BF7194E400000{epc:04X} E200{k:04X} {user:04X}0000 {k:04X}{second:04X}{third:04X}"
-    )?;
+/// The air without a tag.
+fn empty_air(alloc: Global) -> Option<Air> {
+    let scenario = scenario_of(alloc, &[])?;
+    set_up(alloc, &scenario).ok()
+}
+
+#[test]
+fn frames_are_sent(rt: HostRuntime) -> Result<(), Fail> {
+    let query = query(0, 1).ok_or("a Query")?;
+    let session = Session::new(0).ok_or("a session")?;
+    let entry = empty_entry(rt.alloc());
+    let mut air = empty_air(rt.alloc()).ok_or("an air")?;
+    assert!(rt; air.intervals().is_empty());
+    assert!(rt; sends(&mut air, &query, &entry, FRAMES[0], 1));
+    assert!(rt;
+        sends(
+            &mut air,
+            &Command::QueryRep { session },
+            &entry,
+            FRAMES[1],
+            2
+        )
+    );
     Ok(())
 }
 
@@ -217,24 +213,33 @@ fn push_waiting_tag(text: &mut String, k: u16) -> Result<(), Fail> {
 /// second: its slot comes one later.
 const SLOT_REPLIES: [u32; 9] = [1, 1, 1, 1, 1, 0, 2, 1, 1];
 
-#[test]
-fn tags_wait_for_their_slots(rt: HostRuntime) -> Result<(), Fail> {
-    let mut tags = String::new(rt.alloc());
-    for k in 0..48 {
-        push_waiting_tag(&mut tags, k)?;
-    }
-    let scenario = scenario_of(rt.alloc(), &[tags.as_str(), "air 3 miss 5\n"])?;
-    let mut air = set_up(rt.alloc(), &scenario)?;
-    let empty = empty_entry(rt.alloc());
+/// How many of the waiting tags reply to each of these commands, one after another.
+fn replies_in_slots(alloc: Global, tags: &str) -> Option<[u32; 9]> {
+    let scenario = scenario_of(alloc, &[tags, "air 3 miss 5\n"])?;
+    let mut air = set_up(alloc, &scenario).ok()?;
+    let empty = empty_entry(alloc);
     let mut entries = EntryCursor::new(scenario.entries.as_slice(), &empty);
-    let session = Session::new(2).ok_or("a session")?;
+    let session = Session::new(2)?;
     let mut command = query(2, 6)?;
-    for at in 0..SLOT_REPLIES.len() {
+    let mut replies = [0; 9];
+    for at in 0..9usize {
         let entry = entries.next_entry(at as u64 + 1);
-        assert!(rt; names_tags(entry, air.len()));
+        if !names_tags(entry, air.len()) {
+            return None;
+        }
         exchange(&mut air, &command, entry);
-        assert_eq!(rt; air.replies(), SLOT_REPLIES[at], "{at}");
+        replies[at] = air.replies();
         command = Command::QueryRep { session };
     }
+    Some(replies)
+}
+
+#[test]
+fn tags_wait_for_their_slots(rt: HostRuntime) -> Result<(), Fail> {
+    let tags = numbered_tags(rt.alloc())?;
+    assert_eq!(rt;
+        replies_in_slots(rt.alloc(), tags.as_str()),
+        Some(SLOT_REPLIES)
+    );
     Ok(())
 }

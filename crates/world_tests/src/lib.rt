@@ -1,6 +1,8 @@
-//! Tests of the public calls of the world: exchanges, the lines of a report, and whole runs.
+//! Tests of the public calls of the world: exchanges, the lines of a report, whole runs and what they count, and decode lines.
 #![tactic(auto)]
 
+#[cfg(test)]
+mod decode;
 #[cfg(test)]
 mod exchange;
 #[cfg(test)]

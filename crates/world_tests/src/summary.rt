@@ -1,10 +1,11 @@
 //! What whole runs count, worked out by hand.
+ghost use Rattle.scenario.specs.Limits.{IsScenario};
 
 use crate::worlds::{FIRST, scenario_of};
 use air_world::{Summary, summarise};
+use made_scenario::made_scenario;
+use scenario::Scenario;
 use std::alloc::Global;
-use std::process::Abort;
-use std::test::Fail;
 
 /// One tag, listed in the first of two slots.
 const ONE_TAG: [&str; 2] = [FIRST, "round all 0 a 0 300 5\n"];
@@ -46,47 +47,68 @@ const LIMIT_LAST: [&str; 3] = [FIRST, "round all 0 a 0 300 5\n", "round all 0 b 
 /// A round that ends by its limit, and one that ends quiet.
 const LIMIT_FIRST: [&str; 3] = [FIRST, "round all 0 a 0 300 1\n", "round all 0 a 0 300 5\n"];
 
-fn assert_summary(
-    rt: &impl Abort,
-    alloc: Global,
-    lines: &[&str],
-    tags: u32,
-    listed: u64,
-    distinct: u64,
-    slots: u64,
-    quiet: bool,
-) -> Result<(), Fail> {
-    let counted = summarise(alloc, &scenario_of(alloc, lines)?);
-    let summary = Summary {
+/// How many tags there are, how often one was listed, how many pairs of PC and EPC, how many slots, and whether each round ended quiet.
+type Counts = (u32, u64, u64, u64, bool);
+
+/// Lines, and what their run counts.
+const RUNS: [(&[&str], Counts); 7] = [
+    (&ONE_TAG, (1, 1, 1, 2, true)),
+    (&COLLISION, (2, 2, 2, 6, true)),
+    // Tags that are not listed are not counted.
+    (&MISSED, (2, 1, 1, 2, false)),
+    (&BROKEN, (1, 0, 0, 2, true)),
+    // A tag that is listed again is one.
+    (&LISTED_TWICE, (3, 4, 3, 9, true)),
+    // One round by its limit is not quiet.
+    (&LIMIT_LAST, (1, 2, 1, 3, false)),
+    (&LIMIT_FIRST, (1, 1, 1, 2, false)),
+];
+
+/// What the run of a scenario counts.
+fn counts(alloc: Global, scenario: &Scenario) -> Option<Counts>
+    requires { IsScenario scenario.now }
+{
+    let Summary {
         tags,
         listed,
         distinct,
         slots,
         quiet,
-    };
-    assert_eq!(rt; counted, Ok(summary));
-    Ok(())
+    } = summarise(alloc, scenario).ok()?;
+    Some((tags, listed, distinct, slots, quiet))
+}
+
+/// What the run of these lines counts.
+fn counts_of(alloc: Global, lines: &[&str]) -> Option<Counts> {
+    let scenario = scenario_of(alloc, lines)?;
+    counts(alloc, &scenario)
 }
 
 #[test]
-fn tags_are_counted(rt: HostRuntime) -> Result<(), Fail> {
-    assert_summary(&rt, rt.alloc(), &ONE_TAG, 1, 1, 1, 2, true)?;
-    assert_summary(&rt, rt.alloc(), &COLLISION, 2, 2, 2, 6, true)
+fn runs_are_counted(rt: HostRuntime) {
+    for (lines, wanted) in RUNS {
+        assert!(rt; counts_of(rt.alloc(), lines) == Some(wanted), "{lines:?}");
+    }
 }
 
-#[test]
-fn tags_that_are_not_listed_are_not_counted(rt: HostRuntime) -> Result<(), Fail> {
-    assert_summary(&rt, rt.alloc(), &MISSED, 2, 1, 1, 2, false)?;
-    assert_summary(&rt, rt.alloc(), &BROKEN, 1, 0, 0, 2, true)
+/// The slots of the round over four tags of the seeds from 1 to 50.
+const SLOTS_OF_SEEDS: [u64; 50] = [
+    22, 22, 22, 22, 20, 22, 22, 22, 20, 26, 24, 22, 26, 22, 22, 24, 22, 22, 22, 22, 24, 22, 22, 22,
+    26, 22, 22, 20, 22, 20, 22, 26, 22, 22, 24, 26, 22, 22, 22, 22, 22, 22, 20, 26, 24, 22, 22, 22,
+    22, 22,
+];
+
+/// What the run of the scenario of a seed with four tags counts.
+fn made_counts(alloc: Global, seed: u64) -> Option<Counts> {
+    let scenario = made_scenario(alloc, seed, 4).ok()?;
+    counts(alloc, &scenario)
 }
 
+/// The counts are those of a program written apart (bench/plain).
 #[test]
-fn a_tag_that_is_listed_again_is_one(rt: HostRuntime) -> Result<(), Fail> {
-    assert_summary(&rt, rt.alloc(), &LISTED_TWICE, 3, 4, 3, 9, true)
-}
-
-#[test]
-fn one_round_by_its_limit_is_not_quiet(rt: HostRuntime) -> Result<(), Fail> {
-    assert_summary(&rt, rt.alloc(), &LIMIT_LAST, 1, 2, 1, 3, false)?;
-    assert_summary(&rt, rt.alloc(), &LIMIT_FIRST, 1, 1, 1, 2, false)
+fn made_runs_are_counted(rt: HostRuntime) {
+    for (seed, slots) in (1..).zip(SLOTS_OF_SEEDS) {
+        let counted = made_counts(rt.alloc(), seed);
+        assert!(rt; counted == Some((4, 4, 4, slots, true)), "{seed}");
+    }
 }
