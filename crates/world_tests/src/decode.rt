@@ -1,8 +1,12 @@
 //! Decode lines and their answers, and faulty lines, against texts written out by hand.
 
-use decode_lines::{Unanswered, answer_lines, fault_text};
+use air_io::SureSource;
+use decode_lines::{answer_source, fault_text};
 use std::alloc::{AllocError, Global};
 use std::test::Fail;
+
+/// How many bytes an input has at most.
+const MOST_BYTES: u32 = 16_777_216;
 
 /// An input, and the text of its answers or of its fault.
 type Row = (&'static str, &'static str);
@@ -206,21 +210,16 @@ const FAULTY_NUMBERS: &[Row] = &[
     ("uri x y\n", "fault 1 shape\n"),
 ];
 
-/// How many bytes an input of these tests has at most.
-const MOST_BYTES: usize = 1_000_000;
-
 /// Whether an input gets this text, as the answers to its lines or else as its fault.
 fn gets(alloc: Global, input: &[u8], answers: bool, wanted: &str) -> Result<bool, AllocError> {
-    if input.len() > MOST_BYTES {
-        return Ok(false);
-    }
-    match answer_lines(alloc, input) {
-        Ok(text) => Ok(answers && text.as_str() == wanted),
-        Err(Unanswered::Fault(fault)) => {
+    let mut source = SureSource::new(Vec::from_slice(alloc, input)?);
+    match answer_source(alloc, &mut source, MOST_BYTES) {
+        Ok(Ok(text)) => Ok(answers && text.as_str() == wanted),
+        Ok(Err(fault)) => {
             let text = fault_text(alloc, fault)?;
             Ok(!answers && text.as_str() == wanted)
         }
-        Err(Unanswered::OutOfMemory) => Err(AllocError),
+        Err(_) => Err(AllocError),
     }
 }
 
