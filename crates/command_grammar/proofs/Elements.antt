@@ -96,9 +96,6 @@ reading r = r
 pub is_zero : (n : ℕ) → (n == 0) ≡ true → n ≡ 0
 is_zero n e = grind (arith, nat_tests)
 
-never_bad : (width : ℕ) (bits : List Bool) (left : ℕ) (other : Reason) → bits_at width bits ≡ Err (Bad left other) → ⊥
-never_bad width bits left other e = no_name ((reads_bits width None).bad bits left other e).0
-
 abbrev number : List Bool × List Bool → Reading ℕ
 number x = Ok (value_of x.0, x.1)
 

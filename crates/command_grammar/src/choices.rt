@@ -1,4 +1,5 @@
-//! The command codes; and in a file each the fields of a few bits whose values have names, read and written.
+//! The command codes; and, each in a file of its own, the fields of a few bits whose values have names, read and
+//! written.
 ghost use Rattle.command_grammar.specs.Framing.{IsCodeStep};
 
 mod banks;

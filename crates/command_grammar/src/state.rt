@@ -1,7 +1,5 @@
 //! What was read of a command.
-ghost use Rattle.std.specs.Prelude.{◌≡◌, ◌++◌, ◌∷◌, [], ℕ, List, Bool, Ok, None, IsTrue, IsFalse};
-ghost use Rattle.bit_strings.specs.Numbers.{value_of};
-ghost use Rattle.gen2_crc.specs.Crc.{crc5_of, RegisterStandsFor};
+ghost use Rattle.std.specs.Prelude.{◌≡◌, ◌++◌, ◌∷◌, [], List, Bool, Ok, None, IsTrue, IsFalse};
 ghost use Rattle.command_grammar.specs.Commands.{Judges, IsFinishAnswer, SpellsCommand};
 ghost use Rattle.command_grammar.specs.Framing.{Stands, Counts, IsCounted, AreServed, IsServed, check_kept, IsEdgePlace, IsSoundPlace, IsOpen, Goes, refusal_in, resume, run};
 ghost use Rattle.command_grammar.specs.declared.commands.Command.{Command};

@@ -227,7 +227,7 @@ impl<C: LineCode> Inside<C> {
                 last,
             });
         }
-        let _pushed = out.push(one_fits);
+        out.push_reserved(one_fits);
         Within::Inside(Inside {
             mark: C::after(mark, one_fits),
             place: 0,

@@ -28,7 +28,7 @@ fn bit_of_symbol(rtcal: u32, high: u32, low: u32) -> Option<bool>
 /// Adds the bits of the data symbols with which the intervals begin, behind a header of this kind, and gives
 /// the intervals behind these symbols.
 #[tactic(auto, using(crate::proofs::TakenSymbols::takes_none))]
-pub fn push_symbols<'a>(kind: FrameKind, intervals: &'a [u32], out: &mut Bits) -> &'a [u32]
+pub(crate) fn push_symbols<'a>(kind: FrameKind, intervals: &'a [u32], out: &mut Bits) -> &'a [u32]
     requires rtcal { rtcal_of kind ≤ 75000 }
     requires room { length out.old.items + length intervals.now ≤ out.old.capacity }
     requires each { All (λ interval. interval ≤ longest_interval) intervals.now }

@@ -2,7 +2,7 @@
 //! binary digits, hexadecimal digits and the names of the line codes as fields.
 //!
 //! A text that is read is a slice of bytes, and nothing here copies it. A text that is written is a
-//! `String`, which is all that takes memory.
+//! `String`; it and a list of words that is read into are all that takes memory.
 #![tactic(auto)]
 
 mod code_names;

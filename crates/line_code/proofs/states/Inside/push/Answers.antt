@@ -59,5 +59,5 @@ returns-clause-answer g c =
     let read = reads_bit t g.C.LineCode.CHIPS g.met.C.LineCode.even trext state levels bits c.args.level o r agrees.0 agrees.1 size in (
       bits ++ o ∷ [],
       rw c.after.ensures read,
-      ap (λ (s : BitString). s.items) (c.push-pushed.ensures.room c.requires.room) ∙ ap (λ ls. ls ++ o ∷ []) e ∙ append_assoc stood bits (o ∷ []),
+      ap (λ (s : BitString). s.items) c.push_reserved.ensures ∙ ap (λ ls. ls ++ o ∷ []) e ∙ append_assoc stood bits (o ∷ []),
     ))
