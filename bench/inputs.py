@@ -6,7 +6,7 @@ Of decode lines each line is as long as a line may be (or a whole reply), and ea
 good one, so that the decoder goes over all of it. `scenario` is a scenario without steps, with as many tags of full banks as
 fit, and `long` one whose first tag line is as long as fits, so that its last field is refused. `run` is a scenario that is
 played: 256 tags, and rounds in each of which every tag is listed; `slots` rounds with Q 15 that come to
-their limit of 70,000 slots. `operations` is one such round with operations on each tag.
+their limit of 70,000 slots. `operations` is one round of `run`, with operations on each tag.
 `names` is list lines, each of an SGTIN-96.
 """
 

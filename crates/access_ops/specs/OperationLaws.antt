@@ -70,7 +70,8 @@ Expects (commands.Access covered rn) expect extended = (expect ≡ expects.Same 
 Expects (commands.Kill covered rn) expect extended = ((expect ≡ expects.Same rn) × (extended ≡ false)) ⊎ ((expect ≡ expects.Header rn) × (extended ≡ true))
 Expects command expect extended = ⊥
 
--- the numbers of an operation are within their fields
+-- 6.3.2.11.3 Access commands: the numbers of an operation are within the fields of its command; a pointer is one that an
+-- extensible bit vector of four blocks holds
 abbrev pub IsLegalOp : Op → Type 0
 IsLegalOp (Read bank pointer count) = (pointer < 2 ^ 28) × (count ≤ 255)
 IsLegalOp (Write bank pointer word) = (pointer < 2 ^ 28) × IsWord word

@@ -199,7 +199,8 @@ fn call<L: Ledger>(seats: &mut [Seat], waiting: &mut Waiting, number: u16, steps
     waiting.put(number, Some(Standing::Called));
 }
 
-/// Lets each tag hear a command, unless it misses it, in the order of their numbers. A tag hears it where it may change or answer.
+/// Lets each tag hear a command, unless it misses it, in the order of their numbers. Only tags that may change or answer
+/// are asked.
 fn hear_at_rest<L: Ledger>(
     seats: &mut [Seat],
     waiting: &mut Waiting,

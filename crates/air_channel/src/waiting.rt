@@ -1,5 +1,5 @@
 //! Which tags wait for their slots, and which are called.
-ghost use Rattle.std.specs.Prelude.{◌≡◌, ℕ, ◌+◌, ◌<◌, ◌≤◌, false, Some, None, length, map, replicate, slice_set, IfOk};
+ghost use Rattle.std.specs.Prelude.{◌≡◌, ◌↔◌, ℕ, ◌+◌, ◌<◌, ◌≤◌, false, Some, None, length, map, replicate, slice_set, IfOk};
 ghost use Rattle.air_channel.specs.Waiting.{AreSlots, IsDue, IsLegalStanding, IsNextCalled, counted_down, slot_in, slot_place, standing_at, waits_in};
 
 use crate::wheel::Wheel;
@@ -83,10 +83,10 @@ impl Waiting {
         }
     }
 
-    /// Whether a tag takes part.
+    /// Whether a tag takes part in a round.
     pub(crate) fn takes_part(&self, number: u16) -> bool
         requires { number < length self.now }
-        ensures { result ≡ false → standing_at self.now number ≡ None }
+        ensures { (result ≡ false) ↔ (standing_at self.now number ≡ None) }
     {
         self.wheel.place(number).is_some()
     }

@@ -2,10 +2,9 @@
 use Rattle.std.proofs.Common.{◌≢◌, ◌<◌, ◌^◌, ◌/◌, ◌%◌, ℕ, Bool, true, false, List, [], ◌∷◌, ◌++◌, arith, refl, inl, inr, le-ltb, lt-ltb}
 use Rattle.std.proofs.lemmas.Bool.{cases_lt}
 use Rattle.std.specs.Fmt.{decimal}
-use Rattle.std.proofs.lemmas.List.Elements.{All-append, All-cons, All-nil}
 use Rattle.bit_strings.specs.declared.code.Code.{Code}
 use Rattle.bit_strings.specs.declared.code.Code.TheVariants as line_codes
-use Rattle.text_fields.specs.Lines.{IsFieldText, line_feed, space}
+use Rattle.text_fields.specs.Lines.{IsFieldText, space}
 use Rattle.text_fields.specs.Binary.{binary, binary_digit}
 use Rattle.text_fields.specs.Hexadecimal.{hex_digit, hex_word, hex_words}
 use Rattle.text_fields.specs.CodeNames.{code_word}

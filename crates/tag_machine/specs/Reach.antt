@@ -1,4 +1,4 @@
--- Which commands may change a tag that waits for its slot, or takes no part in a round.
+-- Which commands may change a tag that waits for its slot, or takes no part in a round (6.3.2.4, 6.3.2.11).
 use Rattle.std.specs.Prelude.{Bool, true, false}
 use Rattle.command_grammar.specs.declared.commands.Command.{Command}
 use Rattle.command_grammar.specs.declared.commands.Command.TheVariants as commands

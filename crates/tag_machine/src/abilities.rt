@@ -36,7 +36,7 @@ pub trait InTurn: InRound {
 pub trait WithHandle: InTurn {}
 
 impl<S: Present> Tag<S> {
-    /// The tag that hears a command, which is one step.
+    /// This tag as one in any state, with the one step counted that it takes to hear a command.
     pub(crate) fn one_step<L: Ledger>(self, steps: &mut Steps<L>) -> AnyTag
         ensures tag { tag_value_of result ≡ self }
         ensures counted { steps.new ≡ steps.old + 1 }

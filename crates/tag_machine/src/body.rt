@@ -1,5 +1,5 @@
 //! What a tag holds in every state.
-ghost use Rattle.std.specs.Prelude.{◌≡◌, ◌+◌, ◌^◌, ◌==◌, ◌<◌, length, if◌then◌else◌};
+ghost use Rattle.std.specs.Prelude.{◌≡◌, ◌+◌, ◌^◌, ◌==◌, ◌<◌, if◌then◌else◌};
 ghost use Rattle.reply_grammar.specs.Table.{CanBeSent};
 ghost use Rattle.session_flags.specs.Flags.{new_flags, matches, flags_after_power_loss};
 ghost use Rattle.tag_memory.specs.Memory.{with_stored_crc};
@@ -21,8 +21,11 @@ use tag_memory::Memory;
 /// What a tag holds in every state. A contract sees the record of it.
 #[derive(Drop)]
 pub struct Body {
+    /// The memory.
     pub memory: Memory,
+    /// The pairs of lock bits.
     pub locks: Locks,
+    /// The inventoried flags and the selected flag.
     pub flags: Flags,
     words: DrawWords,
     place: usize,

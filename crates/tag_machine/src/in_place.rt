@@ -1,5 +1,5 @@
-//! A command to a tag that only waits: where the tag sends nothing and its state keeps its kind, the tag hears
-//! it in its place.
+//! A command to a tag that only waits, or is killed or without power: where the tag sends nothing and its state keeps
+//! its kind, the tag hears it in its place.
 ghost use Rattle.std.specs.Prelude.{◌≡◌, ◌+◌, ℕ, true, false, if◌then◌else◌};
 ghost use Rattle.tag_machine.specs.Answers.{silent};
 ghost use Rattle.tag_machine.specs.Hearing.{tag_value_of};
@@ -15,7 +15,7 @@ use crate::states::{Arbitrate, Ready, Slot};
 use crate::steps::Steps;
 use crate::tag::Tag;
 use bit_strings::{QValue, Session};
-use command_grammar::{Command, UpDn};
+use command_grammar::Command;
 use std::sync::ledger::Ledger;
 
 /// Whether a command may change a tag that waits for its slot, or takes no part in a round: a Select, Query, QueryRep or
@@ -74,8 +74,9 @@ impl Tag<Ready> {
 }
 
 impl Tag<Arbitrate> {
-    /// Hears a command that leaves the tag in arbitrate, and answers whether it did: one that is not for the tag, a QueryRep by
-    /// which the slot counter falls and doesn't become 0, or a Query or QueryAdjust at which the tag draws another slot than 0.
+    /// Hears a command that leaves the tag in arbitrate, and answers whether it did: one that reaches no waiting tag, a
+    /// QueryRep or QueryAdjust of another session, a QueryRep by which the slot counter falls and doesn't become 0, or a
+    /// QueryAdjust, or a Query that speaks to the tag, at which it draws another slot than 0.
     fn waits(&mut self, command: &Command) -> bool
         ensures heard { result ≡ true → step command.now self.old.state self.old.body ≡ silent self.new.state self.new.body }
         ensures left { result ≡ false → self.new ≡ self.old }

@@ -103,6 +103,7 @@ impl Body {
         ensures { GivesOutcome (enter session q self) result out.old out.new }
     {
         let mut body = self;
+        // The slot is looked at before its word is drawn.
         let slot = body.next_slot(q);
         body.draw();
         if slot == 0 {

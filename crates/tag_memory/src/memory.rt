@@ -96,18 +96,16 @@ fn has_room_for_epc(image: &BankImage) -> bool
 
 /// A bank with these words.
 fn bank_with(alloc: Global, words: &[u16]) -> Result<Vec<u16>, AllocError>
-    ensures value { IfOk result (λ bank. bank.items ≡ words.now) }
-    ensures words { AreWords words.now }
+    ensures { IfOk result (λ bank. (bank.items ≡ words.now) × AreWords bank.items) }
 {
     Vec::from_slice(alloc, words)
 }
 
-/// An EPC bank with these words behind 0000h in the place of StoredCRC.
+/// An EPC bank with these words, of which there are at most 32, behind 0000h in the place of StoredCRC.
 fn epc_bank_with(alloc: Global, words: &[u16]) -> Result<Vec<u16>, AllocError>
-    ensures value { IfOk result (λ bank. bank.items ≡ 0 ∷ words.now) }
-    ensures words { AreWords words.now }
+    ensures { IfOk result (λ bank. (bank.items ≡ 0 ∷ words.now) × AreWords bank.items) }
 {
-    let mut bank = Vec::with_capacity(alloc, 33)?;
+    let mut bank = Vec::with_capacity(alloc, 1 + words.len())?;
     bank.push(0)?;
     bank.extend_from_slice(words)?;
     Ok(bank)

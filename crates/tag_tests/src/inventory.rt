@@ -5,16 +5,16 @@ ghost use Rattle.std.specs.Prelude.{◌≡◌, ◌<◌};
 use crate::bench::{after, assert_played, made, memory};
 use crate::inventory_tables::LISTS;
 use crate::rows::{GUARDED_RN, PLAIN};
-use crate::says::Says::Query;
+use crate::says::Says;
 use bit_strings::Pointer;
-use command_grammar::{Bank, MaskBank, Side};
+use command_grammar::{Bank, Command, FlagName, MaskBank, Side, UpDn};
 use lock_rules::{Level, Locks};
 use session_flags::DrawWords;
 use std::alloc::Global;
 use std::marker::Brand;
 use std::sync::ledger::{Blank, Ledger};
 use std::test::Fail;
-use tag_machine::{AnyTag, Arbitrate, Event, Steps, Tag};
+use tag_machine::{AnyTag, Arbitrate, Event, Steps, Tag, reaches_waiting};
 
 #[test]
 fn lists_of_inventory_commands(rt: HostRuntime) {
@@ -59,7 +59,7 @@ fn power_on_computes_the_stored_crc(rt: HostRuntime) -> Result<(), Fail> {
 
 /// A tag in arbitrate with session 1 and slot 2.
 fn waiting(alloc: Global) -> Option<Tag<Arbitrate>> {
-    let (tag, _, _) = after(alloc, made(alloc, &GUARDED_RN)?, Query(1, Side::A, 3))?;
+    let (tag, _, _) = after(alloc, made(alloc, &GUARDED_RN)?, Says::Query(1, Side::A, 3))?;
     match tag {
         AnyTag::Arbitrate(tag) => Some(tag),
         _ => None,
@@ -83,5 +83,44 @@ fn the_slot_counter_can_be_set(rt: HostRuntime) -> Result<(), Fail> {
     set_counted::<Brand>(Blank::new(1), &mut tag, 32767);
     let after = (tag.session().get(), tag.slot());
     assert_eq!(rt; (before, after), ((1, 2), (1, 32767)));
+    Ok(())
+}
+
+fn heard_in_place<L: Ledger>(blank: Blank, tag: &mut AnyTag, command: &Command) -> bool
+    requires name { blank.name ≡ L.name }
+    requires parts { blank.parts ≡ L.parts }
+    requires one { blank.parts ≡ 1 }
+{
+    let mut steps = Steps::<L>::new(blank);
+    tag.hear_in_place(command, &mut steps)
+}
+
+/// Whether the command may change a waiting tag, whether the tag with slot 2 hears it in its place, and its slot then.
+fn waits(alloc: Global, says: Says) -> Option<(bool, bool, u16)> {
+    let command = says.command()?;
+    let mut tag = AnyTag::Arbitrate(waiting(alloc)?);
+    let heard = heard_in_place::<Brand>(Blank::new(1), &mut tag, &command);
+    match tag {
+        AnyTag::Arbitrate(tag) => Some((reaches_waiting(&command), heard, tag.slot())),
+        _ => None,
+    }
+}
+
+/// What a waiting tag hears in its place. Each draw is A1B2, so that with Q 1 the slot is 0.
+const WAITS: [(Says, (bool, bool, u16)); 7] = [
+    (Says::QueryRep(1), (true, true, 1)),
+    (Says::QueryRep(0), (true, true, 2)),
+    (Says::QueryAdjust(1, UpDn::Down), (true, true, 2)),
+    (Says::Query(1, Side::A, 1), (true, false, 2)),
+    (Says::Query(1, Side::B, 3), (true, false, 2)),
+    (Says::Select(FlagName::Sl, 0), (true, false, 2)),
+    (Says::Nak, (false, true, 2)),
+];
+
+#[test]
+fn waiting_tags_hear_in_place(rt: HostRuntime) -> Result<(), Fail> {
+    for (says, wanted) in WAITS {
+        assert!(rt; waits(rt.alloc(), says) == Some(wanted), "{says:?}");
+    }
     Ok(())
 }

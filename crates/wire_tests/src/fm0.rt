@@ -47,5 +47,7 @@ fn blocks(rt: HostRuntime) {
     ];
     for (mark, bit, block) in blocks {
         assert!(rt; [Fm0::level(mark, bit, 0), Fm0::level(mark, bit, 1)] == block);
+        assert!(rt; Fm0::block(mark, bit) == block.as_slice());
+        assert!(rt; Fm0::block_bit(mark, &block) == Some(bit));
     }
 }
