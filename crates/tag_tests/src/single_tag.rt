@@ -80,11 +80,15 @@ fn rn16_of(reply: &Bits) -> Option<u16> {
     }
 }
 
+/// How a new tag answers the Query, its state then, and the RN16 that it sends.
+fn answer_to_query(alloc: Global) -> Result<(Answered, StateName, Option<u16>), Fail> {
+    let (tag, answered, reply) = hear(alloc, new_tag(alloc)?, &query()?)?;
+    Ok((answered, tag.state(), rn16_of(&reply)))
+}
+
 #[test]
 fn a_tag_answers_a_query(rt: HostRuntime) -> Result<(), Fail> {
-    let (tag, answered, reply) = hear(rt.alloc(), new_tag(rt.alloc())?, &query()?)?;
-    assert_eq!(rt; answered, Answered::Plain);
-    assert_eq!(rt; tag.state(), StateName::InReply);
-    assert_eq!(rt; rn16_of(&reply), Some(0xA1B2));
+    let answer = answer_to_query(rt.alloc())?;
+    assert_eq!(rt; answer, (Answered::Plain, StateName::InReply, Some(0xA1B2)));
     Ok(())
 }
