@@ -57,10 +57,15 @@ fn power_on_computes_the_stored_crc(rt: HostRuntime) -> Result<(), Fail> {
     Ok(())
 }
 
-/// A tag in arbitrate with session 1 and slot 2.
-fn waiting(alloc: Global) -> Option<Tag<Arbitrate>> {
+/// A tag that waits in session 1 with slot 2.
+fn waiting_tag(alloc: Global) -> Option<AnyTag> {
     let (tag, _, _) = after(alloc, made(alloc, &GUARDED_RN)?, Says::Query(1, Side::A, 3))?;
-    match tag {
+    Some(tag)
+}
+
+/// The same as a tag in arbitrate.
+fn waiting(alloc: Global) -> Option<Tag<Arbitrate>> {
+    match waiting_tag(alloc)? {
         AnyTag::Arbitrate(tag) => Some(tag),
         _ => None,
     }
@@ -95,15 +100,20 @@ fn heard_in_place<L: Ledger>(blank: Blank, tag: &mut AnyTag, command: &Command) 
     tag.hear_in_place(command, &mut steps)
 }
 
+/// The slot of a tag in arbitrate.
+fn slot_of(tag: &AnyTag) -> Option<u16> {
+    match tag {
+        AnyTag::Arbitrate(tag) => Some(tag.slot()),
+        _ => None,
+    }
+}
+
 /// Whether the command may change a waiting tag, whether the tag with slot 2 hears it in its place, and its slot then.
 fn waits(alloc: Global, says: Says) -> Option<(bool, bool, u16)> {
     let command = says.command()?;
-    let mut tag = AnyTag::Arbitrate(waiting(alloc)?);
+    let mut tag = waiting_tag(alloc)?;
     let heard = heard_in_place::<Brand>(Blank::new(1), &mut tag, &command);
-    match tag {
-        AnyTag::Arbitrate(tag) => Some((reaches_waiting(&command), heard, tag.slot())),
-        _ => None,
-    }
+    Some((reaches_waiting(&command), heard, slot_of(&tag)?))
 }
 
 /// What a waiting tag hears in its place. Each draw is A1B2, so that with Q 1 the slot is 0.
