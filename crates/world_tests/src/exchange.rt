@@ -120,7 +120,7 @@ fn send_query(alloc: Global, scenario: &Scenario, air: &mut Air) -> Option<Got> 
 }
 
 /// Whether the exchange of a row goes so, with tags that reply at once.
-fn goes(alloc: Global, tags: [&str; 2], row: Row) -> Option<bool> {
+fn goes(alloc: Global, tags: [&'static str; 2], row: Row) -> Option<bool> {
     let (said, replies, levels) = row;
     let scenario = scenario_of(alloc, &[tags[0], tags[1], said])?;
     let mut air = set_up(alloc, &scenario).ok()?;
