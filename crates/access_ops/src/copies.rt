@@ -10,7 +10,7 @@ pub(crate) fn copy_of_words(words: &ReadWords) -> ReadWords
 {
     let mut copy = ReadWords::new();
     for word in words.as_slice() {
-        copy.push(*word).unwrap();
+        copy.push_reserved(*word);
     }
     copy
 }

@@ -23,6 +23,14 @@ impl Model for Mask {
     ghost inverse = { λ bits. record { bits = record { items = bits } } };
 }
 
+impl Default for Mask {
+    fn default() -> Mask
+        ensures { result ≡ [] }
+    {
+        Mask::new()
+    }
+}
+
 impl Mask {
     /// The empty mask, which every tag matches that has the place it names.
     pub fn new() -> Mask

@@ -32,6 +32,14 @@ impl Model for Framer {
     ghost invariant = { λ a. IsOpen a.state a.refused };
 }
 
+impl Default for Framer {
+    fn default() -> Framer
+        ensures { FramerStandsFor result [] }
+    {
+        Framer::new()
+    }
+}
+
 impl Framer {
     /// Stands for no bits.
     pub fn new() -> Framer

@@ -60,6 +60,17 @@ fn refusal_of(place: u32, interval: u32) -> PieRefusal
     }
 }
 
+impl Default for Edges {
+    ghost use Rattle.pie_line.specs.Edges.{EdgesStandFor};
+
+    fn default() -> Edges
+        ensures stands { EdgesStandFor result [] [] }
+        ensures count { result.count ≡ 0 }
+    {
+        Edges::new()
+    }
+}
+
 impl Edges {
     ghost use Rattle.pie_line.specs.Pie.{IsFrame};
     ghost use Rattle.pie_line.specs.Refusal.{RefusesFrame};

@@ -97,16 +97,16 @@ pub epc_answers : (bits : List Bool) (pc : ℕ) (epc : List ℕ) → FitsLength 
 unfolding spelling
 epc_answers bits pc epc length_fits check read count range words =
     let front : List Bool = check.front in
-    let size : length front ≡ 16 + 16 * length epc = omega (arith, length-front bits check, length_fits.1) in
-    let first : field_of pc 16 ≡ take 16 front = part-field bits 0 16 pc (omega (arith, length_fits.1)) read ∙ part-split bits 0 16 check (omega arith) in
+    let size : length front ≡ 16 + 16 * length epc = omega (arith, length-front bits check, length_fits) in
+    let first : field_of pc 16 ≡ take 16 front = part-field bits 0 16 pc (omega (arith, length_fits)) read ∙ part-split bits 0 16 check (omega arith) in
     let second : bits_of_words epc ≡ part_of front 16 (16 * length epc) = words ∙ part-split bits 16 (16 * length epc) check (omega arith) in
     let whole : front ≡ take 16 front ++ part_of front 16 (16 * length epc) = sym (take_all (16 + 16 * length epc) front (omega arith)) ∙ take-add 16 (16 * length epc) front in
     let five : take 5 (take 16 bits) ≡ take 5 bits = take-take 5 16 bits (omega arith) in
-    let word : length (take 16 bits) ≡ 16 = omega (arith, length-take 16 bits, length_fits.0) in
+    let word : length (take 16 bits) ≡ 16 = omega (arith, length-take 16 bits, length_fits) in
     record {
       suits = tt;
       in_range = (
-        omega (arith, value_of-part bits 0 16 (omega (arith, length_fits.0))),
+        omega (arith, value_of-part bits 0 16 (omega (arith, length_fits))),
         range,
         count ∙ ap value_of (sym five) ∙ first-five (take 16 bits) word ∙ ap (λ n. n / 2 ^ 11) (sym read),
       );

@@ -1,6 +1,5 @@
 -- How words are read one after another.
 use Rattle.std.proofs.Common.{◌≡◌, ℕ, ◌+◌, ◌*◌, ◌^◌, ◌<◌, ◌≤◌, Bool, List, [], ◌∷◌, ◌++◌, length, take, drop, refl, sym, ◌∙◌, ap, subst, arith, length-append, length-take, length-drop}
-use Rattle.std.specs.Prelude.{Result, Ok, Err, IsOk, IsErr}
 use Rattle.std.proofs.Math.Seq.{take-add}
 use Rattle.std.proofs.lemmas.List.{drop-drop}
 use Rattle.std.proofs.lemmas.List.Elements.{All-push, All-nil}
@@ -49,8 +48,3 @@ read_more bits from at word words more so_far within read grown =
           ∙ sym (part-add bits from (16 * length words) 16)
           ∙ ap (λ n. part_of bits from n) (omega (arith, count));
     }
-
--- a push with room is no refusal
-pub ok_from : {T E : Type 0} (result : Result T E) → (IsErr result → ⊥) → IsOk result
-ok_from (Ok x) none = refl
-ok_from (Err e) none = absurd (none refl)

@@ -48,7 +48,7 @@ any-words n =
 
 length-decided : (e : Expect) (bits : List Bool) → Decided (FitsLength e bits)
 length-decided OneRn16 bits = cases_eq (length bits) 16
-length-decided OneEpc bits = both (at-least 16 (length bits)) (cases_eq (length bits) (32 + 16 * value_of (take 5 bits)))
+length-decided OneEpc bits = cases_eq (length bits) (32 + 16 * value_of (take 5 bits))
 length-decided OneHandle bits = cases_eq (length bits) 32
 length-decided (Same h) bits = cases_eq (length bits) 32
 length-decided (SomeWords n h) bits = either (cases_eq (length bits) (33 + 16 * n)) (cases_eq (length bits) 41)
@@ -57,7 +57,7 @@ length-decided (OneHeader h) bits = either (cases_eq (length bits) 33) (cases_eq
 
 long-enough : (e : Expect) (bits : List Bool) → FitsLength e bits → 16 ≤ length bits
 long-enough OneRn16 bits fits = omega arith
-long-enough OneEpc bits fits = fits.0
+long-enough OneEpc bits fits = omega (arith, fits)
 long-enough OneHandle bits fits = omega arith
 long-enough (Same h) bits fits = omega arith
 long-enough (SomeWords n h) bits fits = elim fits [ inl whole ↦ omega arith | inr error ↦ omega arith ]
@@ -147,7 +147,7 @@ reply-there : (e : Expect) (bits : List Bool) → Passes e bits → (reply : Rep
 reply-there OneRn16 bits passes = (Rn16 (value_of (part_of bits 0 16)), rn16_passed OneRn16 bits (value_of (part_of bits 0 16)) refl passes refl)
 reply-there OneEpc bits passes =
     let n : ℕ = value_of (take 5 bits) in
-    let read = all-words bits 16 n (omega (arith, passes.length_fits.1)) in
+    let read = all-words bits 16 n (omega (arith, passes.length_fits)) in
     (Epc (value_of (part_of bits 0 16)) read.0, epc_passed OneEpc bits (value_of (part_of bits 0 16)) read.0 refl passes refl read.1 read.2.range read.2.words_are)
 reply-there OneHandle bits passes = (Handle (value_of (part_of bits 0 16)), handle_passed OneHandle bits (value_of (part_of bits 0 16)) refl passes refl)
 reply-there (Same h) bits passes = (Handle (value_of (part_of bits 0 16)), same_passed (Same h) bits (value_of (part_of bits 0 16)) h refl passes refl)

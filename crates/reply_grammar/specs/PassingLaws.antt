@@ -74,7 +74,7 @@ spelled-passes (Epc pc epc) OneEpc suits range fits =
     ∙ take-append-le 5 (field_of pc 16) (bits_of_words epc ++ crc16_of front) (omega (arith, length-field_of pc 16)) in
     let count : value_of (take 5 (with_check front)) ≡ length epc =
     ap value_of five ∙ first-five (field_of pc 16) (length-field_of pc 16) ∙ ap (λ n. n / 2 ^ 11) (value_of-field pc 16 range.0) ∙ sym range.2 in
-    record { length_fits = (omega arith, omega arith); check = ends front; header = tt; number = tt }
+    record { length_fits = omega arith; check = ends front; header = tt; number = tt }
 spelled-passes (Handle rn) OneHandle suits range fits = record { length_fits = length-one rn; check = ends (field_of rn 16); header = tt; number = tt }
 spelled-passes (Handle rn) (Same handle) suits range fits =
     record {

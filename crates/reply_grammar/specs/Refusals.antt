@@ -14,7 +14,7 @@ error_length = 41
 -- the number of bits is one that is allowed; that of an EPC goes by the first five bits of its PC
 abbrev pub FitsLength : Expect → List Bool → Type 0
 FitsLength Rn16 bits = length bits ≡ 16
-FitsLength Epc bits = (16 ≤ length bits) × (length bits ≡ 32 + 16 * value_of (take 5 bits))
+FitsLength Epc bits = length bits ≡ 32 + 16 * value_of (take 5 bits)
 FitsLength Handle bits = length bits ≡ 32
 FitsLength (Same handle) bits = length bits ≡ 32
 FitsLength (Words count handle) bits = (length bits ≡ 33 + 16 * count) ⊎ (length bits ≡ error_length)

@@ -66,10 +66,10 @@ fn fits_length(bits: &Bits, expect: &Expect) -> bool
 
 /// Whether the number of bits is that of the EPC which the first five bits of its PC count.
 fn fits_epc(bits: &Bits) -> bool
-    ensures { IsTrue result ↔ ((16 ≤ length bits.now.items) × (length bits.now.items ≡ 32 + 16 * value_of (take 5 bits.now.items))) }
+    ensures { IsTrue result ↔ (length bits.now.items ≡ 32 + 16 * value_of (take 5 bits.now.items)) }
 {
     match bits.field(0, 5) {
-        Some(words) => bits.len() >= 16 && bits.len() == 32 + 16 * words,
+        Some(words) => bits.len() == 32 + 16 * words,
         None => false,
     }
 }
@@ -207,7 +207,7 @@ fn epc_words(bits: &Bits) -> EpcWords
     let end = bits.len() - 16;
     let mut at = 16;
     while at < end {
-        words.push(word_at(bits, at)).unwrap();
+        words.push_reserved(word_at(bits, at));
         at += 16;
     }
     words
@@ -225,7 +225,7 @@ fn read_words(bits: &Bits, count: u32) -> ReadWords
     let end = 1 + 16 * count;
     let mut at = 1;
     while at < end {
-        words.push(word_at(bits, at)).unwrap();
+        words.push_reserved(word_at(bits, at));
         at += 16;
     }
     words

@@ -26,6 +26,14 @@ impl Model for EpcWords {
     ghost inverse = { λ words. record { words = record { items = words } } };
 }
 
+impl Default for EpcWords {
+    fn default() -> EpcWords
+        ensures { result ≡ [] }
+    {
+        EpcWords::new()
+    }
+}
+
 impl EpcWords {
     /// The empty list.
     pub fn new() -> EpcWords
@@ -77,8 +85,16 @@ impl EpcWords {
         if self.words.is_full() {
             return Err(Full);
         }
-        self.words.push(word);
+        self.push_reserved(word);
         Ok(())
+    }
+
+    /// Adds a word at the end of a list that has room.
+    pub fn push_reserved(&mut self, word: u16)
+        requires { length self.old < 31 }
+        ensures { self.new ≡ self.old ++ word ∷ [] }
+    {
+        self.words.push(word);
     }
 }
 
@@ -100,6 +116,14 @@ impl Model for ReadWords {
     ghost invariant = { λ a. (length a.words.items ≤ 512) × All (λ word. word < 2 ^ 16) a.words.items };
 
     ghost inverse = { λ words. record { words = record { items = words } } };
+}
+
+impl Default for ReadWords {
+    fn default() -> ReadWords
+        ensures { result ≡ [] }
+    {
+        ReadWords::new()
+    }
 }
 
 impl ReadWords {
@@ -153,7 +177,15 @@ impl ReadWords {
         if self.words.is_full() {
             return Err(Full);
         }
-        self.words.push(word);
+        self.push_reserved(word);
         Ok(())
+    }
+
+    /// Adds a word at the end of a list that has room.
+    pub fn push_reserved(&mut self, word: u16)
+        requires { length self.old < 512 }
+        ensures { self.new ≡ self.old ++ word ∷ [] }
+    {
+        self.words.push(word);
     }
 }

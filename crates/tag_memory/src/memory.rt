@@ -226,7 +226,7 @@ impl Memory {
     {
         let mut epc = EpcWords::new();
         for word in self.epc_words() {
-            let _ = epc.push(*word);
+            epc.push_reserved(*word);
         }
         epc
     }

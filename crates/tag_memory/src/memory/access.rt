@@ -153,7 +153,7 @@ impl Memory {
     {
         out.clear();
         for word in self.readable(bank, pointer, count, level, locks)? {
-            let _ = out.push(*word);
+            out.push_reserved(*word);
         }
         Ok(())
     }

@@ -8,7 +8,7 @@ loop-at-init c = (rw c.new-words.ensures (read_none c.args.bits.now.items 1), om
 pub loop-at-preserved : goal.loop-at-preserved
 loop-at-preserved c =
     let so_far = c.loop-at.invariant.0 in (
-      read_more c.args.bits.now.items 1 c.loop-at.at c.word_at.result c.loop-at.words c.push.new.self so_far (omega (arith, so_far.place, c.requires.whole)) c.word_at.ensures
-          (c.push.ensures.room (omega (arith, so_far.place, c.requires.few))),
+      read_more c.args.bits.now.items 1 c.loop-at.at c.word_at.result c.loop-at.words c.push_reserved.new.self so_far (omega (arith, so_far.place, c.requires.whole)) c.word_at.ensures
+          c.push_reserved.ensures,
       omega (arith, so_far.place),
     )
