@@ -20,7 +20,7 @@ use Rattle.access_ops.specs.declared.stage.Purpose.TheVariants.{Handle, Cover}
 use Rattle.access_ops.specs.declared.stage.Password.TheVariants.{Access, Kill}
 use Rattle.access_ops.specs.declared.stage.Stage.{Stage}
 use Rattle.access_ops.specs.declared.stage.Stage.TheVariants.{Deny, Number, Last}
-use Rattle.access_ops.specs.Operations.{Dialogue, sends, tells, behind_reception, behind_last, behind_number, operation, operations, denials, opened, first_of, Move, answered, told, reception_in, dialogue_behind, dialogue_after, next_operation, Follows}
+use Rattle.access_ops.specs.Operations.{Dialogue, sends, tells, behind_reception, behind_last, behind_number, operation, operations, denials, operations_from_rn16, first_of, Move, answered, told, reception_in, dialogue_behind, dialogue_after, next_operation, Follows}
 use Rattle.access_ops.specs.Standing.{OpRunValue, later_of, behind_heard, dialogue_at, dialogue_with, answer_in, last_answer, Does, OpRunStandsFor, IsNextOperation}
 
 -- a command: the run goes on by the answer
@@ -52,14 +52,14 @@ drop_here ops at op there =
 
 -- where there is an operation the handle is asked for
 opens : (list : OpList) (rn begun : ℕ) (ops : List Op) → drop begun list.ops ≡ ops → 0 < length ops
-    → Does (Send (commands.ReqRn rn) expects.Handle false) (record { rn = rn; begun = begun; stage = Number Handle }) list (opened ops rn)
+    → Does (Send (commands.ReqRn rn) expects.Handle false) (record { rn = rn; begun = begun; stage = Number Handle }) list (operations_from_rn16 ops rn)
 opens list rn begun [] is some = absurd (omega arith)
 opens list rn begun (op ∷ ops) is some =
     does-send (commands.ReqRn rn) expects.Handle false (behind_reception (behind_number (λ handle. operations (op ∷ ops) handle))) list (record { rn = rn; begun = begun; stage = Number Handle })
     (λ answer. ap (λ (os : List Op). behind_reception (behind_number (λ handle. operations os handle)) (reception_in answer)) (sym is))
 
 pub does-open : (list : OpList) (run : OpRunValue) → run.begun < length list.ops
-    → Does (Send (commands.ReqRn run.rn) expects.Handle false) (record run { stage = Number Handle }) list (opened (drop run.begun list.ops) run.rn)
+    → Does (Send (commands.ReqRn run.rn) expects.Handle false) (record run { stage = Number Handle }) list (operations_from_rn16 (drop run.begun list.ops) run.rn)
 does-open list run some = opens list run.rn run.begun (drop run.begun list.ops) refl (omega (arith, length-drop run.begun list.ops))
 
 -- ... or the operation is denied

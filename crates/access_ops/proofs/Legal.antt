@@ -18,7 +18,7 @@ use Rattle.access_ops.specs.declared.OpList.{OpList}
 use Rattle.access_ops.specs.declared.op_next.Answer.{Answer}
 use Rattle.access_ops.specs.declared.op_next.Answer.TheVariants.{Silence, Got}
 use Rattle.access_ops.specs.declared.op_next.OpNext.TheVariants.{Send}
-use Rattle.access_ops.specs.Operations.{reception_in, Dialogue, sends, tells, done, behind_reception, behind_last, last_command, behind_number, with_number, words_expected, upper_half, lower_half, send_halves, operation, operations, denials, opened, is_for, dialogue_of, first_of, Move, answered, told, dialogue_behind, dialogue_after, next_operation, IsAnswerFor, Follows, AreMoves}
+use Rattle.access_ops.specs.Operations.{reception_in, Dialogue, sends, tells, done, behind_reception, behind_last, last_command, behind_number, with_number, words_expected, upper_half, lower_half, send_halves, operation, operations, denials, operations_from_rn16, is_for, dialogue_of, first_of, Move, answered, told, dialogue_behind, dialogue_after, next_operation, IsAnswerFor, Follows, AreMoves}
 use Rattle.access_ops.specs.OperationLaws.{IsLegalOp}
 use Rattle.access_ops.proofs.Moving.{opened-is, denials-are}
 
@@ -87,7 +87,7 @@ legal-denials : (ops : List Op) → IsLegalDialogue (denials ops)
 legal-denials [] = tt
 legal-denials (op ∷ ops) = legal-denials ops
 
-legal-opened : (ops : List Op) (rn : ℕ) → AllByRecursion IsLegalOp ops → IsWord rn → IsLegalDialogue (opened ops rn)
+legal-opened : (ops : List Op) (rn : ℕ) → AllByRecursion IsLegalOp ops → IsWord rn → IsLegalDialogue (operations_from_rn16 ops rn)
 legal-opened [] rn legal word = tt
 legal-opened (op ∷ ops) rn legal word = legal-asking rn (λ handle. operations (op ∷ ops) handle) word (λ handle is. legal-operations (op ∷ ops) handle legal is)
 

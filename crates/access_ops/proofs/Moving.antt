@@ -5,7 +5,7 @@ use Rattle.access_ops.specs.declared.OpList.{OpList}
 use Rattle.access_ops.specs.declared.op_next.OpNext.{OpNext}
 use Rattle.access_ops.specs.declared.op_next.OpNext.TheVariants.{Send, Result, End}
 use Rattle.access_ops.specs.declared.op_next.OpResult.TheVariants as results
-use Rattle.access_ops.specs.Operations.{Dialogue, sends, tells, done, denials, opened, is_for, dialogue_of, first_of, Move, answered, told, reception_in, dialogue_behind, dialogue_after, next_operation, Follows, AreMoves}
+use Rattle.access_ops.specs.Operations.{Dialogue, sends, tells, done, denials, operations_from_rn16, is_for, dialogue_of, first_of, Move, answered, told, reception_in, dialogue_behind, dialogue_after, next_operation, Follows, AreMoves}
 use Rattle.access_ops.specs.OperationLaws.{commands_in, results_in, commands_sent, results_told}
 use Rattle.access_ops.specs.Running.{Runs, commands_of, opened-runs}
 
@@ -102,7 +102,7 @@ over-more list epc rn moves move o =
       count = omega (arith, o.count, ap results_in next);
     }
 
-pub opened-is : (list : OpList) (epc : List ℕ) (rn : ℕ) → is_for list.only epc ≡ true → dialogue_of list epc rn ≡ opened list.ops rn
+pub opened-is : (list : OpList) (epc : List ℕ) (rn : ℕ) → is_for list.only epc ≡ true → dialogue_of list epc rn ≡ operations_from_rn16 list.ops rn
 opened-is list epc rn for = rw for refl
 
 pub denials-are : (list : OpList) (epc : List ℕ) (rn : ℕ) → is_for list.only epc ≡ false → dialogue_of list epc rn ≡ denials list.ops

@@ -98,9 +98,9 @@ denials [] = done
 denials (op ∷ ops) = tells results.Denied (denials ops)
 
 -- with the RN16 of the singulation the interrogator asks for the handle, where there is something to do
-abbrev pub opened : List Op → ℕ → Dialogue
-opened [] rn = done
-opened (op ∷ ops) rn = with_number rn (λ handle. operations (op ∷ ops) handle)
+abbrev pub operations_from_rn16 : List Op → ℕ → Dialogue
+operations_from_rn16 [] rn = done
+operations_from_rn16 (op ∷ ops) rn = with_number rn (λ handle. operations (op ∷ ops) handle)
 
 -- the list is for the tag with this EPC
 abbrev pub is_for : Option (List ℕ) → List ℕ → Bool
@@ -109,7 +109,7 @@ is_for (Some only) epc = pointwise nat_eq only epc
 
 -- what is done with the tag that sent this EPC, and this RN16 before it
 abbrev pub dialogue_of : OpList → List ℕ → ℕ → Dialogue
-dialogue_of list epc rn = if is_for list.only epc then opened list.ops rn else denials list.ops
+dialogue_of list epc rn = if is_for list.only epc then operations_from_rn16 list.ops rn else denials list.ops
 
 -- the first thing that is done
 abbrev pub first_of : Dialogue → OpNext

@@ -10,7 +10,7 @@ use Rattle.reply_grammar.specs.declared.expected.Reply.TheVariants.{Handle, Erro
 use Rattle.access_ops.specs.declared.Op.{Op}
 use Rattle.access_ops.specs.declared.Op.TheVariants.{Read, Write, BlockWrite, BlockErase, Lock, Access, Kill}
 use Rattle.access_ops.specs.declared.op_next.OpResult.TheVariants as results
-use Rattle.access_ops.specs.Operations.{Dialogue, sends, tells, done, behind_reception, behind_last, last_command, behind_number, with_number, words_expected, send_halves, operation, operations, opened}
+use Rattle.access_ops.specs.Operations.{Dialogue, sends, tells, done, behind_reception, behind_last, last_command, behind_number, with_number, words_expected, send_halves, operation, operations, operations_from_rn16}
 use Rattle.access_ops.specs.OperationLaws.{EndsRun, Serves, Expects}
 
 -- the command is one of the first operation
@@ -109,6 +109,6 @@ operations-run [] handle = tt
 operations-run (op ∷ ops) handle = operation-runs (commands_of ops) op ops handle (operations ops handle) (operations-run ops handle)
 
 -- ... and one for the handle
-pub opened-runs : (ops : List Op) (rn : ℕ) → Runs (suc (commands_of ops)) ops (opened ops rn)
+pub opened-runs : (ops : List Op) (rn : ℕ) → Runs (suc (commands_of ops)) ops (operations_from_rn16 ops rn)
 opened-runs [] rn = tt
 opened-runs (op ∷ ops) rn = asks _ op ops rn (λ handle. operations (op ∷ ops) handle) (operations-run (op ∷ ops))

@@ -22,7 +22,7 @@ use Rattle.access_ops.specs.declared.stage.Password.{Password}
 use Rattle.access_ops.specs.declared.stage.Password.TheVariants.{Access, Kill}
 use Rattle.access_ops.specs.declared.stage.Stage.{Stage}
 use Rattle.access_ops.specs.declared.stage.Stage.TheVariants.{Open, Deny, Begin, Number, Last, Done}
-use Rattle.access_ops.specs.Operations.{Dialogue, sends, tells, done, behind_reception, behind_last, last_command, behind_number, upper_half, lower_half, send_lower, operations, denials, opened, first_of, Move, answered, told, reception_in, dialogue_behind, dialogue_after, next_operation, Follows, AreMoves}
+use Rattle.access_ops.specs.Operations.{Dialogue, sends, tells, done, behind_reception, behind_last, last_command, behind_number, upper_half, lower_half, send_lower, operations, denials, operations_from_rn16, first_of, Move, answered, told, reception_in, dialogue_behind, dialogue_after, next_operation, Follows, AreMoves}
 
 -- what a contract sees of a run of operations
 pub record OpRunValue : Type 0 where
@@ -79,7 +79,7 @@ behind_heard go_on (Some answer) = behind_reception go_on (reception_in answer)
 
 -- what a run with this stage does, given this answer
 abbrev pub dialogue_at : Stage → OpList → OpRunValue → Option Answer → Dialogue
-dialogue_at Open list run answer = opened (drop run.begun list.ops) run.rn
+dialogue_at Open list run answer = operations_from_rn16 (drop run.begun list.ops) run.rn
 dialogue_at Deny list run answer = denials (drop run.begun list.ops)
 dialogue_at Begin list run answer = later_of list run
 dialogue_at (Number purpose) list run answer = behind_heard (behind_number (behind_purpose purpose list run)) answer

@@ -1,6 +1,6 @@
 //! The operations on one tag, done one thing at a time.
 ghost use Rattle.std.specs.Prelude.{◌≡◌, ◌+◌, ◌*◌, ◌-◌, ◌≤◌, ℕ, false, List, [], length, drop, option_copied, if◌then◌else◌};
-ghost use Rattle.access_ops.specs.Operations.{Move, behind_last, denials, is_for, opened, operation, words_expected};
+ghost use Rattle.access_ops.specs.Operations.{Move, behind_last, denials, is_for, operations_from_rn16, operation, words_expected};
 ghost use Rattle.access_ops.specs.Standing.{Does, IsNextOperation, OpRunStandsFor, behind_cover, behind_heard, behind_purpose, last_answer, later_of, stage_behind_result, turns_at, turns_in, turns_left};
 ghost use Rattle.access_ops.specs.declared.OpList.{OpList};
 
@@ -70,7 +70,7 @@ impl OpRun {
 
     /// Asks the tag for its handle, where there is an operation.
     fn open(&mut self, list: &OpList) -> OpNext
-        ensures does { Does result self.new list.now (opened (drop self.old.begun list.now.ops) self.old.rn) }
+        ensures does { Does result self.new list.now (operations_from_rn16 (drop self.old.begun list.now.ops) self.old.rn) }
         ensures turns { turns_left list.now self.new + turns_in result ≤ 2 + 5 * (length list.now.ops - self.old.begun) }
     {
         if self.begun >= list.ops.len() {

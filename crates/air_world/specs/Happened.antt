@@ -4,15 +4,15 @@ use Rattle.std.specs.Prelude.{◌≡◌, List, [], ◌∷◌, ◌++◌}
 use Rattle.air_channel.specs.Past.{Item, befell, exchanged, operated, ended}
 
 -- the events and the exchanges of a past alone, the latest first
-abbrev pub happened : List Item → List Item
-happened [] = []
-happened (befell event number ∷ past) = befell event number ∷ happened past
-happened (exchanged sent ∷ past) = exchanged sent ∷ happened past
-happened (operated round slot index result ∷ past) = happened past
-happened (ended round end slots ∷ past) = happened past
+abbrev pub events_and_exchanges_of : List Item → List Item
+events_and_exchanges_of [] = []
+events_and_exchanges_of (befell event number ∷ past) = befell event number ∷ events_and_exchanges_of past
+events_and_exchanges_of (exchanged sent ∷ past) = exchanged sent ∷ events_and_exchanges_of past
+events_and_exchanges_of (operated round slot index result ∷ past) = events_and_exchanges_of past
+events_and_exchanges_of (ended round end slots ∷ past) = events_and_exchanges_of past
 
 -- what was added to the past is results of operations and ends of rounds alone
 pub record IsConcluded (past behind : List Item) : Type 0 where
   pub own : List Item
-  pub none : happened own ≡ []
+  pub none : events_and_exchanges_of own ≡ []
   pub is : behind ≡ own ++ past

@@ -19,7 +19,7 @@ use Rattle.inventory.specs.MadeRuns.{CountsAll}
 use Rattle.inventory.specs.Honest.{IsHonest, IsApart}
 use Rattle.inventory.specs.ListLines.{IsEntryOf, entries_in}
 use Rattle.inventory.specs.Listed.{tags_listed_in}
-use Rattle.made_scenario.specs.Made.{made}
+use Rattle.made_scenario.specs.Made.{made_scenario}
 use Rattle.q_round.specs.SpecValue.{SpecValue}
 use Rattle.scenario.specs.Limits.{IsScenario}
 use Rattle.scenario.specs.declared.values.Scenario.{Scenario}
@@ -69,7 +69,7 @@ RoundsAreCounted = (scenario : Scenario) (before after : List Step) (spec : Spec
 
 -- what the law of generated scenarios says
 abbrev pub MadeRunsAreCounted : Type 0
-MadeRunsAreCounted = (seed tags : ℕ) → (summary_of (made seed tags)).quiet ≡ true → CountsAll (summary_of (made seed tags)) tags
+MadeRunsAreCounted = (seed tags : ℕ) → (summary_of (made_scenario seed tags)).quiet ≡ true → CountsAll (summary_of (made_scenario seed tags)) tags
 
 -- what the law of list lines says
 abbrev pub LinesAreOfTags : Type 0

@@ -4,7 +4,7 @@ use Rattle.std.specs.Fmt.{decimal}
 use Rattle.air_world.specs.Summary.{summary_of}
 use Rattle.air_world.specs.declared.summary.Summary.{Summary}
 use Rattle.inventory.specs.MadeRuns.{CountsAll}
-use Rattle.made_scenario.specs.Made.{made}
+use Rattle.made_scenario.specs.Made.{made_scenario}
 use Rattle.text_fields.specs.Lines.{text_with}
 
 -- how the rounds ended: each quiet, or one by its limit
@@ -24,7 +24,7 @@ summary_text summary = text_with (summary_lines summary)
 
 -- what the run of the scenario of a seed with so many tags counts
 abbrev pub summary_of_made : (seed tags : ℕ) → Summary
-summary_of_made seed tags = summary_of (made seed tags)
+summary_of_made seed tags = summary_of (made_scenario seed tags)
 
 -- the text is that summary
 abbrev pub IsSummaryOfMade : (seed tags : ℕ) → List ℕ → Type 0

@@ -9,7 +9,7 @@ use Rattle.air_world.specs.Summary.{is_quiet, all_quiet}
 use Rattle.inventory.specs.Complete.{HasNumber}
 use Rattle.inventory.specs.EveryTag.{AllTakePart, HaveOwnEpcs}
 use Rattle.inventory.specs.Moments.{Ending, ending_of}
-use Rattle.made_scenario.specs.Made.{made, made_round, made_tag, numbers_below}
+use Rattle.made_scenario.specs.Made.{made_scenario, made_round, made_tag, numbers_below}
 use Rattle.q_round.specs.SpecValue.{IsLegalSpec}
 use Rattle.q_round.specs.declared.round.RoundEnd.{RoundEnd}
 use Rattle.q_round.specs.declared.round.RoundEnd.TheVariants as ends
@@ -46,17 +46,17 @@ mapped-at f (item ∷ list) zero value at = (item, refl, cc)
 mapped-at f (item ∷ list) (suc place) value at = mapped-at f list place value at
 
 -- the tag of each number
-made-at : (seed tags number : ℕ) (tag : TagValue) → HasNumber (start_of (made seed tags)) number tag → tag ≡ tag_of (made_tag seed number)
+made-at : (seed tags number : ℕ) (tag : TagValue) → HasNumber (start_of (made_scenario seed tags)) number tag → tag ≡ tag_of (made_tag seed number)
 made-at seed tags number tag at =
     let (spec, spec_at, is) = mapped-at tag_of (map (made_tag seed) (numbers_below tags)) number tag at in
     let (place, place_at, made_is) = mapped-at (made_tag seed) (numbers_below tags) number spec spec_at in
     is ∙ ap tag_of (made_is ∙ ap (made_tag seed) (number-at tags number place place_at))
 
-pub made-tags-count : (seed tags : ℕ) → length (start_of (made seed tags)).tags ≡ tags
+pub made-tags-count : (seed tags : ℕ) → length (start_of (made_scenario seed tags)).tags ≡ tags
 made-tags-count seed tags =
     length-map (map (made_tag seed) (numbers_below tags)) tag_of ∙ length-map (numbers_below tags) (made_tag seed) ∙ numbers-count tags
 
-pub made-take-part : (seed tags : ℕ) → AllTakePart (start_of (made seed tags)) made_round
+pub made-take-part : (seed tags : ℕ) → AllTakePart (start_of (made_scenario seed tags)) made_round
 unfolding made_round
 made-take-part seed tags = record {
   ready = λ number tag at. ap (λ (t : TagValue). t.state) (made-at seed tags number tag at);
@@ -71,7 +71,7 @@ last-word : (seed number : ℕ) → last_word (tag_of (made_tag seed number)) �
 unfolding last_word
 last-word seed number = refl
 
-pub made-own-epcs : (seed tags : ℕ) → HaveOwnEpcs (start_of (made seed tags))
+pub made-own-epcs : (seed tags : ℕ) → HaveOwnEpcs (start_of (made_scenario seed tags))
 unfolding last_word
 made-own-epcs seed tags number other tag other_tag at other_at same =
     let one : last_word tag ≡ number = ap last_word (made-at seed tags number tag at) ∙ last-word seed number in
@@ -110,6 +110,6 @@ quiet-end round (ended number end slots ∷ past) ending quiet at =
 quiet-parts : (ending : Ending) → ending.end ≡ ends.Quiet → ending ≡ record { end = ends.Quiet; slots = ending.slots; past = ending.past }
 quiet-parts ending is = ap (λ (end : RoundEnd). record ending { end = end }) is
 
-pub quiet-made : (seed tags : ℕ) (ending : Ending) → all_quiet (history (made seed tags)) ≡ true → ending_of 1 (history (made seed tags)) ≡ Some ending
-    → ending_of 1 (history (made seed tags)) ≡ Some (record { end = ends.Quiet; slots = ending.slots; past = ending.past })
-quiet-made seed tags ending quiet at = at ∙ ap Some (quiet-parts ending (quiet-end 1 (history (made seed tags)) ending quiet at))
+pub quiet-made : (seed tags : ℕ) (ending : Ending) → all_quiet (history (made_scenario seed tags)) ≡ true → ending_of 1 (history (made_scenario seed tags)) ≡ Some ending
+    → ending_of 1 (history (made_scenario seed tags)) ≡ Some (record { end = ends.Quiet; slots = ending.slots; past = ending.past })
+quiet-made seed tags ending quiet at = at ∙ ap Some (quiet-parts ending (quiet-end 1 (history (made_scenario seed tags)) ending quiet at))

@@ -1,6 +1,6 @@
 -- What holds after each command that a round may send, and from there at both of its ends, holds of the round.
 use Rattle.std.proofs.Common.{◌≡◌, ℕ, zero, suc, ◌+◌, ◌≤◌, ◌≢◌, Bool, true, false, List, [], ◌∷◌, length, None, if◌then◌else◌, refl, ap, sym, ◌∙◌, subst, arith}
-use Rattle.access_ops.specs.Operations.{Dialogue, sends, tells, done, opened, denials, is_for, dialogue_of}
+use Rattle.access_ops.specs.Operations.{Dialogue, sends, tells, done, operations_from_rn16, denials, is_for, dialogue_of}
 use Rattle.access_ops.specs.declared.Op.{Op}
 use Rattle.access_ops.specs.declared.OpList.{OpList}
 use Rattle.access_ops.specs.declared.op_next.OpResult.{OpResult}
@@ -69,7 +69,7 @@ nothing-either false = refl
 
 nothing-done : (operations : OpList) (epc : List ℕ) (rn : ℕ) → operations.ops ≡ [] → dialogue_of operations epc rn ≡ done
 nothing-done operations epc rn none =
-    ap (λ (ops : List Op). if is_for operations.only epc then opened ops rn else denials ops) none ∙ nothing-either (is_for operations.only epc)
+    ap (λ (ops : List Op). if is_for operations.only epc then operations_from_rn16 ops rn else denials ops) none ∙ nothing-either (is_for operations.only epc)
 
 -- where a round has no operations nothing is done behind an ACK
 nothing-begun : (operations : OpList) (rn : ℕ) (reception : Reception) → operations.ops ≡ [] → dialogue_begun operations rn reception ≡ done

@@ -17,7 +17,7 @@ ghost use Rattle.inventory.specs.ListLines.{IsEntryOf, entries_in};
 ghost use Rattle.inventory.specs.Listed.{tags_listed_in};
 ghost use Rattle.inventory.specs.MadeRuns.{CountsAll};
 ghost use Rattle.inventory.specs.Moments.{Ending, ending_of};
-ghost use Rattle.made_scenario.specs.Made.{made};
+ghost use Rattle.made_scenario.specs.Made.{made_scenario};
 ghost use Rattle.q_round.specs.SpecValue.{SpecValue};
 ghost use Rattle.q_round.specs.declared.round.RoundEnd.TheVariants as ends;
 ghost use Rattle.scenario.specs.Limits.{IsScenario};
@@ -105,7 +105,7 @@ pub fn list_lines_are_of_listed_tags()
 /// The run of a scenario that is made of a seed: where its summary says that the round ended quiet, a tag was
 /// listed as often as there are tags, and as many different pairs of PC and EPC were.
 pub fn quiet_made_runs_list_every_tag()
-    ensures { (seed tags : ℕ) → (summary_of (made seed tags)).quiet ≡ true → CountsAll (summary_of (made seed tags)) tags }
+    ensures { (seed tags : ℕ) → (summary_of (made_scenario seed tags)).quiet ≡ true → CountsAll (summary_of (made_scenario seed tags)) tags }
 {
     honest_rounds_count_tags();
     rounds_are_honest_where_nothing_is_said();

@@ -3,7 +3,7 @@ use Rattle.std.proofs.Common.{◌≡◌, ℕ, zero, suc, ◌+◌, ◌*◌, ◌<�
 use Rattle.std.specs.List.{AllByRecursion}
 use Rattle.std.proofs.lemmas.List.{length-map}
 use Rattle.std.proofs.lemmas.List.Elements.{All-from_recursion}
-use Rattle.made_scenario.specs.Made.{made, made_link, made_round, made_tag, draw_words, drawn_at, generator_of, numbers_below, words_of_tag}
+use Rattle.made_scenario.specs.Made.{made_scenario, made_link, made_round, made_tag, draw_words, drawn_at, generator_of, numbers_below, words_of_tag}
 use Rattle.pie_line.specs.Link.{IsLegalLink}
 use Rattle.scenario.specs.Limits.{IsScenario, IsEntry, IsStep, IsOpList, most_tags, no_operations}
 use Rattle.access_ops.specs.OperationLaws.{IsLegalOp}
@@ -89,16 +89,16 @@ round-legal = record {
 no-operations-legal : IsOpList no_operations
 no-operations-legal = record { only = tt; ops = All-from_recursion IsLegalOp [] tt; few = omega arith }
 
-pub made-legal : (seed tags : ℕ) → tags ≤ most_tags → IsScenario (made seed tags)
+pub made-legal : (seed tags : ℕ) → tags ≤ most_tags → IsScenario (made_scenario seed tags)
 made-legal seed tags few =
-    let count : length (made seed tags).tags ≡ tags = length-map (numbers_below tags) (made_tag seed) ∙ numbers-count tags in
+    let count : length (made_scenario seed tags).tags ≡ tags = length-map (numbers_below tags) (made_tag seed) ∙ numbers-count tags in
     record {
       link = link-legal;
-      tags = All-from_recursion IsTag (made seed tags).tags
+      tags = All-from_recursion IsTag (made_scenario seed tags).tags
           (all-map (λ number. number < 256) IsTag (made_tag seed) (tag-legal seed) (numbers_below tags) (numbers-small 256 tags few));
-      entries = All-from_recursion (IsEntry (length (made seed tags).tags)) [] tt;
+      entries = All-from_recursion (IsEntry (length (made_scenario seed tags).tags)) [] tt;
       rising = tt;
-      steps = All-from_recursion (IsStep (length (made seed tags).tags)) (made seed tags).steps ((round-legal, no-operations-legal), tt);
+      steps = All-from_recursion (IsStep (length (made_scenario seed tags).tags)) (made_scenario seed tags).steps ((round-legal, no-operations-legal), tt);
       few_tags = omega (arith, count, few);
       few_air_lines = omega arith;
       few_steps = omega arith;

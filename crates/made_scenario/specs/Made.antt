@@ -70,8 +70,8 @@ unfoldable pub made_round : SpecValue
 made_round = record { sel = sels.All00; session = 0; target = sides.A; q = 6; c = 300; limit = 10000 }
 
 -- the scenario of a seed with so many tags: nothing is said of any exchange, and its one step is the round, without operations
-abbrev pub made : (seed tags : ℕ) → Scenario
-made seed tags = record {
+abbrev pub made_scenario : (seed tags : ℕ) → Scenario
+made_scenario seed tags = record {
   link = made_link;
   tags = map (made_tag seed) (numbers_below tags);
   entries = [];

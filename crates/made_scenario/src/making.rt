@@ -1,7 +1,7 @@
 //! The scenario of a seed.
 ghost use Rattle.std.specs.Prelude.{◌≡◌, ◌+◌, ◌*◌, ◌<◌, ◌≤◌, ◌^◌, [], ◌∷◌, length, map, IfOk, OnOk};
 ghost use Rattle.made_scenario.specs.Made.{
-  made,
+  made_scenario,
   made_round,
   made_tag,
   numbered_tag,
@@ -113,7 +113,7 @@ fn made_steps(alloc: Global) -> Result<List<Step>, OutOfMemory>
 /// generator. One round is run over them, without operations, and nothing is said of any exchange.
 pub fn made_scenario(alloc: Global, seed: u64, tags: u32) -> Result<Scenario, OutOfMemory>
     requires { tags ≤ most_tags }
-    ensures scenario { IfOk result (λ scenario. scenario ≡ made seed tags) }
+    ensures scenario { IfOk result (λ scenario. scenario ≡ made_scenario seed tags) }
     ensures legal { IfOk result IsScenario }
 {
     Ok(Scenario {

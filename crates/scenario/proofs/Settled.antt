@@ -26,7 +26,7 @@ use Rattle.scenario.specs.declared.values.Step.TheVariants as steps
 use Rattle.scenario.specs.ScenarioText.{air_lines, entry_lines, only_lines, operation_lines, scenario_lines, step_lines}
 use Rattle.scenario.specs.Limits.{IsEntry, IsOpList, IsScenario, IsStep, Rises, most_air_lines, most_ops, most_steps, most_tags, no_operations}
 use Rattle.air_events.specs.Entries.{no_entry}
-use Rattle.scenario.specs.Standing.{ChoosesOnce, DraftValue, Follows, Leads, MayFollow, NamesTag, Standing, after, begun, ended, entries_of, last_entry, new_draft, scenario_of, start, turned, steps_of, with_air, with_happening, with_last, with_only, with_op, with_round, with_said, with_step, within}
+use Rattle.scenario.specs.Standing.{ChoosesOnce, DraftValue, Follows, Leads, MayFollow, NamesTag, Standing, after, begun, ended, entries_of, last_entry, new_draft, scenario_of, start, draft_at_exchange, steps_of, with_air, with_happening, with_last, with_only, with_op, with_round, with_said, with_step, within}
 
 -- the lines of a draft, without the end
 abbrev pub draft_lines : DraftValue → List Line
@@ -413,7 +413,7 @@ more_air_lines draft happening some follows alone =
 
 -- the first thing is said of another exchange
 abbrev said_first : DraftValue → ℕ → Happening → DraftValue
-said_first draft number happening = with_said (turned (record draft { airs = draft.airs + 1 }) number) happening
+said_first draft number happening = with_said (draft_at_exchange (record draft { airs = draft.airs + 1 }) number) happening
 
 first_air_lines : (draft : DraftValue) (number : ℕ) (happening : Happening) → 0 < number
     → air_lines (entries_of (said_first draft number happening)) ≡ air_lines (entries_of draft) ++ lines.Air number happening ∷ []

@@ -199,8 +199,8 @@ pub record Follows (standing : Standing) (line : Line) : Type 0 where
   pub agrees : AgreesWith standing line
 
 -- the draft with another exchange as the last one, of which nothing is said yet
-abbrev pub turned : DraftValue → ℕ → DraftValue
-turned draft exchange = record draft { closed = entries_of draft; exchange = exchange; latest = no_entry }
+abbrev pub draft_at_exchange : DraftValue → ℕ → DraftValue
+draft_at_exchange draft exchange = record draft { closed = entries_of draft; exchange = exchange; latest = no_entry }
 
 -- the draft in which one thing more is said of the last exchange
 abbrev pub with_said : DraftValue → Happening → DraftValue
@@ -210,7 +210,7 @@ with_said draft happening = record draft { latest = with_happening draft.latest 
 abbrev pub with_air : DraftValue → ℕ → Happening → DraftValue
 with_air draft exchange happening =
     let counted = record draft { airs = draft.airs + 1 } in
-    (if exchange == draft.exchange then with_said counted happening else with_said (turned counted exchange) happening)
+    (if exchange == draft.exchange then with_said counted happening else with_said (draft_at_exchange counted exchange) happening)
 
 -- the draft after a step that is no round
 abbrev pub with_step : DraftValue → Step → DraftValue
@@ -231,24 +231,24 @@ with_op draft op =
     record draft { operations = record { only = draft.operations.only; ops = draft.operations.ops ++ op ∷ [] } }
 
 -- the draft after a line that may follow
-abbrev pub grown : DraftValue → Line → DraftValue
-grown draft (lines.Tag tag) = record draft { tags = draft.tags ++ tag ∷ [] }
-grown draft (lines.Air exchange happening) = with_air draft exchange happening
-grown draft (lines.Select selection) =
+abbrev pub draft_behind : DraftValue → Line → DraftValue
+draft_behind draft (lines.Tag tag) = record draft { tags = draft.tags ++ tag ∷ [] }
+draft_behind draft (lines.Air exchange happening) = with_air draft exchange happening
+draft_behind draft (lines.Select selection) =
     with_step draft (steps.Select (commands.Select selection.target selection.action selection.bank selection.pointer selection.mask))
-grown draft lines.Nak = with_step draft steps.Nak
-grown draft (lines.Event event tag) = with_step draft (steps.Event event tag)
-grown draft (lines.Round spec) = with_round draft spec
-grown draft (lines.Only epc) = with_only draft epc
-grown draft (lines.Op op) = with_op draft op
-grown draft line = draft
+draft_behind draft lines.Nak = with_step draft steps.Nak
+draft_behind draft (lines.Event event tag) = with_step draft (steps.Event event tag)
+draft_behind draft (lines.Round spec) = with_round draft spec
+draft_behind draft (lines.Only epc) = with_only draft epc
+draft_behind draft (lines.Op op) = with_op draft op
+draft_behind draft line = draft
 
 -- where the scenario stands after a line that may follow
 abbrev pub after : Standing → Line → Standing
 after start line = begun
 after begun (lines.Link link) = within (new_draft link)
 after (within draft) lines.End = ended draft
-after (within draft) line = within (grown draft line)
+after (within draft) line = within (draft_behind draft line)
 after standing line = standing
 
 -- the lines follow one another from here on, and lead there

@@ -4,7 +4,7 @@ use Rattle.air_world.specs.Headline.{IsLegalRound}
 use Rattle.air_world.specs.ScenarioStart.{start_of}
 use Rattle.inventory.proofs.MadeRuns.{made-own-epcs, made-round-legal, made-tags-count, made-take-part, quiet-made}
 use Rattle.inventory.proofs.laws.quiet_made_runs_list_every_tag.Goals as goal
-use Rattle.made_scenario.specs.Made.{made, made_round}
+use Rattle.made_scenario.specs.Made.{made_scenario, made_round}
 use Rattle.scenario.specs.Limits.{no_operations}
 
 -- no round has more operations than its list
@@ -17,9 +17,9 @@ not_captured same = absurd (cc)
 
 pub returns : goal.returns
 returns c seed tags quiet =
-    let start = start_of (made seed tags) in
-    let honest = c.rounds_are_honest_where_nothing_is_said.ensures.run start (made seed tags).steps 1 no_operations refl refl in
-    let (ending, ending_is, counted) = c.honest_rounds_count_tags.ensures.run start (made seed tags).steps [] [] made_round no_operations (legal, tt) refl honest not_captured in
+    let start = start_of (made_scenario seed tags) in
+    let honest = c.rounds_are_honest_where_nothing_is_said.ensures.run start (made_scenario seed tags).steps 1 no_operations refl refl in
+    let (ending, ending_is, counted) = c.honest_rounds_count_tags.ensures.run start (made_scenario seed tags).steps [] [] made_round no_operations (legal, tt) refl honest not_captured in
     let every = c.quiet_runs_list_every_tag.ensures start made_round no_operations ending.slots ending.past legal (made-take-part seed tags) (made-own-epcs seed tags) refl refl
     not_captured (quiet-made seed tags ending quiet ending_is) in
     record { listed = every.listed ∙ made-tags-count seed tags; distinct_pairs = every.distinct_pairs ∙ made-tags-count seed tags }
