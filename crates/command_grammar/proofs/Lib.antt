@@ -12,6 +12,7 @@ pub mod NamedFields
 pub mod OneField
 pub mod Parts
 pub mod Resuming
+pub mod Runs
 pub mod SpellingLaws
 pub mod Stages
 pub mod Vectors

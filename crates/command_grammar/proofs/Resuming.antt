@@ -92,22 +92,22 @@ code-more front more bit rest e = ap (λ (t : Choice CommandKind). choice_at t r
 abbrev pub Resumes : CommandKind → Place → List Field → Fields → List Bool → Type 0
 Resumes kind place behind v bits = (rest : List Bool) → all_of (bits ++ rest) ≡ resume kind place behind v (bits ++ rest) rest
 
-pub resumes_none : (kind : CommandKind) (crc5 crc16 : ℕ) (behind : List Field) (v : Fields) → Resumes kind (places.Code fronts.Nothing crc5 crc16) behind v []
+pub resumes_none : (kind : CommandKind) (behind : List Field) (v : Fields) → Resumes kind (places.Code fronts.Nothing) behind v []
 unfolding all_of command_at
-resumes_none kind crc5 crc16 behind v rest = goes (choice_at all_kinds reasons.Code rest) ∙ ap (λ (r : Reading CommandKind). r >>= λ x. run (fields_of x.0) x.0 v rest x.1) (fork-at all_kinds reasons.Code rest refl)
+resumes_none kind behind v rest = goes (choice_at all_kinds reasons.Code rest) ∙ ap (λ (r : Reading CommandKind). r >>= λ x. run (fields_of x.0) x.0 v rest x.1) (fork-at all_kinds reasons.Code rest refl)
   where
     goes : (r : Reading CommandKind) → ((r >>= λ x. fields_at x.0 rest x.1) >>= whole_of) ≡ (r >>= λ x. run (fields_of x.0) x.0 v rest x.1)
     goes (Ok x) = fields_run x.0 v rest x.1
     goes (Err stop) = refl
 
--- ---- with one bit more
+-- ---- with more bits
 
-pub resumes_more : (kind next_kind : CommandKind) (place next_place : Place) (behind next_behind : List Field) (v next_v : Fields) (bits : List Bool) (bit : Bool) → Resumes kind place behind v bits
-    → ((rest : List Bool) → resume kind place behind v ((bits ++ bit ∷ []) ++ rest) (bit ∷ rest) ≡ resume next_kind next_place next_behind next_v ((bits ++ bit ∷ []) ++ rest) rest)
-    → Resumes next_kind next_place next_behind next_v (bits ++ bit ∷ [])
-resumes_more kind next_kind place next_place behind next_behind v next_v bits bit resumes step rest =
-    let same : (bits ++ bit ∷ []) ++ rest ≡ bits ++ bit ∷ rest = append_assoc bits (bit ∷ []) rest in
-    ap all_of same ∙ resumes (bit ∷ rest) ∙ ap (λ (whole : List Bool). resume kind place behind v whole (bit ∷ rest)) (sym same) ∙ step rest
+pub resumes_more : (kind next_kind : CommandKind) (place next_place : Place) (behind next_behind : List Field) (v next_v : Fields) (bits run_bits : List Bool) → Resumes kind place behind v bits
+    → ((rest : List Bool) → resume kind place behind v ((bits ++ run_bits) ++ rest) (run_bits ++ rest) ≡ resume next_kind next_place next_behind next_v ((bits ++ run_bits) ++ rest) rest)
+    → Resumes next_kind next_place next_behind next_v (bits ++ run_bits)
+resumes_more kind next_kind place next_place behind next_behind v next_v bits run_bits resumes step rest =
+    let same : (bits ++ run_bits) ++ rest ≡ bits ++ (run_bits ++ rest) = append_assoc bits run_bits rest in
+    ap all_of same ∙ resumes (run_bits ++ rest) ∙ ap (λ (whole : List Bool). resume kind place behind v whole (run_bits ++ rest)) (sym same) ∙ step rest
 
 -- ---- no state but the last ends with no bits
 
@@ -133,8 +133,8 @@ stage-short (stages.Known reason number) v = refl
 all_here : (kind : CommandKind) (place : Place) (behind : List Field) (v : Fields) (bits : List Bool) → Resumes kind place behind v bits → all_of bits ≡ resume kind place behind v (bits ++ []) []
 all_here kind place behind v bits resumes = ap all_of (sym (append-nil bits)) ∙ resumes []
 
-pub code_short : (kind : CommandKind) (front : CodeFront) (crc5 crc16 : ℕ) (behind : List Field) (v : Fields) (bits : List Bool) → Resumes kind (places.Code front crc5 crc16) behind v bits → all_of bits ≡ Err Short
-code_short kind front crc5 crc16 behind v bits resumes = all_here kind (places.Code front crc5 crc16) behind v bits resumes
+pub code_short : (kind : CommandKind) (front : CodeFront) (behind : List Field) (v : Fields) (bits : List Bool) → Resumes kind (places.Code front) behind v bits → all_of bits ≡ Err Short
+code_short kind front behind v bits resumes = all_here kind (places.Code front) behind v bits resumes
 
 pub within_short : (kind : CommandKind) (stage : Stage) (behind : List Field) (v : Fields) (bits : List Bool) → Resumes kind (places.Within stage) behind v bits → all_of bits ≡ Err Short
 within_short kind stage behind v bits resumes =
@@ -145,7 +145,7 @@ whole_here kind behind v bits resumes = all_here kind places.Whole behind v bits
 
 -- so the bits begin some command, and are few
 pub few_bits : (kind : CommandKind) (place : Place) (behind : List Field) (v : Fields) (bits : List Bool) → Resumes kind place behind v bits → length bits ≤ 4162
-few_bits kind (places.Code front crc5 crc16) behind v bits resumes = length-begins bits (all_short bits (code_short kind front crc5 crc16 behind v bits resumes)).begins
+few_bits kind (places.Code front) behind v bits resumes = length-begins bits (all_short bits (code_short kind front behind v bits resumes)).begins
 few_bits kind (places.Within stage) behind v bits resumes = length-begins bits (all_short bits (within_short kind stage behind v bits resumes)).begins
 few_bits kind places.Whole behind v bits resumes =
     length-begins bits (begun Spellings bits (command_of kind v, all_whole (command_of kind v) bits (whole_here kind behind v bits resumes)))
@@ -163,9 +163,9 @@ whole_spells s bits whole stands =
     let resumes : Resumes s.kind places.Whole s.behind.now s.fields bits = subst (λ (place : Place). Resumes s.kind place s.behind.now s.fields bits) whole stands.reads in
     all_whole (command_of s.kind s.fields) bits (whole_here s.kind s.behind.now s.fields bits resumes)
 
-pub open_short : (s : State) (bits : List Bool) → ((front : CodeFront) × (crc5 : ℕ) × (crc16 : ℕ) × (s.place ≡ places.Code front crc5 crc16)) ⊎ ((stage : Stage) × (s.place ≡ places.Within stage)) → Stands s bits → IsShortAt Spellings bits (length bits)
+pub open_short : (s : State) (bits : List Bool) → ((front : CodeFront) × (s.place ≡ places.Code front)) ⊎ ((stage : Stage) × (s.place ≡ places.Within stage)) → Stands s bits → IsShortAt Spellings bits (length bits)
 open_short s bits (inl code) stands =
-    all_short bits (code_short s.kind code.0 code.1 code.2 s.behind.now s.fields bits (subst (λ (place : Place). Resumes s.kind place s.behind.now s.fields bits) code.3 stands.reads))
+    all_short bits (code_short s.kind code.0 s.behind.now s.fields bits (subst (λ (place : Place). Resumes s.kind place s.behind.now s.fields bits) code.1 stands.reads))
 open_short s bits (inr within) stands =
     all_short bits (within_short s.kind within.0 s.behind.now s.fields bits (subst (λ (place : Place). Resumes s.kind place s.behind.now s.fields bits) within.1 stands.reads))
 
@@ -180,10 +180,21 @@ begins_field (field ∷ behind) default kind v whole bits stage some e =
 -- ---- what comes of one bit more
 
 -- the code goes on
-pub code_goes_on : (s : State) (bits : List Bool) (bit : Bool) (front more : CodeFront) (crc5 crc16 crc5' crc16' : ℕ) → s.place ≡ places.Code front crc5 crc16 → child (behind_code front) bit ≡ behind_code more → Stands s bits → Resumes s.kind (places.Code more crc5' crc16') s.behind.now s.fields (bits ++ bit ∷ [])
-code_goes_on s bits bit front more crc5 crc16 crc5' crc16' here e stands =
-    resumes_more s.kind s.kind (places.Code front crc5 crc16) (places.Code more crc5' crc16') s.behind.now s.behind.now s.fields s.fields bits bit (subst (λ (place : Place). Resumes s.kind place s.behind.now s.fields bits) here stands.reads)
-    (λ rest. ap (λ (r : Reading CommandKind). r >>= λ x. run (fields_of x.0) x.0 s.fields ((bits ++ bit ∷ []) ++ rest) x.1) (code-more front more bit rest e))
+pub code_run : (s : State) (bits run_bits : List Bool) (front more : CodeFront) → s.place ≡ places.Code front → ((rest : List Bool) → next_at (behind_code front) reasons.Code (run_bits ++ rest) ≡ next_at (behind_code more) reasons.Code rest) → Stands s bits
+    → Resumes s.kind (places.Code more) s.behind.now s.fields (bits ++ run_bits)
+code_run s bits run_bits front more here goes stands =
+    resumes_more s.kind s.kind (places.Code front) (places.Code more) s.behind.now s.behind.now s.fields s.fields bits run_bits (subst (λ (place : Place). Resumes s.kind place s.behind.now s.fields bits) here stands.reads)
+    (λ rest. ap (λ (r : Reading CommandKind). r >>= λ x. run (fields_of x.0) x.0 s.fields ((bits ++ run_bits) ++ rest) x.1) (goes rest))
+
+pub code_goes_on : (s : State) (bits : List Bool) (bit : Bool) (front more : CodeFront) → s.place ≡ places.Code front → child (behind_code front) bit ≡ behind_code more → Stands s bits → Resumes s.kind (places.Code more) s.behind.now s.fields (bits ++ bit ∷ [])
+code_goes_on s bits bit front more here e stands = code_run s bits (bit ∷ []) front more here (λ rest. code-more front more bit rest e) stands
+
+-- a field goes on
+pub stage_run : (s : State) (bits run_bits : List Bool) (stage more : Stage) (v : Fields) → s.place ≡ places.Within stage → ((rest : List Bool) → stage_from stage s.fields (run_bits ++ rest) ≡ stage_from more v rest) → Stands s bits
+    → Resumes s.kind (places.Within more) s.behind.now v (bits ++ run_bits)
+stage_run s bits run_bits stage more v here goes stands =
+    resumes_more s.kind s.kind (places.Within stage) (places.Within more) s.behind.now s.behind.now s.fields v bits run_bits (subst (λ (place : Place). Resumes s.kind place s.behind.now s.fields bits) here stands.reads)
+    (λ rest. ap (λ (r : Reading Fields). r >>= λ x. run s.behind.now s.kind x.0 ((bits ++ run_bits) ++ rest) x.1) (goes rest))
 
 -- a refusal at a bit of a list
 pub refused_at : (bits : List Bool) (at : ℕ) (default : Bool) (place : ℕ) (reason : Reason) → at < length bits → place ≡ length (take at bits) → ((rest : List Bool) → all_of (take at bits ++ get_or bits at default ∷ rest) ≡ Err (Bad (length rest + 1) reason))

@@ -1,6 +1,6 @@
 -- Profile: what a contract sees of a Framer, and what reading gives from each of its states for the bits that are still to
 -- come. It keeps no bits but those of a mask and of words; what is pushed behind the first place of refusal changes nothing.
-use Rattle.std.specs.Prelude.{◌≡◌, ℕ, zero, suc, ◌+◌, ◌*◌, ◌/◌, ◌%◌, ◌^◌, ◌<◌, ◌≤◌, Bool, false, List, [], ◌∷◌, ◌++◌, length, Option, Some, None, Result, Ok, Err, ◌==◌, if◌then◌else◌, ◌&&◌}
+use Rattle.std.specs.Prelude.{◌≡◌, ℕ, zero, suc, ◌+◌, ◌*◌, ◌/◌, ◌%◌, ◌^◌, ◌<◌, ◌≤◌, Bool, true, false, List, [], ◌∷◌, ◌++◌, length, Option, Some, None, Result, Ok, Err, ◌==◌, if◌then◌else◌, ◌&&◌}
 use Rattle.bit_strings.specs.Numbers.{digit_of, value_of, field_of}
 use Rattle.gen2_crc.specs.Crc.{crc5_of, RegisterStandsFor}
 use Rattle.command_grammar.specs.Commands.{IsCommandRefusedAt}
@@ -135,6 +135,45 @@ behind_code fronts.Bits11001 = kinds_11001
 behind_code fronts.Bits110010 = child kinds_11001 false
 behind_code fronts.Bits1100100 = child (child kinds_11001 false) false
 
+-- the bits read
+abbrev pub bits_of_front : CodeFront → List Bool
+bits_of_front fronts.Nothing = []
+bits_of_front (fronts.First first) = first ∷ []
+bits_of_front fronts.Bits10 = true ∷ false ∷ []
+bits_of_front (fronts.Third third) = true ∷ false ∷ third ∷ []
+bits_of_front fronts.Bits11 = true ∷ true ∷ []
+bits_of_front fronts.Bits110 = true ∷ true ∷ false ∷ []
+bits_of_front fronts.Bits1100 = true ∷ true ∷ false ∷ false ∷ []
+bits_of_front fronts.Bits11000 = true ∷ true ∷ false ∷ false ∷ false ∷ []
+bits_of_front (fronts.Sixth sixth) = true ∷ true ∷ false ∷ false ∷ false ∷ sixth ∷ []
+bits_of_front (fronts.Seventh sixth seventh) = true ∷ true ∷ false ∷ false ∷ false ∷ sixth ∷ seventh ∷ []
+bits_of_front fronts.Bits11001 = true ∷ true ∷ false ∷ false ∷ true ∷ []
+bits_of_front fronts.Bits110010 = true ∷ true ∷ false ∷ false ∷ true ∷ false ∷ []
+bits_of_front fronts.Bits1100100 = true ∷ true ∷ false ∷ false ∷ true ∷ false ∷ false ∷ []
+
+-- Table 6.18: the code of each command
+abbrev pub code_of : CommandKind → List Bool
+code_of kinds.QueryRep = false ∷ false ∷ []
+code_of kinds.Ack = false ∷ true ∷ []
+code_of kinds.Query = true ∷ false ∷ false ∷ false ∷ []
+code_of kinds.QueryAdjust = true ∷ false ∷ false ∷ true ∷ []
+code_of kinds.Select = true ∷ false ∷ true ∷ false ∷ []
+code_of kinds.Nak = true ∷ true ∷ false ∷ false ∷ false ∷ false ∷ false ∷ false ∷ []
+code_of kinds.ReqRn = true ∷ true ∷ false ∷ false ∷ false ∷ false ∷ false ∷ true ∷ []
+code_of kinds.Read = true ∷ true ∷ false ∷ false ∷ false ∷ false ∷ true ∷ false ∷ []
+code_of kinds.Write = true ∷ true ∷ false ∷ false ∷ false ∷ false ∷ true ∷ true ∷ []
+code_of kinds.Kill = true ∷ true ∷ false ∷ false ∷ false ∷ true ∷ false ∷ false ∷ []
+code_of kinds.Lock = true ∷ true ∷ false ∷ false ∷ false ∷ true ∷ false ∷ true ∷ []
+code_of kinds.Access = true ∷ true ∷ false ∷ false ∷ false ∷ true ∷ true ∷ false ∷ []
+code_of kinds.BlockWrite = true ∷ true ∷ false ∷ false ∷ false ∷ true ∷ true ∷ true ∷ []
+code_of kinds.BlockErase = true ∷ true ∷ false ∷ false ∷ true ∷ false ∷ false ∷ false ∷ []
+
+-- the code's bits are those read and the next one
+abbrev pub KeepsCode : CodeStep → CodeFront → Bool → Type 0
+KeepsCode (steps.More more) front bit = bits_of_front front ++ bit ∷ [] ≡ bits_of_front more
+KeepsCode (steps.Is kind) front bit = bits_of_front front ++ bit ∷ [] ≡ code_of kind
+KeepsCode steps.Refused front bit = Unit {0}
+
 abbrev pub behind_first : {A : Type 0} → Choice A → Option Bool → Choice A
 behind_first t None = t
 behind_first t (Some first) = child t first
@@ -261,6 +300,10 @@ pub record IsFront (width : ℕ) (number : Number) : Type 0 where
   pub rest : read + number.behind + 1 ≡ width
   pub small : number.value < 2 ^ read
 
+-- ... of at most 20 bits, as each number of a field is
+abbrev pub IsSmall : Number → Type 0
+IsSmall number = (width : ℕ) × (width ≤ 20) × IsFront width number
+
 abbrev pub IsSoundNumber : NumberField → Fields → Type 0
 IsSoundNumber number_fields.Session v = Unit {0}
 IsSoundNumber number_fields.Q v = Unit {0}
@@ -334,18 +377,18 @@ AreServed kept (field ∷ behind) = IsAsked kept field × AreServed (kept_behind
 -- ---- all bits
 
 abbrev pub resume : CommandKind → Place → List Field → Fields → List Bool → List Bool → Result Command Stop
-resume kind (places.Code front crc5 crc16) behind v whole bits = next_at (behind_code front) reasons.Code bits >>= λ x. run (fields_of x.0) x.0 v whole x.1
+resume kind (places.Code front) behind v whole bits = next_at (behind_code front) reasons.Code bits >>= λ x. run (fields_of x.0) x.0 v whole x.1
 resume kind (places.Within stage) behind v whole bits = stage_from stage v bits >>= λ x. run behind kind x.0 whole x.1
 resume kind places.Whole behind v whole bits = only_whole (command_of kind v) bits
 
--- in the code both check numbers go along, and behind it that of the command
+-- in the code its bits are known, and behind it the command's check number goes along
 abbrev pub IsCounted : Place → Check → List Bool → Type 0
-IsCounted (places.Code front crc5 crc16) check bits = (crc5 ≡ value_of (crc5_of bits)) × RegisterStandsFor crc16 bits
+IsCounted (places.Code front) check bits = bits ≡ bits_of_front front
 IsCounted (places.Within stage) check bits = Counts check bits
 IsCounted places.Whole check bits = Unit {0}
 
 abbrev pub IsServed : Place → Check → List Field → Type 0
-IsServed (places.Code front crc5 crc16) check behind = Unit {0}
+IsServed (places.Code front) check behind = Unit {0}
 IsServed (places.Within stage) check behind = AreServed (check_kept check) behind
 IsServed places.Whole check behind = Unit {0}
 
@@ -357,12 +400,12 @@ pub record Stands (s : State) (bits : List Bool) : Type 0 where
   pub reads : (rest : List Bool) → all_of (bits ++ rest) ≡ resume s.kind s.place s.behind.now s.fields (bits ++ rest) rest
 
 abbrev pub IsSoundPlace : Place → Fields → Type 0
-IsSoundPlace (places.Code front crc5 crc16) v = Unit {0}
+IsSoundPlace (places.Code front) v = Unit {0}
 IsSoundPlace (places.Within stage) v = IsSound stage v
 IsSoundPlace places.Whole v = Unit {0}
 
 abbrev pub IsEdgePlace : Place → Bool → Type 0
-IsEdgePlace (places.Code front crc5 crc16) bit = Unit {0}
+IsEdgePlace (places.Code front) bit = Unit {0}
 IsEdgePlace (places.Within stage) bit = IsEdge stage bit
 IsEdgePlace places.Whole bit = Unit {0}
 

@@ -1,5 +1,6 @@
 pub mod Commands
 pub mod Framing
+pub mod PartialLists
 pub mod Reading
 pub use Rattle.bit_strings.specs.BitString
 pub use Rattle.bit_strings.specs.Ebv

@@ -2,7 +2,7 @@
 ghost use Rattle.std.specs.Prelude.{◌≡◌, List, Bool, [], ◌∷◌, ◌++◌};
 ghost use Rattle.bit_strings.specs.Numbers.{value_of};
 ghost use Rattle.gen2_crc.specs.Crc.{crc5_of, RegisterStandsFor};
-ghost use Rattle.command_grammar.specs.Framing.{Counts, fields_of, check_kept, kept_behind, AreServed};
+ghost use Rattle.command_grammar.specs.Framing.{Counts, code_of, fields_of, check_kept, kept_behind, AreServed};
 
 use crate::choices::CommandKind;
 use crate::fields::Field;
@@ -20,13 +20,17 @@ pub(crate) enum Check {
 }
 
 impl Check {
-    /// The one that comes in a command of this kind, behind bits with these check numbers.
-    pub(crate) fn of(kind: CommandKind, crc5: Crc5, crc16: Crc16) -> Check
-        ensures counts { (bits : List Bool) → crc5 ≡ value_of (crc5_of bits) → RegisterStandsFor crc16 bits → Counts result bits }
+    /// The one that comes in a command of this kind, behind its code.
+    pub(crate) fn of(kind: CommandKind) -> Check
+        ensures counts { Counts result (code_of kind) }
         ensures serves { AreServed (check_kept result) (fields_of kind) }
     {
         match kind {
-            CommandKind::Query => Check::Short(crc5),
+            CommandKind::Query => {
+                let mut crc = Crc5::new();
+                crc.push_all(kind.code());
+                Check::Short(crc)
+            }
             CommandKind::QueryRep
             | CommandKind::Ack
             | CommandKind::QueryAdjust
@@ -39,7 +43,11 @@ impl Check {
             | CommandKind::Lock
             | CommandKind::Access
             | CommandKind::BlockWrite
-            | CommandKind::BlockErase => Check::Long(crc16),
+            | CommandKind::BlockErase => {
+                let mut crc = Crc16::new();
+                crc.push_all(kind.code());
+                Check::Long(crc)
+            }
         }
     }
 
@@ -52,6 +60,19 @@ impl Check {
         match self {
             Check::Long(crc) => crc.push(bit),
             Check::Short(crc) => crc.push(bit),
+            Check::Over => {}
+        }
+    }
+
+    /// These bits more.
+    #[inline]
+    pub(crate) fn push_all(&mut self, bits: &[bool])
+        ensures counts { (front : List Bool) → Counts self.old front → Counts self.new (front ++ bits.now) }
+        ensures kept { check_kept self.new ≡ check_kept self.old }
+    {
+        match self {
+            Check::Long(crc) => crc.push_all(bits),
+            Check::Short(crc) => crc.push_all(bits),
             Check::Over => {}
         }
     }

@@ -1,6 +1,8 @@
 //! The command codes; and, each in a file of its own, the fields of a few bits whose values have names, read and
 //! written.
-ghost use Rattle.command_grammar.specs.Framing.{IsCodeStep};
+ghost use Rattle.std.specs.Prelude.{◌≡◌, ◌≤◌, ◌++◌, List, Bool, length, take};
+ghost use Rattle.command_grammar.specs.Framing.{IsCodeStep, KeepsCode, behind_code, bits_of_front, code_of, next_at};
+ghost use Rattle.command_grammar.specs.declared.refusal.Reason.TheVariants as Reason;
 
 mod banks;
 mod line_codes;
@@ -67,9 +69,55 @@ pub(crate) enum CodeStep {
     Refused,
 }
 
+impl CommandKind {
+    /// The code of the command (6.3.2.11, Table 6.18).
+    pub(crate) fn code(self) -> &'static [bool]
+        ensures { result.now ≡ code_of self }
+    {
+        match self {
+            CommandKind::QueryRep => &[false, false],
+            CommandKind::Ack => &[false, true],
+            CommandKind::Query => &[true, false, false, false],
+            CommandKind::QueryAdjust => &[true, false, false, true],
+            CommandKind::Select => &[true, false, true, false],
+            CommandKind::Nak => &[true, true, false, false, false, false, false, false],
+            CommandKind::ReqRn => &[true, true, false, false, false, false, false, true],
+            CommandKind::Read => &[true, true, false, false, false, false, true, false],
+            CommandKind::Write => &[true, true, false, false, false, false, true, true],
+            CommandKind::Kill => &[true, true, false, false, false, true, false, false],
+            CommandKind::Lock => &[true, true, false, false, false, true, false, true],
+            CommandKind::Access => &[true, true, false, false, false, true, true, false],
+            CommandKind::BlockWrite => &[true, true, false, false, false, true, true, true],
+            CommandKind::BlockErase => &[true, true, false, false, true, false, false, false],
+        }
+    }
+}
+
+impl CodeFront {
+    /// The bits with which these begin and with which some codes go on: gives how many.
+    #[inline]
+    pub(crate) fn take_run(&mut self, bits: &[bool]) -> usize
+        ensures within { result ≤ length bits.now }
+        ensures reads { (rest : List Bool) → next_at (behind_code self.old) Reason.Code (take result bits.now ++ rest) ≡ next_at (behind_code self.new) Reason.Code rest }
+        ensures keeps { bits_of_front self.new ≡ bits_of_front self.old ++ take result bits.now }
+    {
+        let mut count = 0;
+        for bit in bits {
+            let CodeStep::More(more) = code_step(*self, *bit) else {
+                return count;
+            };
+            *self = more;
+            count += 1;
+        }
+        count
+    }
+}
+
 /// The code with its next bit.
+#[inline]
 pub(crate) fn code_step(front: CodeFront, bit: bool) -> CodeStep
-    ensures { IsCodeStep result front bit }
+    ensures says { IsCodeStep result front bit }
+    ensures keeps { KeepsCode result front bit }
 {
     match (front, bit) {
         (CodeFront::Nothing, first) => CodeStep::More(CodeFront::First(first)),

@@ -3,9 +3,9 @@ ghost use Rattle.std.specs.Prelude.{◌≡◌, ◌≢◌, ◌^◌, ◌<◌, ◌�
 ghost use Rattle.command_grammar.specs.Framing.{fields_of, command_of};
 
 use crate::choices::CommandKind;
-use crate::command_lists::{BlockWords, Mask};
 use crate::commands::Command;
 use crate::field_values::{Bank, FlagName, MaskBank, Sel, Side, UpDn};
+use crate::partial_lists::{PartialMask, PartialWords};
 use bit_strings::{Action, Code, Count1, Payload, Pointer, QValue, Session};
 
 /// A field behind the code of a command.
@@ -141,10 +141,10 @@ pub(crate) struct Fields {
     pub(crate) action: Action,
     pub(crate) mask_bank: MaskBank,
     pub(crate) pointer: Pointer,
-    pub(crate) mask: Mask,
+    pub(crate) mask: PartialMask,
     pub(crate) bank: Bank,
     pub(crate) count: u8,
-    pub(crate) words: BlockWords,
+    pub(crate) words: PartialWords,
     pub(crate) word_count: Count1,
     pub(crate) covered: u16,
     pub(crate) payload: Payload,
@@ -153,6 +153,7 @@ pub(crate) struct Fields {
 
 impl Fields {
     /// No field was read.
+    #[inline(always)]
     pub(crate) fn new() -> Fields {
         Fields {
             dr: false,
@@ -167,10 +168,10 @@ impl Fields {
             action: action_of(0),
             mask_bank: MaskBank::Epc,
             pointer: pointer_of(0),
-            mask: Mask::new(),
+            mask: PartialMask::new(),
             bank: Bank::Reserved,
             count: 0,
-            words: BlockWords::first(0),
+            words: PartialWords::new(),
             word_count: count_of(1),
             covered: 0,
             payload: payload_of(0),
@@ -179,6 +180,7 @@ impl Fields {
     }
 
     /// The command whose fields were all read.
+    #[inline(always)]
     pub(crate) fn command(self, kind: CommandKind) -> Command
         ensures { result ≡ command_of kind self }
     {
@@ -205,7 +207,7 @@ impl Fields {
                 action: self.action,
                 bank: self.mask_bank,
                 pointer: self.pointer,
-                mask: self.mask,
+                mask: self.mask.whole(),
             },
             CommandKind::Nak => Command::Nak,
             CommandKind::ReqRn => Command::ReqRn { rn: self.rn },
@@ -236,7 +238,7 @@ impl Fields {
             CommandKind::BlockWrite => Command::BlockWrite {
                 bank: self.bank,
                 pointer: self.pointer,
-                words: self.words,
+                words: self.words.whole(),
                 rn: self.rn,
             },
             CommandKind::BlockErase => Command::BlockErase {

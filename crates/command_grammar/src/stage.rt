@@ -1,7 +1,7 @@
 //! The field of a command that is being read.
-ghost use Rattle.std.specs.Prelude.{◌≡◌, ◌+◌, ◌*◌, ◌≤◌, ◌<◌, ◌^◌, ◌∷◌, ◌++◌, ℕ, List, Bool, length, Some, IsTrue, IsFalse};
+ghost use Rattle.std.specs.Prelude.{◌≡◌, ◌+◌, ◌*◌, ◌≤◌, ◌<◌, ◌^◌, ◌∷◌, ◌++◌, ℕ, List, Bool, false, length, take, get_or};
 ghost use Rattle.bit_strings.specs.Numbers.{digit_of};
-ghost use Rattle.command_grammar.specs.Framing.{number_from, IsFront, stage_from, next_from, field_from, pair_from, triple_from, bit_from, number_then, words_then, block_then, IsBefore, IsSound, IsSoundNumber, IsSoundNext, IsEdge, next_bit, width_of, Counts, IsAsked, check_kept};
+ghost use Rattle.command_grammar.specs.Framing.{number_from, IsFront, stage_from, next_from, field_from, pair_from, triple_from, bit_from, number_then, words_then, block_then, IsBefore, IsSound, IsSoundNumber, IsSoundNext, IsEdge, IsSmall, next_bit, width_of, Counts, IsAsked, check_kept};
 ghost use Rattle.command_grammar.specs.declared.fields.Fields.{Fields};
 ghost use Rattle.command_grammar.specs.declared.stage.NumberField.TheVariants.{Digit};
 ghost use Rattle.command_grammar.specs.declared.stage.Stage.TheVariants as stages;
@@ -9,8 +9,8 @@ ghost use Rattle.command_grammar.specs.declared.refusal.Reason.{Reason};
 
 use crate::check::Check;
 use crate::choices::{bank, line_code, mask_bank, sel, side, target, updn};
-use crate::command_lists::{BlockWords, Mask};
 use crate::fields::{Field, Fields, action_of, count_of, payload_of, pointer_of, q_of, session_of};
+use crate::partial_lists::{PartialMask, PartialWords};
 use crate::refusal::Reason;
 
 /// The bits of a number that were read before its next one.
@@ -35,22 +35,21 @@ impl Number {
         }
     }
 
-    /// One bit more, behind which others come. The last bit isn't taken: that is `false`, and nothing
-    /// changes.
+    /// The bits with which these begin, up to the last bit of the number, which isn't taken: gives how many.
     #[inline]
-    fn take_inside(&mut self, bit: bool) -> bool
-        requires { self.old.value < 2 ^ 30 }
-        ensures reads { IsTrue result → (rest : List Bool) → number_from self.old.behind self.old.value (bit ∷ rest) ≡ number_from self.new.behind self.new.value rest }
-        ensures fits { IsTrue result → (width : ℕ) → IsFront width self.old → IsFront width self.new }
-        ensures last { IsFalse result → self.old.behind ≡ 0 }
-        ensures same { IsFalse result → self.new ≡ self.old }
+    fn take_run(&mut self, bits: &[bool]) -> usize
+        requires { IsSmall self.old }
+        ensures within { result ≤ length bits.now }
+        ensures reads { (rest : List Bool) → number_from self.old.behind self.old.value (take result bits.now ++ rest) ≡ number_from self.new.behind self.new.value rest }
+        ensures fits { (width : ℕ) → IsFront width self.old → IsFront width self.new }
+        ensures last { result < length bits.now → self.new.behind ≡ 0 }
     {
-        if self.behind == 0 {
-            return false;
+        let count = bits.len().min(self.behind as usize);
+        for bit in &bits[..count] {
+            self.value = self.with(*bit);
         }
-        self.behind -= 1;
-        self.value = self.with(bit);
-        true
+        self.behind -= count as u32;
+        count
     }
 
     /// The number with one bit more behind those read.
@@ -71,24 +70,25 @@ impl Number {
         (self.value >> self.behind) % 2 == 1
     }
 
-    /// The next bit of a number that is known, behind which others come. The last bit isn't taken, nor one
-    /// that differs: that is `false`, and nothing changes.
+    /// The bits of a number that is known with which these begin, up to its last bit, which isn't taken, nor
+    /// is one that differs: gives how many.
     #[inline]
-    fn pass_inside(&mut self, bit: bool) -> bool
+    fn pass_run(&mut self, bits: &[bool]) -> usize
         requires { self.old.behind ≤ 15 }
-        ensures reads { IsTrue result → (reason : Reason) (fields : Fields) (rest : List Bool) → stage_from (stages.Known reason self.old) fields (bit ∷ rest) ≡ stage_from (stages.Known reason self.new) fields rest }
+        ensures within { result ≤ length bits.now }
+        ensures reads { (reason : Reason) (fields : Fields) (rest : List Bool) → stage_from (stages.Known reason self.old) fields (take result bits.now ++ rest) ≡ stage_from (stages.Known reason self.new) fields rest }
         ensures few { self.new.behind ≤ self.old.behind }
-        ensures last { IsFalse result → bit ≡ next_bit self.old → self.old.behind ≡ 0 }
-        ensures same { IsFalse result → self.new ≡ self.old }
+        ensures last { result < length bits.now → get_or bits.now result false ≡ next_bit self.new → self.new.behind ≡ 0 }
     {
-        if self.behind == 0 {
-            return false;
+        let mut count = 0;
+        for bit in bits {
+            if self.behind == 0 || *bit != self.next() {
+                return count;
+            }
+            self.behind -= 1;
+            count += 1;
         }
-        if bit != self.next() {
-            return false;
-        }
-        self.behind -= 1;
-        true
+        count
     }
 }
 
@@ -230,27 +230,25 @@ impl Stage {
         }
     }
 
-    /// One bit more inside a number, a mask or bits that are known, as most are. The last bit of these isn't
-    /// taken, nor one that differs from the known one, nor one elsewhere: that is `false`, and nothing
-    /// changes.
+    /// The bits with which these begin inside a number, a mask or bits that are known, as most are: gives how
+    /// many. The last bit of these isn't taken, nor one that differs from the known one, nor one elsewhere.
     #[inline(always)]
-    pub(crate) fn take_inside(&mut self, bit: bool, fields: &mut Fields) -> bool
+    pub(crate) fn take_run(&mut self, bits: &[bool], fields: &mut Fields) -> usize
         requires { IsSound self.old fields.old }
-        ensures reads { IsTrue result → (rest : List Bool) → stage_from self.old fields.old (bit ∷ rest) ≡ stage_from self.new fields.new rest }
-        ensures sound { IsTrue result → IsSound self.new fields.new }
-        ensures edge { IsFalse result → IsEdge self.old bit }
-        ensures same { IsFalse result → self.new ≡ self.old }
-        ensures fields { IsFalse result → fields.new ≡ fields.old }
+        ensures within { result ≤ length bits.now }
+        ensures reads { (rest : List Bool) → stage_from self.old fields.old (take result bits.now ++ rest) ≡ stage_from self.new fields.new rest }
+        ensures sound { IsSound self.new fields.new }
+        ensures edge { result < length bits.now → IsEdge self.new (get_or bits.now result false) }
     {
         match self {
-            Stage::Number(_, number) => number.take_inside(bit),
-            Stage::Known(_, wanted) => wanted.pass_inside(bit),
-            Stage::Mask(behind) => mask_inside(behind, bit, fields),
-            Stage::Bit(_) | Stage::Pair(..) | Stage::Triple(..) | Stage::Extension(..) => false,
+            Stage::Number(_, number) => number.take_run(bits),
+            Stage::Known(_, wanted) => wanted.pass_run(bits),
+            Stage::Mask(behind) => mask_run(behind, bits, fields),
+            Stage::Bit(_) | Stage::Pair(..) | Stage::Triple(..) | Stage::Extension(..) => 0,
         }
     }
 
-    /// One bit more, of those that `take_inside` doesn't take.
+    /// One bit more, of those that `take_run` doesn't take.
     pub(crate) fn take(self, bit: bool, fields: &mut Fields) -> Next
         requires sound { IsSound self fields.old }
         requires edge { IsEdge self bit }
@@ -376,7 +374,7 @@ fn take_number(field: NumberField, value: u32, fields: &mut Fields) -> Next
             Next::Done
         }
         NumberField::MaskLength => {
-            fields.mask = Mask::new();
+            fields.mask = PartialMask::new();
             if value == 0 {
                 return Next::Done;
             }
@@ -389,7 +387,7 @@ fn take_number(field: NumberField, value: u32, fields: &mut Fields) -> Next
             Next::Stay(Stage::Number(NumberField::FirstWord(value - 1), Number::of(16)))
         }
         NumberField::FirstWord(left) => {
-            fields.words = BlockWords::first(value as u16);
+            fields.words = PartialWords::first(value as u16);
             next_word(left)
         }
         NumberField::Word(left) => {
@@ -464,23 +462,21 @@ fn take_extension(block: Block, value: u32, bit: bool) -> Next
     }
 }
 
-/// A bit of a mask, behind which so many come. The last bit isn't taken: that is `false`, and nothing
-/// changes.
+/// The bits of a mask with which these begin, up to its last bit, which isn't taken: gives how many.
 #[inline]
-fn mask_inside(behind: &mut u32, bit: bool, fields: &mut Fields) -> bool
+fn mask_run(behind: &mut u32, bits: &[bool], fields: &mut Fields) -> usize
     requires { length fields.old.mask + behind.old + 1 ≤ 255 }
-    ensures reads { IsTrue result → (rest : List Bool) → stage_from (stages.Mask behind.old) fields.old (bit ∷ rest) ≡ stage_from (stages.Mask behind.new) fields.new rest }
-    ensures sound { IsTrue result → length fields.new.mask + behind.new + 1 ≤ 255 }
-    ensures last { IsFalse result → behind.old ≡ 0 }
-    ensures same { IsFalse result → behind.new ≡ behind.old }
-    ensures fields { IsFalse result → fields.new ≡ fields.old }
+    ensures within { result ≤ length bits.now }
+    ensures reads { (rest : List Bool) → stage_from (stages.Mask behind.old) fields.old (take result bits.now ++ rest) ≡ stage_from (stages.Mask behind.new) fields.new rest }
+    ensures sound { length fields.new.mask + behind.new + 1 ≤ 255 }
+    ensures last { result < length bits.now → behind.new ≡ 0 }
 {
-    if *behind == 0 {
-        return false;
+    let count = bits.len().min(*behind as usize);
+    for bit in &bits[..count] {
+        fields.mask.add(*bit);
     }
-    fields.mask.add(bit);
-    *behind -= 1;
-    true
+    *behind -= count as u32;
+    count
 }
 
 /// The last of the bits that are known, or another bit.

@@ -1,5 +1,5 @@
 //! What was read of a command.
-ghost use Rattle.std.specs.Prelude.{◌≡◌, ◌++◌, ◌∷◌, [], List, Bool, Ok, None, IsTrue, IsFalse};
+ghost use Rattle.std.specs.Prelude.{◌≡◌, ◌<◌, ◌≤◌, ◌++◌, ◌∷◌, [], List, Bool, false, Ok, None, length, take, get_or};
 ghost use Rattle.command_grammar.specs.Commands.{Judges, IsFinishAnswer, SpellsCommand};
 ghost use Rattle.command_grammar.specs.Framing.{Stands, Counts, IsCounted, AreServed, IsServed, check_kept, IsEdgePlace, IsSoundPlace, IsOpen, Goes, refusal_in, resume, run};
 ghost use Rattle.command_grammar.specs.declared.commands.Command.{Command};
@@ -10,15 +10,14 @@ use crate::commands::Command;
 use crate::fields::{Field, Fields};
 use crate::refusal::{CommandRefusal, Pushed, Reason};
 use crate::stage::{Next, Stage};
-use gen2_crc::{Crc5, Crc16};
 
 /// Where the next bit stands.
 #[derive(Clone, Copy)]
 pub(crate) enum Place {
     /// In a field.
     Within(Stage),
-    /// In the command code. Which check number the command has isn't known yet.
-    Code(CodeFront, Crc5, Crc16),
+    /// In the command code.
+    Code(CodeFront),
     /// Behind the command.
     Whole,
 }
@@ -49,7 +48,7 @@ impl State {
             pushed: 0,
             kind: CommandKind::Nak,
             check: Check::Over,
-            place: Place::Code(CodeFront::Nothing, Crc5::new(), Crc16::new()),
+            place: Place::Code(CodeFront::Nothing),
             behind: &[],
             fields: Fields::new(),
         }
@@ -62,37 +61,42 @@ impl State {
         ensures goes { (bits : List Bool) → Stands self.old bits → Goes result self.new bits bit }
         ensures sound { result ≡ None → IsSoundPlace self.new.place self.new.fields }
     {
-        if self.take_inside(bit) {
+        if self.take_run(&[bit]) == 1 {
             return None;
         }
         self.take_edge(bit)
     }
 
-    /// Stands for one bit more inside a field, as most bits are. Another bit isn't taken: that is `false`,
-    /// and nothing changes.
+    /// Stands for the bits more with which these begin inside a field, as most bits are: gives how many. The
+    /// bit behind them isn't taken.
     #[inline(always)]
-    fn take_inside(&mut self, bit: bool) -> bool
+    pub(crate) fn take_run(&mut self, bits: &[bool]) -> usize
         requires { IsOpen self.old None }
-        ensures stands { IsTrue result → (bits : List Bool) → Stands self.old bits → Stands self.new (bits ++ bit ∷ []) }
-        ensures sound { IsTrue result → IsSoundPlace self.new.place self.new.fields }
-        ensures edge { IsFalse result → IsEdgePlace self.old.place bit }
-        ensures same { IsFalse result → self.new ≡ self.old }
+        ensures within { result ≤ length bits.now }
+        ensures stands { (front : List Bool) → Stands self.old front → Stands self.new (front ++ take result bits.now) }
+        ensures sound { IsSoundPlace self.new.place self.new.fields }
+        ensures edge { result < length bits.now → IsEdgePlace self.new.place (get_or bits.now result false) }
     {
-        let Place::Within(stage) = &mut self.place else {
-            return false;
-        };
-        if !stage.take_inside(bit, &mut self.fields) {
-            return false;
+        match &mut self.place {
+            Place::Within(stage) => {
+                let count = stage.take_run(bits, &mut self.fields);
+                self.check.push_all(&bits[..count]);
+                self.pushed += count as u32;
+                count
+            }
+            Place::Code(front) => {
+                let count = front.take_run(bits);
+                self.pushed += count as u32;
+                count
+            }
+            Place::Whole => 0,
         }
-        self.check.push(bit);
-        self.pushed += 1;
-        true
     }
 
-    /// Stands for one bit more, of those that `take_inside` doesn't take, or says why no command goes on
-    /// with it.
+    /// Stands for one bit more, of those that `take_run` doesn't take, or says why no command goes on with
+    /// it.
     #[inline(never)]
-    fn take_edge(&mut self, bit: bool) -> Option<Reason>
+    pub(crate) fn take_edge(&mut self, bit: bool) -> Option<Reason>
         requires open { IsOpen self.old None }
         requires edge { IsEdgePlace self.old.place bit }
         ensures goes { (bits : List Bool) → Stands self.old bits → Goes result self.new bits bit }
@@ -108,20 +112,16 @@ impl State {
                     Next::Refused(reason) => return Some(reason),
                 }
             }
-            Place::Code(front, crc5, crc16) => {
-                crc5.push(bit);
-                crc16.push(bit);
-                match code_step(*front, bit) {
-                    CodeStep::More(more) => *front = more,
-                    CodeStep::Is(kind) => {
-                        self.kind = kind;
-                        self.check = Check::of(kind, *crc5, *crc16);
-                        self.behind = kind.fields();
-                        self.begin();
-                    }
-                    CodeStep::Refused => return Some(Reason::Code),
+            Place::Code(front) => match code_step(*front, bit) {
+                CodeStep::More(more) => *front = more,
+                CodeStep::Is(kind) => {
+                    self.kind = kind;
+                    self.check = Check::of(kind);
+                    self.behind = kind.fields();
+                    self.begin();
                 }
-            }
+                CodeStep::Refused => return Some(Reason::Code),
+            },
             Place::Whole => return Some(Reason::Extra),
         }
         None
@@ -153,7 +153,7 @@ impl State {
     {
         match self.place {
             Place::Whole => Pushed::Whole,
-            Place::Code(..) | Place::Within(_) => Pushed::More,
+            Place::Code(_) | Place::Within(_) => Pushed::More,
         }
     }
 
@@ -164,7 +164,7 @@ impl State {
     {
         match self.place {
             Place::Whole => Ok(self.fields.command(self.kind)),
-            Place::Code(..) | Place::Within(_) => Err(CommandRefusal::Short(self.pushed)),
+            Place::Code(_) | Place::Within(_) => Err(CommandRefusal::Short(self.pushed)),
         }
     }
 }

@@ -1,12 +1,12 @@
 -- The number in a register and the list of its bits.
-use Rattle.std.proofs.Common.{◌≡◌, ℕ, zero, suc, ◌+◌, ◌-◌, ◌*◌, ◌/◌, ◌%◌, ◌^◌, ◌<◌, ◌≤◌, Bool, true, false, not, List, [], ◌∷◌, ◌++◌, length, take, get_or, replicate, refl, sym, ◌∙◌, ap, subst, inl, inr, arith, leb}
+use Rattle.std.proofs.Common.{◌≡◌, ℕ, zero, suc, ◌+◌, ◌-◌, ◌*◌, ◌/◌, ◌%◌, ◌^◌, ◌<◌, Bool, true, false, not, List, [], ◌∷◌, ◌++◌, length, replicate, refl, sym, ◌∙◌, ap, inl, inr, arith, leb}
 use Rattle.std.specs.Prelude.{bit_xor, ◌==◌, map}
 use Rattle.std.proofs.Math.Nat.{pow-suc}
 use Rattle.std.proofs.lemmas.Bool.{cases_lt, le-leb, lt-leb, eq-eqb, ne_eqb}
 use mathlib.Core.Bool.{beq}
 use Rattle.std.proofs.lemmas.Nat.{xor_lt, shr-shr}
 use Rattle.std.proofs.lemmas.Nat.Bits.{bit_at_xor}
-use Rattle.std.proofs.lemmas.List.{take_more, take_all, length-map}
+use Rattle.std.proofs.lemmas.List.{length-map}
 use Rattle.bit_strings.specs.Numbers.{value_of, field_of}
 use Rattle.bit_strings.specs.NumberLaws.{value_of-field, field_of-value_of, field_of-mod, same_from_value}
 use Rattle.gen2_crc.specs.Crc.{differ, minus, divide, remainder_of, others5, preset5, others16, preset16, crc5_of, register_of, crc16_of, residue, RegisterStandsFor}
@@ -162,13 +162,6 @@ pub stands_residue : (register : ℕ) (bits : List Bool) → RegisterStandsFor r
 stands_residue register bits stands =
     (λ same. same_from_value (register_of bits) residue (length-register_of bits) (sym stands.is_remainder ∙ same), λ same. stands.is_remainder ∙ ap value_of same)
 
--- the loop's step
-pub stands_next : (bits : List Bool) (i register result : ℕ) → i < length bits → RegisterStandsFor register (take i bits) → ((front : List Bool) → RegisterStandsFor register front → RegisterStandsFor result (front ++ get_or bits i false ∷ [])) → RegisterStandsFor result (take (i + 1) bits)
-stands_next bits i register result within stands push = subst (RegisterStandsFor result) (sym (take_more bits i false within)) (push (take i bits) stands)
-
-pub stands_all : (bits : List Bool) (i register : ℕ) → length bits ≤ i → RegisterStandsFor register (take i bits) → RegisterStandsFor register bits
-stands_all bits i register past stands = subst (RegisterStandsFor register) (take_all i bits past) stands
-
 -- the register of CRC-5
 pub crc5_of-none : 9 ≡ value_of (crc5_of [])
 unfolding crc5_of divide
@@ -181,9 +174,3 @@ crc5_more register result bits bit fits so_far step =
     ap (λ n. field_of n 5) so_far ∙ ap (λ w. field_of (value_of (crc5_of bits)) w) (sym (length-crc5_of bits)) ∙ field_of-value_of (crc5_of bits) in
     let more : crc5_of (bits ++ bit ∷ []) ≡ remainder_of (crc5_of bits) others5 (bit ∷ []) = remainder_of-append preset5 others5 bits (bit ∷ []) (omega arith) (omega arith) in
     sym (value_of-field result 5 fits) ∙ ap value_of (step ∙ ap (λ (r : List Bool). remainder_of r others5 (bit ∷ [])) held ∙ sym more)
-
-pub crc5_next : (bits : List Bool) (i register result : ℕ) → i < length bits → register ≡ value_of (crc5_of (take i bits)) → ((front : List Bool) → register ≡ value_of (crc5_of front) → result ≡ value_of (crc5_of (front ++ get_or bits i false ∷ []))) → result ≡ value_of (crc5_of (take (i + 1) bits))
-crc5_next bits i register result within so_far push = push (take i bits) so_far ∙ ap (λ (l : List Bool). value_of (crc5_of l)) (sym (take_more bits i false within))
-
-pub crc5_all : (bits : List Bool) (i register : ℕ) → length bits ≤ i → register ≡ value_of (crc5_of (take i bits)) → register ≡ value_of (crc5_of bits)
-crc5_all bits i register past so_far = so_far ∙ ap (λ (b : List Bool). value_of (crc5_of b)) (take_all i bits past)

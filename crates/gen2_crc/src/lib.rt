@@ -29,9 +29,7 @@ pub fn crc5_of_bits(bits: &[bool]) -> u8
     ensures { result ≡ value_of (crc5_of bits.now) }
 {
     let mut crc = Crc5::new();
-    for bit in bits {
-        crc.push(*bit);
-    }
+    crc.push_all(bits);
     crc.value()
 }
 
@@ -48,9 +46,7 @@ pub fn crc16_of_bits(bits: &[bool]) -> u16
     ensures { result ≡ value_of (crc16_of bits.now) }
 {
     let mut crc = Crc16::new();
-    for bit in bits {
-        crc.push(*bit);
-    }
+    crc.push_all(bits);
     crc.value()
 }
 
@@ -61,8 +57,6 @@ pub fn residue_ok(bits: &Bits) -> bool
     ensures message { (front last : List Bool) → bits.now.items ≡ front ++ last → length last ≡ 16 → (IsTrue result ↔ (last ≡ crc16_of front)) }
 {
     let mut crc = Crc16::new();
-    for bit in bits.as_slice() {
-        crc.push(*bit);
-    }
+    crc.push_all(bits.as_slice());
     crc.is_residue()
 }

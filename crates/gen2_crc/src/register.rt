@@ -57,6 +57,15 @@ impl Crc16 {
         self.register = shifted16(self.register, bit);
     }
 
+    /// Stands for these bits more.
+    pub fn push_all(&mut self, bits: &[bool])
+        ensures { (front : List Bool) → RegisterStandsFor self.old front → RegisterStandsFor self.new (front ++ bits.now) }
+    {
+        for bit in bits {
+            self.push(*bit);
+        }
+    }
+
     /// The CRC-16 of the bits.
     pub fn value(&self) -> u16
         ensures { (bits : List Bool) → RegisterStandsFor self.now bits → result ≡ value_of (crc16_of bits) }

@@ -54,6 +54,15 @@ impl Crc5 {
         self.register = shifted5(self.register, bit);
     }
 
+    /// Stands for these bits more.
+    pub fn push_all(&mut self, bits: &[bool])
+        ensures { (front : List Bool) → self.old ≡ value_of (crc5_of front) → self.new ≡ value_of (crc5_of (front ++ bits.now)) }
+    {
+        for bit in bits {
+            self.push(*bit);
+        }
+    }
+
     /// The CRC-5 of the bits, a number below 32.
     pub fn value(&self) -> u8
         ensures register { result ≡ self.now }

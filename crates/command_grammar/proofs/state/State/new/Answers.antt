@@ -4,4 +4,4 @@ use Rattle.command_grammar.proofs.Resuming.{resumes_none}
 use Rattle.command_grammar.proofs.state.State.new.Goals as goal
 
 pub returns-clause-stands : goal.returns-clause-stands
-returns-clause-stands c = record { count = refl; counted = (c.new.ensures, c.new-2.ensures); served = tt; reads = resumes_none kinds.Nak c.new.result c.new-2.result [] c.new-3.result }
+returns-clause-stands c = record { count = refl; counted = refl; served = tt; reads = resumes_none kinds.Nak [] c.new.result }

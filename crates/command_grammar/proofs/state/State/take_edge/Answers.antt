@@ -1,4 +1,4 @@
-use Rattle.std.proofs.Common.{◌∷◌, [], arith, length-append, subst}
+use Rattle.std.proofs.Common.{◌∷◌, ◌++◌, ◌∙◌, [], Bool, List, ap, arith, length-append, subst}
 use Rattle.command_grammar.specs.declared.state.Place.{Place}
 use Rattle.command_grammar.specs.Framing.{IsCounted}
 use Rattle.command_grammar.proofs.Resuming.{few_bits, code_goes_on}
@@ -9,10 +9,9 @@ overflow_add-self c = omega (arith, c.requires.open.2.count, few_bits c.args.sel
 
 pub returns-in-More-clause-goes : goal.returns-in-More-clause-goes
 returns-in-More-clause-goes c = λ bits stands.
-    let counted = subst (λ (place : Place). IsCounted place c.args.self.now.check bits) c.in-Code.is stands.counted in
     record {
       count = omega (arith, stands.count, length-append bits (c.args.bit ∷ []));
-      counted = (c.push-in-Code.ensures bits counted.0, c.push-in-Code-2.ensures bits counted.1);
+      counted = ap (λ (l : List Bool). l ++ c.args.bit ∷ []) (subst (λ (place : Place). IsCounted place c.args.self.now.check bits) c.in-Code.is stands.counted) ∙ c.in-More.ensures.keeps;
       served = tt;
-      reads = code_goes_on c.args.self.now bits c.args.bit c.in-Code.front c.in-More.more c.in-Code.crc5 c.in-Code.crc16 c.push-in-Code.new.self c.push-in-Code-2.new.self c.in-Code.is c.in-More.ensures stands;
+      reads = code_goes_on c.args.self.now bits c.args.bit c.in-Code.front c.in-More.more c.in-Code.is c.in-More.ensures.says stands;
     }
