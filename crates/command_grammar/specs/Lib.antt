@@ -2,6 +2,7 @@ pub mod Commands
 pub mod Framing
 pub mod PartialLists
 pub mod Reading
+pub mod Writing
 pub use Rattle.bit_strings.specs.BitString
 pub use Rattle.bit_strings.specs.Ebv
 pub use Rattle.bit_strings.specs.Family

@@ -1,4 +1,19 @@
-//! The commands.
+//! The commands; and, each in a file of its own, the fields behind its code and how it is written.
+
+pub(crate) mod access;
+pub(crate) mod ack;
+pub(crate) mod block_erase;
+pub(crate) mod block_write;
+pub(crate) mod kill;
+pub(crate) mod lock;
+pub(crate) mod nak;
+pub(crate) mod query;
+pub(crate) mod query_adjust;
+pub(crate) mod query_rep;
+pub(crate) mod read;
+pub(crate) mod req_rn;
+pub(crate) mod select;
+pub(crate) mod write;
 
 use crate::command_lists::{BlockWords, Mask};
 use crate::field_values::{Bank, FlagName, MaskBank, Sel, Side, UpDn};

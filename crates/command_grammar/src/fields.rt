@@ -3,7 +3,10 @@ ghost use Rattle.std.specs.Prelude.{◌≡◌, ◌≢◌, ◌^◌, ◌<◌, ◌�
 ghost use Rattle.command_grammar.specs.Framing.{fields_of, command_of};
 
 use crate::choices::CommandKind;
-use crate::commands::Command;
+use crate::commands::{
+    Command, access, ack, block_erase, block_write, kill, lock, nak, query, query_adjust,
+    query_rep, read, req_rn, select, write,
+};
 use crate::field_values::{Bank, FlagName, MaskBank, Sel, Side, UpDn};
 use crate::partial_lists::{PartialMask, PartialWords};
 use bit_strings::{Action, Code, Count1, Payload, Pointer, QValue, Session};
@@ -67,61 +70,20 @@ impl CommandKind {
         ensures { result.now ≡ fields_of self }
     {
         match self {
-            CommandKind::QueryRep => &[Field::Session],
-            CommandKind::Ack => &[Field::Rn],
-            CommandKind::Query => &[
-                Field::Dr,
-                Field::LineCode,
-                Field::Pilot,
-                Field::Sel,
-                Field::Session,
-                Field::Side,
-                Field::Q,
-                Field::Crc5,
-            ],
-            CommandKind::QueryAdjust => &[Field::Session, Field::UpDn],
-            CommandKind::Select => &[
-                Field::Target,
-                Field::Action,
-                Field::MaskBank,
-                Field::Pointer,
-                Field::Mask,
-                Field::Truncate,
-                Field::Crc16,
-            ],
-            CommandKind::Nak => &[],
-            CommandKind::ReqRn => &[Field::Rn, Field::Crc16],
-            CommandKind::Read => &[
-                Field::Bank,
-                Field::Pointer,
-                Field::Count,
-                Field::Rn,
-                Field::Crc16,
-            ],
-            CommandKind::Write => &[
-                Field::Bank,
-                Field::Pointer,
-                Field::Covered,
-                Field::Rn,
-                Field::Crc16,
-            ],
-            CommandKind::Kill => &[Field::Covered, Field::KillBits, Field::Rn, Field::Crc16],
-            CommandKind::Lock => &[Field::Payload, Field::Rn, Field::Crc16],
-            CommandKind::Access => &[Field::Covered, Field::Rn, Field::Crc16],
-            CommandKind::BlockWrite => &[
-                Field::Bank,
-                Field::Pointer,
-                Field::Words,
-                Field::Rn,
-                Field::Crc16,
-            ],
-            CommandKind::BlockErase => &[
-                Field::Bank,
-                Field::Pointer,
-                Field::WordCount,
-                Field::Rn,
-                Field::Crc16,
-            ],
+            CommandKind::QueryRep => query_rep::FIELDS,
+            CommandKind::Ack => ack::FIELDS,
+            CommandKind::Query => query::FIELDS,
+            CommandKind::QueryAdjust => query_adjust::FIELDS,
+            CommandKind::Select => select::FIELDS,
+            CommandKind::Nak => nak::FIELDS,
+            CommandKind::ReqRn => req_rn::FIELDS,
+            CommandKind::Read => read::FIELDS,
+            CommandKind::Write => write::FIELDS,
+            CommandKind::Kill => kill::FIELDS,
+            CommandKind::Lock => lock::FIELDS,
+            CommandKind::Access => access::FIELDS,
+            CommandKind::BlockWrite => block_write::FIELDS,
+            CommandKind::BlockErase => block_erase::FIELDS,
         }
     }
 }

@@ -16,6 +16,7 @@ mod refusal;
 mod spelling;
 mod stage;
 mod state;
+mod writing;
 
 pub use bit_strings::{Action, Code, Count1, Payload, Pointer, QValue, Session};
 pub use command_lists::{BlockWords, Mask};

@@ -3,7 +3,7 @@ use Rattle.bit_strings.specs.Numbers.{value_of}
 use Rattle.gen2_crc.specs.Crc.{crc5_of}
 use Rattle.gen2_crc.specs.CrcLaws.{crc5_of-below}
 use Rattle.command_grammar.proofs.CheckLaws.{crc5-field}
-use Rattle.command_grammar.proofs.spelling.put_crc5.Goals as goal
+use Rattle.command_grammar.proofs.writing.put_crc5.Goals as goal
 
 pub returns-clause-items : goal.returns-clause-items
 returns-clause-items c =

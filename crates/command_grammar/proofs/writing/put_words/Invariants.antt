@@ -1,6 +1,6 @@
 use Rattle.std.proofs.Common.{◌≡◌, ◌+◌, ◌*◌, ◌++◌, take, length}
 use Rattle.bit_strings.specs.Words.{bits_of_words}
-use Rattle.command_grammar.proofs.spelling.put_words.Given as goal
+use Rattle.command_grammar.proofs.writing.put_words.Given as goal
 
 abbrev pub invariant-loop-word : goal.invariant-loop-word
 invariant-loop-word l = record {

@@ -1,5 +1,5 @@
 use Rattle.std.proofs.Common.{◌≡◌, ◌++◌, take}
-use Rattle.command_grammar.proofs.spelling.put_bits.Given as goal
+use Rattle.command_grammar.proofs.writing.put_bits.Given as goal
 
 abbrev pub invariant-loop-bit : goal.invariant-loop-bit
 invariant-loop-bit l = record {

@@ -1,0 +1,22 @@
+//! Access (6.3.2.11.3.6 Access).
+ghost use Rattle.std.specs.Prelude.{◌≤◌};
+ghost use Rattle.command_grammar.specs.Commands.{command_room};
+ghost use Rattle.command_grammar.specs.Writing.{Writes};
+ghost use Rattle.command_grammar.specs.declared.commands.Command.TheVariants.{Access};
+
+use crate::fields::Field;
+use crate::writing::{put, put_code, put_handle};
+use bit_strings::Bits;
+
+/// The fields behind its code, in their order.
+pub(crate) const FIELDS: &[Field] = &[Field::Covered, Field::Rn, Field::Crc16];
+
+/// Writes an Access.
+pub(crate) fn spell(out: &mut Bits, covered: u16, rn: u16)
+    requires { command_room ≤ out.old.capacity }
+    ensures { Writes (Access covered rn) out.old out.new }
+{
+    put_code(out, &[true, true, false, false, false, true, true, false]);
+    put(out, u32::from(covered), 16);
+    put_handle(out, rn);
+}

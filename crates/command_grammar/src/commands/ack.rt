@@ -1,0 +1,21 @@
+//! ACK (6.3.2.11.2.4 ACK).
+ghost use Rattle.std.specs.Prelude.{◌≤◌};
+ghost use Rattle.command_grammar.specs.Commands.{command_room};
+ghost use Rattle.command_grammar.specs.Writing.{Writes};
+ghost use Rattle.command_grammar.specs.declared.commands.Command.TheVariants.{Ack};
+
+use crate::fields::Field;
+use crate::writing::{put, put_code};
+use bit_strings::Bits;
+
+/// The fields behind its code, in their order.
+pub(crate) const FIELDS: &[Field] = &[Field::Rn];
+
+/// Writes an ACK.
+pub(crate) fn spell(out: &mut Bits, rn: u16)
+    requires { command_room ≤ out.old.capacity }
+    ensures { Writes (Ack rn) out.old out.new }
+{
+    put_code(out, &[false, true]);
+    put(out, u32::from(rn), 16);
+}

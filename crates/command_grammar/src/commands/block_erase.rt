@@ -1,0 +1,31 @@
+//! BlockErase (6.3.2.11.3.8 BlockErase).
+ghost use Rattle.std.specs.Prelude.{◌≤◌};
+ghost use Rattle.command_grammar.specs.Commands.{command_room};
+ghost use Rattle.command_grammar.specs.Writing.{Writes};
+ghost use Rattle.command_grammar.specs.declared.commands.Command.TheVariants.{BlockErase};
+
+use crate::choices::bank_bits;
+use crate::field_values::Bank;
+use crate::fields::Field;
+use crate::writing::{put, put_code, put_handle, put_place};
+use bit_strings::{Bits, Count1, Pointer};
+
+/// The fields behind its code, in their order.
+pub(crate) const FIELDS: &[Field] = &[
+    Field::Bank,
+    Field::Pointer,
+    Field::WordCount,
+    Field::Rn,
+    Field::Crc16,
+];
+
+/// Writes a BlockErase.
+pub(crate) fn spell(out: &mut Bits, bank: Bank, pointer: Pointer, count: Count1, rn: u16)
+    requires { command_room ≤ out.old.capacity }
+    ensures { Writes (BlockErase bank pointer count rn) out.old out.new }
+{
+    put_code(out, &[true, true, false, false, true, false, false, false]);
+    put_place(out, bank_bits(bank), pointer);
+    put(out, u32::from(count.get()), 8);
+    put_handle(out, rn);
+}

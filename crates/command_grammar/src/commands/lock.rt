@@ -1,0 +1,22 @@
+//! Lock (6.3.2.11.3.5 Lock).
+ghost use Rattle.std.specs.Prelude.{◌≤◌};
+ghost use Rattle.command_grammar.specs.Commands.{command_room};
+ghost use Rattle.command_grammar.specs.Writing.{Writes};
+ghost use Rattle.command_grammar.specs.declared.commands.Command.TheVariants.{Lock};
+
+use crate::fields::Field;
+use crate::writing::{put, put_code, put_handle};
+use bit_strings::{Bits, Payload};
+
+/// The fields behind its code, in their order.
+pub(crate) const FIELDS: &[Field] = &[Field::Payload, Field::Rn, Field::Crc16];
+
+/// Writes a Lock.
+pub(crate) fn spell(out: &mut Bits, payload: Payload, rn: u16)
+    requires { command_room ≤ out.old.capacity }
+    ensures { Writes (Lock payload rn) out.old out.new }
+{
+    put_code(out, &[true, true, false, false, false, true, false, true]);
+    put(out, payload.get(), 20);
+    put_handle(out, rn);
+}

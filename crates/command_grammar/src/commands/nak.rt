@@ -1,0 +1,20 @@
+//! NAK (6.3.2.11.2.5 NAK).
+ghost use Rattle.std.specs.Prelude.{◌≤◌};
+ghost use Rattle.command_grammar.specs.Commands.{command_room};
+ghost use Rattle.command_grammar.specs.Writing.{Writes};
+ghost use Rattle.command_grammar.specs.declared.commands.Command.TheVariants.{Nak};
+
+use crate::fields::Field;
+use crate::writing::put_code;
+use bit_strings::Bits;
+
+/// The fields behind its code, in their order.
+pub(crate) const FIELDS: &[Field] = &[];
+
+/// Writes a NAK.
+pub(crate) fn spell(out: &mut Bits)
+    requires { command_room ≤ out.old.capacity }
+    ensures { Writes Nak out.old out.new }
+{
+    put_code(out, &[true, true, false, false, false, false, false, false]);
+}

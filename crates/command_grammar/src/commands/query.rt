@@ -1,0 +1,48 @@
+//! Query (6.3.2.11.2.1 Query).
+ghost use Rattle.std.specs.Prelude.{◌≤◌};
+ghost use Rattle.command_grammar.specs.Commands.{command_room};
+ghost use Rattle.command_grammar.specs.Writing.{Writes};
+ghost use Rattle.command_grammar.specs.declared.commands.Command.TheVariants.{Query};
+
+use crate::choices::{code_bits, sel_bits, side_bits};
+use crate::field_values::{Sel, Side};
+use crate::fields::Field;
+use crate::writing::{put, put_bits, put_code, put_crc5};
+use bit_strings::{Bits, Code, QValue, Session};
+
+/// The fields behind its code, in their order.
+pub(crate) const FIELDS: &[Field] = &[
+    Field::Dr,
+    Field::LineCode,
+    Field::Pilot,
+    Field::Sel,
+    Field::Session,
+    Field::Side,
+    Field::Q,
+    Field::Crc5,
+];
+
+/// Writes a Query.
+pub(crate) fn spell(
+    out: &mut Bits,
+    dr: bool,
+    code: Code,
+    trext: bool,
+    sel: Sel,
+    session: Session,
+    target: Side,
+    q: QValue,
+)
+    requires { command_room ≤ out.old.capacity }
+    ensures { Writes (Query dr code trext sel session target q) out.old out.new }
+{
+    put_code(out, &[true, false, false, false]);
+    put_bits(out, &[dr]);
+    put_bits(out, &code_bits(code));
+    put_bits(out, &[trext]);
+    put_bits(out, &sel_bits(sel));
+    put(out, u32::from(session.get()), 2);
+    put_bits(out, &side_bits(target));
+    put(out, u32::from(q.get()), 4);
+    put_crc5(out);
+}

@@ -1,0 +1,24 @@
+//! QueryAdjust (6.3.2.11.2.2 QueryAdjust).
+ghost use Rattle.std.specs.Prelude.{◌≤◌};
+ghost use Rattle.command_grammar.specs.Commands.{command_room};
+ghost use Rattle.command_grammar.specs.Writing.{Writes};
+ghost use Rattle.command_grammar.specs.declared.commands.Command.TheVariants.{QueryAdjust};
+
+use crate::choices::updn_bits;
+use crate::field_values::UpDn;
+use crate::fields::Field;
+use crate::writing::{put, put_bits, put_code};
+use bit_strings::{Bits, Session};
+
+/// The fields behind its code, in their order.
+pub(crate) const FIELDS: &[Field] = &[Field::Session, Field::UpDn];
+
+/// Writes a QueryAdjust.
+pub(crate) fn spell(out: &mut Bits, session: Session, updn: UpDn)
+    requires { command_room ≤ out.old.capacity }
+    ensures { Writes (QueryAdjust session updn) out.old out.new }
+{
+    put_code(out, &[true, false, false, true]);
+    put(out, u32::from(session.get()), 2);
+    put_bits(out, &updn_bits(updn));
+}

@@ -1,0 +1,21 @@
+//! QueryRep (6.3.2.11.2.3 QueryRep).
+ghost use Rattle.std.specs.Prelude.{◌≤◌};
+ghost use Rattle.command_grammar.specs.Commands.{command_room};
+ghost use Rattle.command_grammar.specs.Writing.{Writes};
+ghost use Rattle.command_grammar.specs.declared.commands.Command.TheVariants.{QueryRep};
+
+use crate::fields::Field;
+use crate::writing::{put, put_code};
+use bit_strings::{Bits, Session};
+
+/// The fields behind its code, in their order.
+pub(crate) const FIELDS: &[Field] = &[Field::Session];
+
+/// Writes a QueryRep.
+pub(crate) fn spell(out: &mut Bits, session: Session)
+    requires { command_room ≤ out.old.capacity }
+    ensures { Writes (QueryRep session) out.old out.new }
+{
+    put_code(out, &[false, false]);
+    put(out, u32::from(session.get()), 2);
+}

@@ -1,0 +1,45 @@
+//! Select (6.3.2.11.1.1 Select).
+ghost use Rattle.std.specs.Prelude.{◌≤◌};
+ghost use Rattle.command_grammar.specs.Commands.{command_room};
+ghost use Rattle.command_grammar.specs.Writing.{Writes};
+ghost use Rattle.command_grammar.specs.declared.commands.Command.TheVariants.{Select};
+
+use crate::choices::{mask_bank_bits, target_bits};
+use crate::command_lists::Mask;
+use crate::field_values::{FlagName, MaskBank};
+use crate::fields::Field;
+use crate::writing::{put, put_bits, put_code, put_crc16, put_place};
+use bit_strings::{Action, Bits, Pointer};
+
+/// The fields behind its code, in their order.
+pub(crate) const FIELDS: &[Field] = &[
+    Field::Target,
+    Field::Action,
+    Field::MaskBank,
+    Field::Pointer,
+    Field::Mask,
+    Field::Truncate,
+    Field::Crc16,
+];
+
+/// Writes a Select.
+pub(crate) fn spell(
+    out: &mut Bits,
+    target: FlagName,
+    action: Action,
+    bank: MaskBank,
+    pointer: Pointer,
+    mask: &Mask,
+)
+    requires { command_room ≤ out.old.capacity }
+    ensures { Writes (Select target action bank pointer mask.now) out.old out.new }
+{
+    put_code(out, &[true, false, true, false]);
+    put_bits(out, &target_bits(target));
+    put(out, u32::from(action.get()), 3);
+    put_place(out, mask_bank_bits(bank), pointer);
+    put(out, mask.len(), 8);
+    put_bits(out, mask.as_slice());
+    put_bits(out, &[false]);
+    put_crc16(out);
+}

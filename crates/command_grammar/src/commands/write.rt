@@ -1,0 +1,31 @@
+//! Write (6.3.2.11.3.3 Write).
+ghost use Rattle.std.specs.Prelude.{◌≤◌};
+ghost use Rattle.command_grammar.specs.Commands.{command_room};
+ghost use Rattle.command_grammar.specs.Writing.{Writes};
+ghost use Rattle.command_grammar.specs.declared.commands.Command.TheVariants.{Write};
+
+use crate::choices::bank_bits;
+use crate::field_values::Bank;
+use crate::fields::Field;
+use crate::writing::{put, put_code, put_handle, put_place};
+use bit_strings::{Bits, Pointer};
+
+/// The fields behind its code, in their order.
+pub(crate) const FIELDS: &[Field] = &[
+    Field::Bank,
+    Field::Pointer,
+    Field::Covered,
+    Field::Rn,
+    Field::Crc16,
+];
+
+/// Writes a Write.
+pub(crate) fn spell(out: &mut Bits, bank: Bank, pointer: Pointer, covered: u16, rn: u16)
+    requires { command_room ≤ out.old.capacity }
+    ensures { Writes (Write bank pointer covered rn) out.old out.new }
+{
+    put_code(out, &[true, true, false, false, false, false, true, true]);
+    put_place(out, bank_bits(bank), pointer);
+    put(out, u32::from(covered), 16);
+    put_handle(out, rn);
+}

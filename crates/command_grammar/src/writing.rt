@@ -1,0 +1,99 @@
+//! Values to bits, most significant bit first, behind those that stand there.
+ghost use Rattle.std.specs.Prelude.{◌≡◌, ◌+◌, ◌*◌, ◌≤◌, ◌^◌, ◌<◌, ◌++◌, length};
+ghost use Rattle.std.specs.List.{AllByRecursion};
+ghost use Rattle.bit_strings.specs.Numbers.{field_of};
+ghost use Rattle.bit_strings.specs.Ebv.{ebv_of};
+ghost use Rattle.bit_strings.specs.Words.{bits_of_words};
+ghost use Rattle.gen2_crc.specs.Crc.{crc5_of, crc16_of};
+ghost use Rattle.command_grammar.specs.Commands.{IsWord};
+
+use bit_strings::{Bits, Pointer};
+use gen2_crc::{crc5_of_bits, crc16_of_bits};
+
+/// Adds the `width` bits of `value`.
+pub(crate) fn put(out: &mut Bits, value: u32, width: u32)
+    requires narrow { width ≤ 31 }
+    requires fits { value < 2 ^ width }
+    requires room { length out.old.items + width ≤ out.old.capacity }
+    ensures items { out.new.items ≡ out.old.items ++ field_of value width }
+    ensures count { length out.new.items ≡ length out.old.items + width }
+    ensures capacity { out.new.capacity ≡ out.old.capacity }
+{
+    out.put_field_reserved(value, width);
+}
+
+/// Writes the code of a command, in place of what stood in `out` (6.3.2.11, Table 6.18).
+pub(crate) fn put_code(out: &mut Bits, code: &[bool])
+    requires { length code.now ≤ out.old.capacity }
+    ensures { out.new ≡ record out.old { items = code.now } }
+{
+    out.clear();
+    put_bits(out, code);
+}
+
+/// Adds these bits.
+pub(crate) fn put_bits(out: &mut Bits, bits: &[bool])
+    requires { length out.old.items + length bits.now ≤ out.old.capacity }
+    ensures items { out.new.items ≡ out.old.items ++ bits.now }
+    ensures count { length out.new.items ≡ length out.old.items + length bits.now }
+    ensures capacity { out.new.capacity ≡ out.old.capacity }
+{
+    for bit in bits {
+        out.push_reserved(*bit);
+    }
+}
+
+/// Adds these words.
+pub(crate) fn put_words(out: &mut Bits, words: &[u16])
+    requires { length out.old.items + 16 * length words.now ≤ out.old.capacity }
+    ensures items { out.new.items ≡ out.old.items ++ bits_of_words words.now }
+    ensures count { length out.new.items ≡ length out.old.items + 16 * length words.now }
+    ensures capacity { out.new.capacity ≡ out.old.capacity }
+    ensures words { AllByRecursion IsWord words.now }
+{
+    for word in words {
+        put(out, u32::from(*word), 16);
+    }
+}
+
+/// Adds a bank, by its bits, and the place in it as an extensible bit vector of at most four blocks.
+pub(crate) fn put_place(out: &mut Bits, bank: [bool; 2], pointer: Pointer)
+    requires { length out.old.items + 34 ≤ out.old.capacity }
+    ensures items { out.new.items ≡ (out.old.items ++ bank) ++ ebv_of pointer }
+    ensures count { length out.new.items ≤ length out.old.items + 34 }
+    ensures capacity { out.new.capacity ≡ out.old.capacity }
+    ensures range { pointer < 2 ^ 28 }
+{
+    put_bits(out, &bank);
+    out.put_ebv_reserved(pointer.get());
+}
+
+/// Adds the CRC-5 of the bits before.
+pub(crate) fn put_crc5(out: &mut Bits)
+    requires { length out.old.items + 5 ≤ out.old.capacity }
+    ensures items { out.new.items ≡ out.old.items ++ crc5_of out.old.items }
+    ensures capacity { out.new.capacity ≡ out.old.capacity }
+{
+    let check = crc5_of_bits(out.as_slice());
+    put(out, u32::from(check), 5);
+}
+
+/// Adds the CRC-16 of the bits before.
+pub(crate) fn put_crc16(out: &mut Bits)
+    requires { length out.old.items + 16 ≤ out.old.capacity }
+    ensures items { out.new.items ≡ out.old.items ++ crc16_of out.old.items }
+    ensures capacity { out.new.capacity ≡ out.old.capacity }
+{
+    let check = crc16_of_bits(out.as_slice());
+    put(out, u32::from(check), 16);
+}
+
+/// Adds the tag's RN16 or handle and the CRC-16, with which each access command ends.
+pub(crate) fn put_handle(out: &mut Bits, rn: u16)
+    requires { length out.old.items + 32 ≤ out.old.capacity }
+    ensures items { out.new.items ≡ (out.old.items ++ field_of rn 16) ++ crc16_of (out.old.items ++ field_of rn 16) }
+    ensures capacity { out.new.capacity ≡ out.old.capacity }
+{
+    put(out, u32::from(rn), 16);
+    put_crc16(out);
+}
