@@ -44,6 +44,25 @@ impl Receiver {
         }
     }
 
+    /// Takes the high and the low of one more symbol, in nanoseconds.
+    #[tactic(auto, unfolding(crate::specs::Taken::HasTaken))]
+    pub(crate) fn take_symbol(&mut self, high: u32, low: u32)
+        requires high { high ≤ longest_interval }
+        requires low { low ≤ longest_interval }
+        requires count { self.old.edges.count + 2 ≤ most_counted }
+        ensures taken { (intervals : List ℕ) → HasTaken self.old.edges self.old.framer intervals
+            → HasTaken self.new.edges self.new.framer (intervals ++ high ∷ low ∷ []) }
+        ensures count { self.new.edges.count ≤ self.old.edges.count + 2 }
+    {
+        // Most symbols are those of data.
+        if let Some(bit) = self.edges.push_symbol(high, low) {
+            self.framer.push(bit);
+            return;
+        }
+        self.take(high);
+        self.take(low);
+    }
+
     /// The command of the frame that the receiver was given.
     #[tactic(auto, unfolding(crate::specs::Taken::HasTaken))]
     pub(crate) fn command(self) -> Command

@@ -43,8 +43,7 @@ pub(crate) fn transmit(
     }
     for &bit in bits.as_slice() {
         let (high, low) = symbol_intervals(link, bit);
-        send(high, frame, &mut receiver);
-        send(low, frame, &mut receiver);
+        send_symbol(high, low, frame, &mut receiver);
     }
     receiver.command()
 }
@@ -62,6 +61,23 @@ fn send(interval: u32, frame: &mut Intervals, receiver: &mut Receiver)
 {
     frame.push_reserved(interval);
     receiver.take(interval);
+}
+
+/// Sends the high and the low of one more symbol, in nanoseconds.
+fn send_symbol(high: u32, low: u32, frame: &mut Intervals, receiver: &mut Receiver)
+    requires high { high ≤ longest_interval }
+    requires low { low ≤ longest_interval }
+    requires room { length frame.old.items + 2 ≤ frame.old.capacity }
+    requires count { receiver.old.edges.count + 2 ≤ most_counted }
+    ensures frame { frame.new.items ≡ frame.old.items ++ high ∷ low ∷ [] }
+    ensures capacity { frame.new.capacity ≡ frame.old.capacity }
+    ensures taken { (intervals : List ℕ) → HasTaken receiver.old.edges receiver.old.framer intervals
+        → HasTaken receiver.new.edges receiver.new.framer (intervals ++ high ∷ low ∷ []) }
+    ensures count { receiver.new.edges.count ≤ receiver.old.edges.count + 2 }
+{
+    frame.push_reserved(high);
+    frame.push_reserved(low);
+    receiver.take_symbol(high, low);
 }
 
 /// With which header the frame of a command begins (6.3.1.2.8).

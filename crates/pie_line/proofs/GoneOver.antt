@@ -1,12 +1,14 @@
 -- A decoder goes over data symbols.
-use Rattle.std.proofs.Common.{◌≡◌, ℕ, ◌+◌, ◌-◌, ◌≤◌, Bool, Ok, List, [], ◌++◌, length, refl, sym, subst, ap, arith, ◌∙◌, length-append}
+use Rattle.std.proofs.Common.{◌≡◌, ℕ, ◌+◌, ◌-◌, ◌≤◌, Bool, Ok, List, [], ◌∷◌, ◌++◌, length, refl, sym, subst, ap, arith, ◌∙◌, length-append}
 use Rattle.std.proofs.lemmas.List.{append-nil}
 use Rattle.pie_line.specs.declared.frame.FrameKind.{FrameKind}
 use Rattle.pie_line.specs.declared.frame.FrameKind.TheVariants.{Preamble, FrameSync}
 use Rattle.pie_line.specs.declared.frame_state.FrameState.TheVariants.{High}
+use Rattle.pie_line.specs.Pie.{bit_of}
 use Rattle.pie_line.specs.FrameState.{IsHeader, rtcal_of}
 use Rattle.pie_line.specs.Edges.{EdgesValue, EdgesStandFor}
-use Rattle.pie_line.specs.DataSymbols.{TakesSymbols, GoesOver}
+use Rattle.pie_line.specs.DataSymbols.{IsDataSymbol, TakesSymbols, GoesOver}
+use Rattle.pie_line.proofs.TakenSymbols.{leads-symbol}
 use Rattle.pie_line.proofs.Standings.{stands-at, standing-so}
 
 -- the longest RTcal
@@ -38,3 +40,12 @@ goes_over old new kind before after intervals rest is same count takes =
           let at = stands-at old (High kind) before came is stands in
           standing-so new (High kind) after (came ++ takes.taken) (same ∙ is) (omega (arith, more, at.0, length-append came takes.taken), takes.leads came at.1);
     }
+
+-- it takes one
+pub stands_symbol : (old : EdgesValue) (kind : FrameKind) (high low : ℕ) (bits : List Bool) (intervals : List ℕ) → old.standing ≡ Ok (High kind)
+    → IsDataSymbol (rtcal_of kind) high low → EdgesStandFor old bits intervals
+    → EdgesStandFor (record { standing = old.standing; count = old.count + 2 }) (bits ++ bit_of (rtcal_of kind) (high + low) ∷ []) (intervals ++ high ∷ low ∷ [])
+stands_symbol old kind high low bits intervals is symbol stands =
+    let at = stands-at old (High kind) bits intervals is stands in
+    standing-so (record { standing = old.standing; count = old.count + 2 }) (High kind) _ _ is
+    (omega (arith, at.0, length-append intervals (high ∷ low ∷ [])), leads-symbol kind bits intervals high low symbol at.1)

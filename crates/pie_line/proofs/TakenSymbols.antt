@@ -21,7 +21,7 @@ high-moves kind high header lasts room = record {
 }
 
 -- one symbol more
-leads-symbol : (kind : FrameKind) (bits : List Bool) (xs : List ℕ) (high low : ℕ) → IsDataSymbol (rtcal_of kind) high low → LeadsToState (High kind) bits xs
+pub leads-symbol : (kind : FrameKind) (bits : List Bool) (xs : List ℕ) (high low : ℕ) → IsDataSymbol (rtcal_of kind) high low → LeadsToState (High kind) bits xs
     → LeadsToState (High kind) (bits ++ bit_of (rtcal_of kind) (high + low) ∷ []) (xs ++ high ∷ low ∷ [])
 leads-symbol kind bits xs high low symbol leads =
     let bit = bit_of (rtcal_of kind) (high + low) in

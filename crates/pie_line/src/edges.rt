@@ -1,11 +1,11 @@
 //! A decoder that takes one interval at a time.
-ghost use Rattle.std.specs.Prelude.{◌≡◌, ◌+◌, ◌<◌, ◌≤◌, ℕ, Bool, List, [], ◌∷◌, ◌++◌, All, MatchResult, length};
+ghost use Rattle.std.specs.Prelude.{◌≡◌, ◌+◌, ◌<◌, ◌≤◌, ℕ, Bool, List, [], ◌∷◌, ◌++◌, All, MatchResult, IfSome, IfNone, length};
 ghost use Rattle.pie_line.specs.Refusal.{refusal_at};
 ghost use Rattle.bit_strings.specs.BitString.{most_counted};
 ghost use Rattle.pie_line.specs.Pie.{longest_interval};
 
 use crate::frame_state::FrameState;
-use crate::symbol_pairs::push_symbols;
+use crate::symbol_pairs::{bit_of_symbol, push_symbols};
 use crate::{FrameKind, PieRefusal};
 use bit_strings::Bits;
 use std::marker::Model;
@@ -75,7 +75,7 @@ impl Edges {
     ghost use Rattle.pie_line.specs.Pie.{IsFrame};
     ghost use Rattle.pie_line.specs.Refusal.{RefusesFrame};
     ghost use Rattle.pie_line.specs.Edges.{EdgesValue, EdgesStandFor, IsEdgesAnswer};
-    ghost use Rattle.pie_line.specs.DataSymbols.{GoesOver};
+    ghost use Rattle.pie_line.specs.DataSymbols.{IsBeforeSymbol, GoesOver};
 
     /// A decoder that was given no interval.
     pub fn new() -> Edges
@@ -112,6 +112,27 @@ impl Edges {
             Some(bit) => Edge::Bit(bit),
             None => Edge::More,
         }
+    }
+
+    /// Takes the high and the low of a data symbol, in nanoseconds, where the decoder stands before one, and gives its bit.
+    /// It takes nothing where it stands elsewhere, or where the two make no data symbol: `push` takes them then.
+    #[inline]
+    pub fn push_symbol(&mut self, high: u32, low: u32) -> Option<bool>
+        requires high { high ≤ longest_interval }
+        requires low { low ≤ longest_interval }
+        requires count { self.old.count + 2 ≤ most_counted }
+        ensures bit { IfSome result (λ bit. (bits : List Bool) (intervals : List ℕ) → EdgesStandFor self.old bits intervals →
+            EdgesStandFor self.new (bits ++ bit ∷ []) (intervals ++ high ∷ low ∷ [])) }
+        ensures none { IfNone result (¬ IsBeforeSymbol self.old high low) }
+        ensures same { IfNone result (self.new ≡ self.old) }
+        ensures count { self.new.count ≤ self.old.count + 2 }
+    {
+        let Ok(FrameState::High { kind }) = self.standing else {
+            return None;
+        };
+        let bit = bit_of_symbol(kind.rtcal(), high, low)?;
+        self.count += 2;
+        Some(bit)
     }
 
     /// Takes the data symbols with which the intervals begin, where the decoder stands before a data symbol,

@@ -56,11 +56,10 @@ pub fn symbol_intervals(link: &Link, bit: bool) -> (u32, u32)
     ensures pair { result.0 ∷ result.1 ∷ [] ≡ pair_of link.now (sum_of link.now bit) }
     ensures bounded { (result.0 ≤ longest_interval) × (result.1 ≤ longest_interval) }
 {
-    let sum = if bit {
-        link.rtcal() - link.tari()
-    } else {
-        link.tari()
-    };
+    // Both durations are computed, so that no jump depends on the bit.
+    let zero = link.tari();
+    let one = link.rtcal() - zero;
+    let sum = if bit { one } else { zero };
     (sum - link.pw(), link.pw())
 }
 

@@ -10,7 +10,8 @@ use bit_strings::Bits;
 
 /// The bit of the data symbol that has this high and this low, in nanoseconds; none exactly where they make
 /// no data symbol (6.3.1.2.3).
-fn bit_of_symbol(rtcal: u32, high: u32, low: u32) -> Option<bool>
+#[inline]
+pub(crate) fn bit_of_symbol(rtcal: u32, high: u32, low: u32) -> Option<bool>
     requires rtcal { rtcal ≤ 75000 }
     requires high { high ≤ longest_interval }
     requires low { low ≤ longest_interval }
