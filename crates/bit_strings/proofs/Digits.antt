@@ -1,5 +1,5 @@
 -- How a loop over bits adds their digits.
-use Rattle.std.proofs.Common.{◌≡◌, ◌+◌, ◌*◌, ◌^◌, ◌<◌, ◌≤◌, ℕ, Bool, true, false, List, length, take, get_or, ◌/◌, ◌%◌, ◌∷◌, ◌++◌, [], append_assoc, append-nil, refl, ap, sym, ◌∙◌, arith, length-take, length-append}
+use Rattle.std.proofs.Common.{◌≡◌, ◌+◌, ◌*◌, ◌^◌, ◌<◌, ◌≤◌, ℕ, Bool, true, false, List, length, take, get_or, ◌/◌, ◌%◌, ◌∷◌, ◌++◌, [], append_assoc, append-nil, refl, ap, sym, ◌∙◌, arith, length-take}
 use Rattle.std.specs.Prelude.{◌==◌}
 use Rattle.bit_strings.specs.Numbers.{value_of, digit_of, field_of}
 use Rattle.bit_strings.specs.NumberLaws.{value_of-take_more, value_of-within, field_of-more, field_of-none}

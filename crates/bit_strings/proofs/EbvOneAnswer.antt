@@ -1,11 +1,13 @@
 -- At most one answer holds where an extensible bit vector is looked for.
-use Rattle.std.proofs.Common.{◌≡◌, ℕ, zero, suc, ◌-◌, ◌≤◌, Bool, true, List, [], ◌∷◌, ◌++◌, length, take, drop, refl, sym, ◌∙◌, ap, subst, arith, length-append, length-take, length-drop, append_assoc, append-nil, Some}
+use Rattle.std.proofs.Common.{◌≡◌, ℕ, ◌-◌, Bool, true, List, [], ◌++◌, length, drop, refl, sym, ◌∙◌, ap, subst, arith, length-append, length-take, length-drop, append_assoc, append-nil, Some}
 use Rattle.std.specs.Prelude.{slice_get}
-use Rattle.std.proofs.lemmas.List.{take-append-drop, take-append-le, nil_from_length}
+use Rattle.std.proofs.lemmas.List.{take-append-drop, take_all, nil_from_length}
 use Rattle.bit_strings.specs.Numbers.{part_of}
-use Rattle.bit_strings.specs.Ebv.{IsCutEbv, IsTooLong, BeginsWithNothing}
-use Rattle.bit_strings.specs.EbvLaws.{ebv_apart, says-ebv, ends-ebv}
-use Rattle.bit_strings.specs.EbvAnswers.{IsEbvAnswer, HasEbvAt}
+use Rattle.bit_strings.specs.Ebv.{IsEbv, IsCutEbv, IsTooLong, BeginsWithNothing}
+use Rattle.bit_strings.specs.EbvLaws.{ebv_apart, says-ebv, ends-ebv, no_ebv-nothing, no_ebv-long}
+use Rattle.bit_strings.specs.EbvAnswers.{IsEbvAnswer, HasEbvAt, IsEbvStep}
+use Rattle.bit_strings.specs.declared.ebv_front.EbvStep.{EbvStep}
+use Rattle.bit_strings.specs.declared.ebv_front.EbvStep.TheVariants as steps
 use Rattle.bit_strings.specs.declared.ebv.Ebv.{Ebv}
 use Rattle.bit_strings.specs.declared.ebv.Ebv.TheVariants.{Value, Short, NotShortest, TooLong}
 
@@ -45,24 +47,11 @@ value-long items from n next here long =
     λ i there. ap (λ (b : List Bool). slice_get b i) (split-at items from next) ∙ there in
     ends-ebv n (part_of items from (next - from)) (rest_of items from next) here.vector (at 0 long.first) (at 8 long.second) (at 16 long.third) (at 24 long.fourth)
 
-slice_get-front : (xs more : List Bool) (i : ℕ) (bit : Bool) → slice_get xs i ≡ Some bit → slice_get (xs ++ more) i ≡ Some bit
-slice_get-front [] more i bit here = cc
-slice_get-front (x ∷ xs) more zero bit here = here
-slice_get-front (x ∷ xs) more (suc i) bit here = slice_get-front xs more i bit here
-
-more-there : (xs more : List Bool) (i : ℕ) → slice_get xs i ≡ Some true → slice_get (xs ++ more ++ []) i ≡ Some true
-more-there xs more i here =
-    ap (λ (b : List Bool). slice_get b i) (append-nil (xs ++ more)) ∙ slice_get-front xs more i true here
-
 short-nothing : (bits : List Bool) → IsCutEbv bits → BeginsWithNothing bits → ⊥
-short-nothing bits cut nothing =
-    let long : 8 ≤ length bits = omega (arith, ap length nothing, length-take 8 bits) in
-    let front : take 8 (bits ++ cut.more ++ []) ≡ take 8 bits = ap (λ (b : List Bool). take 8 b) (append-nil (bits ++ cut.more)) ∙ take-append-le 8 bits cut.more long in
-    says-ebv cut.number (bits ++ cut.more) [] cut.whole (front ∙ nothing)
+short-nothing bits cut nothing = no_ebv-nothing cut.number bits cut.more cut.whole nothing
 
 short-long : (bits : List Bool) → IsCutEbv bits → IsTooLong bits → ⊥
-short-long bits cut long =
-    ends-ebv cut.number (bits ++ cut.more) [] cut.whole (more-there bits cut.more 0 long.first) (more-there bits cut.more 8 long.second) (more-there bits cut.more 16 long.third) (more-there bits cut.more 24 long.fourth)
+short-long bits cut long = no_ebv-long cut.number bits cut.more cut.whole long
 
 pub one_answer : (items : List Bool) (from : ℕ) (a b : Ebv) → IsEbvAnswer a items from → IsEbvAnswer b items from → a ≡ b
 one_answer items from (Value n next) (Value m other) left right =
@@ -85,3 +74,44 @@ one_answer items from TooLong (Value m other) left right = absurd (value-long it
 one_answer items from TooLong Short left right = absurd (short-long (drop from items) right left)
 one_answer items from TooLong NotShortest left right = absurd (left.says right)
 one_answer items from TooLong TooLong left right = refl
+
+-- ---- of one step
+
+-- the step as an answer for a list that ends with the bit
+abbrev as_answer : EbvStep → ℕ → Ebv
+as_answer (steps.More front) count = Short
+as_answer (steps.Value number) count = Value number count
+as_answer steps.NotShortest count = NotShortest
+as_answer steps.TooLong count = TooLong
+
+answers : (step : EbvStep) (bits : List Bool) → IsEbvStep step bits → IsEbvAnswer (as_answer step (length bits)) bits 0
+answers (steps.More front) bits holds = holds.1
+answers (steps.Value number) bits holds = record {
+  forward = omega arith;
+  within = omega arith;
+  vector = subst (IsEbv number) (sym (take_all (length bits - 0) bits (omega arith))) holds;
+}
+answers steps.NotShortest bits holds = holds
+answers steps.TooLong bits holds = holds
+
+same_step : (a b : EbvStep) (bits : List Bool) → IsEbvStep a bits → IsEbvStep b bits → as_answer a (length bits) ≡ as_answer b (length bits) → a ≡ b
+same_step (steps.More front) (steps.More other) bits left right same = ap (λ (l : List Bool). steps.More l) (left.0 ∙ sym right.0)
+same_step (steps.More front) (steps.Value n) bits left right same = absurd cc
+same_step (steps.More front) steps.NotShortest bits left right same = absurd cc
+same_step (steps.More front) steps.TooLong bits left right same = absurd cc
+same_step (steps.Value m) (steps.More other) bits left right same = absurd cc
+same_step (steps.Value m) (steps.Value n) bits left right same = cc
+same_step (steps.Value m) steps.NotShortest bits left right same = absurd cc
+same_step (steps.Value m) steps.TooLong bits left right same = absurd cc
+same_step steps.NotShortest (steps.More other) bits left right same = absurd cc
+same_step steps.NotShortest (steps.Value n) bits left right same = absurd cc
+same_step steps.NotShortest steps.NotShortest bits left right same = refl
+same_step steps.NotShortest steps.TooLong bits left right same = absurd cc
+same_step steps.TooLong (steps.More other) bits left right same = absurd cc
+same_step steps.TooLong (steps.Value n) bits left right same = absurd cc
+same_step steps.TooLong steps.NotShortest bits left right same = absurd cc
+same_step steps.TooLong steps.TooLong bits left right same = refl
+
+pub one_step : (a b : EbvStep) (bits : List Bool) → IsEbvStep a bits → IsEbvStep b bits → a ≡ b
+one_step a b bits left right =
+    same_step a b bits left right (one_answer bits 0 (as_answer a (length bits)) (as_answer b (length bits)) (answers a bits left) (answers b bits right))

@@ -1,11 +1,11 @@
 -- What is read where an extensible bit vector is looked for.
-use Rattle.std.specs.Prelude.{◌≡◌, ℕ, ◌-◌, ◌<◌, ◌≤◌, Bool, true, false, List, ◌∷◌, ◌++◌, length, drop}
-use Rattle.bit_strings.specs.Numbers.{value_of, part_of}
+use Rattle.std.specs.Prelude.{ℕ, ◌-◌, ◌≤◌, ◌≡◌, Bool, List, length, drop}
+use Rattle.bit_strings.specs.Numbers.{part_of}
 use Rattle.bit_strings.specs.Ebv.{IsEbv, BeginsWithNothing, IsTooLong, IsCutEbv}
 use Rattle.bit_strings.specs.declared.ebv.Ebv.{Ebv}
 use Rattle.bit_strings.specs.declared.ebv.Ebv.TheVariants.{Value, Short, NotShortest, TooLong}
-use Rattle.bit_strings.specs.declared.ebv.Block.{Block}
-use Rattle.bit_strings.specs.declared.ebv.Block.TheVariants.{Cut, Last, More}
+use Rattle.bit_strings.specs.declared.ebv_front.EbvStep.{EbvStep}
+use Rattle.bit_strings.specs.declared.ebv_front.EbvStep.TheVariants as steps
 
 -- the bits from one place up to another are the extensible bit vector of a number
 pub record HasEbvAt (bits : List Bool) (from number next : ℕ) : Type 0 where
@@ -20,16 +20,9 @@ IsEbvAnswer Short bits from = IsCutEbv (drop from bits)
 IsEbvAnswer NotShortest bits from = BeginsWithNothing (drop from bits)
 IsEbvAnswer TooLong bits from = IsTooLong (drop from bits)
 
--- the bits begin with a block of this extension bit and digit
-pub record BeginsBlock (extension : Bool) (digit : ℕ) (bits : List Bool) : Type 0 where
-  pub seven : List Bool
-  pub behind : List Bool
-  pub length_is : length seven ≡ 7
-  pub digit_is : digit ≡ value_of seven
-  pub bits_are : bits ≡ extension ∷ seven ++ behind
-
--- what a block says of the bits that it was read from
-abbrev pub IsBlockAnswer : Block → List Bool → Type 0
-IsBlockAnswer Cut bits = length bits < 8
-IsBlockAnswer (Last digit) bits = BeginsBlock false digit bits
-IsBlockAnswer (More digit) bits = BeginsBlock true digit bits
+-- what a step says of the bits with the one that it took
+abbrev pub IsEbvStep : EbvStep → List Bool → Type 0
+IsEbvStep (steps.More front) bits = (front ≡ bits) × IsCutEbv bits
+IsEbvStep (steps.Value number) bits = IsEbv number bits
+IsEbvStep steps.NotShortest bits = BeginsWithNothing bits
+IsEbvStep steps.TooLong bits = IsTooLong bits

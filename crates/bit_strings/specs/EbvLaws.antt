@@ -1,15 +1,15 @@
 -- The laws of extensible bit vectors.
-use Rattle.std.specs.Prelude.{◌≡◌, ℕ, zero, suc, ◌+◌, ◌*◌, ◌/◌, ◌%◌, ◌^◌, ◌<◌, ◌≤◌, Bool, true, false, List, [], ◌∷◌, ◌++◌, length, take, slice_get, Option, Some, All, nat_lt, refl}
-use Rattle.std.proofs.Common.{sym, ◌∙◌, ap, subst, inl, inr, arith, append_assoc}
+use Rattle.std.specs.Prelude.{◌≡◌, ℕ, ◌+◌, ◌*◌, ◌/◌, ◌%◌, ◌^◌, ◌<◌, ◌≤◌, Bool, true, false, List, [], ◌∷◌, ◌++◌, length, take, slice_get, Option, Some, All, nat_lt, refl}
+use Rattle.std.proofs.Common.{sym, ◌∙◌, ap, subst, inl, inr, arith, append_assoc, append-nil, length-take}
 use Rattle.std.proofs.Math.Nat.{pow-suc, pow-le-pow_right, mul-le-mul_right}
 use Rattle.std.proofs.lemmas.Nat.{mul-add-lt, same_from_place}
-use Rattle.std.proofs.lemmas.List.{take_at}
+use Rattle.std.proofs.lemmas.List.{take_at, take-append-le}
 use Rattle.std.proofs.lemmas.Bool.{cases_lt, cond-true, cond-false, lt-ltb, le-ltb}
 use Rattle.std.proofs.lemmas.List.Elements.{All-head, All-tail, All-cons, All-nil}
 use Rattle.bit_strings.specs.Numbers.{value_of, field_of}
 use Rattle.bit_strings.specs.NumberLaws.{length-field_of, value_of-within, value_of-field_of, same_from_value}
-use Rattle.bit_strings.specs.Ebv.{IsEbv, number_of, blocks_of, IsShortest, BeginsWithNothing, ebv_of}
-use Rattle.bit_strings.specs.ListLaws.{slice_get-append_right}
+use Rattle.bit_strings.specs.Ebv.{IsEbv, number_of, blocks_of, IsShortest, BeginsWithNothing, IsTooLong, ebv_of}
+use Rattle.bit_strings.specs.ListLaws.{slice_get-append_right, slice_get-front, slice_get-inside}
 
 -- each digit has seven bits
 abbrev pub AreSevens : List (List Bool) → Type 0
@@ -255,3 +255,26 @@ ends-ebv number bits rest ebv first second third fourth =
     let turn : blocks_of ebv.digits ++ rest ≡ bits ++ rest = ap (λ (b : List Bool). b ++ rest) (sym ebv.spelled) in
     let at : (i : ℕ) → slice_get (bits ++ rest) i ≡ Some true → slice_get (blocks_of ebv.digits ++ rest) i ≡ Some true = λ i here. ap (λ (b : List Bool). slice_get b i) turn ∙ here in
     ends-blocks ebv.digits rest ebv.sevens (shortest-some ebv.digits ebv.shortest) ebv.few (at 0 first) (at 8 second) (at 16 third) (at 24 fourth)
+
+-- bits behind those that begin no vector change nothing
+pub nothing-more : (bits more : List Bool) → BeginsWithNothing bits → BeginsWithNothing (bits ++ more)
+nothing-more bits more nothing =
+    take-append-le 8 bits more (omega (arith, ap length nothing, length-take 8 bits)) ∙ nothing
+
+pub too_long-more : (bits more : List Bool) → IsTooLong bits → IsTooLong (bits ++ more)
+too_long-more bits more long = record {
+  first = slice_get-front bits more 0 true long.first;
+  second = slice_get-front bits more 8 true long.second;
+  third = slice_get-front bits more 16 true long.third;
+  fourth = slice_get-front bits more 24 true long.fourth;
+  says = λ nothing. long.says (sym (take-append-le 8 bits more (omega (arith, slice_get-inside bits 24 true long.fourth))) ∙ nothing);
+}
+
+-- ... so no vector begins with them
+pub no_ebv-nothing : (number : ℕ) (bits more : List Bool) → IsEbv number (bits ++ more) → BeginsWithNothing bits → ⊥
+no_ebv-nothing number bits more ebv nothing = says-ebv number (bits ++ more) [] ebv (subst BeginsWithNothing (sym (append-nil (bits ++ more))) (nothing-more bits more nothing))
+
+pub no_ebv-long : (number : ℕ) (bits more : List Bool) → IsEbv number (bits ++ more) → IsTooLong bits → ⊥
+no_ebv-long number bits more ebv long =
+    let whole : IsTooLong ((bits ++ more) ++ []) = subst IsTooLong (sym (append-nil (bits ++ more))) (too_long-more bits more long) in
+    ends-ebv number (bits ++ more) [] ebv whole.first whole.second whole.third whole.fourth

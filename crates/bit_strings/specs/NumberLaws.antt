@@ -102,3 +102,8 @@ field_of-none value width same = ap (λ n. field_of value n) same
 pub field_of-mod : (value width : ℕ) → field_of (value % 2 ^ width) width ≡ field_of value width
 field_of-mod value width =
     sym (field_of-low (value / 2 ^ width) width (value % 2 ^ width) width (omega arith)) ∙ ap (λ n. field_of n width) (shr_split value width)
+
+-- a number below two to the width, and the width, are what its field says
+pub value_and_width : {A : Type 0} (make : ℕ → ℕ → A) (value width : ℕ) → value < 2 ^ width → make (value_of (field_of value width)) (length (field_of value width)) ≡ make value width
+value_and_width make value width small =
+    ap (λ n. make n (length (field_of value width))) (value_of-field value width small) ∙ ap (λ n. make value n) (length-field_of value width)

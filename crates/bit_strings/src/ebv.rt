@@ -1,10 +1,11 @@
 //! Extensible bit vectors in a list of bits.
-ghost use Rattle.std.specs.Prelude.{◌≡◌, ◌+◌, ◌*◌, ◌^◌, ◌<◌, ◌≤◌, ◌↔◌, ◌++◌, length, drop, IsErr, OnErr};
+ghost use Rattle.std.specs.Prelude.{◌≡◌, ◌+◌, ◌*◌, ◌^◌, ◌<◌, ◌≤◌, ◌↔◌, ◌++◌, length, IsErr, OnErr};
 ghost use Rattle.bit_strings.specs.Ebv.{ebv_of};
-ghost use Rattle.bit_strings.specs.EbvAnswers.{IsEbvAnswer, IsBlockAnswer};
+ghost use Rattle.bit_strings.specs.EbvAnswers.{IsEbvAnswer};
 ghost use Rattle.bit_strings.specs.declared.ebv.Ebv.{Ebv};
 
 use crate::bits::{Bits, Full};
+use crate::ebv_front::{EbvFront, EbvStep};
 
 /// What stands at the place where an extensible bit vector is looked for (Annex A). Only the
 /// shortest spelling, of at most four blocks, is one (profile).
@@ -23,17 +24,6 @@ pub enum Ebv {
     NotShortest,
     /// Four blocks are begun and each says that another follows.
     TooLong,
-}
-
-/// A block of eight bits.
-#[derive(Clone, Copy)]
-enum Block {
-    /// Fewer than eight bits stand there.
-    Cut,
-    /// The last block, and its digit to the base 128.
-    Last(u32),
-    /// A block that another follows, and its digit to the base 128.
-    More(u32),
 }
 
 impl Bits {
@@ -71,55 +61,26 @@ impl Bits {
         ensures answer { IsEbvAnswer result self.now.items from }
         ensures only { (other : Ebv) → IsEbvAnswer other self.now.items from → result ≡ other }
     {
-        self.read_blocks(from)
+        self.read_vector(from)
     }
 
-    /// Reads block by block: up to three that another may follow, and one that must be the last.
-    fn read_blocks(&self, from: u32) -> Ebv
+    /// Reads bit by bit, until the vector is whole or refused, or the list ends.
+    fn read_vector(&self, from: u32) -> Ebv
         ensures { IsEbvAnswer result self.now.items from }
     {
-        let mut value = 0;
-        let mut at = from;
-        for before in 0..3u32 {
-            match self.block(at) {
-                Block::Cut => return Ebv::Short,
-                Block::Last(digit) => {
-                    return Ebv::Value {
-                        value: 128 * value + digit,
-                        next: at + 8,
-                    };
-                }
-                Block::More(digit) => {
-                    if before == 0 && digit == 0 {
-                        return Ebv::NotShortest;
-                    }
-                    value = 128 * value + digit;
-                    at += 8;
-                }
+        let mut front = EbvFront::new();
+        for at in from..self.len() {
+            match front.take(self.as_slice()[at as usize]) {
+                EbvStep::More(more) => front = more,
+                EbvStep::Value(value) => return Ebv::Value {
+                    value,
+                    next: at + 1,
+                },
+                EbvStep::NotShortest => return Ebv::NotShortest,
+                EbvStep::TooLong => return Ebv::TooLong,
             }
         }
-        if self.get(at) == Some(true) {
-            return Ebv::TooLong;
-        }
-        match self.block(at) {
-            Block::Last(digit) => Ebv::Value {
-                value: 128 * value + digit,
-                next: at + 8,
-            },
-            Block::Cut | Block::More(_) => Ebv::Short,
-        }
-    }
-
-    /// The block at a place.
-    fn block(&self, at: u32) -> Block
-        ensures block { IsBlockAnswer result (drop at self.now.items) }
-        ensures within { length self.now.items < 2 ^ 32 }
-    {
-        match self.field(at, 8) {
-            None => Block::Cut,
-            Some(block) if block < 128 => Block::Last(block),
-            Some(block) => Block::More(block - 128),
-        }
+        Ebv::Short
     }
 }
 

@@ -1,5 +1,5 @@
 //! Vectors from outside, and each call once.
-use bit_strings::{Bits, Count1, Ebv, Full, List, Session, xor16};
+use bit_strings::{Bits, Count1, Ebv, EbvFront, EbvStep, Full, List, Session, xor16};
 use std::alloc::Global;
 use std::test::Fail;
 
@@ -17,6 +17,22 @@ const VECTORS: [(u32, &str); 4] = [
     (268_435_455, "11111111111111111111111101111111"),
 ];
 
+/// The number of the vector that the bits are, read one bit at a time at the edges of digits and by runs inside them;
+/// none where they are refused or end before it does, or go on behind it.
+fn number_of(bits: &[bool]) -> Option<u32> {
+    let mut front = EbvFront::new();
+    let mut at = front.take_run(bits);
+    while at < bits.len() {
+        match front.take(bits[at]) {
+            EbvStep::More(more) => front = more,
+            EbvStep::Value(value) => return (at + 1 == bits.len()).then_some(value),
+            EbvStep::NotShortest | EbvStep::TooLong => return None,
+        }
+        at += 1 + front.take_run(&bits[at + 1..]);
+    }
+    None
+}
+
 /// Whether the text is that of the value, both ways.
 fn is_vector(alloc: Global, value: u32, text: &str) -> Option<bool> {
     if value >= 268_435_456 {
@@ -28,7 +44,8 @@ fn is_vector(alloc: Global, value: u32, text: &str) -> Option<bool> {
     let next = spelled.len();
     Some(
         written.as_slice() == spelled.as_slice()
-            && spelled.take_ebv(0) == Ebv::Value { value, next },
+            && spelled.take_ebv(0) == Ebv::Value { value, next }
+            && number_of(spelled.as_slice()) == Some(value),
     )
 }
 
