@@ -6,7 +6,7 @@ use lock_rules::Locks;
 use session_flags::DrawWords;
 use std::alloc::Global;
 use std::marker::Model;
-use tag_memory::BankImage;
+use tag_memory::{BankImage, epc_fits};
 use text_fields::Words;
 
 /// A tag as a scenario describes it.
@@ -66,7 +66,7 @@ impl<'a> TagText<'a> {
         ensures none { IfNone result (pc_fits (tag_of kill access locks epc.entry tid.entry user.entry words.entry).image ≡ false) }
     {
         let pc = epc.first()?;
-        if 2 + u32::from(pc / 2048) > 1 + epc.len() {
+        if !epc_fits(pc, 1 + epc.len() as usize) {
             return None;
         }
         Some(TagText {

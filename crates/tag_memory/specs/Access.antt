@@ -10,7 +10,7 @@ use Rattle.lock_rules.specs.declared.terms.ErrorCode.{ErrorCode}
 use Rattle.lock_rules.specs.declared.terms.ErrorCode.TheVariants.{Overrun, Locked}
 use Rattle.lock_rules.specs.declared.locks.Locks.{Locks}
 use Rattle.lock_rules.specs.Permissions.{may, Reading, Writing}
-use Rattle.tag_memory.specs.Memory.{Banks, bank_of, with_bank, pc_of, length_in}
+use Rattle.tag_memory.specs.Memory.{Banks, bank_of, with_bank, pc_of, length_in, epc_fits}
 
 -- the field whose pair of lock bits a word goes by
 abbrev pub field_at : Bank → ℕ → Field
@@ -69,7 +69,7 @@ banks_with_words_at banks bank pointer words = with_bank banks bank (with_words_
 
 -- the EPC that PC announces lies inside its bank. It does so in each memory of a tag, so that only a new PC can break it.
 abbrev pub length_fits : Banks → Bool
-length_fits banks = nat_le (2 + length_in (pc_of banks)) (length banks.epc)
+length_fits banks = epc_fits (pc_of banks) (length banks.epc)
 
 -- what a write of these words leaves: all of them written (profile), or Overrun where they pass the bank or a new PC
 -- announces more than the bank has, or Locked where one of them may not be written

@@ -1,7 +1,7 @@
 -- 6.3.2.1 Tag memory: the memory that a tag is made with. The sizes are profile.
 use Rattle.std.specs.Prelude.{◌+◌, ◌/◌, ◌%◌, ◌^◌, nat_le, Bool, ◌&&◌, [], ◌∷◌, length, slice_index}
 use Rattle.tag_memory.specs.declared.image.BankImage.{BankImage}
-use Rattle.tag_memory.specs.Memory.{Banks, length_in, with_stored_crc}
+use Rattle.tag_memory.specs.Memory.{Banks, epc_fits, with_stored_crc}
 
 -- the EPC bank from PC on has 1 to 32 words, TID 2 to 16, and User at most 512
 abbrev pub sizes_fit : BankImage → Bool
@@ -11,7 +11,7 @@ sizes_fit image =
 
 -- the EPC that PC announces lies inside the EPC bank, which has StoredCRC besides
 abbrev pub pc_fits : BankImage → Bool
-pc_fits image = nat_le (2 + length_in (slice_index image.epc 0)) (1 + length image.epc)
+pc_fits image = epc_fits (slice_index image.epc 0) (1 + length image.epc)
 
 -- the banks of the image, with 0000h in the place of StoredCRC
 abbrev pub image_banks : BankImage → Banks

@@ -6,4 +6,4 @@ mod image;
 mod memory;
 
 pub use image::{BankImage, ImageRefusal};
-pub use memory::Memory;
+pub use memory::{Memory, epc_fits};

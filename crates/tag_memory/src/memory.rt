@@ -4,7 +4,7 @@ ghost use Rattle.bit_strings.specs.Numbers.{field_of, value_of};
 ghost use Rattle.bit_strings.specs.Words.{bits_of_words};
 ghost use Rattle.gen2_crc.specs.Crc.{RegisterStandsFor, crc16_of};
 ghost use Rattle.reply_grammar.specs.Table.{AreWords};
-ghost use Rattle.tag_memory.specs.Memory.{IsLegalMemory, AreSound, bank_of, bank_named, pc_of, epc_of, kill_word_of, access_word_of, length_in, stored_crc_of, with_stored_crc};
+ghost use Rattle.tag_memory.specs.Memory.{IsLegalMemory, AreSound, bank_of, bank_named, pc_of, epc_of, kill_word_of, access_word_of, length_in, epc_fits, stored_crc_of, with_stored_crc};
 ghost use Rattle.tag_memory.specs.Image.{sizes_fit, pc_fits, image_banks, banks_of};
 
 mod access;
@@ -55,6 +55,13 @@ fn length_in_pc(pc: u16) -> usize
     usize::from(pc >> 11)
 }
 
+/// Whether the EPC that a PC announces lies inside an EPC bank of so many words, of which the first two are StoredCRC and PC.
+pub fn epc_fits(pc: u16, count: usize) -> bool
+    ensures { result ≡ epc_fits pc count }
+{
+    2 + length_in_pc(pc) <= count
+}
+
 /// The two words of a password, the upper half first (6.3.2.1.1).
 fn halves(password: u32) -> (u16, u16)
     ensures upper { result.0 ≡ password / 2 ^ 16 }
@@ -91,7 +98,7 @@ fn has_room_for_epc(image: &BankImage) -> bool
     ensures { result ≡ pc_fits image.now }
 {
     let words = image.epc.as_slice();
-    2 + length_in_pc(words[0]) <= 1 + words.len()
+    epc_fits(words[0], 1 + words.len())
 }
 
 /// A bank with these words.

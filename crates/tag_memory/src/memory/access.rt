@@ -4,7 +4,7 @@ ghost use Rattle.reply_grammar.specs.Table.{AreWords};
 ghost use Rattle.tag_memory.specs.Memory.{AreSound, bank_of};
 ghost use Rattle.tag_memory.specs.Access.{field_at, may_read_word, may_write_word, all_words, open_end, words_read, with_words_at, banks_with_words_at, length_fits, banks_after_write, banks_after_erase};
 
-use super::{Memory, length_in_pc};
+use super::{Memory, epc_fits, length_in_pc};
 use bit_strings::{Count1, Pointer};
 use command_grammar::{Bank, BlockWords};
 use lock_rules::{ErrorCode, Field, Level, Locks};
@@ -164,7 +164,7 @@ impl Memory {
         ensures { result ≡ length_fits (banks_with_words_at self.now bank from words.now) }
     {
         match bank {
-            Bank::Epc => 2 + length_in_pc(word_after(&self.epc, from, words, 1)) <= self.epc.len(),
+            Bank::Epc => epc_fits(word_after(&self.epc, from, words, 1), self.epc.len()),
             Bank::Reserved | Bank::Tid | Bank::User => true,
         }
     }
