@@ -4,4 +4,5 @@ pub mod Takes
 pub mod Puts
 pub mod Memory
 pub mod ReadEnds
+pub mod ReadLaws
 pub mod Standard

@@ -7,6 +7,9 @@ ghost use Rattle.bit_strings.specs.declared.ebv_front.EbvStep.{EbvStep};
 
 use std::marker::Model;
 
+/// The first block 10000000, which says only that another follows: no vector begins with it.
+const NOTHING: u32 = 0b1000_0000;
+
 /// The bits of an extensible bit vector (Annex A) that came so far, without its last one.
 ///
 /// A contract sees it as the list of these bits.
@@ -88,6 +91,7 @@ impl EbvFront {
     pub fn take_run(&mut self, bits: &[bool]) -> usize
         ensures within { result ≤ length bits.now }
         ensures taken { self.new ≡ self.old ++ take result bits.now }
+        ensures begun { IsCutEbv self.new }
         ensures edge { result < length bits.now → (length self.new % 8 ≡ 0) ⊎ (length self.new % 8 ≡ 7) }
     {
         let place = self.count % 8;
@@ -136,7 +140,7 @@ impl EbvFront {
         if bits / 128 % 2 == 0 {
             return EbvStep::Value(number_of(bits));
         }
-        if bits == 0b1000_0000 {
+        if bits == NOTHING {
             return EbvStep::NotShortest;
         }
         EbvStep::More(self.with(bit))

@@ -15,6 +15,7 @@ pub mod Resuming
 pub mod Runs
 pub mod SpellingLaws
 pub mod Stages
+pub mod VectorFronts
 pub mod Vectors
 pub mod Verdict
 pub mod WordLaws

@@ -15,7 +15,6 @@ use Rattle.command_grammar.specs.declared.fields.Fields.{Fields}
 use Rattle.command_grammar.specs.declared.stage.BitField.TheVariants as bit_fields
 use Rattle.command_grammar.specs.declared.stage.PairField.TheVariants as pair_fields
 use Rattle.command_grammar.specs.declared.stage.TripleField.TheVariants as triple_fields
-use Rattle.command_grammar.specs.declared.stage.Block.TheVariants.{First, Second, Third, Fourth}
 use Rattle.command_grammar.specs.declared.stage.Stage.{Stage}
 use Rattle.command_grammar.specs.declared.stage.Stage.TheVariants as stages
 use Rattle.command_grammar.specs.declared.state.Place.{Place}
@@ -24,7 +23,7 @@ use Rattle.command_grammar.specs.declared.state.State.{State}
 use Rattle.command_grammar.specs.declared.refusal.Reason.{Reason}
 use Rattle.command_grammar.specs.declared.refusal.Reason.TheVariants as reasons
 use Rattle.command_grammar.specs.Commands.{Spellings, SpellsCommand, IsCommandRefusedAt}
-use Rattle.command_grammar.specs.Reading.{Stop, Short, Bad, Reading, ◌>>=◌, Choice, child, all_kinds, lines, chosen_of, sides, changes, targets, masked_banks, all_banks, bit_at, bits_at, field_at, choice_at, exactly_at, count_at, words_at, ebv_at, crc5_at, crc16_at, block_at, first_block_at, last_block_at, query_rep_at, ack_at, query_at, query_adjust_at, select_at, req_rn_at, read_at, write_at, kill_at, lock_at, access_at, block_write_at, block_erase_at, fields_at, command_at, all_of}
+use Rattle.command_grammar.specs.Reading.{Stop, Short, Bad, Reading, ◌>>=◌, Choice, child, all_kinds, lines, chosen_of, sides, changes, targets, masked_banks, all_banks, bit_at, bits_at, field_at, choice_at, exactly_at, count_at, words_at, ebv_at, crc5_at, crc16_at, query_rep_at, ack_at, query_at, query_adjust_at, select_at, req_rn_at, read_at, write_at, kill_at, lock_at, access_at, block_write_at, block_erase_at, fields_at, command_at, all_of}
 use Rattle.command_grammar.specs.Framing.{fields_of, command_of, only_whole, run, next_at, behind_code, number_then, stage_from, field_from, resume, Stands}
 use Rattle.command_grammar.proofs.Parts.{is_fork, fork-at, number-short, mask-short}
 use Rattle.command_grammar.proofs.SpellingLaws.{begun}
@@ -112,7 +111,7 @@ resumes_more kind next_kind place next_place behind next_behind v next_v bits ru
 -- ---- no state but the last ends with no bits
 
 stage-short : (stage : Stage) (v : Fields) → stage_from stage v [] ≡ Err Short
-unfolding block_at first_block_at last_block_at field_of
+unfolding field_of
 stage-short (stages.Bit bit_fields.Dr) v = refl
 stage-short (stages.Bit bit_fields.Pilot) v = refl
 stage-short (stages.Bit bit_fields.Side) v = refl
@@ -123,10 +122,7 @@ stage-short (stages.Pair pair_fields.MaskBank first) v = refl
 stage-short (stages.Triple triple_fields.UpDn front) v = refl
 stage-short (stages.Triple triple_fields.Target front) v = refl
 stage-short (stages.Number field number) v = ap (λ (r : Reading ℕ). r >>= λ n. number_then field n.0 v n.1) (number-short number.behind number.value)
-stage-short (stages.Extension First value) v = refl
-stage-short (stages.Extension Second value) v = refl
-stage-short (stages.Extension Third value) v = refl
-stage-short (stages.Extension Fourth value) v = refl
+stage-short (stages.Vector front) v = refl
 stage-short (stages.Mask behind) v = ap (λ (r : Reading (List Bool)). r >>= λ x. Ok (record v { mask = x.0 }, x.1)) (mask-short behind v.mask)
 stage-short (stages.Known reason number) v = refl
 

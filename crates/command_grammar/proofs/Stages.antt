@@ -1,25 +1,24 @@
 -- One bit more in a field, and the beginning of each field.
-use Rattle.std.proofs.Common.{◌≡◌, ℕ, suc, ◌+◌, ◌-◌, ◌/◌, ◌%◌, ◌^◌, ◌<◌, ◌≤◌, Bool, true, false, not, List, [], ◌∷◌, ◌++◌, length, Result, Ok, Err, refl, sym, ap, ◌∙◌, append_assoc, append-nil, length-append, inl, inr, arith, cond}
-use Rattle.std.specs.Prelude.{◌==◌, ◌&&◌, ◌⊎◌}
+use Rattle.std.proofs.Common.{◌≡◌, ℕ, suc, ◌+◌, ◌-◌, ◌/◌, ◌%◌, ◌^◌, ◌<◌, ◌≤◌, Bool, true, false, not, List, [], ◌∷◌, ◌++◌, length, Result, Ok, Err, refl, sym, ap, subst, ◌∙◌, append_assoc, append-nil, length-append, arith, cond}
+use Rattle.std.specs.Prelude.{◌==◌}
 use mathlib.Core.Bool.{beq}
 use Rattle.std.proofs.lemmas.Bool.Decides.{nat_tests}
 use Rattle.std.proofs.lemmas.List.{take_at}
 use Rattle.std.proofs.lemmas.Nat.{pow_below}
 use Rattle.bit_strings.specs.Numbers.{digit_of, value_of, field_of}
+use Rattle.bit_strings.specs.Ebv.{IsEbv, IsCutEbv}
 use Rattle.gen2_crc.specs.Crc.{crc5_of, crc16_of}
 use Rattle.command_grammar.specs.declared.fields.Fields.{Fields}
 use Rattle.command_grammar.specs.declared.stage.Number.{Number}
 use Rattle.command_grammar.specs.declared.stage.NumberField.{NumberField}
 use Rattle.command_grammar.specs.declared.stage.NumberField.TheVariants as number_fields
-use Rattle.command_grammar.specs.declared.stage.Block.{Block}
-use Rattle.command_grammar.specs.declared.stage.Block.TheVariants.{First, Second, Third, Fourth}
 use Rattle.command_grammar.specs.declared.stage.Stage.TheVariants as stages
 use Rattle.command_grammar.specs.declared.refusal.Reason.{Reason}
 use Rattle.command_grammar.specs.declared.refusal.Reason.TheVariants as reasons
-use Rattle.command_grammar.specs.Reading.{Stop, Short, Bad, Reading, ◌>>=◌, bits_at, field_at, exactly_at, count_at, words_at, block_at, first_block_at, last_block_at, first_at, second_at, third_at, ebv_at, before, crc5_at, crc16_at}
-use Rattle.command_grammar.specs.Reading as readings
-use Rattle.command_grammar.specs.Framing.{number_then, words_then, mask_from, digit_then, stage_from, width_of, IsFront}
+use Rattle.command_grammar.specs.Reading.{Stop, Bad, Reading, ◌>>=◌, bits_at, field_at, exactly_at, count_at, words_at, ebv_at, before, crc5_at, crc16_at}
+use Rattle.command_grammar.specs.Framing.{number_then, words_then, mask_from, vector_from, stage_from, width_of, IsFront}
 use Rattle.command_grammar.proofs.Loops.{exactly-more, exactly-bad, exactly-none, same_bits, other_bits}
+use Rattle.command_grammar.proofs.VectorFronts.{vector_none, vector_more, vector_done, vector_refused}
 use Rattle.command_grammar.proofs.CheckLaws.{crc5-field, crc16-field}
 use Rattle.command_grammar.proofs.Parts.{number-start, mask-start, words-more, words-none}
 
@@ -42,7 +41,6 @@ few_bits number_fields.MaskLength = omega arith
 few_bits number_fields.WordsLength = omega arith
 few_bits (number_fields.FirstWord left) = omega arith
 few_bits (number_fields.Word left) = omega arith
-few_bits (number_fields.Digit block more value) = omega arith
 
 pub small_digit : (bit : Bool) → digit_of bit ≤ 1
 small_digit true = omega arith
@@ -119,50 +117,16 @@ some_mask count less v bits same nothing =
 abbrev pointed : Fields → Reading ℕ → Reading Fields
 pointed v r = r >>= λ x. Ok (record v { pointer = x.0 }, x.1)
 
-abbrev pub IsNotLast : Block → Type 0
-IsNotLast First = Unit {0}
-IsNotLast Second = Unit {0}
-IsNotLast Third = Unit {0}
-IsNotLast Fourth = ⊥
+pub vector_run : (front run rest next : List Bool) (v : Fields) → next ≡ front ++ run → IsCutEbv next → stage_from (stages.Vector front) v (run ++ rest) ≡ stage_from (stages.Vector next) v rest
+vector_run front run rest next v same cut =
+    ap (pointed v) (vector_more front run rest (subst IsCutEbv same cut) ∙ ap (λ (l : List Bool). vector_from l rest) (sym same))
 
-pub extension : (block : Block) (value : ℕ) (bit : Bool) (number : Number) (v : Fields) (rest : List Bool) → (bit ≡ false) ⊎ IsNotLast block → number.behind + 1 ≡ 7 → number.value ≡ 0
-    → stage_from (stages.Extension block value) v (bit ∷ rest) ≡ stage_from (stages.Number (number_fields.Digit block bit value) number) v rest
-unfolding block_at first_block_at last_block_at
-extension block value bit number v rest last whole nothing = step block bit last (field_at 7 rest) refl ∙ sym (number_stage (number_fields.Digit block bit value) 7 number v rest whole nothing)
-  where
-    blocks : Reading readings.Block → Reading ℕ
-    blocks r = r >>= λ block. first_at block.0.more block.0.digit block.1
+pub vector_whole : (front rest : List Bool) (bit : Bool) (number pointer : ℕ) (v : Fields) → pointer ≡ number → IsEbv number (front ++ bit ∷ []) → stage_from (stages.Vector front) v (bit ∷ rest) ≡ Ok (record v { pointer = pointer }, rest)
+vector_whole front rest bit number pointer v same ebv =
+    ap (pointed v) (vector_done front rest bit number ebv) ∙ ap (λ n. Ok (record v { pointer = n }, rest)) (sym same)
 
-    digits : Block → Bool → Reading ℕ → Reading Fields
-    digits block bit r = r >>= λ n. pointed v (digit_then block bit value n.0 n.1)
-
-    step : (block : Block) (bit : Bool) → (bit ≡ false) ⊎ IsNotLast block → (r : Reading ℕ) → field_at 7 rest ≡ r → stage_from (stages.Extension block value) v (bit ∷ rest) ≡ digits block bit (field_at 7 rest)
-    step First bit last (Ok n) e = rw e (either (bit && (n.0 == 0)))
-      where
-        either : (b : Bool) → pointed v (blocks (cond b (Err (Bad (length n.1 + 1) reasons.Ebv)) (Ok (record { more = bit; digit = n.0 }, n.1)))) ≡ pointed v (cond b (Err (Bad (length n.1 + 1) reasons.Ebv)) (first_at bit n.0 n.1))
-        either true = refl
-        either false = refl
-    step First bit last (Err stop) e = rw e refl
-    step Second bit last (Ok n) e = rw e refl
-    step Second bit last (Err stop) e = rw e refl
-    step Third bit last (Ok n) e = rw e refl
-    step Third bit last (Err stop) e = rw e refl
-    step Fourth false last (Ok n) e = rw e refl
-    step Fourth false last (Err stop) e = rw e refl
-    step Fourth true (inl zero_bit) r e = absurd cc
-    step Fourth true (inr none_last) r e = absurd none_last
-
-pub not_last : (block : Block) → (block ≡ First) ⊎ ((block ≡ Second) ⊎ (block ≡ Third)) → IsNotLast block
-not_last First h = tt
-not_last Second h = tt
-not_last Third h = tt
-not_last Fourth (inl e) = absurd cc
-not_last Fourth (inr (inl e)) = absurd cc
-not_last Fourth (inr (inr e)) = absurd cc
-
-pub no_extension : (value : ℕ) (v : Fields) (rest : List Bool) → stage_from (stages.Extension Fourth value) v (true ∷ rest) ≡ Err (Bad (length rest + 1) reasons.Ebv)
-unfolding last_block_at
-no_extension value v rest = refl
+pub vector_stops : (front rest : List Bool) (bit : Bool) (v : Fields) → IsCutEbv front → ((number : ℕ) (more : List Bool) → IsEbv number ((front ++ bit ∷ []) ++ more) → ⊥) → stage_from (stages.Vector front) v (bit ∷ rest) ≡ Err (Bad (length rest + 1) reasons.Ebv)
+vector_stops front rest bit v cut none = ap (pointed v) (vector_refused front rest bit cut none)
 
 -- ---- bits that are known
 
@@ -220,9 +184,8 @@ unfolding crc16_at
 crc16_start number v bits rest e =
     ap (λ (l : List Bool). kept v (exactly_at l reasons.Crc16 rest)) (crc16-field bits number e ∙ ap crc16_of (sym (before_is bits rest)))
 
-pub pointer_start : (v : Fields) (bits : List Bool) → stage_from (stages.Extension First 0) v bits ≡ pointed v (ebv_at bits)
-unfolding ebv_at
-pointer_start v bits = refl
+pub pointer_start : (front : List Bool) (v : Fields) (bits : List Bool) → front ≡ [] → stage_from (stages.Vector front) v bits ≡ pointed v (ebv_at bits)
+pointer_start front v bits nothing = ap (λ (l : List Bool). pointed v (vector_from l bits)) nothing ∙ ap (pointed v) (vector_none bits)
 
 abbrev counts : Reading ℕ → Reading ℕ
 counts r = r

@@ -1,10 +1,10 @@
 -- Profile: what a contract sees of a Framer, and what reading gives from each of its states for the bits that are still to
 -- come. It keeps no bits but those of a mask and of words; what is pushed behind the first place of refusal changes nothing.
-use Rattle.std.specs.Prelude.{◌≡◌, ℕ, zero, suc, ◌+◌, ◌*◌, ◌/◌, ◌%◌, ◌^◌, ◌<◌, ◌≤◌, Bool, true, false, List, [], ◌∷◌, ◌++◌, length, Option, Some, None, Result, Ok, Err, ◌==◌, if◌then◌else◌, ◌&&◌}
+use Rattle.std.specs.Prelude.{◌≡◌, ℕ, zero, suc, ◌+◌, ◌*◌, ◌/◌, ◌%◌, ◌^◌, ◌<◌, ◌≤◌, Bool, true, false, List, [], ◌∷◌, ◌++◌, length, Option, Some, None, Result, Ok, Err, ◌==◌, if◌then◌else◌}
 use Rattle.bit_strings.specs.Numbers.{digit_of, value_of, field_of}
 use Rattle.gen2_crc.specs.Crc.{crc5_of, RegisterStandsFor}
 use Rattle.command_grammar.specs.Commands.{IsCommandRefusedAt}
-use Rattle.command_grammar.specs.Reading.{Stop, Bad, Reading, ◌>>=◌, Choice, pick, none, child, bit_at, bits_at, field_at, choice_at, exactly_at, count_at, words_at, block_at, first_block_at, last_block_at, first_at, second_at, third_at, ebv_at, crc5_at, crc16_at, lines, chosen_of, sides, changes, targets, masked_banks, all_banks, kinds_10, kinds_11, kinds_11000, kinds_11001, all_kinds, all_of}
+use Rattle.command_grammar.specs.Reading.{Stop, Bad, Reading, ◌>>=◌, Choice, pick, none, child, bit_at, bits_at, field_at, choice_at, exactly_at, count_at, words_at, ebv_at, crc5_at, crc16_at, lines, chosen_of, sides, changes, targets, masked_banks, all_banks, kinds_10, kinds_11, kinds_11000, kinds_11001, all_kinds, all_of}
 use Rattle.command_grammar.specs.declared.commands.Command.{Command}
 use Rattle.command_grammar.specs.declared.commands.Command.TheVariants as commands
 use Rattle.command_grammar.specs.declared.check.Check.{Check}
@@ -27,8 +27,6 @@ use Rattle.command_grammar.specs.declared.stage.TripleField.{TripleField}
 use Rattle.command_grammar.specs.declared.stage.TripleField.TheVariants as triple_fields
 use Rattle.command_grammar.specs.declared.stage.Front.{Front}
 use Rattle.command_grammar.specs.declared.stage.Front.TheVariants.{Nothing, One, Two}
-use Rattle.command_grammar.specs.declared.stage.Block.{Block}
-use Rattle.command_grammar.specs.declared.stage.Block.TheVariants.{First, Second, Third, Fourth}
 use Rattle.command_grammar.specs.declared.stage.NumberField.{NumberField}
 use Rattle.command_grammar.specs.declared.stage.NumberField.TheVariants as number_fields
 use Rattle.command_grammar.specs.declared.stage.Stage.{Stage}
@@ -38,6 +36,7 @@ use Rattle.command_grammar.specs.declared.stage.Next.TheVariants as next
 use Rattle.command_grammar.specs.declared.state.Place.{Place}
 use Rattle.command_grammar.specs.declared.state.Place.TheVariants as places
 use Rattle.command_grammar.specs.declared.state.State.{State}
+use Rattle.command_grammar.specs.declared.refusal.CommandRefusal.{CommandRefusal}
 use Rattle.command_grammar.specs.declared.refusal.Pushed.{Pushed}
 use Rattle.command_grammar.specs.declared.refusal.Pushed.TheVariants as pushed
 use Rattle.command_grammar.specs.declared.refusal.Reason.{Reason}
@@ -76,6 +75,11 @@ command_of kinds.Lock v = commands.Lock v.payload v.rn
 command_of kinds.Access v = commands.Access v.covered v.rn
 command_of kinds.BlockWrite v = commands.BlockWrite v.bank v.pointer v.words v.rn
 command_of kinds.BlockErase v = commands.BlockErase v.bank v.pointer v.word_count v.rn
+
+-- a decoder's answer: this command, where nothing was refused
+abbrev pub answer_of : Option CommandRefusal → Command → Result Command CommandRefusal
+answer_of None command = Ok command
+answer_of (Some refusal) command = Err refusal
 
 -- the field, read into its value; `whole` has all bits from the code on
 abbrev pub field_from : Field → Fields → List Bool → List Bool → Reading Fields
@@ -203,19 +207,9 @@ abbrev pub mask_from : ℕ → List Bool → List Bool → Reading (List Bool)
 mask_from zero mask bits = bit_at bits >>= λ next. Ok (mask ++ next.0 ∷ [], next.1)
 mask_from (suc behind) mask bits = bit_at bits >>= λ next. mask_from behind (mask ++ next.0 ∷ []) next.1
 
--- an extensible bit vector: from a block on, where the digits before are this number
-abbrev pub extension_from : Block → ℕ → List Bool → Reading ℕ
-extension_from First value bits = first_block_at bits >>= λ block. first_at block.0.more block.0.digit block.1
-extension_from Second value bits = block_at bits >>= λ block. second_at block.0.more (value * 128 + block.0.digit) block.1
-extension_from Third value bits = block_at bits >>= λ block. third_at block.0.more (value * 128 + block.0.digit) block.1
-extension_from Fourth value bits = last_block_at bits >>= λ digit. Ok (value * 128 + digit.0, digit.1)
-
--- ... behind the digit of a block
-abbrev pub digit_then : Block → Bool → ℕ → ℕ → List Bool → Reading ℕ
-digit_then First more value digit bits = if more && (digit == 0) then Err (Bad (length bits + 1) reasons.Ebv) else first_at more digit bits
-digit_then Second more value digit bits = second_at more (value * 128 + digit) bits
-digit_then Third more value digit bits = third_at more (value * 128 + digit) bits
-digit_then Fourth more value digit bits = Ok (value * 128 + digit, bits)
+-- an extensible bit vector of which these bits were read, and at least one is still to come
+abbrev pub vector_from : List Bool → List Bool → Reading ℕ
+vector_from front bits = bit_at bits >>= λ next. ebv_at (front ++ next.0 ∷ next.1)
 
 abbrev pub bit_from : BitField → Fields → List Bool → Reading Fields
 bit_from bit_fields.Dr v bits = bit_at bits >>= λ x. Ok (record v { dr = x.0 }, x.1)
@@ -236,10 +230,6 @@ triple_from triple_fields.Target front v bits = next_at (behind_front targets fr
 abbrev pub words_then : ℕ → Fields → List Bool → Reading Fields
 words_then left v bits = words_at left bits >>= λ x. Ok (record v { words = v.words ++ x.0 }, x.1)
 
--- what follows a block of a vector, where the number so far is this
-abbrev pub block_then : Block → Bool → ℕ → Fields → List Bool → Reading Fields
-block_then block more value v bits = (if more then extension_from block value bits else Ok (value, bits)) >>= λ x. Ok (record v { pointer = x.0 }, x.1)
-
 -- what follows the number of a field
 abbrev pub number_then : NumberField → ℕ → Fields → List Bool → Reading Fields
 number_then number_fields.Session n v bits = Ok (record v { session = n }, bits)
@@ -254,14 +244,13 @@ number_then number_fields.MaskLength n v bits = bits_at n bits >>= λ x. Ok (rec
 number_then number_fields.WordsLength n v bits = if n == 0 then Err (Bad (length bits + 1) reasons.Count) else words_at n bits >>= λ x. Ok (record v { words = x.0 }, x.1)
 number_then (number_fields.FirstWord left) n v bits = words_at left bits >>= λ x. Ok (record v { words = n ∷ x.0 }, x.1)
 number_then (number_fields.Word left) n v bits = words_at left bits >>= λ x. Ok (record v { words = v.words ++ n ∷ x.0 }, x.1)
-number_then (number_fields.Digit block more value) n v bits = digit_then block more value n bits >>= λ x. Ok (record v { pointer = x.0 }, x.1)
 
 abbrev pub stage_from : Stage → Fields → List Bool → Reading Fields
 stage_from (stages.Bit field) v bits = bit_from field v bits
 stage_from (stages.Pair field first) v bits = pair_from field first v bits
 stage_from (stages.Triple field front) v bits = triple_from field front v bits
 stage_from (stages.Number field number) v bits = number_from number.behind number.value bits >>= λ n. number_then field n.0 v n.1
-stage_from (stages.Extension block value) v bits = extension_from block value bits >>= λ x. Ok (record v { pointer = x.0 }, x.1)
+stage_from (stages.Vector front) v bits = vector_from front bits >>= λ x. Ok (record v { pointer = x.0 }, x.1)
 stage_from (stages.Mask behind) v bits = mask_from behind v.mask bits >>= λ x. Ok (record v { mask = x.0 }, x.1)
 stage_from (stages.Known reason number) v bits = exactly_at (field_of number.value (suc number.behind)) reason bits >>= λ x. Ok (v, x.1)
 
@@ -285,14 +274,6 @@ width_of number_fields.MaskLength = 8
 width_of number_fields.WordsLength = 8
 width_of (number_fields.FirstWord left) = 16
 width_of (number_fields.Word left) = 16
-width_of (number_fields.Digit block more value) = 7
-
--- the digits before a block
-abbrev pub IsBefore : Block → ℕ → Type 0
-IsBefore First value = Unit {0}
-IsBefore Second value = value < 2 ^ 7
-IsBefore Third value = value < 2 ^ 14
-IsBefore Fourth value = value < 2 ^ 21
 
 -- a number of which some bits were read
 pub record IsFront (width : ℕ) (number : Number) : Type 0 where
@@ -317,14 +298,13 @@ IsSoundNumber number_fields.MaskLength v = Unit {0}
 IsSoundNumber number_fields.WordsLength v = Unit {0}
 IsSoundNumber (number_fields.FirstWord left) v = left + 1 ≤ 255
 IsSoundNumber (number_fields.Word left) v = length v.words + left + 1 ≤ 255
-IsSoundNumber (number_fields.Digit block more value) v = IsBefore block value
 
 abbrev pub IsSound : Stage → Fields → Type 0
 IsSound (stages.Bit field) v = Unit {0}
 IsSound (stages.Pair field first) v = Unit {0}
 IsSound (stages.Triple field front) v = Unit {0}
 IsSound (stages.Number field number) v = IsFront (width_of field) number × IsSoundNumber field v
-IsSound (stages.Extension block value) v = IsBefore block value
+IsSound (stages.Vector front) v = Unit {0}
 IsSound (stages.Mask behind) v = length v.mask + behind + 1 ≤ 255
 IsSound (stages.Known reason number) v = number.behind ≤ 15
 

@@ -14,13 +14,6 @@ pub fn decode_command(bits: &[bool]) -> Result<Command, CommandRefusal>
     ensures only { (command : Command) → SpellsCommand command bits.now → result ≡ Ok command }
 {
     let mut state = State::new();
-    let mut at = state.take_run(bits);
-    while at < bits.len() {
-        let place = state.pushed;
-        if let Some(reason) = state.take_edge(bits[at]) {
-            return Err(CommandRefusal::At(place, reason));
-        }
-        at += 1 + state.take_run(&bits[at + 1..]);
-    }
-    state.finish()
+    let refused = state.take_all(bits);
+    state.finish(refused)
 }

@@ -1,6 +1,6 @@
 //! The fields behind the code of each command, in their order (6.3.2.11), and what was read of them.
 ghost use Rattle.std.specs.Prelude.{◌≡◌, ◌≢◌, ◌^◌, ◌<◌, ◌≤◌};
-ghost use Rattle.command_grammar.specs.Framing.{fields_of, command_of};
+ghost use Rattle.command_grammar.specs.Framing.{fields_of, command_of, answer_of};
 
 use crate::choices::CommandKind;
 use crate::commands::{
@@ -9,6 +9,7 @@ use crate::commands::{
 };
 use crate::field_values::{Bank, FlagName, MaskBank, Sel, Side, UpDn};
 use crate::partial_lists::{PartialMask, PartialWords};
+use crate::refusal::CommandRefusal;
 use bit_strings::{Action, Code, Count1, Payload, Pointer, QValue, Session};
 
 /// A field behind the code of a command.
@@ -141,17 +142,25 @@ impl Fields {
         }
     }
 
-    /// The command whose fields were all read.
+    /// The command whose fields were all read, or the refusal, if there is one. The answer is made where it
+    /// stands, since it has room for the longest mask and the longest list of words.
     #[inline(always)]
-    pub(crate) fn command(self, kind: CommandKind) -> Command
-        ensures { result ≡ command_of kind self }
+    pub(crate) fn answer(
+        self,
+        kind: CommandKind,
+        refusal: Option<CommandRefusal>,
+    ) -> Result<Command, CommandRefusal>
+        ensures { result ≡ answer_of refusal (command_of kind self) }
     {
+        if let Some(refusal) = refusal {
+            return Err(refusal);
+        }
         match kind {
-            CommandKind::QueryRep => Command::QueryRep {
+            CommandKind::QueryRep => Ok(Command::QueryRep {
                 session: self.session,
-            },
-            CommandKind::Ack => Command::Ack { rn: self.rn },
-            CommandKind::Query => Command::Query {
+            }),
+            CommandKind::Ack => Ok(Command::Ack { rn: self.rn }),
+            CommandKind::Query => Ok(Command::Query {
                 dr: self.dr,
                 code: self.code,
                 trext: self.trext,
@@ -159,56 +168,56 @@ impl Fields {
                 session: self.session,
                 target: self.side,
                 q: self.q,
-            },
-            CommandKind::QueryAdjust => Command::QueryAdjust {
+            }),
+            CommandKind::QueryAdjust => Ok(Command::QueryAdjust {
                 session: self.session,
                 updn: self.updn,
-            },
-            CommandKind::Select => Command::Select {
+            }),
+            CommandKind::Select => Ok(Command::Select {
                 target: self.target,
                 action: self.action,
                 bank: self.mask_bank,
                 pointer: self.pointer,
                 mask: self.mask.whole(),
-            },
-            CommandKind::Nak => Command::Nak,
-            CommandKind::ReqRn => Command::ReqRn { rn: self.rn },
-            CommandKind::Read => Command::Read {
+            }),
+            CommandKind::Nak => Ok(Command::Nak),
+            CommandKind::ReqRn => Ok(Command::ReqRn { rn: self.rn }),
+            CommandKind::Read => Ok(Command::Read {
                 bank: self.bank,
                 pointer: self.pointer,
                 count: self.count,
                 rn: self.rn,
-            },
-            CommandKind::Write => Command::Write {
+            }),
+            CommandKind::Write => Ok(Command::Write {
                 bank: self.bank,
                 pointer: self.pointer,
                 covered: self.covered,
                 rn: self.rn,
-            },
-            CommandKind::Kill => Command::Kill {
+            }),
+            CommandKind::Kill => Ok(Command::Kill {
                 covered: self.covered,
                 rn: self.rn,
-            },
-            CommandKind::Lock => Command::Lock {
+            }),
+            CommandKind::Lock => Ok(Command::Lock {
                 payload: self.payload,
                 rn: self.rn,
-            },
-            CommandKind::Access => Command::Access {
+            }),
+            CommandKind::Access => Ok(Command::Access {
                 covered: self.covered,
                 rn: self.rn,
-            },
-            CommandKind::BlockWrite => Command::BlockWrite {
+            }),
+            CommandKind::BlockWrite => Ok(Command::BlockWrite {
                 bank: self.bank,
                 pointer: self.pointer,
                 words: self.words.whole(),
                 rn: self.rn,
-            },
-            CommandKind::BlockErase => Command::BlockErase {
+            }),
+            CommandKind::BlockErase => Ok(Command::BlockErase {
                 bank: self.bank,
                 pointer: self.pointer,
                 count: self.word_count,
                 rn: self.rn,
-            },
+            }),
         }
     }
 }

@@ -80,9 +80,6 @@ impl Framer {
         ensures only { (bits : List Bool) (command : Command) → FramerStandsFor self bits → SpellsCommand command bits → result ≡ Ok command }
     {
         let Framer { state, refused } = self;
-        match refused {
-            Some((place, reason)) => Err(CommandRefusal::At(place, reason)),
-            None => state.finish(),
-        }
+        state.finish(refused)
     }
 }

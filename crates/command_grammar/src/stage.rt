@@ -1,9 +1,8 @@
 //! The field of a command that is being read.
 ghost use Rattle.std.specs.Prelude.{◌≡◌, ◌+◌, ◌*◌, ◌≤◌, ◌<◌, ◌^◌, ◌∷◌, ◌++◌, ℕ, List, Bool, false, length, take, get_or};
 ghost use Rattle.bit_strings.specs.Numbers.{digit_of};
-ghost use Rattle.command_grammar.specs.Framing.{number_from, IsFront, stage_from, next_from, field_from, pair_from, triple_from, bit_from, number_then, words_then, block_then, IsBefore, IsSound, IsSoundNumber, IsSoundNext, IsEdge, IsSmall, next_bit, width_of, Counts, IsAsked, check_kept};
+ghost use Rattle.command_grammar.specs.Framing.{number_from, IsFront, stage_from, next_from, field_from, pair_from, triple_from, bit_from, number_then, words_then, IsSound, IsSoundNumber, IsSoundNext, IsEdge, IsSmall, next_bit, width_of, Counts, IsAsked, check_kept};
 ghost use Rattle.command_grammar.specs.declared.fields.Fields.{Fields};
-ghost use Rattle.command_grammar.specs.declared.stage.NumberField.TheVariants.{Digit};
 ghost use Rattle.command_grammar.specs.declared.stage.Stage.TheVariants as stages;
 ghost use Rattle.command_grammar.specs.declared.refusal.Reason.{Reason};
 
@@ -12,6 +11,7 @@ use crate::choices::{bank, line_code, mask_bank, sel, side, target, updn};
 use crate::fields::{Field, Fields, action_of, count_of, payload_of, pointer_of, q_of, session_of};
 use crate::partial_lists::{PartialMask, PartialWords};
 use crate::refusal::Reason;
+use bit_strings::{EbvFront, EbvStep};
 
 /// The bits of a number that were read before its next one.
 #[derive(Clone, Copy)]
@@ -124,15 +124,6 @@ pub(crate) enum Front {
     Two(bool, bool),
 }
 
-/// A block of an extensible bit vector (Annex A), of which there are at most four (profile).
-#[derive(Clone, Copy)]
-pub(crate) enum Block {
-    First,
-    Second,
-    Third,
-    Fourth,
-}
-
 /// What a number of some bits is for.
 #[derive(Clone, Copy)]
 pub(crate) enum NumberField {
@@ -152,8 +143,6 @@ pub(crate) enum NumberField {
     FirstWord(u32),
     /// Another word, and how many others follow.
     Word(u32),
-    /// The digit of a block, whether another block follows, and the number of the digits before.
-    Digit(Block, bool, u32),
 }
 
 /// What is being read: a field, or a part of one.
@@ -164,8 +153,8 @@ pub(crate) enum Stage {
     Pair(PairField, Option<bool>),
     Triple(TripleField, Front),
     Number(NumberField, Number),
-    /// The extension bit of a block, and the number of the digits before.
-    Extension(Block, u32),
+    /// An extensible bit vector (Annex A), of which some bits were read.
+    Vector(EbvFront),
     /// The bits of a mask: how many come behind the next one.
     Mask(u32),
     /// Bits that are known: they are those of a number, and a bit that differs is refused.
@@ -209,7 +198,7 @@ impl Stage {
             Field::Target => Stage::Triple(TripleField::Target, Front::Nothing),
             Field::Action => Stage::Number(NumberField::Action, Number::of(3)),
             Field::MaskBank => Stage::Pair(PairField::MaskBank, None),
-            Field::Pointer => Stage::Extension(Block::First, 0),
+            Field::Pointer => Stage::Vector(EbvFront::new()),
             Field::Mask => Stage::Number(NumberField::MaskLength, Number::of(8)),
             Field::Truncate => Stage::Known(Reason::Truncate, Number::of(1)),
             Field::Bank => Stage::Pair(PairField::Bank, None),
@@ -244,7 +233,8 @@ impl Stage {
             Stage::Number(_, number) => number.take_run(bits),
             Stage::Known(_, wanted) => wanted.pass_run(bits),
             Stage::Mask(behind) => mask_run(behind, bits, fields),
-            Stage::Bit(_) | Stage::Pair(..) | Stage::Triple(..) | Stage::Extension(..) => 0,
+            Stage::Vector(front) => front.take_run(bits),
+            Stage::Bit(_) | Stage::Pair(..) | Stage::Triple(..) => 0,
         }
     }
 
@@ -260,7 +250,7 @@ impl Stage {
             Stage::Pair(field, first) => take_pair(field, first, bit, fields),
             Stage::Triple(field, front) => take_triple(field, front, bit, fields),
             Stage::Number(field, number) => take_number(field, number.with(bit), fields),
-            Stage::Extension(block, value) => take_extension(block, value, bit),
+            Stage::Vector(front) => take_vector(front, bit, fields),
             Stage::Mask(_) => {
                 fields.mask.add(bit);
                 Next::Done
@@ -394,7 +384,6 @@ fn take_number(field: NumberField, value: u32, fields: &mut Fields) -> Next
             fields.words.add(value as u16);
             next_word(left)
         }
-        NumberField::Digit(block, more, before) => take_digit(block, more, before, value, fields),
     }
 }
 
@@ -409,56 +398,18 @@ fn next_word(left: u32) -> Next
     Next::Stay(Stage::Number(NumberField::Word(left - 1), Number::of(16)))
 }
 
-/// The digit of a block of an extensible bit vector, behind the number of the digits before.
-fn take_digit(block: Block, more: bool, before: u32, digit: u32, fields: &mut Fields) -> Next
-    requires small { digit < 2 ^ 7 }
-    requires before { IsBefore block before }
-    ensures reads { (rest : List Bool) → number_then (Digit block more before) digit fields.old rest ≡ next_from result fields.new rest }
+/// A bit of an extensible bit vector, behind those read.
+fn take_vector(front: EbvFront, bit: bool, fields: &mut Fields) -> Next
+    ensures reads { (rest : List Bool) → stage_from (stages.Vector front) fields.old (bit ∷ rest) ≡ next_from result fields.new rest }
     ensures sound { IsSoundNext result fields.new }
 {
-    match block {
-        Block::First => {
-            if more && digit == 0 {
-                return Next::Refused(Reason::Ebv);
-            }
-            next_block(Block::Second, more, digit, fields)
-        }
-        Block::Second => next_block(Block::Third, more, before * 128 + digit, fields),
-        Block::Third => next_block(Block::Fourth, more, before * 128 + digit, fields),
-        Block::Fourth => {
-            fields.pointer = pointer_of(before * 128 + digit);
+    match front.take(bit) {
+        EbvStep::More(more) => Next::Stay(Stage::Vector(more)),
+        EbvStep::Value(number) => {
+            fields.pointer = pointer_of(number);
             Next::Done
         }
-    }
-}
-
-/// What follows a block, where the number so far is `value`: this block, or the end.
-fn next_block(block: Block, more: bool, value: u32, fields: &mut Fields) -> Next
-    requires before { IsBefore block value }
-    requires small { value < 2 ^ 28 }
-    ensures reads { (rest : List Bool) → block_then block more value fields.old rest ≡ next_from result fields.new rest }
-    ensures sound { IsSoundNext result fields.new }
-{
-    if more {
-        return Next::Stay(Stage::Extension(block, value));
-    }
-    fields.pointer = pointer_of(value);
-    Next::Done
-}
-
-/// The extension bit of a block.
-fn take_extension(block: Block, value: u32, bit: bool) -> Next
-    requires { IsBefore block value }
-    ensures reads { (fields : Fields) (rest : List Bool) → stage_from (stages.Extension block value) fields (bit ∷ rest) ≡ next_from result fields rest }
-    ensures sound { (fields : Fields) → IsSoundNext result fields }
-{
-    let next = Next::Stay(Stage::Number(NumberField::Digit(block, bit, value), Number::of(7)));
-    if !bit {
-        return next;
-    }
-    match block {
-        Block::First | Block::Second | Block::Third => next,
-        Block::Fourth => Next::Refused(Reason::Ebv),
+        EbvStep::NotShortest | EbvStep::TooLong => Next::Refused(Reason::Ebv),
     }
 }
 

@@ -1,7 +1,7 @@
 //! What was read of a command.
 ghost use Rattle.std.specs.Prelude.{◌≡◌, ◌<◌, ◌≤◌, ◌++◌, ◌∷◌, [], List, Bool, false, Ok, None, length, take, get_or};
 ghost use Rattle.command_grammar.specs.Commands.{Judges, IsFinishAnswer, SpellsCommand};
-ghost use Rattle.command_grammar.specs.Framing.{Stands, Counts, IsCounted, AreServed, IsServed, check_kept, IsEdgePlace, IsSoundPlace, IsOpen, Goes, refusal_in, resume, run};
+ghost use Rattle.command_grammar.specs.Framing.{Stands, Keeps, command_of, answer_of, Counts, IsCounted, AreServed, IsServed, check_kept, IsEdgePlace, IsSoundPlace, IsOpen, Goes, refusal_in, resume, run};
 ghost use Rattle.command_grammar.specs.declared.commands.Command.{Command};
 
 use crate::check::Check;
@@ -157,14 +157,45 @@ impl State {
         }
     }
 
-    /// The command that the bits are, or `Short` where they only begin one.
-    pub(crate) fn finish(self) -> Result<Command, CommandRefusal>
-        ensures finishes { (bits : List Bool) → Stands self bits → IsFinishAnswer result bits }
-        ensures only { (bits : List Bool) (command : Command) → Stands self bits → SpellsCommand command bits → result ≡ Ok command }
+    /// The command that the bits are, or why they are none, where this was refused.
+    #[inline(always)]
+    pub(crate) fn finish(self, refused: Option<(u32, Reason)>) -> Result<Command, CommandRefusal>
+        ensures finishes { (bits : List Bool) → Keeps self refused bits → IsFinishAnswer result bits }
+        ensures only { (bits : List Bool) (command : Command) → Keeps self refused bits → SpellsCommand command bits → result ≡ Ok command }
     {
-        match self.place {
-            Place::Whole => Ok(self.fields.command(self.kind)),
-            Place::Code(_) | Place::Within(_) => Err(CommandRefusal::Short(self.pushed)),
+        let refusal = self.refusal(refused);
+        self.fields.answer(self.kind, refusal)
+    }
+
+    /// Why the bits are no command, if they are none.
+    #[inline]
+    fn refusal(&self, refused: Option<(u32, Reason)>) -> Option<CommandRefusal>
+        ensures { (bits : List Bool) → Keeps self.now refused bits → IsFinishAnswer (answer_of result (command_of self.now.kind self.now.fields)) bits }
+    {
+        match refused {
+            Some((place, reason)) => Some(CommandRefusal::At(place, reason)),
+            None => match self.place {
+                Place::Whole => None,
+                Place::Code(_) | Place::Within(_) => Some(CommandRefusal::Short(self.pushed)),
+            },
         }
+    }
+
+    /// Stands for these bits, or gives the first one with which no command goes on.
+    #[inline(always)]
+    pub(crate) fn take_all(&mut self, bits: &[bool]) -> Option<(u32, Reason)>
+        requires nothing { Stands self.old [] }
+        requires sound { IsSoundPlace self.old.place self.old.fields }
+        ensures { Keeps self.new result bits.now }
+    {
+        let mut at = self.take_run(bits);
+        while at < bits.len() {
+            let place = self.pushed;
+            if let Some(reason) = self.take_edge(bits[at]) {
+                return Some((place, reason));
+            }
+            at += 1 + self.take_run(&bits[at + 1..]);
+        }
+        None
     }
 }

@@ -5,7 +5,7 @@ use Rattle.std.proofs.lemmas.List.{append-nil}
 use Rattle.std.proofs.lemmas.List.Elements.{All-append, All-nil, All-push}
 use Rattle.std.proofs.lemmas.Grind.{flat_map-append}
 use Rattle.text_fields.specs.Lines.{Lacks, lines_of, fields_of, line_feed, text_with}
-use Rattle.text_fields.specs.LineLaws.{pieces_between-cut, whole_piece}
+use Rattle.text_fields.specs.LineLaws.{pieces_between-cut, some_line, whole_piece}
 use Rattle.decode_lines.specs.Request.{AsksForRequest, IsFaultyRequest}
 use Rattle.decode_lines.specs.Answer.{Answer, IsLineAnswer, AnswersLine, answer_line}
 use Rattle.decode_lines.specs.Answered.{AnswersTo, Stands}
@@ -13,7 +13,8 @@ use Rattle.decode_lines.specs.DecodeLines.{Decodes, IsFirstFault}
 use Rattle.decode_lines.specs.declared.fault.DecodeFault.{DecodeFault}
 use Rattle.decode_lines.specs.declared.fault.FaultReason.{FaultReason}
 use Rattle.decode_lines.specs.declared.fault.FaultReason.TheVariants.{End}
-use Rattle.decode_lines.proofs.CheckedLines.{zip_push, lines_behind, some_line, faulty_before}
+use Rattle.text_fields.specs.ListLaws.{zip_push}
+use Rattle.decode_lines.proofs.CheckedLines.{lines_behind, faulty_before}
 
 pub answers_none : (text : List ℕ) → text ≡ [] → AnswersTo [] [] text 1
 answers_none text none = record { before = []; asked = []; answers = []; cut = refl; whole = All-nil (Lacks line_feed); spelled = tt; right = tt; lines = none; count = refl }

@@ -1,21 +1,12 @@
 -- The lines before a place of the input, each of which asks for something.
-use Rattle.std.proofs.Common.{◌≡◌, ◌==◌, ℕ, ◌≤◌, List, [], ◌∷◌, ◌++◌, length, refl, ◌∙◌, ap, arith, append_assoc}
+use Rattle.std.proofs.Common.{◌≡◌, ℕ, ◌≤◌, List, [], ◌∷◌, ◌++◌, length, refl, ◌∙◌, ap, arith, append_assoc}
 use Rattle.std.specs.Prelude.{All}
-use Rattle.std.specs.List.{AllZip}
 use Rattle.std.proofs.lemmas.List.Elements.{All-head, All-tail}
-use Rattle.std.proofs.lemmas.List.Splits.{length-slice_split}
 use Rattle.text_fields.specs.Lines.{Lacks, lines_of, fields_of, line_feed, text_with}
 use Rattle.text_fields.specs.LineLaws.{pieces_between-cut}
 use Rattle.decode_lines.specs.Request.{IsFaultyRequest}
 use Rattle.decode_lines.specs.DecodeLines.{IsFaultyBefore}
 use Rattle.decode_lines.specs.declared.fault.FaultReason.{FaultReason}
-
--- the relation of two lists holds of one more item each
-pub zip_push : {A B : Type 0} (R : A → B → Type 0) (xs : List A) (ys : List B) (x : A) (y : B) → AllZip R xs ys → R x y → AllZip R (xs ++ x ∷ []) (ys ++ y ∷ [])
-zip_push R [] [] x y each last = (last, tt)
-zip_push R [] (b ∷ ys) x y each last = absurd each
-zip_push R (a ∷ xs) [] x y each last = absurd each
-zip_push R (a ∷ xs) (b ∷ ys) x y each last = (each.0, zip_push R xs ys x y each.1 last)
 
 -- the lines of a text that begins with whole lines
 pub lines_behind : (before : List (List ℕ)) (rest : List ℕ) → All (Lacks line_feed) before → lines_of (text_with before ++ rest) ≡ before ++ lines_of rest
@@ -24,10 +15,6 @@ lines_behind (line ∷ before) rest lack =
     pieces_between-cut line_feed (text_with (line ∷ before) ++ rest) line (text_with before ++ rest) (All-head (Lacks line_feed) line before lack)
     (append_assoc (line ++ line_feed ∷ []) (text_with before) rest ∙ append_assoc line (line_feed ∷ []) (text_with before ++ rest))
     ∙ ap (λ (lines : List (List ℕ)). line ∷ lines) (lines_behind before rest (All-tail (Lacks line_feed) line before lack))
-
--- a text has at least one line
-pub some_line : (text : List ℕ) → 1 ≤ length (lines_of text)
-some_line text = omega (arith, length-slice_split (λ byte. byte == line_feed) text)
 
 -- a line with another one behind it is faulty by its fields
 pub faulty_before : (behind : List (List ℕ)) (line : List ℕ) (reason : FaultReason) → 1 ≤ length behind → IsFaultyRequest (fields_of line) reason → IsFaultyBefore behind line reason

@@ -9,7 +9,8 @@ use Rattle.decode_lines.specs.declared.fault.DecodeFault.{DecodeFault}
 use Rattle.decode_lines.specs.declared.fault.FaultReason.{FaultReason}
 use Rattle.decode_lines.specs.declared.fault.FaultReason.TheVariants.{End}
 use Rattle.decode_lines.specs.declared.request.Request.{Request}
-use Rattle.decode_lines.proofs.CheckedLines.{faulty_before, some_line}
+use Rattle.text_fields.specs.LineLaws.{some_line}
+use Rattle.decode_lines.proofs.CheckedLines.{faulty_before}
 
 -- what the law of requests says
 abbrev pub RequestsHaveAnswers : Type 0

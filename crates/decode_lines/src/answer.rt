@@ -1,9 +1,10 @@
 //! The answer to a decode line.
-ghost use Rattle.std.specs.Prelude.{◌≡◌, ◌≢◌, ◌≤◌, ◌++◌, length, IfOk, IfErr, OnOk};
+ghost use Rattle.std.specs.Prelude.{◌≡◌, ◌≢◌, ◌≤◌, ◌++◌, length, IfOk, IfErr, OnOk, IsTrue, IsFalse};
 ghost use Rattle.std.specs.String.{string_bytes};
-ghost use Rattle.decode_lines.specs.Answer.{AddsAnswer, AnswersFields, AnswersLine, answer_line, streamed, sliced, replied, heard, framed, commanded, named, worded, with_left};
+ghost use Rattle.decode_lines.specs.Answer.{AddsAnswer, AnswersLine, answer_line, streamed, sliced, replied, heard, framed, commanded, named, worded, with_left};
 ghost use Rattle.text_fields.specs.Lines.{fields_of};
-ghost use Rattle.decode_lines.specs.Request.{AreFaulty, IsFaultyRequest, IsWithinLimits, most_levels, request_kind};
+ghost use Rattle.decode_lines.specs.Request.{AsksForRequest, IsFaultyRequest, IsWithinLimits, most_levels, request_kind};
+ghost use Rattle.decode_lines.specs.declared.request.Request.{Request};
 ghost use Rattle.decode_lines.specs.declared.request.RequestKind.{RequestKind};
 ghost use Rattle.epc_sgtin.specs.SgtinValue.{SgtinValue};
 ghost use Rattle.epc_sgtin.specs.Epc.{IsSgtin};
@@ -23,13 +24,13 @@ use command_text::{push_command, push_command_refusal};
 use epc_sgtin::{EpcFault, Sgtin, UriFault};
 use line_codes::{LineRefusal, decode_levels};
 use pie_line::{FrameKind, Intervals, PieRefusal, decode_frame};
-use pie_text::{NotNumbers, push_frame, push_pie_refusal, read_numbers};
+use pie_text::{push_frame, push_pie_refusal, read_numbers};
 use reply_grammar::{Expect, Received, Reply, ReplyRefusal, decode_reply};
 use reply_text::{push_reply, push_reply_refusal};
 use sample_slicer::{SliceRefusal, slice_levels};
 use sgtin_text::{push_epc_fault, push_name, push_sgtin_words, push_uri_fault};
 use std::alloc::Global;
-use text_fields::{Digits, Fields, HexBytes, Words, push_bits, push_number};
+use text_fields::{Digits, HexBytes, Words, push_bits, push_number};
 
 /// Room for the levels, bits, intervals, samples and words of the longest line, taken once for all lines.
 #[derive(Drop)]
@@ -71,8 +72,8 @@ impl Workspace {
         ensures ok { IfOk result (λ answered. OnOk answered (AnswersLine line.now (string_bytes text.old) (string_bytes text.new))) }
         ensures refused { IfOk result (λ answered. IfErr answered (IsFaultyRequest (fields_of line.now))) }
     {
-        if let Some(others) = pie_fields(line) {
-            return self.answer_pie(others, text);
+        if self.answer_pie(line, text)? {
+            return Ok(Ok(()));
         }
         let request = match request_of(line) {
             Ok(request) => request,
@@ -106,7 +107,7 @@ impl Workspace {
                 expect,
                 levels,
             } => self.answer_heard(*code, *trext, expect, levels, text),
-            // Such a line is answered by its fields.
+            // The intervals of such a line are read straight into their list.
             Request::Pie { .. } => unreachable!(),
             Request::Command { bits } => self.answer_command(bits, text),
             Request::Sgtin { words } => self.answer_sgtin(words, text),
@@ -178,29 +179,27 @@ impl Workspace {
         push_received(text, &received)
     }
 
-    /// Adds the frame of a line that begins with `pie`, or why its intervals are none, by its other fields.
-    /// The intervals are read straight into their list.
-    fn answer_pie(
-        &mut self,
-        others: Fields,
-        text: &mut String,
-    ) -> Result<Result<(), FaultReason>, OutOfMemory>
-        ensures ok { IfOk result (λ answered. OnOk answered (AnswersFields RequestKind.Pie others.entry (string_bytes text.old) (string_bytes text.new))) }
-        ensures refused { IfOk result (λ answered. IfErr answered (AreFaulty RequestKind.Pie others.entry)) }
+    /// Adds the frame of a line that asks for one, or why its intervals are none, and says whether the line
+    /// asks so. The intervals are read straight into their list.
+    fn answer_pie(&mut self, line: &[u8], text: &mut String) -> Result<bool, OutOfMemory>
+        ensures answered { IfOk result (λ asks. IsTrue asks → AnswersLine line.now (string_bytes text.old) (string_bytes text.new)) }
+        ensures other { IfOk result (λ asks. IsFalse asks → (request : Request) → AsksForRequest line.now request → request_kind request ≢ RequestKind.Pie) }
+        ensures same { IfOk result (λ asks. IsFalse asks → text.new ≡ text.old) }
     {
-        match read_numbers(
+        let Some(others) = pie_fields(line) else {
+            return Ok(false);
+        };
+        if !read_numbers(
             others,
             MOST_INTERVALS,
             MOST_NANOSECONDS,
             &mut self.intervals,
         ) {
-            Ok(()) => {}
-            Err(NotNumbers::Shape) => return Ok(Err(FaultReason::Shape)),
-            Err(NotNumbers::Number) => return Ok(Err(FaultReason::Number)),
+            return Ok(false);
         }
         let outcome = decode_frame(&self.intervals, &mut self.bits);
         push_framed(text, &outcome, &self.bits)?;
-        Ok(Ok(()))
+        Ok(true)
     }
 
     /// Adds the command that bits are, or why they are none.

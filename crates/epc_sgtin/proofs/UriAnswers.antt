@@ -171,89 +171,52 @@ item_there text one other is =
     let same = same_pieces text one other in
     subst (λ (l : List ℕ). IsItemPart l other.item) same.1 (subst (λ (l : List ℕ). IsItemPart one.company l) same.2 is)
 
+-- the order in which faults apply
+abbrev rank : UriFault → ℕ
+rank Prefix = 0
+rank Parts = 1
+rank Filter = 2
+rank Company = 3
+rank Item = 4
+rank Serial = 5
+
+rank_told : (one other : UriFault) → rank one ≡ rank other → one ≡ other
+rank_told Prefix Prefix same = refl
+rank_told Parts Parts same = refl
+rank_told Filter Filter same = refl
+rank_told Company Company same = refl
+rank_told Item Item same = refl
+rank_told Serial Serial same = refl
+rank_told one other same = absurd (omega (arith, same))
+
 -- of two faults the first that applies excludes the other
-prefix-parts : (text : List ℕ) → RefusesUri Prefix text → RefusesUri Parts text → ⊥
-prefix-parts text l r = l r.0 r.1
-
-prefix-filter : (text : List ℕ) → RefusesUri Prefix text → RefusesUri Filter text → ⊥
-prefix-filter text l r = no_parts text l r.0
-
-prefix-company : (text : List ℕ) → RefusesUri Prefix text → RefusesUri Company text → ⊥
-prefix-company text l r = no_parts text l r.0
-
-prefix-item : (text : List ℕ) → RefusesUri Prefix text → RefusesUri Item text → ⊥
-prefix-item text l r = no_parts text l r.0
-
-prefix-serial : (text : List ℕ) → RefusesUri Prefix text → RefusesUri Serial text → ⊥
-prefix-serial text l r = no_parts text l r.0
-
-parts-filter : (text : List ℕ) → RefusesUri Parts text → RefusesUri Filter text → ⊥
-parts-filter text l r = not_four text l r.0
-
-parts-company : (text : List ℕ) → RefusesUri Parts text → RefusesUri Company text → ⊥
-parts-company text l r = not_four text l r.0
-
-parts-item : (text : List ℕ) → RefusesUri Parts text → RefusesUri Item text → ⊥
-parts-item text l r = not_four text l r.0
-
-parts-serial : (text : List ℕ) → RefusesUri Parts text → RefusesUri Serial text → ⊥
-parts-serial text l r = not_four text l r.0
-
-filter-company : (text : List ℕ) → RefusesUri Filter text → RefusesUri Company text → ⊥
-filter-company text l r = l.1 (filter_there text r.0 l.0 r.1)
-
-filter-item : (text : List ℕ) → RefusesUri Filter text → RefusesUri Item text → ⊥
-filter-item text l r = l.1 (filter_there text r.0 l.0 r.1)
-
-filter-serial : (text : List ℕ) → RefusesUri Filter text → RefusesUri Serial text → ⊥
-filter-serial text l r = l.1 (filter_there text r.0 l.0 r.1)
-
-company-item : (text : List ℕ) → RefusesUri Company text → RefusesUri Item text → ⊥
-company-item text l r = l.2 (company_there text r.0 l.0 r.2)
-
-company-serial : (text : List ℕ) → RefusesUri Company text → RefusesUri Serial text → ⊥
-company-serial text l r = l.2 (company_there text r.0 l.0 r.2)
-
-item-serial : (text : List ℕ) → RefusesUri Item text → RefusesUri Serial text → ⊥
-item-serial text l r = l.3 (item_there text r.0 l.0 r.3)
+first_excludes : (first later : UriFault) (text : List ℕ) → rank first < rank later → RefusesUri first text → RefusesUri later text → ⊥
+first_excludes Prefix Parts text lt l r = l r.0 r.1
+first_excludes Prefix Filter text lt l r = no_parts text l r.0
+first_excludes Prefix Company text lt l r = no_parts text l r.0
+first_excludes Prefix Item text lt l r = no_parts text l r.0
+first_excludes Prefix Serial text lt l r = no_parts text l r.0
+first_excludes Parts Filter text lt l r = not_four text l r.0
+first_excludes Parts Company text lt l r = not_four text l r.0
+first_excludes Parts Item text lt l r = not_four text l r.0
+first_excludes Parts Serial text lt l r = not_four text l r.0
+first_excludes Filter Company text lt l r = l.1 (filter_there text r.0 l.0 r.1)
+first_excludes Filter Item text lt l r = l.1 (filter_there text r.0 l.0 r.1)
+first_excludes Filter Serial text lt l r = l.1 (filter_there text r.0 l.0 r.1)
+first_excludes Company Item text lt l r = l.2 (company_there text r.0 l.0 r.2)
+first_excludes Company Serial text lt l r = l.2 (company_there text r.0 l.0 r.2)
+first_excludes Item Serial text lt l r = l.3 (item_there text r.0 l.0 r.3)
+first_excludes Serial Prefix text lt l r = absurd (omega (arith, lt))
+first_excludes first later text lt l r = absurd (omega (arith, lt))
 
 pub one_fault : (one other : UriFault) (text : List ℕ) → RefusesUri one text → RefusesUri other text → one ≡ other
-one_fault Prefix Prefix text l r = refl
-one_fault Prefix Parts text l r = absurd (prefix-parts text l r)
-one_fault Prefix Filter text l r = absurd (prefix-filter text l r)
-one_fault Prefix Company text l r = absurd (prefix-company text l r)
-one_fault Prefix Item text l r = absurd (prefix-item text l r)
-one_fault Prefix Serial text l r = absurd (prefix-serial text l r)
-one_fault Parts Prefix text l r = absurd (prefix-parts text r l)
-one_fault Parts Parts text l r = refl
-one_fault Parts Filter text l r = absurd (parts-filter text l r)
-one_fault Parts Company text l r = absurd (parts-company text l r)
-one_fault Parts Item text l r = absurd (parts-item text l r)
-one_fault Parts Serial text l r = absurd (parts-serial text l r)
-one_fault Filter Prefix text l r = absurd (prefix-filter text r l)
-one_fault Filter Parts text l r = absurd (parts-filter text r l)
-one_fault Filter Filter text l r = refl
-one_fault Filter Company text l r = absurd (filter-company text l r)
-one_fault Filter Item text l r = absurd (filter-item text l r)
-one_fault Filter Serial text l r = absurd (filter-serial text l r)
-one_fault Company Prefix text l r = absurd (prefix-company text r l)
-one_fault Company Parts text l r = absurd (parts-company text r l)
-one_fault Company Filter text l r = absurd (filter-company text r l)
-one_fault Company Company text l r = refl
-one_fault Company Item text l r = absurd (company-item text l r)
-one_fault Company Serial text l r = absurd (company-serial text l r)
-one_fault Item Prefix text l r = absurd (prefix-item text r l)
-one_fault Item Parts text l r = absurd (parts-item text r l)
-one_fault Item Filter text l r = absurd (filter-item text r l)
-one_fault Item Company text l r = absurd (company-item text r l)
-one_fault Item Item text l r = refl
-one_fault Item Serial text l r = absurd (item-serial text l r)
-one_fault Serial Prefix text l r = absurd (prefix-serial text r l)
-one_fault Serial Parts text l r = absurd (parts-serial text r l)
-one_fault Serial Filter text l r = absurd (filter-serial text r l)
-one_fault Serial Company text l r = absurd (company-serial text r l)
-one_fault Serial Item text l r = absurd (item-serial text r l)
-one_fault Serial Serial text l r = refl
+one_fault one other text l r = elim (cases_lt (rank one) (rank other)) [
+  | inl before ↦ absurd (first_excludes one other text before l r)
+  | inr upto ↦ elim (cases_lt (rank other) (rank one)) [
+    | inl behind ↦ absurd (first_excludes other one text behind r l)
+    | inr least ↦ rank_told one other (omega (arith, upto, least))
+  ]
+]
 
 -- whether a text begins with a front
 cut_front : (front text : List ℕ) → ((rest : List ℕ) × (text ≡ front ++ rest)) ⊎ ((rest : List ℕ) → text ≢ front ++ rest)

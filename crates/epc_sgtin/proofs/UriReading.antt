@@ -54,6 +54,11 @@ below_limit number width below few =
 joined : (front a b c d : List ℕ) → (((((((([] ++ front) ++ a) ++ dot ∷ []) ++ b) ++ dot ∷ []) ++ c) ++ dot ∷ []) ++ d) ≡ front ++ join_with_byte dot (a ∷ b ∷ c ∷ d ∷ [])
 joined front a b c d = simp append_assoc
 
+-- the four parts that a text was cut into
+abbrev pub parts_cut : (text rest filter company item serial : List ℕ) → text ≡ prefix ++ rest → pieces_between dot rest ≡ filter ∷ company ∷ item ∷ serial ∷ [] → UriParts text
+parts_cut text rest filter company item serial begins joined =
+    record { filter = filter; company = company; item = item; serial = serial; rest = rest; begins = begins; joined = joined }
+
 -- what is written, part by part, is the URI
 pub uri_written : (sgtin : SgtinValue) (width : ℕ) (text : List ℕ) → IsLegalSgtin sgtin → padded sgtin.serial width ≡ decimal sgtin.serial
     → text ≡ ((((((([] ++ prefix) ++ (48 + sgtin.filter) ∷ []) ++ dot ∷ []) ++ padded sgtin.company sgtin.digits) ++ dot ∷ []) ++ padded sgtin.item (13 - sgtin.digits)) ++ dot ∷ []) ++ padded sgtin.serial width

@@ -1,4 +1,3 @@
-pub mod LineLists
 pub mod Ends
 pub mod Headlined
 pub mod RunEnds

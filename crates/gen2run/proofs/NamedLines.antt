@@ -17,7 +17,8 @@ use Rattle.gen2run.specs.declared.ending.WriteEnd.TheVariants.{Fault}
 use Rattle.decode_lines.specs.DecodeLines.{fault_line}
 use Rattle.gen2run.specs.Named.{IsOfLines, AddsNames, IsCutAt, RefusesCutLine}
 use Rattle.decode_lines.specs.declared.fault.FaultReason.TheVariants.{End}
-use Rattle.gen2run.proofs.LineLists.{flat_map_push, some_line, zip_push}
+use Rattle.text_fields.specs.LineLaws.{some_line}
+use Rattle.text_fields.specs.ListLaws.{flat_map_push, zip_push}
 use Rattle.gen2run.proofs.Waits.{sends_whole, loses_later, loses_last}
 
 -- two ways to cut a last line off agree

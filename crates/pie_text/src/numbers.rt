@@ -108,34 +108,18 @@ fn push_numbers(line: &[u8], most_items: u32, most: u32, out: &mut Intervals) ->
 }
 
 /// Reads the numbers that all the fields that are left spell, from 1 to `most_items` numbers, none of them
-/// greater than `most`, in place of what the list holds. After a refusal it holds some of them.
-///
-/// `Shape` comes exactly where the number of fields isn't from 1 to `most_items` or a field is empty, and
-/// `Number` exactly where they have this shape and a field is no number up to `most`.
-pub fn read_numbers(
-    fields: Fields,
-    most_items: u32,
-    most: u32,
-    out: &mut Intervals,
-) -> Result<(), NotNumbers>
+/// greater than `most`, in place of what the list holds. Whether they spell such numbers: where they don't the
+/// list holds some of them, and `Numbers::new` says why.
+pub fn read_numbers(fields: Fields, most_items: u32, most: u32, out: &mut Intervals) -> bool
     requires { most_items ≤ out.old.capacity }
-    ensures ok { OnOk result (SpellsNumbers most_items most fields.entry out.new.items) }
-    ensures refused { IfErr result (λ reason. RefusesNumbers reason most_items most fields.entry) }
-    ensures only { (numbers : List ℕ) → SpellsNumbers most_items most fields.entry numbers → IsOk result × (out.new.items ≡ numbers) }
+    ensures read { IsTrue result → SpellsNumbers most_items most fields.entry out.new.items }
+    ensures only { (numbers : List ℕ) → SpellsNumbers most_items most fields.entry numbers → IsTrue result × (out.new.items ≡ numbers) }
     ensures capacity { out.new.capacity ≡ out.old.capacity }
 {
     out.clear();
-    let Some(line) = fields.into_rest() else {
-        return Err(NotNumbers::Shape);
-    };
-    if push_numbers(line, most_items, most, out) {
-        return Ok(());
-    }
-    // They are none: for which reason is looked at only then.
-    if has_shape(line, most_items) {
-        Err(NotNumbers::Number)
-    } else {
-        Err(NotNumbers::Shape)
+    match fields.into_rest() {
+        Some(line) => push_numbers(line, most_items, most, out),
+        None => false,
     }
 }
 

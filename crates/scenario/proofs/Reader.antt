@@ -32,7 +32,8 @@ use Rattle.scenario.specs.Rest.{AreLeft, FinishesScenario, IsExtra, IsFirstFault
 use Rattle.scenario.proofs.Leading.{leads_one}
 use Rattle.scenario.proofs.StepLines.{one_step_more}
 use Rattle.scenario.proofs.Settled.{more_operations, only_first, op_more}
-use Rattle.scenario.proofs.Texts.{nothing_left, some_line, spells_text, text_spelled}
+use Rattle.scenario.proofs.Texts.{nothing_left, spells_text, text_spelled}
+use Rattle.text_fields.specs.LineLaws.{some_line}
 
 -- the lines before what is left lead to the draft
 pub record SoFar (link : LinkValue) (text rest : List ℕ) (draft : DraftValue) : Type 0 where

@@ -18,7 +18,8 @@ use Rattle.scenario.proofs.Decisions.{chooses_once_decided, has_room_decided, ke
 use Rattle.scenario.proofs.Leading.{leads_one}
 use Rattle.scenario.proofs.Settled.{said_scenario}
 use Rattle.scenario_lines.specs.LineBeginnings.{spelled_begins}
-use Rattle.scenario.proofs.Texts.{some_line, text_of_lines, text_spelled}
+use Rattle.scenario.proofs.Texts.{text_of_lines, text_spelled}
+use Rattle.text_fields.specs.LineLaws.{some_line}
 
 -- the fields spell a line that may follow
 record GoesBy (standing : Standing) (fields : List (List ℕ)) : Type 0 where

@@ -1,9 +1,9 @@
 -- Texts and their lines.
-use Rattle.std.proofs.Common.{◌≡◌, ◌≢◌, ◌==◌, ℕ, ◌≤◌, List, [], ◌∷◌, ◌++◌, length, map, refl, sym, ◌∙◌, ap, arith, append_assoc}
+use Rattle.std.proofs.Common.{◌≡◌, ◌≢◌, ℕ, List, [], ◌∷◌, ◌++◌, length, map, refl, sym, ◌∙◌, ap, arith, append_assoc}
 use Rattle.std.specs.Prelude.{All}
 use Rattle.std.specs.List.{join_with_byte}
 use Rattle.std.proofs.lemmas.List.Elements.{All-append, All-cons, All-head, All-nil, All-tail, All-weaker}
-use Rattle.std.proofs.lemmas.List.Splits.{join_with_byte-slice_split, length-slice_split}
+use Rattle.std.proofs.lemmas.List.Splits.{join_with_byte-slice_split}
 use Rattle.text_fields.specs.Lines.{IsFieldText, Lacks, fields_of, line_feed, line_with, lines_of, space, text_with}
 use Rattle.text_fields.specs.LineLaws.{fields_come_back, lines_come_back}
 use Rattle.scenario_lines.specs.declared.line.Line.{Line}
@@ -12,10 +12,6 @@ use Rattle.scenario_lines.specs.Spelling.{line_fields, line_text}
 use Rattle.scenario_lines.specs.LineFaults.{SpellsLine}
 use Rattle.scenario.specs.LineLaws.{LineLaws}
 use Rattle.scenario.specs.Standing.{Leads, Standing, after}
-
--- a text has at least one line
-pub some_line : (text : List ℕ) → 1 ≤ length (lines_of text)
-some_line text = omega (arith, length-slice_split (λ byte. byte == line_feed) text)
 
 -- the fields of a line that is spelled
 pub fields_spelled : LineLaws → (said : Line) → IsLine said → fields_of (line_text said) ≡ line_fields said

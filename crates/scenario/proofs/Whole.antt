@@ -22,7 +22,8 @@ use Rattle.scenario.specs.Faults.{IsFaultyAt, IsFaultyBefore, IsFirstFault, IsRe
 use Rattle.scenario.specs.Rest.{AreLeft, FinishesScenario, IsFirstFaultBehind, IsRefusedBehind}
 use Rattle.scenario.proofs.Settled.{said_scenario}
 use Rattle.scenario.proofs.Spoken.{scenario_is_said}
-use Rattle.scenario.proofs.Texts.{lines_said, some_line, spells_text, text_of_lines, text_spelled}
+use Rattle.scenario.proofs.Texts.{lines_said, spells_text, text_of_lines, text_spelled}
+use Rattle.text_fields.specs.LineLaws.{some_line}
 
 -- the version may stand first
 version_follows : Follows start lines.Version

@@ -65,6 +65,27 @@ then {one = one} {May = May} {others = others} {Might = Might} first rest = behi
 end : FieldsDecided nothing Any
 end = nothing_decided
 
+-- a value of this kind has these fields
+abbrev OfKind : {K V : Type 0} → (V → K) → (V → List (List ℕ)) → (V → Type 0) → K → List (List ℕ) → Type 0
+OfKind kind_of fields_of May kind fields = (value : _) × (kind_of value ≡ kind) × (fields ≡ fields_of value) × May value
+
+-- the word for its kind, and behind it the fields of a value of this kind
+behind_kind_decided : {K V : Type 0} (word_for : K → List ℕ) (kind_of : V → K) (fields_of : V → List (List ℕ)) (May : V → Type 0)
+    → ((one other : K) → word_for one ≡ word_for other → one ≡ other) → ((field : List ℕ) → Decided (Spelled word_for Any field))
+    → ((kind : K) (fields : List (List ℕ)) → Decided (OfKind kind_of fields_of May kind fields))
+    → FieldsDecided (λ (value : V). word_for (kind_of value) ∷ fields_of value) May
+behind_kind_decided word_for kind_of fields_of May told kind_decided behind [] = inr (λ some. let same = some.2 in cc)
+behind_kind_decided word_for kind_of fields_of May told kind_decided behind (field ∷ fields) = elim (kind_decided field) [
+  | inl known ↦ elim (behind known.0 fields) [
+    | inl found ↦ inl (found.0, found.3, ap₂ (λ x xs. x ∷ xs) (known.2 ∙ ap word_for (sym found.1)) found.2)
+    | inr never ↦ inr (λ some.
+        let same = same_fields field (word_for (kind_of some.0)) fields (fields_of some.0) some.2 in
+        never (some.0, told (kind_of some.0) known.0 (sym same.0 ∙ known.2), same.1, some.1))
+  ]
+  | inr unknown ↦ inr (λ some.
+      unknown (kind_of some.0, tt, (same_fields field (word_for (kind_of some.0)) fields (fields_of some.0) some.2).0))
+]
+
 word : (text : List ℕ) → (field : List ℕ) → Decided (Spelled (the text) Any field)
 word text = only_decided text_decided text
 
@@ -223,31 +244,10 @@ abbrev event_text : Event × ℕ → List (List ℕ)
 event_text event = event_word (event_kind event.0) ∷ event_fields event.0 event.1
 
 event_decided : FieldsDecided event_text (λ event. IsEvent event.0 event.1)
-event_decided [] = inr (λ some. let same = some.2 in cc)
-event_decided (field ∷ fields) = elim (event_kind_decided field) [
-  | inl known ↦ elim (event_behind known.0 fields) [
-    | inl found ↦ inl (
-      (found.0, found.1),
-      found.2.is,
-      ap₂ (λ x xs. x ∷ xs) (known.2 ∙ ap event_word (sym found.2.same_kind)) found.2.spelling,
-    )
-    | inr never ↦ inr (λ some.
-        let event = some.0.0 in
-        let same = same_fields field (event_word (event_kind event)) fields (event_fields event some.0.1) some.2 in
-        never (
-          event,
-          some.0.1,
-          record {
-            same_kind = event_word_told (event_kind event) known.0 (sym same.0 ∙ known.2);
-            spelling = same.1;
-            is = some.1;
-          },
-        ))
-  ]
-  | inr unknown ↦ inr (λ some.
-      let event = some.0.0 in
-      unknown (event_kind event, tt, (same_fields field (event_word (event_kind event)) fields (event_fields event some.0.1) some.2).0))
-]
+event_decided = behind_kind_decided event_word (λ event. event_kind event.0) (λ event. event_fields event.0 event.1) (λ event. IsEvent event.0 event.1)
+    event_word_told event_kind_decided
+    (λ kind fields. same_answer (λ has. ((has.0, has.1), has.2.same_kind, has.2.spelling, has.2.is))
+    (λ some. (some.0.0, some.0.1, record { same_kind = some.1; spelling = some.2; is = some.3 })) (event_behind kind fields))
 
 -- the kind of an operation
 no_op_kind : (field : List ℕ) → field ≢ op_word op_kinds.Read → field ≢ op_word op_kinds.Write → field ≢ op_word op_kinds.BlockWrite
@@ -355,28 +355,9 @@ abbrev op_text : Op → List (List ℕ)
 op_text op = op_word (op_kind op) ∷ op_fields op
 
 op_decided : FieldsDecided op_text IsLegalOp
-op_decided [] = inr (λ some. let same = some.2 in cc)
-op_decided (field ∷ fields) = elim (op_kind_decided field) [
-  | inl known ↦ elim (op_behind known.0 fields) [
-    | inl found ↦ inl (
-      found.0,
-      found.1.is,
-      ap₂ (λ x xs. x ∷ xs) (known.2 ∙ ap op_word (sym found.1.same_kind)) found.1.spelling,
-    )
-    | inr never ↦ inr (λ some.
-        let same = same_fields field (op_word (op_kind some.0)) fields (op_fields some.0) some.2 in
-        never (
-          some.0,
-          record {
-            same_kind = op_word_told (op_kind some.0) known.0 (sym same.0 ∙ known.2);
-            spelling = same.1;
-            is = some.1;
-          },
-        ))
-  ]
-  | inr unknown ↦ inr (λ some.
-      unknown (op_kind some.0, tt, (same_fields field (op_word (op_kind some.0)) fields (op_fields some.0) some.2).0))
-]
+op_decided = behind_kind_decided op_word op_kind op_fields IsLegalOp op_word_told op_kind_decided
+    (λ kind fields. same_answer (λ has. (has.0, has.1.same_kind, has.1.spelling, has.1.is))
+    (λ some. (some.0, record { same_kind = some.1; spelling = some.2; is = some.3 })) (op_behind kind fields))
 
 -- what stands behind the kind of an air line
 abbrev HasHappening : AirKind → List (List ℕ) → Type 0
@@ -446,28 +427,9 @@ abbrev happening_text : Happening → List (List ℕ)
 happening_text happening = air_word (air_kind happening) ∷ happening_fields happening
 
 happening_decided : FieldsDecided happening_text IsHappening
-happening_decided [] = inr (λ some. let same = some.2 in cc)
-happening_decided (field ∷ fields) = elim (air_kind_decided field) [
-  | inl known ↦ elim (happening_behind known.0 fields) [
-    | inl found ↦ inl (
-      found.0,
-      found.1.is,
-      ap₂ (λ x xs. x ∷ xs) (known.2 ∙ ap air_word (sym found.1.same_kind)) found.1.spelling,
-    )
-    | inr never ↦ inr (λ some.
-        let same = same_fields field (air_word (air_kind some.0)) fields (happening_fields some.0) some.2 in
-        never (
-          some.0,
-          record {
-            same_kind = air_word_told (air_kind some.0) known.0 (sym same.0 ∙ known.2);
-            spelling = same.1;
-            is = some.1;
-          },
-        ))
-  ]
-  | inr unknown ↦ inr (λ some.
-      unknown (air_kind some.0, tt, (same_fields field (air_word (air_kind some.0)) fields (happening_fields some.0) some.2).0))
-]
+happening_decided = behind_kind_decided air_word air_kind happening_fields IsHappening air_word_told air_kind_decided
+    (λ kind fields. same_answer (λ has. (has.0, has.1.same_kind, has.1.spelling, has.1.is))
+    (λ some. (some.0, record { same_kind = some.1; spelling = some.2; is = some.3 })) (happening_behind kind fields))
 
 air_decided : FieldsDecided (with decimal happening_text) (Both (IsWithin 1 1000000) IsHappening)
 air_decided = then (number 1 1000000) happening_decided

@@ -6,4 +6,5 @@ pub mod CodeNames
 pub mod FieldTextLaws
 pub mod ToldApart
 pub mod LineLaws
+pub mod ListLaws
 pub mod BinaryLaws

@@ -1,5 +1,5 @@
 -- The pieces of a text that is cut at a byte.
-use Rattle.std.proofs.Common.{◌≡◌, ◌≢◌, ℕ, false, eqb, List, [], ◌∷◌, ◌++◌, length, arith, ap, refl, sym, ◌∙◌, append_assoc}
+use Rattle.std.proofs.Common.{◌≡◌, ◌≢◌, ◌≤◌, ℕ, false, eqb, List, [], ◌∷◌, ◌++◌, length, arith, ap, refl, sym, ◌∙◌, append_assoc}
 use Rattle.std.specs.Prelude.{All}
 use Rattle.std.proofs.lemmas.Bool.Decides.{nat_tests}
 use Rattle.std.proofs.lemmas.List.Elements.{All-head, All-tail, All-weaker}
@@ -26,6 +26,10 @@ pub some_piece : (byte : ℕ) (text : List ℕ) → pieces_between byte text ≢
 some_piece byte text none =
     let count = ap length none in
     absurd (omega (arith, length-slice_split (λ each. eqb each byte) text))
+
+-- a text has at least one line
+pub some_line : (text : List ℕ) → 1 ≤ length (lines_of text)
+some_line text = omega (arith, length-slice_split (λ each. eqb each line_feed) text)
 
 -- the fields of a line that is made of fields
 pub fields_come_back : (fields : List (List ℕ)) → fields ≢ [] → All (Lacks space) fields → fields_of (line_with fields) ≡ fields

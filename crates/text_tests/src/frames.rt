@@ -29,9 +29,9 @@ fn are_numbers(alloc: Global, line: &[u8], wanted: Result<&[u32], NotNumbers>) -
     }
     let read = read_numbers(Fields::new(line), 3, 999_999, &mut intervals);
     let spelled = Numbers::new(Fields::new(line), 3, 999_999);
-    let is_read = match read {
-        Ok(()) => wanted == Ok(intervals.as_slice()),
-        Err(reason) => wanted == Err(reason),
+    let is_read = match wanted {
+        Ok(numbers) => read && intervals.as_slice() == numbers,
+        Err(_) => !read,
     };
     Some(is_read && spelled.err() == wanted.err())
 }

@@ -17,18 +17,16 @@ const VECTORS: [(u32, &str); 4] = [
     (268_435_455, "11111111111111111111111101111111"),
 ];
 
-/// The number of the vector that the bits are, read one bit at a time at the edges of digits and by runs inside them;
-/// none where they are refused or end before it does, or go on behind it.
+/// The number of the vector that the bits are, read one bit at a time; none where they are refused or no vector ends
+/// with the last of them.
 fn number_of(bits: &[bool]) -> Option<u32> {
     let mut front = EbvFront::new();
-    let mut at = front.take_run(bits);
-    while at < bits.len() {
-        match front.take(bits[at]) {
+    for (at, bit) in bits.iter().enumerate() {
+        match front.take(*bit) {
             EbvStep::More(more) => front = more,
-            EbvStep::Value(value) => return (at + 1 == bits.len()).then_some(value),
-            EbvStep::NotShortest | EbvStep::TooLong => return None,
+            EbvStep::Value(value) if at + 1 == bits.len() => return Some(value),
+            EbvStep::Value(_) | EbvStep::NotShortest | EbvStep::TooLong => return None,
         }
-        at += 1 + front.take_run(&bits[at + 1..]);
     }
     None
 }
@@ -53,6 +51,26 @@ fn is_vector(alloc: Global, value: u32, text: &str) -> Option<bool> {
 fn vectors_are_spelled_and_read(rt: HostRuntime) {
     for (value, text) in VECTORS {
         assert!(rt; is_vector(rt.alloc(), value, text) == Some(true), "{text}");
+    }
+}
+
+/// The bits of a block, and how many of those behind its first are taken at once.
+const RUNS: [(&str, usize); 3] = [("10000001", 6), ("000", 2), ("1", 0)];
+
+/// How many bits behind the first one are taken at once.
+fn run_of(alloc: Global, text: &str) -> Option<usize> {
+    let bits = bits_of(alloc, text)?;
+    let (first, others) = bits.as_slice().split_first()?;
+    match EbvFront::new().take(*first) {
+        EbvStep::More(mut front) => Some(front.take_run(others)),
+        _ => None,
+    }
+}
+
+#[test]
+fn digits_are_taken_in_runs(rt: HostRuntime) {
+    for (text, count) in RUNS {
+        assert!(rt; run_of(rt.alloc(), text) == Some(count), "{text}");
     }
 }
 

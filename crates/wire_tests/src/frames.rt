@@ -1,8 +1,11 @@
 //! Frames in pulse-interval encoding, and links, against lists of intervals written out by hand.
+ghost use Rattle.std.specs.Prelude.{◌≤◌};
+
 use crate::lists::bits_of;
 use bit_strings::{Bits, Full};
 use pie_line::{
-    Code, FrameKind, Intervals, Lead, Link, LinkRefusal, PieRefusal, decode_frame, encode_frame,
+    Code, Edges, FrameKind, Intervals, Lead, Link, LinkRefusal, PieRefusal, decode_frame,
+    encode_frame,
 };
 use std::alloc::Global;
 use std::test::Fail;
@@ -90,6 +93,50 @@ fn frames_are_read(rt: HostRuntime) {
             is_frame(rt.alloc(), rest, kind, bits) == Some(true),
             "{rest:?}"
         );
+    }
+}
+
+/// A decoder that was given the header.
+fn edges_behind_header() -> Edges
+    ensures { result.count ≤ 5 }
+{
+    let mut edges = Edges::new();
+    edges.push(12_500);
+    edges.push(6_250);
+    edges.push(6_250);
+    edges.push(25_000);
+    edges.push(6_250);
+    edges
+}
+
+/// The bits of a symbol that is given whole, behind the header and behind a first symbol; none where it isn't taken.
+fn whole_symbol(high: u32, low: u32) -> (Option<bool>, Option<bool>) {
+    if high > 999_999 || low > 999_999 {
+        return (None, None);
+    }
+    let mut edges = edges_behind_header();
+    let first = edges.push_symbol(high, low);
+    edges.push(6_250);
+    edges.push(6_250);
+    (first, edges.push_symbol(high, low))
+}
+
+/// A high and a low, and the bit of the symbol that they make behind the first one.
+const WHOLE_SYMBOLS: [(u32, u32, Option<bool>); 7] = [
+    (6_250, 6_250, Some(false)),
+    (9_374, 6_250, Some(false)),
+    (9_375, 6_250, Some(true)),
+    (118_750, 6_250, Some(true)),
+    (118_751, 6_250, None),
+    (0, 6_250, None),
+    (6_250, 0, None),
+];
+
+// The first symbol might be a TRcal, so that its intervals are taken one by one.
+#[test]
+fn symbols_are_taken_whole(rt: HostRuntime) {
+    for (high, low, bit) in WHOLE_SYMBOLS {
+        assert!(rt; whole_symbol(high, low) == (None, bit), "{high} {low}");
     }
 }
 

@@ -1,4 +1,4 @@
-use Rattle.std.proofs.Common.{◌∷◌, ◌+◌, ◌-◌, ◌∙◌, [], List, Bool, false, ap, length, length-append, get_or, take, arith}
+use Rattle.std.proofs.Common.{◌∷◌, ◌+◌, ◌-◌, [], List, Bool, false, ap, length, length-append, get_or, take, arith}
 use Rattle.command_grammar.specs.declared.fields.Fields.{Fields}
 use Rattle.command_grammar.specs.declared.stage.Stage.TheVariants as stages
 use Rattle.command_grammar.specs.Framing.{stage_from}

@@ -6,7 +6,7 @@ use Rattle.gen2run.specs.Defined.{DefinesOf}
 use Rattle.gen2run.specs.Named.{IsCutAt}
 use Rattle.gen2run.specs.declared.forms.Form.TheVariants.{Names}
 use Rattle.decode_lines.specs.declared.fault.FaultReason.TheVariants.{End}
-use Rattle.gen2run.proofs.LineLists.{some_line}
+use Rattle.text_fields.specs.LineLaws.{some_line}
 use Rattle.gen2run.proofs.NamedLines.{BecomeSome, some_names}
 use Rattle.gen2run.proofs.laws.names_inputs_have_a_text.Goals as goal
 

@@ -1,5 +1,5 @@
 -- The fields spell the numbers that are read from them, and no others.
-use Rattle.std.proofs.Common.{◌≤◌, ℕ, List, All, arith, ap, refl, sym, ◌∙◌, length, map, eqb}
+use Rattle.std.proofs.Common.{◌≤◌, ℕ, List, All, arith, ap, sym, ◌∙◌, length, map, eqb}
 use Rattle.std.proofs.lemmas.List.Splits.{length-slice_split}
 use Rattle.text_fields.specs.Lines.{fields_of, space}
 use Rattle.pie_text.specs.Numbers.{HasShape}
@@ -7,42 +7,21 @@ use Rattle.pie_text.specs.Spelling.{IsNumber, number_of}
 use Rattle.pie_text.proofs.Numerals.{spelled_shape, spelled_numbers, fields_spell, one_spelling}
 use Rattle.pie_text.proofs.numbers.read_numbers.Goals as goal
 
-pub returns-then-push_numbers-clause-ok : goal.returns-then-push_numbers-clause-ok
-returns-then-push_numbers-clause-ok c =
-    let all = c.if-push_numbers.ensures.all.0 refl in
+pub returns-in-Some-clause-read : goal.returns-in-Some-clause-read
+returns-in-Some-clause-read c = λ yes.
+    let all = c.push_numbers.ensures.all.0 yes in
     let some : 1 ≤ length (fields_of c.in-Some.line.now) = omega (arith, length-slice_split (λ each. eqb each space) c.in-Some.line.now) in
-    rw (c.in-Some.ensures.value, c.if-push_numbers.ensures.values refl) (fields_spell c.args.most_items c.args.most (fields_of c.in-Some.line.now) some all.0 all.1)
+    rw (c.in-Some.ensures.value, c.push_numbers.ensures.values yes) (fields_spell c.args.most_items c.args.most (fields_of c.in-Some.line.now) some all.0 all.1)
 
-pub returns-then-push_numbers-clause-only : goal.returns-then-push_numbers-clause-only
-returns-then-push_numbers-clause-only c = λ numbers spells. (
-  refl,
-  c.if-push_numbers.ensures.values refl
-      ∙ ap (λ (fields : List (List ℕ)). map number_of fields) (sym c.in-Some.ensures.value)
-      ∙ one_spelling c.args.most_items c.args.most c.args.fields numbers (omega arith) spells,
-)
-
-pub returns-then-has_shape-clause-refused : goal.returns-then-has_shape-clause-refused
-returns-then-has_shape-clause-refused c =
-    let shape : HasShape c.args.most_items (fields_of c.in-Some.line.now) = c.if-has_shape.ensures.0 refl in (
-      rw c.in-Some.ensures.value shape,
-      λ numbers within spells.
-          let are : All (IsNumber c.args.most) (fields_of c.in-Some.line.now) =
-          spelled_numbers _ _ numbers (omega arith) within (sym c.in-Some.ensures.value ∙ spells) in
-          let no = c.if-push_numbers.ensures.all.1 (shape.room, are) in
-          absurd (cc),
-    )
-
-pub returns-then-has_shape-clause-only : goal.returns-then-has_shape-clause-only
-returns-then-has_shape-clause-only c = λ numbers spells.
-    let shape : HasShape c.args.most_items (fields_of c.in-Some.line.now) = c.if-has_shape.ensures.0 refl in
-    let are : All (IsNumber c.args.most) (fields_of c.in-Some.line.now) =
-    spelled_numbers _ _ numbers (omega arith) spells.within (sym c.in-Some.ensures.value ∙ spells.spelling) in
-    let no = c.if-push_numbers.ensures.all.1 (shape.room, are) in
-    absurd (cc)
-
-pub returns-else-has_shape-clause-only : goal.returns-else-has_shape-clause-only
-returns-else-has_shape-clause-only c = λ numbers spells.
+pub returns-in-Some-clause-only : goal.returns-in-Some-clause-only
+returns-in-Some-clause-only c = λ numbers spells.
     let shape : HasShape c.args.most_items (fields_of c.in-Some.line.now) =
     rw c.in-Some.ensures.value at (spelled_shape _ _ _ numbers (omega arith) spells) in
-    let no = c.if-has_shape.ensures.1 shape in
-    absurd (cc)
+    let are : All (IsNumber c.args.most) (fields_of c.in-Some.line.now) =
+    spelled_numbers _ _ numbers (omega arith) spells.within (sym c.in-Some.ensures.value ∙ spells.spelling) in
+    let yes = c.push_numbers.ensures.all.1 (shape.room, are) in (
+      yes,
+      c.push_numbers.ensures.values yes
+          ∙ ap (λ (fields : List (List ℕ)). map number_of fields) (sym c.in-Some.ensures.value)
+          ∙ one_spelling c.args.most_items c.args.most c.args.fields numbers (omega arith) spells,
+    )

@@ -15,12 +15,12 @@ returns-then-bits-eq0 c =
     let w = whole_front c.args.self c.args.bit (2 * c.self.inside.bits + c.from.result) (front_as _ c.args.self c.self.view_is c.self.invariant.1) c.requires all c.if-bits-eq0.true in
     subst (λ (number : ℕ). IsEbv number (c.args.self ++ c.args.bit ∷ [])) (sym (c.number_of.ensures w.0 (c.args.self ++ c.args.bit ∷ []) w.1 all)) w.1
 
-pub returns-then-bits-eq128 : goal.returns-then-bits-eq128
-returns-then-bits-eq128 c =
+pub returns-then-bits-eq-NOTHING : goal.returns-then-bits-eq-NOTHING
+returns-then-bits-eq-NOTHING c =
     let all = value_push c.self.inside.bits c.self.inside.count c.from.result c.args.self c.args.bit c.self.view_is c.self.invariant.0 c.from.ensures in
-    nothing_front c.args.self c.args.bit (2 * c.self.inside.bits + c.from.result) (front_as _ c.args.self c.self.view_is c.self.invariant.1) c.requires all c.if-bits-eq128.true
+    nothing_front c.args.self c.args.bit (2 * c.self.inside.bits + c.from.result) (front_as _ c.args.self c.self.view_is c.self.invariant.1) c.requires all c.if-bits-eq-NOTHING.true
 
 pub with-requires : goal.with-requires
 with-requires c =
     let all = value_push c.self.inside.bits c.self.inside.count c.from.result c.args.self c.args.bit c.self.view_is c.self.invariant.0 c.from.ensures in
-    cut_front _ (open_front c.args.self c.args.bit (2 * c.self.inside.bits + c.from.result) (front_as _ c.args.self c.self.view_is c.self.invariant.1) c.requires all c.if-bits-eq0.false c.if-bits-eq128.false)
+    cut_front _ (open_front c.args.self c.args.bit (2 * c.self.inside.bits + c.from.result) (front_as _ c.args.self c.self.view_is c.self.invariant.1) c.requires all c.if-bits-eq0.false c.if-bits-eq-NOTHING.false)

@@ -1,5 +1,6 @@
-use Rattle.std.proofs.Common.{◌≡◌, ◌++◌, take, length, refl, ap, inl, inr, arith, length-append, length-take}
+use Rattle.std.proofs.Common.{◌≡◌, ◌++◌, take, length, refl, ap, subst, inl, inr, arith, length-append, length-take}
 use Rattle.bit_strings.specs.Numbers.{field_of}
+use Rattle.bit_strings.specs.Ebv.{IsCutEbv}
 use Rattle.bit_strings.proofs.EbvReading.{front_as, cut_front, counted, inside_front}
 use Rattle.bit_strings.proofs.ebv_front.EbvFront.take_run.Goals as goal
 
@@ -25,3 +26,9 @@ returns-clause-edge c = λ others.
     let added = length-append first (take c.loop-at.at c.args.bits.now) in
     let taken = length-take c.loop-at.at c.args.bits.now in
     inr (omega (arith, start, ap length c.front.view_is, long, added, taken, c.loop-at-test.false, c.loop-at.auto.at-end, c.min-count.ensures, c.if-place-eq0.false, others))
+
+pub returns-then-place-eq0-clause-begun : goal.returns-then-place-eq0-clause-begun
+returns-then-place-eq0-clause-begun c = subst IsCutEbv c.self.view_is c.self.invariant.1
+
+pub returns-clause-begun : goal.returns-clause-begun
+returns-clause-begun c = c.front.invariant.1

@@ -9,7 +9,7 @@ pub returns-in-Short-clause-reads : goal.returns-in-Short-clause-reads
 returns-in-Short-clause-reads c = λ bits rest fields counts. rw c.in-Crc5.is (crc5_start c.from-value.result fields bits rest (c.from-value.ensures ∙ c.value.ensures.register ∙ subst (λ (check : Check). Counts check bits) c.in-Short.is counts))
 
 pub returns-in-Pointer-clause-reads : goal.returns-in-Pointer-clause-reads
-returns-in-Pointer-clause-reads c = λ bits rest fields counts. rw c.in-Pointer.is (pointer_start fields rest)
+returns-in-Pointer-clause-reads c = λ bits rest fields counts. rw c.in-Pointer.is (pointer_start c.new.result fields rest c.new.ensures.none)
 
 pub returns-in-Mask-clause-reads : goal.returns-in-Mask-clause-reads
 returns-in-Mask-clause-reads c = λ bits rest fields counts. rw c.in-Mask.is (number_stage number_fields.MaskLength 8 c.of-in-Mask.result fields rest c.of-in-Mask.ensures.behind c.of-in-Mask.ensures.value)

@@ -1,4 +1,4 @@
-use Rattle.std.proofs.Common.{◌++◌, ◌<◌, ◌+◌, ◌^◌, List, Bool, arith, take}
+use Rattle.std.proofs.Common.{◌++◌, List, Bool, arith, take}
 use Rattle.command_grammar.specs.declared.state.Place.TheVariants as places
 use Rattle.command_grammar.proofs.Resuming.{few_bits, code_run, stage_run}
 use Rattle.command_grammar.proofs.Runs.{few_more}

@@ -2,87 +2,41 @@
 use Rattle.std.proofs.Common.{◌≡◌, ◌<◌, ◌^◌, ◌-◌, length, ap, subst, ◌∙◌, arith}
 use Rattle.epc_sgtin.specs.SgtinValue.{IsLegalSgtin}
 use Rattle.epc_sgtin.specs.Uri.{padded}
-use Rattle.epc_sgtin.specs.UriFaults.{UriParts}
-use Rattle.epc_sgtin.proofs.UriReading.{uri_read}
+use Rattle.epc_sgtin.proofs.UriReading.{parts_cut, uri_read}
 use Rattle.epc_sgtin.proofs.value.Sgtin.read_uri.Goals as goal
 
 pub returns-in_default-filter_of-clause-refused : goal.returns-in_default-filter_of-clause-refused
 returns-in_default-filter_of-clause-refused c =
-    let four = c.in-Some-four_parts in
-    let parts : UriParts c.args.text.now = record {
-      filter = four.filter.now;
-      company = four.company.now;
-      item = four.item.now;
-      serial = four.serial.now;
-      rest = c.in-Some.rest.now;
-      begins = c.in-Some.ensures.cut;
-      joined = four.ensures.parts;
-    } in
+    let parts = parts_cut _ _ _ _ _ _ c.in-Some.ensures.cut c.in-Some-four_parts.ensures.parts in
     (parts, c.in_default-filter_of.ensures.none)
 
 pub returns-in_default-company_of-clause-refused : goal.returns-in_default-company_of-clause-refused
 returns-in_default-company_of-clause-refused c =
-    let four = c.in-Some-four_parts in
-    let parts : UriParts c.args.text.now = record {
-      filter = four.filter.now;
-      company = four.company.now;
-      item = four.item.now;
-      serial = four.serial.now;
-      rest = c.in-Some.rest.now;
-      begins = c.in-Some.ensures.cut;
-      joined = four.ensures.parts;
-    } in
+    let parts = parts_cut _ _ _ _ _ _ c.in-Some.ensures.cut c.in-Some-four_parts.ensures.parts in
     let filter = c.in-Some-filter_of in
     (parts, (filter.filter, filter.ensures.some.0, filter.ensures.some.1), c.in_default-company_of.ensures.none)
 
 pub returns-in_default-item_of-clause-refused : goal.returns-in_default-item_of-clause-refused
 returns-in_default-item_of-clause-refused c =
-    let four = c.in-Some-four_parts in
-    let parts : UriParts c.args.text.now = record {
-      filter = four.filter.now;
-      company = four.company.now;
-      item = four.item.now;
-      serial = four.serial.now;
-      rest = c.in-Some.rest.now;
-      begins = c.in-Some.ensures.cut;
-      joined = four.ensures.parts;
-    } in
+    let parts = parts_cut _ _ _ _ _ _ c.in-Some.ensures.cut c.in-Some-four_parts.ensures.parts in
     let filter = c.in-Some-filter_of in
     (parts, (filter.filter, filter.ensures.some.0, filter.ensures.some.1), c.in-Some-company_of.ensures.some.0, λ is. c.in_default-item_of.ensures.none is.0 is.1)
 
 pub returns-in_default-serial_of-clause-refused : goal.returns-in_default-serial_of-clause-refused
 returns-in_default-serial_of-clause-refused c =
-    let four = c.in-Some-four_parts in
-    let parts : UriParts c.args.text.now = record {
-      filter = four.filter.now;
-      company = four.company.now;
-      item = four.item.now;
-      serial = four.serial.now;
-      rest = c.in-Some.rest.now;
-      begins = c.in-Some.ensures.cut;
-      joined = four.ensures.parts;
-    } in
+    let parts = parts_cut _ _ _ _ _ _ c.in-Some.ensures.cut c.in-Some-four_parts.ensures.parts in
     let filter = c.in-Some-filter_of in
     let item = c.in-Some-item_of.ensures.some in
     (parts, (filter.filter, filter.ensures.some.0, filter.ensures.some.1), c.in-Some-company_of.ensures.some.0, (item.0, item.1), c.in_default-serial_of.ensures.none)
 
 pub returns-clause-ok : goal.returns-clause-ok
 returns-clause-ok c =
-    let four = c.in-Some-four_parts in
-    let parts : UriParts c.args.text.now = record {
-      filter = four.filter.now;
-      company = four.company.now;
-      item = four.item.now;
-      serial = four.serial.now;
-      rest = c.in-Some.rest.now;
-      begins = c.in-Some.ensures.cut;
-      joined = four.ensures.parts;
-    } in
+    let parts = parts_cut _ _ _ _ _ _ c.in-Some.ensures.cut c.in-Some-four_parts.ensures.parts in
     let filter = c.in-Some-filter_of.ensures.some in
     let company = c.in-Some-company_of.ensures.some in
     let item = c.in-Some-item_of.ensures.some in
     let serial = c.in-Some-serial_of.ensures.some in
-    let width : length four.item.now ≡ 13 - length four.company.now = omega (arith, item.0) in
+    let width : length parts.item ≡ 13 - length parts.company = omega (arith, item.0) in
     let legal : IsLegalSgtin _ = record {
       filter_range = filter.0;
       digits_range = company.0.0;
