@@ -36,7 +36,6 @@ use Rattle.command_grammar.specs.declared.stage.Next.TheVariants as next
 use Rattle.command_grammar.specs.declared.state.Place.{Place}
 use Rattle.command_grammar.specs.declared.state.Place.TheVariants as places
 use Rattle.command_grammar.specs.declared.state.State.{State}
-use Rattle.command_grammar.specs.declared.refusal.CommandRefusal.{CommandRefusal}
 use Rattle.command_grammar.specs.declared.refusal.Pushed.{Pushed}
 use Rattle.command_grammar.specs.declared.refusal.Pushed.TheVariants as pushed
 use Rattle.command_grammar.specs.declared.refusal.Reason.{Reason}
@@ -75,11 +74,6 @@ command_of kinds.Lock v = commands.Lock v.payload v.rn
 command_of kinds.Access v = commands.Access v.covered v.rn
 command_of kinds.BlockWrite v = commands.BlockWrite v.bank v.pointer v.words v.rn
 command_of kinds.BlockErase v = commands.BlockErase v.bank v.pointer v.word_count v.rn
-
--- a decoder's answer: this command, where nothing was refused
-abbrev pub answer_of : Option CommandRefusal → Command → Result Command CommandRefusal
-answer_of None command = Ok command
-answer_of (Some refusal) command = Err refusal
 
 -- the field, read into its value; `whole` has all bits from the code on
 abbrev pub field_from : Field → Fields → List Bool → List Bool → Reading Fields

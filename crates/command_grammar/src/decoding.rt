@@ -13,7 +13,18 @@ pub fn decode_command(bits: &[bool]) -> Result<Command, CommandRefusal>
     ensures answer { IsFinishAnswer result bits.now }
     ensures only { (command : Command) → SpellsCommand command bits.now → result ≡ Ok command }
 {
+    let mut answer = Err(CommandRefusal::Short(0));
+    decode_command_to(bits, &mut answer);
+    answer
+}
+
+/// Writes what [`decode_command`] answers in place of another answer. Nothing is copied, as an answer has
+/// room for the longest mask and the longest list of words.
+pub fn decode_command_to(bits: &[bool], answer: &mut Result<Command, CommandRefusal>)
+    ensures answer { IsFinishAnswer answer.new bits.now }
+    ensures only { (command : Command) → SpellsCommand command bits.now → answer.new ≡ Ok command }
+{
     let mut state = State::new();
     let refused = state.take_all(bits);
-    state.finish(refused)
+    state.finish(refused, answer);
 }

@@ -1,6 +1,6 @@
 //! The fields behind the code of each command, in their order (6.3.2.11), and what was read of them.
-ghost use Rattle.std.specs.Prelude.{◌≡◌, ◌≢◌, ◌^◌, ◌<◌, ◌≤◌};
-ghost use Rattle.command_grammar.specs.Framing.{fields_of, command_of, answer_of};
+ghost use Rattle.std.specs.Prelude.{◌≡◌, ◌≢◌, ◌^◌, ◌<◌, ◌≤◌, Ok};
+ghost use Rattle.command_grammar.specs.Framing.{fields_of, command_of};
 
 use crate::choices::CommandKind;
 use crate::commands::{
@@ -142,82 +142,101 @@ impl Fields {
         }
     }
 
-    /// The command whose fields were all read, or the refusal, if there is one. The answer is made where it
-    /// stands, since it has room for the longest mask and the longest list of words.
+    /// Answers with the command whose fields were all read. Each command is written where the answer stands,
+    /// since a command has room for the longest mask and the longest list of words.
     #[inline(always)]
-    pub(crate) fn answer(
-        self,
-        kind: CommandKind,
-        refusal: Option<CommandRefusal>,
-    ) -> Result<Command, CommandRefusal>
-        ensures { result ≡ answer_of refusal (command_of kind self) }
+    pub(crate) fn answer(self, kind: CommandKind, answer: &mut Result<Command, CommandRefusal>)
+        ensures { answer.new ≡ Ok (command_of kind self) }
     {
-        if let Some(refusal) = refusal {
-            return Err(refusal);
-        }
         match kind {
-            CommandKind::QueryRep => Ok(Command::QueryRep {
-                session: self.session,
-            }),
-            CommandKind::Ack => Ok(Command::Ack { rn: self.rn }),
-            CommandKind::Query => Ok(Command::Query {
-                dr: self.dr,
-                code: self.code,
-                trext: self.trext,
-                sel: self.sel,
-                session: self.session,
-                target: self.side,
-                q: self.q,
-            }),
-            CommandKind::QueryAdjust => Ok(Command::QueryAdjust {
-                session: self.session,
-                updn: self.updn,
-            }),
-            CommandKind::Select => Ok(Command::Select {
-                target: self.target,
-                action: self.action,
-                bank: self.mask_bank,
-                pointer: self.pointer,
-                mask: self.mask.whole(),
-            }),
-            CommandKind::Nak => Ok(Command::Nak),
-            CommandKind::ReqRn => Ok(Command::ReqRn { rn: self.rn }),
-            CommandKind::Read => Ok(Command::Read {
-                bank: self.bank,
-                pointer: self.pointer,
-                count: self.count,
-                rn: self.rn,
-            }),
-            CommandKind::Write => Ok(Command::Write {
-                bank: self.bank,
-                pointer: self.pointer,
-                covered: self.covered,
-                rn: self.rn,
-            }),
-            CommandKind::Kill => Ok(Command::Kill {
-                covered: self.covered,
-                rn: self.rn,
-            }),
-            CommandKind::Lock => Ok(Command::Lock {
-                payload: self.payload,
-                rn: self.rn,
-            }),
-            CommandKind::Access => Ok(Command::Access {
-                covered: self.covered,
-                rn: self.rn,
-            }),
-            CommandKind::BlockWrite => Ok(Command::BlockWrite {
-                bank: self.bank,
-                pointer: self.pointer,
-                words: self.words.whole(),
-                rn: self.rn,
-            }),
-            CommandKind::BlockErase => Ok(Command::BlockErase {
-                bank: self.bank,
-                pointer: self.pointer,
-                count: self.word_count,
-                rn: self.rn,
-            }),
+            CommandKind::QueryRep => {
+                *answer = Ok(Command::QueryRep {
+                    session: self.session,
+                });
+            }
+            CommandKind::Ack => {
+                *answer = Ok(Command::Ack { rn: self.rn });
+            }
+            CommandKind::Query => {
+                *answer = Ok(Command::Query {
+                    dr: self.dr,
+                    code: self.code,
+                    trext: self.trext,
+                    sel: self.sel,
+                    session: self.session,
+                    target: self.side,
+                    q: self.q,
+                });
+            }
+            CommandKind::QueryAdjust => {
+                *answer = Ok(Command::QueryAdjust {
+                    session: self.session,
+                    updn: self.updn,
+                });
+            }
+            CommandKind::Select => {
+                *answer = Ok(Command::Select {
+                    target: self.target,
+                    action: self.action,
+                    bank: self.mask_bank,
+                    pointer: self.pointer,
+                    mask: self.mask.whole(),
+                });
+            }
+            CommandKind::Nak => *answer = Ok(Command::Nak),
+            CommandKind::ReqRn => {
+                *answer = Ok(Command::ReqRn { rn: self.rn });
+            }
+            CommandKind::Read => {
+                *answer = Ok(Command::Read {
+                    bank: self.bank,
+                    pointer: self.pointer,
+                    count: self.count,
+                    rn: self.rn,
+                });
+            }
+            CommandKind::Write => {
+                *answer = Ok(Command::Write {
+                    bank: self.bank,
+                    pointer: self.pointer,
+                    covered: self.covered,
+                    rn: self.rn,
+                });
+            }
+            CommandKind::Kill => {
+                *answer = Ok(Command::Kill {
+                    covered: self.covered,
+                    rn: self.rn,
+                });
+            }
+            CommandKind::Lock => {
+                *answer = Ok(Command::Lock {
+                    payload: self.payload,
+                    rn: self.rn,
+                });
+            }
+            CommandKind::Access => {
+                *answer = Ok(Command::Access {
+                    covered: self.covered,
+                    rn: self.rn,
+                });
+            }
+            CommandKind::BlockWrite => {
+                *answer = Ok(Command::BlockWrite {
+                    bank: self.bank,
+                    pointer: self.pointer,
+                    words: self.words.whole(),
+                    rn: self.rn,
+                });
+            }
+            CommandKind::BlockErase => {
+                *answer = Ok(Command::BlockErase {
+                    bank: self.bank,
+                    pointer: self.pointer,
+                    count: self.word_count,
+                    rn: self.rn,
+                });
+            }
         }
     }
 }

@@ -80,6 +80,8 @@ impl Framer {
         ensures only { (bits : List Bool) (command : Command) → FramerStandsFor self bits → SpellsCommand command bits → result ≡ Ok command }
     {
         let Framer { state, refused } = self;
-        state.finish(refused)
+        let mut answer = Err(CommandRefusal::Short(0));
+        state.finish(refused, &mut answer);
+        answer
     }
 }

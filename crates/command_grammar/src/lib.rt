@@ -21,7 +21,7 @@ mod writing;
 pub use bit_strings::{Action, Code, Count1, Payload, Pointer, QValue, Session};
 pub use command_lists::{BlockWords, Mask};
 pub use commands::Command;
-pub use decoding::decode_command;
+pub use decoding::{decode_command, decode_command_to};
 pub use field_values::{Bank, FlagName, MaskBank, Sel, Side, UpDn};
 pub use framer::Framer;
 pub use laws::{one_outcome, one_refusal, spelling_laws};

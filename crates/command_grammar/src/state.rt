@@ -1,7 +1,7 @@
 //! What was read of a command.
 ghost use Rattle.std.specs.Prelude.{◌≡◌, ◌<◌, ◌≤◌, ◌++◌, ◌∷◌, [], List, Bool, false, Ok, None, length, take, get_or};
 ghost use Rattle.command_grammar.specs.Commands.{Judges, IsFinishAnswer, SpellsCommand};
-ghost use Rattle.command_grammar.specs.Framing.{Stands, Keeps, command_of, answer_of, Counts, IsCounted, AreServed, IsServed, check_kept, IsEdgePlace, IsSoundPlace, IsOpen, Goes, refusal_in, resume, run};
+ghost use Rattle.command_grammar.specs.Framing.{Stands, Keeps, Counts, IsCounted, AreServed, IsServed, check_kept, IsEdgePlace, IsSoundPlace, IsOpen, Goes, refusal_in, resume, run};
 ghost use Rattle.command_grammar.specs.declared.commands.Command.{Command};
 
 use crate::check::Check;
@@ -157,26 +157,23 @@ impl State {
         }
     }
 
-    /// The command that the bits are, or why they are none, where this was refused.
+    /// Answers with the command that the bits are, or with why they are none, where this was refused.
     #[inline(always)]
-    pub(crate) fn finish(self, refused: Option<(u32, Reason)>) -> Result<Command, CommandRefusal>
-        ensures finishes { (bits : List Bool) → Keeps self refused bits → IsFinishAnswer result bits }
-        ensures only { (bits : List Bool) (command : Command) → Keeps self refused bits → SpellsCommand command bits → result ≡ Ok command }
-    {
-        let refusal = self.refusal(refused);
-        self.fields.answer(self.kind, refusal)
-    }
-
-    /// Why the bits are no command, if they are none.
-    #[inline]
-    fn refusal(&self, refused: Option<(u32, Reason)>) -> Option<CommandRefusal>
-        ensures { (bits : List Bool) → Keeps self.now refused bits → IsFinishAnswer (answer_of result (command_of self.now.kind self.now.fields)) bits }
+    pub(crate) fn finish(
+        self,
+        refused: Option<(u32, Reason)>,
+        answer: &mut Result<Command, CommandRefusal>,
+    )
+        ensures finishes { (bits : List Bool) → Keeps self refused bits → IsFinishAnswer answer.new bits }
+        ensures only { (bits : List Bool) (command : Command) → Keeps self refused bits → SpellsCommand command bits → answer.new ≡ Ok command }
     {
         match refused {
-            Some((place, reason)) => Some(CommandRefusal::At(place, reason)),
+            Some((place, reason)) => *answer = Err(CommandRefusal::At(place, reason)),
             None => match self.place {
-                Place::Whole => None,
-                Place::Code(_) | Place::Within(_) => Some(CommandRefusal::Short(self.pushed)),
+                Place::Whole => self.fields.answer(self.kind, answer),
+                Place::Code(_) | Place::Within(_) => {
+                    *answer = Err(CommandRefusal::Short(self.pushed));
+                }
             },
         }
     }
