@@ -1,7 +1,7 @@
 -- Reading a list of bits from left to right, one field after another, with the first place at which no command goes on.
 -- Framing.antt says what is left of it once some bits were read; what it has to do with spellings is what the laws in
 -- proofs/ say.
-use Rattle.std.specs.Prelude.{ℕ, zero, suc, ◌+◌, ◌-◌, ◌*◌, Bool, false, List, [], ◌∷◌, length, take, drop, Result, Ok, Err, nat_lt, ◌==◌, if◌then◌else◌, ◌&&◌, not}
+use Rattle.std.specs.Prelude.{ℕ, zero, suc, ◌+◌, ◌-◌, ◌*◌, Bool, false, List, [], ◌∷◌, length, take, drop, Result, Ok, Err, nat_lt, ◌==◌, if◌then◌else◌, ◌&&◌}
 use Rattle.bit_strings.specs.Numbers.{value_of}
 use Rattle.bit_strings.specs.declared.code.Code.{Code}
 use Rattle.bit_strings.specs.declared.code.Code.TheVariants.{Fm0, M2, M4, M8}
@@ -127,40 +127,37 @@ words_at (suc count) bits = do
   words ← words_at count word.1
   Ok (word.0 ∷ words.0, words.1)
 
--- Annex A: a block of an extensible bit vector says whether another follows, and has a digit
+-- Annex A: a block of an extensible bit vector says whether another follows, and has a digit to the base 128
 pub record Block : Type 0 where
   pub more : Bool
-  pub digit : ℕ
+  pub number : ℕ
 
-unfoldable pub block_at : List Bool → Reading Block
-block_at bits = do
+-- the block, with the number of the digits up to its own, where that of the digits before is this
+unfoldable pub block_at : ℕ → List Bool → Reading Block
+block_at value bits = do
   more ← bit_at bits
-  number ← field_at 7 more.1
-  Ok (record { more = more.0; digit = number.0 }, number.1)
+  digit ← field_at 7 more.1
+  Ok (record { more = more.0; number = value * 128 + digit.0 }, digit.1)
 
--- the first block: no vector begins with a block that says only that another follows
-unfoldable pub first_block_at : List Bool → Reading Block
-first_block_at bits = block_at bits >>= λ block.
-    (if block.0.more && (block.0.digit == 0) then Err (Bad (length block.1 + 1) reasons.Ebv) else Ok block)
+-- no vector begins with a block that says only that another follows
+unfoldable pub telling_block_at : ℕ → List Bool → Reading Block
+telling_block_at value bits = block_at value bits >>= λ block.
+    (if block.0.more && (block.0.number == 0) then Err (Bad (length block.1 + 1) reasons.Ebv) else Ok block)
 
 -- the fourth block, which no other follows
-unfoldable pub last_block_at : List Bool → Reading ℕ
-last_block_at bits = do
+unfoldable pub last_digit_at : List Bool → Reading ℕ
+last_digit_at bits = do
   more ← exactly_at (false ∷ []) reasons.Ebv bits
   field_at 7 more.1
 
--- what follows the third, the second and the first block, where the number so far is this
-abbrev pub third_at : Bool → ℕ → List Bool → Reading ℕ
-third_at more value bits = if not more then Ok (value, bits) else last_block_at bits >>= λ fourth. Ok (value * 128 + fourth.0, fourth.1)
-
-abbrev pub second_at : Bool → ℕ → List Bool → Reading ℕ
-second_at more value bits = if not more then Ok (value, bits) else block_at bits >>= λ block. third_at block.0.more (value * 128 + block.0.digit) block.1
-
-abbrev pub first_at : Bool → ℕ → List Bool → Reading ℕ
-first_at more value bits = if not more then Ok (value, bits) else block_at bits >>= λ block. second_at block.0.more (value * 128 + block.0.digit) block.1
+-- the blocks of a vector from one on, behind which at most so many may follow
+unfoldable pub blocks_at : ℕ → ℕ → List Bool → Reading ℕ
+blocks_at zero value bits = last_digit_at bits >>= λ digit. Ok (value * 128 + digit.0, digit.1)
+blocks_at (suc others) value bits = telling_block_at value bits >>= λ block.
+    (if block.0.more then blocks_at others block.0.number block.1 else Ok (block.0.number, block.1))
 
 unfoldable pub ebv_at : List Bool → Reading ℕ
-ebv_at bits = first_block_at bits >>= λ first. first_at first.0.more first.0.digit first.1
+ebv_at bits = blocks_at 3 0 bits
 
 -- the check numbers of the bits of `whole` before `bits`
 abbrev pub before : List Bool → List Bool → List Bool
