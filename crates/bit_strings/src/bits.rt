@@ -1,5 +1,5 @@
 //! A list of bits with a capacity.
-ghost use Rattle.std.specs.Prelude.{◌≡◌, ◌<◌, ◌≤◌, ◌↔◌, List, [], ◌∷◌, ◌++◌, length, Bool, not, Some, IsErr, IsTrue, IsNone, IfSome, IfNone, OnErr, IfOk, slice_get, slice_set, map, ◌==◌};
+ghost use Rattle.std.specs.Prelude.{◌≡◌, ◌+◌, ◌<◌, ◌≤◌, ◌↔◌, List, [], ◌∷◌, ◌++◌, length, take, drop, replicate, Bool, false, not, Some, IsErr, IsTrue, IsNone, IfSome, IfNone, OnErr, IfOk, slice_get, slice_set, map, ◌==◌};
 
 use std::alloc::{AllocError, Global};
 use std::marker::Model;
@@ -122,6 +122,26 @@ impl Bits {
         ensures { self.new ≡ record self.old { items = self.old.items ++ bit ∷ [] } }
     {
         self.bits.push_reserved(bit);
+    }
+
+    /// Puts this many zeros in place of what the list holds.
+    pub fn fill_zeros(&mut self, count: u32)
+        requires { count ≤ self.old.capacity }
+        ensures { self.new ≡ record self.old { items = replicate count false } }
+    {
+        self.bits.clear();
+        // There is room for each bit.
+        let _ = self.bits.resize(count as usize, false);
+    }
+
+    /// Puts these bits in place of as many from the place `at` on.
+    #[inline]
+    pub fn overwrite(&mut self, at: u32, bits: &[bool])
+        requires { at + length bits.now ≤ length self.old.items }
+        ensures { self.new ≡ record self.old { items = take at self.old.items ++ bits.now ++ drop (at + length bits.now) self.old.items } }
+    {
+        let start = at as usize;
+        self.bits[start..start + bits.len()].copy_from_slice(bits);
     }
 
     /// Puts one bit for each byte in place of what the list holds: 1 where the byte is `one`, else 0.

@@ -17,16 +17,17 @@ pub struct SymbolBefore {
     last_level: bool,
 }
 
-/// How many levels of data-0 symbols TRext 1 puts before the preamble (6.3.1.3.2.2 of the standard).
-const PILOT_LEVELS: u32 = 24;
-
-/// How many levels the preamble has.
-const PREAMBLE_LEVELS: u32 = 12;
-
 /// The preamble (6.3.1.3.2.2 of the standard): the symbols 1, 0, 1, 0, v, 1, where v lacks its
 /// inversion at the boundary.
 const PREAMBLE: [bool; 12] = [
     true, true, false, true, false, false, true, false, false, false, true, true,
+];
+
+/// The pilot of TRext 1, which is 12 data-0 symbols, and the preamble.
+const LONG_LEAD: [bool; 36] = [
+    true, false, true, false, true, false, true, false, true, false, true, false, true, false,
+    true, false, true, false, true, false, true, false, true, false, true, true, false, true,
+    false, false, true, false, false, false, true, true,
 ];
 
 /// The levels of each symbol, by its first level and by its bit.
@@ -34,14 +35,6 @@ const SYMBOLS: [[[bool; 2]; 2]; 2] = [
     [[false, true], [false, false]],
     [[true, false], [true, true]],
 ];
-
-/// The level of the preamble at the place `at`, counted from 0.
-fn preamble_level(at: u32) -> bool
-    requires { at < PREAMBLE_LEVELS }
-    ensures { slice_get fm0_preamble at ≡ Some result }
-{
-    PREAMBLE[at as usize]
-}
 
 /// The second level of a symbol whose first level is this.
 fn second_level(first: bool, bit: bool) -> bool
@@ -61,22 +54,8 @@ impl LineCode for Fm0 {
 
     const CHIPS: u32 = 2;
 
-    fn lead_len(trext: bool) -> u32 {
-        if trext {
-            PILOT_LEVELS + PREAMBLE_LEVELS
-        } else {
-            PREAMBLE_LEVELS
-        }
-    }
-
-    fn lead(trext: bool, at: u32) -> bool {
-        if !trext {
-            preamble_level(at)
-        } else if at < PILOT_LEVELS {
-            at % 2 == 0
-        } else {
-            preamble_level(at - PILOT_LEVELS)
-        }
+    fn lead_levels(trext: bool) -> &'static [bool] {
+        if trext { &LONG_LEAD } else { &PREAMBLE }
     }
 
     fn after_lead() -> SymbolBefore {

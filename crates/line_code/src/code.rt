@@ -1,5 +1,5 @@
 //! What a line code is.
-ghost use Rattle.std.specs.Prelude.{◌≡◌, ◌≢◌, ℕ, ◌<◌, length, Bool, Some, IfSome, IfNone, slice_get};
+ghost use Rattle.std.specs.Prelude.{◌≡◌, ◌≢◌, ℕ, ◌<◌, ◌≤◌, length, Bool, Some, IfSome, IfNone, slice_get};
 ghost use Rattle.line_code.specs.Table.{Context, Table};
 ghost use Rattle.line_code.specs.Laws.{IsEven, HasLead, TellsBits, RefusesFlips, HidesLead};
 
@@ -24,14 +24,25 @@ pub trait LineCode {
     /// How many levels a bit has, from 1 to 16.
     const CHIPS: u32;
 
+    /// The levels of the pilot and the preamble.
+    fn lead_levels(trext: bool) -> &'static [bool]
+        ensures value { result.now ≡ table.lead trext }
+        ensures few { length (table.lead trext) ≤ 352 };
+
     /// How many levels the pilot and the preamble have.
     fn lead_len(trext: bool) -> u32
-        ensures { result ≡ length (table.lead trext) };
+        ensures { result ≡ length (table.lead trext) }
+    {
+        Self::lead_levels(trext).len() as u32
+    }
 
     /// The level of the pilot and the preamble at the place `at`, counted from 0.
     fn lead(trext: bool, at: u32) -> bool
         requires { at < length (table.lead trext) }
-        ensures { slice_get (table.lead trext) at ≡ Some result };
+        ensures { slice_get (table.lead trext) at ≡ Some result }
+    {
+        Self::lead_levels(trext)[at as usize]
+    }
 
     /// The mark of the first bit after the lead.
     fn after_lead() -> Self::Mark

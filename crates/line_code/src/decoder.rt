@@ -1,5 +1,5 @@
 //! The decoder of a whole list of levels.
-ghost use Rattle.std.specs.Prelude.{◌≡◌, ◌≤◌, ◌<◌, ℕ, List, Bool, [], length, take, IfOk, OnOk, IfErr, OnErr, IsOk, IsErr};
+ghost use Rattle.std.specs.Prelude.{◌≡◌, ◌≤◌, ◌<◌, ℕ, List, Bool, [], length, take, IfSome, IfOk, OnOk, IfErr, OnErr, IsOk, IsErr};
 ghost use Rattle.line_code.specs.Table.{Context};
 ghost use Rattle.line_code.specs.Stream.{IsStream, Streams, blocks};
 ghost use Rattle.line_code.specs.Laws.{with_level_flipped};
@@ -67,6 +67,9 @@ fn seek<C: LineCode>(trext: bool, levels: &[bool]) -> Result<(Inside<C>, usize),
     ensures found { IfOk result (λ it. (it.1 ≤ length levels.now) × Reads C.table trext it.0 (take it.1 levels.now) []) }
     ensures refused { IfErr result (RefusesStream (Streams C.table trext) levels.now) }
 {
+    if let Some(lead) = whole_lead::<C>(trext, levels) {
+        return Ok((Inside::behind_lead(lead), lead as usize));
+    }
     let mut seeking = Seeking::<C>::new(trext);
     for (at, level) in levels.iter().enumerate() {
         match seeking.push(*level) {
@@ -76,4 +79,16 @@ fn seek<C: LineCode>(trext: bool, levels: &[bool]) -> Result<(Inside<C>, usize),
         }
     }
     Err(seeking.end())
+}
+
+/// How many levels the pilot and the preamble have, where the levels begin with them.
+fn whole_lead<C: LineCode>(trext: bool, levels: &[bool]) -> Option<u32>
+    ensures { IfSome result (λ lead. (lead ≡ length (C.table.lead trext)) × (lead ≤ length levels.now) × (take lead levels.now ≡ C.table.lead trext)) }
+{
+    let lead = C::lead_levels(trext);
+    if lead.len() <= levels.len() && lead == &levels[..lead.len()] {
+        Some(lead.len() as u32)
+    } else {
+        None
+    }
 }

@@ -12,32 +12,17 @@ pub fn encode<C: LineCode>(trext: bool, bits: &Bits, out: &mut Levels)
     ensures stream { IsStream C.table trext bits.now.items out.new.items }
     ensures capacity { out.new.capacity ≡ out.old.capacity }
 {
-    out.clear();
-    put_lead::<C>(trext, out);
+    // The sizes fit, since the room is counted in 32 bits.
+    let _room = out.capacity();
+    let lead = C::lead_levels(trext);
+    let mut at = lead.len() as u32;
+    out.fill_zeros(at + C::CHIPS * (bits.len() + 1));
+    out.overwrite(0, lead);
     let mut mark = C::after_lead();
     for bit in bits.as_slice() {
-        put_block::<C>(mark, *bit, out);
+        out.overwrite(at, C::block(mark, *bit));
         mark = C::after(mark, *bit);
+        at += C::CHIPS;
     }
-    put_block::<C>(mark, true, out);
-}
-
-/// Adds the pilot and the preamble.
-fn put_lead<C: LineCode>(trext: bool, out: &mut Levels)
-    requires { length out.old.items + length (C.table.lead trext) ≤ out.old.capacity }
-    ensures { out.new ≡ record out.old { items = out.old.items ++ C.table.lead trext } }
-{
-    for at in 0..C::lead_len(trext) {
-        out.push_reserved(C::lead(trext, at));
-    }
-}
-
-/// Adds the block of a bit.
-fn put_block<C: LineCode>(mark: C::Mark, bit: bool, out: &mut Levels)
-    requires { length out.old.items + C.CHIPS ≤ out.old.capacity }
-    ensures { out.new ≡ record out.old { items = out.old.items ++ C.table.block (C.context_of mark) bit } }
-{
-    for level in C::block(mark, bit) {
-        out.push_reserved(*level);
-    }
+    out.overwrite(at, C::block(mark, true));
 }

@@ -177,7 +177,7 @@ impl<C: LineCode> Seeking<C> {
 
 impl<C: LineCode> Inside<C> {
     /// The decoder behind the lead, which has this many levels.
-    fn behind_lead(taken: u32) -> Inside<C>
+    pub(crate) fn behind_lead(taken: u32) -> Inside<C>
         ensures { (trext : Bool) → taken ≡ length (C.table.lead trext) → Reads C.table trext result (C.table.lead trext) [] }
     {
         Inside {

@@ -32,12 +32,8 @@ impl LineCode for Miller2 {
 
     const CHIPS: u32 = 4;
 
-    fn lead_len(trext: bool) -> u32 {
-        subcarrier::lead_len(2, trext)
-    }
-
-    fn lead(trext: bool, at: u32) -> bool {
-        subcarrier::lead_level(2, trext, at)
+    fn lead_levels(trext: bool) -> &'static [bool] {
+        subcarrier::lead_levels(2, trext)
     }
 
     fn after_lead() -> SymbolBefore {
@@ -78,12 +74,8 @@ impl LineCode for Miller4 {
 
     const CHIPS: u32 = 8;
 
-    fn lead_len(trext: bool) -> u32 {
-        subcarrier::lead_len(4, trext)
-    }
-
-    fn lead(trext: bool, at: u32) -> bool {
-        subcarrier::lead_level(4, trext, at)
+    fn lead_levels(trext: bool) -> &'static [bool] {
+        subcarrier::lead_levels(4, trext)
     }
 
     fn after_lead() -> SymbolBefore {
@@ -124,12 +116,8 @@ impl LineCode for Miller8 {
 
     const CHIPS: u32 = 16;
 
-    fn lead_len(trext: bool) -> u32 {
-        subcarrier::lead_len(8, trext)
-    }
-
-    fn lead(trext: bool, at: u32) -> bool {
-        subcarrier::lead_level(8, trext, at)
+    fn lead_levels(trext: bool) -> &'static [bool] {
+        subcarrier::lead_levels(8, trext)
     }
 
     fn after_lead() -> SymbolBefore {

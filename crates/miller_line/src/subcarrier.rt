@@ -12,24 +12,6 @@ pub struct SymbolBefore {
     phase: bool,
 }
 
-/// The largest M.
-const MOST: u32 = 8;
-
-/// How many symbols the pilot has with TRext 0 (6.3.1.3.2.4 of the standard).
-const SHORT_PILOT: u32 = 4;
-
-/// How many symbols the pilot has with TRext 1 (6.3.1.3.2.4 of the standard).
-const LONG_PILOT: u32 = 16;
-
-/// How many symbols the preamble has, after the pilot.
-const PREAMBLE_SYMBOLS: u32 = 6;
-
-/// The preamble by the phases of the halves of its symbols 0, 1, 0, 1, 1, 1, of which the first goes
-/// on without inversion (6.3.1.3.2.4 of the standard).
-const PREAMBLE_PHASES: [bool; 12] = [
-    false, false, false, true, true, true, true, false, false, true, true, false,
-];
-
 /// The levels of each symbol with M = 2, by the phase at its start and by its bit.
 const SYMBOLS_2: [[[bool; 4]; 2]; 2] = [
     [[true, false, true, false], [true, false, false, true]],
@@ -72,13 +54,63 @@ const SYMBOLS_8: [[[bool; 16]; 2]; 2] = [
     ],
 ];
 
-/// The level of the subcarrier at the place `at`, counted from where it has this phase: high and low
-/// in turn, the first of them high in phase 0, which is `false`.
-fn carrier_level(phase: bool, at: u32) -> bool
-    ensures { (n : ℕ) → at < n → slice_get (carrier n phase) at ≡ Some result }
-{
-    if at % 2 == 0 { !phase } else { phase }
-}
+/// The levels of the pilot, which has 16 symbols, and of the preamble with M = 2 and TRext 1.
+const LEAD_2: [bool; 88] = [
+    true, false, true, false, true, false, true, false, true, false, true, false, true, false,
+    true, false, true, false, true, false, true, false, true, false, true, false, true, false,
+    true, false, true, false, true, false, true, false, true, false, true, false, true, false,
+    true, false, true, false, true, false, true, false, true, false, true, false, true, false,
+    true, false, true, false, true, false, true, false, true, false, true, false, true, false,
+    false, true, false, true, false, true, false, true, true, false, true, false, false, true,
+    false, true, true, false,
+];
+
+/// The levels of the pilot, which has 16 symbols, and of the preamble with M = 4 and TRext 1.
+const LEAD_4: [bool; 176] = [
+    true, false, true, false, true, false, true, false, true, false, true, false, true, false,
+    true, false, true, false, true, false, true, false, true, false, true, false, true, false,
+    true, false, true, false, true, false, true, false, true, false, true, false, true, false,
+    true, false, true, false, true, false, true, false, true, false, true, false, true, false,
+    true, false, true, false, true, false, true, false, true, false, true, false, true, false,
+    true, false, true, false, true, false, true, false, true, false, true, false, true, false,
+    true, false, true, false, true, false, true, false, true, false, true, false, true, false,
+    true, false, true, false, true, false, true, false, true, false, true, false, true, false,
+    true, false, true, false, true, false, true, false, true, false, true, false, true, false,
+    true, false, true, false, true, false, true, false, true, false, true, false, true, false,
+    false, true, false, true, false, true, false, true, false, true, false, true, false, true,
+    false, true, true, false, true, false, true, false, true, false, false, true, false, true,
+    false, true, false, true, true, false, true, false,
+];
+
+/// The levels of the pilot, which has 16 symbols, and of the preamble with M = 8 and TRext 1.
+const LEAD_8: [bool; 352] = [
+    true, false, true, false, true, false, true, false, true, false, true, false, true, false,
+    true, false, true, false, true, false, true, false, true, false, true, false, true, false,
+    true, false, true, false, true, false, true, false, true, false, true, false, true, false,
+    true, false, true, false, true, false, true, false, true, false, true, false, true, false,
+    true, false, true, false, true, false, true, false, true, false, true, false, true, false,
+    true, false, true, false, true, false, true, false, true, false, true, false, true, false,
+    true, false, true, false, true, false, true, false, true, false, true, false, true, false,
+    true, false, true, false, true, false, true, false, true, false, true, false, true, false,
+    true, false, true, false, true, false, true, false, true, false, true, false, true, false,
+    true, false, true, false, true, false, true, false, true, false, true, false, true, false,
+    true, false, true, false, true, false, true, false, true, false, true, false, true, false,
+    true, false, true, false, true, false, true, false, true, false, true, false, true, false,
+    true, false, true, false, true, false, true, false, true, false, true, false, true, false,
+    true, false, true, false, true, false, true, false, true, false, true, false, true, false,
+    true, false, true, false, true, false, true, false, true, false, true, false, true, false,
+    true, false, true, false, true, false, true, false, true, false, true, false, true, false,
+    true, false, true, false, true, false, true, false, true, false, true, false, true, false,
+    true, false, true, false, true, false, true, false, true, false, true, false, true, false,
+    true, false, true, false, true, false, true, false, true, false, true, false, true, false,
+    true, false, true, false, true, false, true, false, true, false, true, false, true, false,
+    false, true, false, true, false, true, false, true, false, true, false, true, false, true,
+    false, true, false, true, false, true, false, true, false, true, false, true, false, true,
+    false, true, false, true, true, false, true, false, true, false, true, false, true, false,
+    true, false, true, false, true, false, false, true, false, true, false, true, false, true,
+    false, true, false, true, false, true, false, true, true, false, true, false, true, false,
+    true, false,
+];
 
 /// The phase at the start of a bit's symbol: a data-0 after a data-0 inverts it there.
 fn phase_at_start(before: SymbolBefore, bit: bool) -> bool
@@ -98,43 +130,29 @@ fn phase_at_middle(start: bool, bit: bool) -> bool
     if bit { !start } else { start }
 }
 
-/// How many levels the pilot has.
-fn pilot_len(m: u32, trext: bool) -> u32
-    requires { m ≤ MOST }
-    ensures pilot { miller_lead m trext ≡ carrier result false ++ miller_preamble m }
-    ensures most { result ≤ 32 * m }
+/// The levels of the pilot and the preamble with TRext 1.
+fn long_lead(m: u32) -> &'static [bool]
+    requires { IsOneOfThree m }
+    ensures { result.now ≡ miller_lead m true }
 {
-    let symbols = if trext { LONG_PILOT } else { SHORT_PILOT };
-    2 * m * symbols
+    match m {
+        2 => &LEAD_2,
+        4 => &LEAD_4,
+        _ => &LEAD_8,
+    }
 }
 
-/// The level of the preamble at the place `at`, counted from the end of the pilot.
-fn preamble_level(m: u32, at: u32) -> bool
-    requires { at < 12 * m }
-    ensures { slice_get (miller_preamble m) at ≡ Some result }
+/// The levels of the pilot and the preamble (6.3.1.3.2.4 of the standard). With TRext 0 the pilot has 12 symbols less.
+pub fn lead_levels(m: u32, trext: bool) -> &'static [bool]
+    requires { IsOneOfThree m }
+    ensures value { result.now ≡ miller_lead m trext }
+    ensures few { length (miller_lead m trext) ≤ 352 }
 {
-    carrier_level(PREAMBLE_PHASES[(at / m) as usize], at % m)
-}
-
-/// How many levels the pilot and the preamble have.
-pub fn lead_len(m: u32, trext: bool) -> u32
-    requires { m ≤ MOST }
-    ensures { result ≡ length (miller_lead m trext) }
-{
-    pilot_len(m, trext) + 2 * m * PREAMBLE_SYMBOLS
-}
-
-/// The level of the pilot and the preamble at the place `at`, counted from 0.
-pub fn lead_level(m: u32, trext: bool, at: u32) -> bool
-    requires factor { m ≤ MOST }
-    requires within { at < length (miller_lead m trext) }
-    ensures { slice_get (miller_lead m trext) at ≡ Some result }
-{
-    let pilot = pilot_len(m, trext);
-    if at < pilot {
-        carrier_level(false, at)
+    let lead = long_lead(m);
+    if trext {
+        lead
     } else {
-        preamble_level(m, at - pilot)
+        &lead[(24 * m) as usize..]
     }
 }
 

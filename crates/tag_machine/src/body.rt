@@ -21,14 +21,14 @@ use tag_memory::Memory;
 /// What a tag holds in every state. A contract sees the record of it.
 #[derive(Drop)]
 pub struct Body {
-    /// The memory.
-    pub memory: Memory,
-    /// The pairs of lock bits.
-    pub locks: Locks,
-    /// The inventoried flags and the selected flag.
-    pub flags: Flags,
     words: DrawWords,
     place: usize,
+    /// The inventoried flags and the selected flag.
+    pub flags: Flags,
+    /// The pairs of lock bits.
+    pub locks: Locks,
+    /// The memory.
+    pub memory: Memory,
 }
 
 impl Model for Body {
