@@ -4,6 +4,11 @@ ghost use Rattle.std.specs.Prelude.{◌≡◌, ◌≤◌, ◌++◌, List, Bool, 
 ghost use Rattle.command_grammar.specs.Framing.{IsCodeStep, KeepsCode, behind_code, bits_of_front, code_of, next_at};
 ghost use Rattle.command_grammar.specs.declared.refusal.Reason.TheVariants as Reason;
 
+use crate::commands::{
+    access, ack, block_erase, block_write, kill, lock, nak, query, query_adjust, query_rep, read,
+    req_rn, select, write,
+};
+
 mod banks;
 mod line_codes;
 mod mask_banks;
@@ -75,20 +80,20 @@ impl CommandKind {
         ensures { result.now ≡ code_of self }
     {
         match self {
-            CommandKind::QueryRep => &[false, false],
-            CommandKind::Ack => &[false, true],
-            CommandKind::Query => &[true, false, false, false],
-            CommandKind::QueryAdjust => &[true, false, false, true],
-            CommandKind::Select => &[true, false, true, false],
-            CommandKind::Nak => &[true, true, false, false, false, false, false, false],
-            CommandKind::ReqRn => &[true, true, false, false, false, false, false, true],
-            CommandKind::Read => &[true, true, false, false, false, false, true, false],
-            CommandKind::Write => &[true, true, false, false, false, false, true, true],
-            CommandKind::Kill => &[true, true, false, false, false, true, false, false],
-            CommandKind::Lock => &[true, true, false, false, false, true, false, true],
-            CommandKind::Access => &[true, true, false, false, false, true, true, false],
-            CommandKind::BlockWrite => &[true, true, false, false, false, true, true, true],
-            CommandKind::BlockErase => &[true, true, false, false, true, false, false, false],
+            CommandKind::QueryRep => query_rep::CODE,
+            CommandKind::Ack => ack::CODE,
+            CommandKind::Query => query::CODE,
+            CommandKind::QueryAdjust => query_adjust::CODE,
+            CommandKind::Select => select::CODE,
+            CommandKind::Nak => nak::CODE,
+            CommandKind::ReqRn => req_rn::CODE,
+            CommandKind::Read => read::CODE,
+            CommandKind::Write => write::CODE,
+            CommandKind::Kill => kill::CODE,
+            CommandKind::Lock => lock::CODE,
+            CommandKind::Access => access::CODE,
+            CommandKind::BlockWrite => block_write::CODE,
+            CommandKind::BlockErase => block_erase::CODE,
         }
     }
 }

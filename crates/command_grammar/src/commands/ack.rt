@@ -8,6 +8,9 @@ use crate::fields::Field;
 use crate::writing::{put, put_code};
 use bit_strings::Bits;
 
+/// Its code (6.3.2.11, Table 6.18).
+pub(crate) const CODE: &[bool] = &[false, true];
+
 /// The fields behind its code, in their order.
 pub(crate) const FIELDS: &[Field] = &[Field::Rn];
 
@@ -16,6 +19,6 @@ pub(crate) fn spell(out: &mut Bits, rn: u16)
     requires { command_room ≤ out.old.capacity }
     ensures { Writes (Ack rn) out.old out.new }
 {
-    put_code(out, &[false, true]);
+    put_code(out, CODE);
     put(out, u32::from(rn), 16);
 }

@@ -11,6 +11,9 @@ use crate::fields::Field;
 use crate::writing::{put, put_code, put_handle, put_place, put_words};
 use bit_strings::{Bits, Pointer};
 
+/// Its code (6.3.2.11, Table 6.18).
+pub(crate) const CODE: &[bool] = &[true, true, false, false, false, true, true, true];
+
 /// The fields behind its code, in their order.
 pub(crate) const FIELDS: &[Field] = &[
     Field::Bank,
@@ -25,7 +28,7 @@ pub(crate) fn spell(out: &mut Bits, bank: Bank, pointer: Pointer, words: &BlockW
     requires { command_room ≤ out.old.capacity }
     ensures { Writes (BlockWrite bank pointer words.now rn) out.old out.new }
 {
-    put_code(out, &[true, true, false, false, false, true, true, true]);
+    put_code(out, CODE);
     put_place(out, bank_bits(bank), pointer);
     put(out, words.len(), 8);
     put_words(out, words.as_slice());

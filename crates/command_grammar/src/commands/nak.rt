@@ -8,6 +8,9 @@ use crate::fields::Field;
 use crate::writing::put_code;
 use bit_strings::Bits;
 
+/// Its code (6.3.2.11, Table 6.18).
+pub(crate) const CODE: &[bool] = &[true, true, false, false, false, false, false, false];
+
 /// The fields behind its code, in their order.
 pub(crate) const FIELDS: &[Field] = &[];
 
@@ -16,5 +19,5 @@ pub(crate) fn spell(out: &mut Bits)
     requires { command_room ≤ out.old.capacity }
     ensures { Writes Nak out.old out.new }
 {
-    put_code(out, &[true, true, false, false, false, false, false, false]);
+    put_code(out, CODE);
 }

@@ -10,6 +10,9 @@ use crate::fields::Field;
 use crate::writing::{put, put_bits, put_code, put_crc5};
 use bit_strings::{Bits, Code, QValue, Session};
 
+/// Its code (6.3.2.11, Table 6.18).
+pub(crate) const CODE: &[bool] = &[true, false, false, false];
+
 /// The fields behind its code, in their order.
 pub(crate) const FIELDS: &[Field] = &[
     Field::Dr,
@@ -36,7 +39,7 @@ pub(crate) fn spell(
     requires { command_room ≤ out.old.capacity }
     ensures { Writes (Query dr code trext sel session target q) out.old out.new }
 {
-    put_code(out, &[true, false, false, false]);
+    put_code(out, CODE);
     put_bits(out, &[dr]);
     put_bits(out, &code_bits(code));
     put_bits(out, &[trext]);

@@ -10,6 +10,9 @@ use crate::fields::Field;
 use crate::writing::{put, put_bits, put_code};
 use bit_strings::{Bits, Session};
 
+/// Its code (6.3.2.11, Table 6.18).
+pub(crate) const CODE: &[bool] = &[true, false, false, true];
+
 /// The fields behind its code, in their order.
 pub(crate) const FIELDS: &[Field] = &[Field::Session, Field::UpDn];
 
@@ -18,7 +21,7 @@ pub(crate) fn spell(out: &mut Bits, session: Session, updn: UpDn)
     requires { command_room ≤ out.old.capacity }
     ensures { Writes (QueryAdjust session updn) out.old out.new }
 {
-    put_code(out, &[true, false, false, true]);
+    put_code(out, CODE);
     put(out, u32::from(session.get()), 2);
     put_bits(out, &updn_bits(updn));
 }

@@ -8,6 +8,9 @@ use crate::fields::Field;
 use crate::writing::{put, put_code};
 use bit_strings::{Bits, Session};
 
+/// Its code (6.3.2.11, Table 6.18).
+pub(crate) const CODE: &[bool] = &[false, false];
+
 /// The fields behind its code, in their order.
 pub(crate) const FIELDS: &[Field] = &[Field::Session];
 
@@ -16,6 +19,6 @@ pub(crate) fn spell(out: &mut Bits, session: Session)
     requires { command_room ≤ out.old.capacity }
     ensures { Writes (QueryRep session) out.old out.new }
 {
-    put_code(out, &[false, false]);
+    put_code(out, CODE);
     put(out, u32::from(session.get()), 2);
 }

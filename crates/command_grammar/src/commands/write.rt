@@ -10,6 +10,9 @@ use crate::fields::Field;
 use crate::writing::{put, put_code, put_handle, put_place};
 use bit_strings::{Bits, Pointer};
 
+/// Its code (6.3.2.11, Table 6.18).
+pub(crate) const CODE: &[bool] = &[true, true, false, false, false, false, true, true];
+
 /// The fields behind its code, in their order.
 pub(crate) const FIELDS: &[Field] = &[
     Field::Bank,
@@ -24,7 +27,7 @@ pub(crate) fn spell(out: &mut Bits, bank: Bank, pointer: Pointer, covered: u16, 
     requires { command_room ≤ out.old.capacity }
     ensures { Writes (Write bank pointer covered rn) out.old out.new }
 {
-    put_code(out, &[true, true, false, false, false, false, true, true]);
+    put_code(out, CODE);
     put_place(out, bank_bits(bank), pointer);
     put(out, u32::from(covered), 16);
     put_handle(out, rn);
