@@ -20,7 +20,7 @@ use Rattle.command_grammar.specs.declared.field_values.Bank.TheVariants as banks
 use Rattle.command_grammar.specs.declared.field_values.MaskBank.TheVariants as mask_banks
 use Rattle.command_grammar.specs.declared.field_values.FlagName.TheVariants as flags
 use Rattle.bit_strings.specs.declared.code.Code.TheVariants as lines_of
-use Rattle.command_grammar.specs.Commands.{Part, code, plain, named, with_crc16, IsWord, bits_of_code, bits_of_sel, bits_of_side, bits_of_updn, bits_of_target, bits_of_mask_bank, bits_of_bank}
+use Rattle.command_grammar.specs.Commands.{Part, code, plain_field, named_field, with_crc16, IsWord, bits_of_code, bits_of_sel, bits_of_side, bits_of_updn, bits_of_target, bits_of_mask_bank, bits_of_bank}
 use Rattle.command_grammar.specs.Reading.{Reading, ◌>>=◌, bit_at, bits_at, field_at, choice_at, count_at, words_at, ebv_at, exactly_at, lines, chosen_of, sides, changes, targets, masked_banks, all_banks, all_kinds, query_rep_at, ack_at, query_at, query_adjust_at, select_at, req_rn_at, read_at, write_at, kill_at, lock_at, access_at, block_write_at, block_erase_at, fields_at}
 use Rattle.command_grammar.proofs.Readers.{Reads}
 use Rattle.command_grammar.proofs.Exact.{reads_exactly}
@@ -117,8 +117,8 @@ select_reads =
     mask_then width _ _ (λ mask wide.
     same_then {A = Unit {0}} _ (Some reasons.Truncate) (λ value. false ∷ []) (exactly_at (false ∷ []) reasons.Truncate) _ tt (reads_exactly reasons.Truncate (false ∷ [])) (λ truncate.
     reads_crc16_then _ _ (reads_whole _ (commands.Select target action bank pointer mask) (omega arith, small_pointer, omega arith)
-    (ap (λ n. with_crc16 (code (codes "1010") ++ named reasons.Target (bits_of_target target) ++ plain (field_of action 3) ++ named reasons.Bank (bits_of_mask_bank bank)
-    ++ named reasons.Ebv (ebv_of pointer) ++ plain (field_of n 8) ++ plain mask ++ named reasons.Truncate (false ∷ []))) wide))))
+    (ap (λ n. with_crc16 (code (codes "1010") ++ named_field reasons.Target (bits_of_target target) ++ plain_field (field_of action 3) ++ named_field reasons.Bank (bits_of_mask_bank bank)
+    ++ named_field reasons.Ebv (ebv_of pointer) ++ plain_field (field_of n 8) ++ plain_field mask ++ named_field reasons.Truncate (false ∷ []))) wide))))
     (field_of 0 width) (length-field_of 0 width))))))
 
 nak_reads : ReadsOn (code (codes "11000000")) (λ whole bits. Ok (commands.Nak, bits))
@@ -177,8 +177,8 @@ block_write_reads =
     number_then 16 _ _ (λ rn small_rn.
     let low : 1 ≤ count = some_of count some in
     reads_crc16_then _ _ (reads_whole _ (commands.BlockWrite bank pointer words rn) (small_pointer, omega arith, omega arith, all, small_rn)
-    (ap (λ n. with_crc16 (code (codes "11000111") ++ plain (bits_of_bank bank) ++ named reasons.Ebv (ebv_of pointer) ++ named reasons.Count (field_of n 8)
-    ++ plain (bits_of_words words) ++ plain (field_of rn 16))) many)))))))
+    (ap (λ n. with_crc16 (code (codes "11000111") ++ plain_field (bits_of_bank bank) ++ named_field reasons.Ebv (ebv_of pointer) ++ named_field reasons.Count (field_of n 8)
+    ++ plain_field (bits_of_words words) ++ plain_field (field_of rn 16))) many)))))))
 
 block_erase_reads : ReadsOn (code (codes "11001000")) (λ whole bits. block_erase_at whole bits)
 unfolding block_erase_at
@@ -190,7 +190,7 @@ block_erase_reads =
     let low : 1 ≤ count = some_of count some in
     reads_crc16_then _ _ (reads_whole _ (commands.BlockErase bank pointer count rn) (small_pointer, low, omega arith, small_rn) refl)))))
 
-each_reads : (kind : CommandKind) → ReadsOn (named reasons.Code (bits_of_kind kind)) (λ whole bits. fields_at kind whole bits)
+each_reads : (kind : CommandKind) → ReadsOn (named_field reasons.Code (bits_of_kind kind)) (λ whole bits. fields_at kind whole bits)
 each_reads kinds.QueryRep = query_rep_reads
 each_reads kinds.Ack = ack_reads
 each_reads kinds.Query = query_reads

@@ -43,12 +43,12 @@ abbrev pub binary : List ℕ → List Bool
 binary digits = map (λ digit. digit == 49) digits
 
 -- one field: any bits of its width may stand in it
-abbrev pub plain : List Bool → List Part
-plain bits = record { name = None; bits = bits } ∷ []
+abbrev pub plain_field : List Bool → List Part
+plain_field bits = record { name = None; bits = bits } ∷ []
 
 -- one field, in which some bits may not stand
-abbrev pub named : Reason → List Bool → List Part
-named reason bits = record { name = Some reason; bits = bits } ∷ []
+abbrev pub named_field : Reason → List Bool → List Part
+named_field reason bits = record { name = Some reason; bits = bits } ∷ []
 
 -- the bits of all fields, one behind the other
 abbrev pub bits_of : List Part → List Bool
@@ -106,42 +106,42 @@ bits_of_bank banks.User = true ∷ true ∷ []
 
 -- Annex F: the check number stands last and is computed over the bits before it
 abbrev pub with_crc5 : List Part → List Part
-with_crc5 parts = parts ++ named reasons.Crc5 (crc5_of (bits_of parts))
+with_crc5 parts = parts ++ named_field reasons.Crc5 (crc5_of (bits_of parts))
 
 abbrev pub with_crc16 : List Part → List Part
-with_crc16 parts = parts ++ named reasons.Crc16 (crc16_of (bits_of parts))
+with_crc16 parts = parts ++ named_field reasons.Crc16 (crc16_of (bits_of parts))
 
 -- 6.3.2.11 Table 6.18: the code of a command, written as its digits
 abbrev pub code : List ℕ → List Part
-code digits = named reasons.Code (binary digits)
+code digits = named_field reasons.Code (binary digits)
 
 -- 6.3.2.11 Table 6.18 and the table of each command: its fields in order. Profile: Truncate is 0, and the three bits
 -- of a Kill behind the half are 000.
 abbrev pub parts_of : Command → List Part
-parts_of (QueryRep session) = code (codes "00") ++ plain (field_of session 2)
-parts_of (Ack rn) = code (codes "01") ++ plain (field_of rn 16)
+parts_of (QueryRep session) = code (codes "00") ++ plain_field (field_of session 2)
+parts_of (Ack rn) = code (codes "01") ++ plain_field (field_of rn 16)
 parts_of (Query dr line_code trext sel session target q) =
-    with_crc5 (code (codes "1000") ++ plain (digit dr) ++ plain (bits_of_code line_code) ++ plain (digit trext) ++ plain (bits_of_sel sel)
-    ++ plain (field_of session 2) ++ plain (bits_of_side target) ++ plain (field_of q 4))
-parts_of (QueryAdjust session updn) = code (codes "1001") ++ plain (field_of session 2) ++ named reasons.UpDn (bits_of_updn updn)
+    with_crc5 (code (codes "1000") ++ plain_field (digit dr) ++ plain_field (bits_of_code line_code) ++ plain_field (digit trext) ++ plain_field (bits_of_sel sel)
+    ++ plain_field (field_of session 2) ++ plain_field (bits_of_side target) ++ plain_field (field_of q 4))
+parts_of (QueryAdjust session updn) = code (codes "1001") ++ plain_field (field_of session 2) ++ named_field reasons.UpDn (bits_of_updn updn)
 parts_of (Select target action bank pointer mask) =
-    with_crc16 (code (codes "1010") ++ named reasons.Target (bits_of_target target) ++ plain (field_of action 3) ++ named reasons.Bank (bits_of_mask_bank bank)
-    ++ named reasons.Ebv (ebv_of pointer) ++ plain (field_of (length mask) 8) ++ plain mask ++ named reasons.Truncate (false ∷ []))
+    with_crc16 (code (codes "1010") ++ named_field reasons.Target (bits_of_target target) ++ plain_field (field_of action 3) ++ named_field reasons.Bank (bits_of_mask_bank bank)
+    ++ named_field reasons.Ebv (ebv_of pointer) ++ plain_field (field_of (length mask) 8) ++ plain_field mask ++ named_field reasons.Truncate (false ∷ []))
 parts_of Nak = code (codes "11000000")
-parts_of (ReqRn rn) = with_crc16 (code (codes "11000001") ++ plain (field_of rn 16))
+parts_of (ReqRn rn) = with_crc16 (code (codes "11000001") ++ plain_field (field_of rn 16))
 parts_of (Read bank pointer count rn) =
-    with_crc16 (code (codes "11000010") ++ plain (bits_of_bank bank) ++ named reasons.Ebv (ebv_of pointer) ++ plain (field_of count 8) ++ plain (field_of rn 16))
+    with_crc16 (code (codes "11000010") ++ plain_field (bits_of_bank bank) ++ named_field reasons.Ebv (ebv_of pointer) ++ plain_field (field_of count 8) ++ plain_field (field_of rn 16))
 parts_of (Write bank pointer covered rn) =
-    with_crc16 (code (codes "11000011") ++ plain (bits_of_bank bank) ++ named reasons.Ebv (ebv_of pointer) ++ plain (field_of covered 16) ++ plain (field_of rn 16))
+    with_crc16 (code (codes "11000011") ++ plain_field (bits_of_bank bank) ++ named_field reasons.Ebv (ebv_of pointer) ++ plain_field (field_of covered 16) ++ plain_field (field_of rn 16))
 parts_of (Kill covered rn) =
-    with_crc16 (code (codes "11000100") ++ plain (field_of covered 16) ++ named reasons.KillBits (false ∷ false ∷ false ∷ []) ++ plain (field_of rn 16))
-parts_of (Lock payload rn) = with_crc16 (code (codes "11000101") ++ plain (field_of payload 20) ++ plain (field_of rn 16))
-parts_of (Access covered rn) = with_crc16 (code (codes "11000110") ++ plain (field_of covered 16) ++ plain (field_of rn 16))
+    with_crc16 (code (codes "11000100") ++ plain_field (field_of covered 16) ++ named_field reasons.KillBits (false ∷ false ∷ false ∷ []) ++ plain_field (field_of rn 16))
+parts_of (Lock payload rn) = with_crc16 (code (codes "11000101") ++ plain_field (field_of payload 20) ++ plain_field (field_of rn 16))
+parts_of (Access covered rn) = with_crc16 (code (codes "11000110") ++ plain_field (field_of covered 16) ++ plain_field (field_of rn 16))
 parts_of (BlockWrite bank pointer words rn) =
-    with_crc16 (code (codes "11000111") ++ plain (bits_of_bank bank) ++ named reasons.Ebv (ebv_of pointer) ++ named reasons.Count (field_of (length words) 8)
-    ++ plain (bits_of_words words) ++ plain (field_of rn 16))
+    with_crc16 (code (codes "11000111") ++ plain_field (bits_of_bank bank) ++ named_field reasons.Ebv (ebv_of pointer) ++ named_field reasons.Count (field_of (length words) 8)
+    ++ plain_field (bits_of_words words) ++ plain_field (field_of rn 16))
 parts_of (BlockErase bank pointer count rn) =
-    with_crc16 (code (codes "11001000") ++ plain (bits_of_bank bank) ++ named reasons.Ebv (ebv_of pointer) ++ named reasons.Count (field_of count 8) ++ plain (field_of rn 16))
+    with_crc16 (code (codes "11001000") ++ plain_field (bits_of_bank bank) ++ named_field reasons.Ebv (ebv_of pointer) ++ named_field reasons.Count (field_of count 8) ++ plain_field (field_of rn 16))
 
 -- the one spelling of a command
 abbrev pub spelling_of : Command → List Bool
