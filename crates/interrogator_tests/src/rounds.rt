@@ -5,7 +5,7 @@ use q_round::{
 };
 
 /// C, the limit, and whether a round may have them.
-const PARAMETERS: [(u32, u32, bool); 8] = [
+const PARAMETERS: &[(u32, u32, bool)] = &[
     (99, 300, false),
     (100, 300, true),
     (500, 300, true),
@@ -30,7 +30,7 @@ fn has_parameters(c: u32, limit: u32, legal: bool) -> Option<bool> {
 
 #[test]
 fn parameters_in_their_ranges(rt: HostRuntime) {
-    for (c, limit, legal) in PARAMETERS {
+    for &(c, limit, legal) in PARAMETERS {
         assert!(rt;
             has_parameters(c, limit, legal) == Some(true),
             "C {c}, limit {limit}"

@@ -35,7 +35,7 @@ fn sl_after(does: Does, sl: bool) -> bool {
 }
 
 /// What the action of each number does with a flag of a tag that matches and of another.
-const ACTIONS: [(Does, Does); 8] = [
+const ACTIONS: &[(Does, Does)] = &[
     (Does::AssertOrA, Does::DeassertOrB),
     (Does::AssertOrA, Does::Nothing),
     (Does::Nothing, Does::DeassertOrB),
@@ -96,7 +96,7 @@ fn select_goes_by_the_table(rt: HostRuntime) {
             FlagName::S3,
             FlagName::Sl,
         ] {
-            for (number, (at_match, at_mismatch)) in (0..).zip(ACTIONS) {
+            for (number, &(at_match, at_mismatch)) in (0..).zip(ACTIONS) {
                 assert!(rt;
                     selects(before, target, number, true, at_match)
                         && selects(before, target, number, false, at_mismatch),
@@ -142,7 +142,7 @@ fn flags_of_one_tag(rt: HostRuntime) -> Result<(), Fail> {
 }
 
 /// A flag, whether the tag has power, whether it takes part in a round, and whether the flag is lost.
-const ENDS: [(FlagName, bool, bool, bool); 10] = [
+const ENDS: &[(FlagName, bool, bool, bool)] = &[
     (FlagName::S0, false, false, false),
     (FlagName::S1, true, false, true),
     (FlagName::S1, true, true, false),
@@ -169,7 +169,7 @@ fn ends(flag: FlagName, powered: bool, takes_part: bool, is_lost: bool) -> bool 
 
 #[test]
 fn persistence_ends(rt: HostRuntime) {
-    for (flag, powered, takes_part, is_lost) in ENDS {
+    for &(flag, powered, takes_part, is_lost) in ENDS {
         assert!(rt;
             ends(flag, powered, takes_part, is_lost),
             "{flag:?} {powered} {takes_part}"
@@ -190,7 +190,7 @@ fn mask_of(text: &str) -> Mask {
 const BANK: &[u16] = &[0xA1B2, 0x00FF];
 
 /// A bank, the place and the mask, and whether the mask matches.
-const MASKS: [(&[u16], u32, &str, bool); 18] = [
+const MASKS: &[(&[u16], u32, &str, bool)] = &[
     (BANK, 0, "1", true),
     (BANK, 0, "0", false),
     (BANK, 0, "1010000110110010", true),
@@ -219,7 +219,7 @@ fn matches(bank: &[u16], place: u32, text: &str) -> Option<bool> {
 
 #[test]
 fn masks_at_the_edges_of_a_bank(rt: HostRuntime) {
-    for (bank, place, text, want) in MASKS {
+    for &(bank, place, text, want) in MASKS {
         assert!(rt; matches(bank, place, text) == Some(want), "{place} {text}");
     }
 }

@@ -21,7 +21,7 @@ const FIELDS: [Field; 5] = [
 ];
 
 /// A pair, and whether it allows a write in open and in secured.
-const PAIRS: [(u16, bool, bool); 4] = [
+const PAIRS: &[(u16, bool, bool)] = &[
     (0b00, true, true),
     (0b01, true, true),
     (0b10, false, true),
@@ -54,7 +54,7 @@ fn allowed(locks: &Locks, field: Field) -> [bool; 4] {
 
 #[test]
 fn pairs_allow_by_the_table(rt: HostRuntime) -> Result<(), Fail> {
-    for (pair, opened, secured) in PAIRS {
+    for &(pair, opened, secured) in PAIRS {
         for (place, field) in FIELDS.iter().enumerate() {
             let locks = locks_with(pair, place).ok_or("ten bits")?;
             // Only the passwords are guarded against a read.
@@ -114,7 +114,7 @@ fn by_hand(held: u32, mask: u32, action: u32) -> Result<u32, ErrorCode> {
 }
 
 /// An action, and whether the tag has a User bank.
-const ACTIONS: [(u32, bool); 4] = [
+const ACTIONS: &[(u32, bool)] = &[
     (0, true),
     (0b01_01_01_01_01, true),
     (0b11_10_01_00_11, true),
@@ -150,7 +150,7 @@ fn every_mask_goes_by_the_three_rules(rt: HostRuntime) {
         0b11_11_11_11_11,
     ] {
         for mask in 0..1024 {
-            for (action, has_user) in ACTIONS {
+            for &(action, has_user) in ACTIONS {
                 assert!(rt;
                     goes_by_the_rules(held, mask, action, has_user),
                     "{held} {mask} {action}"

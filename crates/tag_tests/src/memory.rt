@@ -52,7 +52,7 @@ fn first(alloc: Global, words: &[u16], count: u16) -> Result<List<u16>, AllocErr
 /// How many words there are from PC on, of TID and of User, what PC says, and how many words the EPC bank then has.
 type Image = (u16, u16, u16, u16, Result<u32, ImageRefusal>);
 
-const IMAGES: [Image; 12] = [
+const IMAGES: &[Image] = &[
     (0, 2, 0, 0, Err(ImageRefusal::Size)),
     (1, 2, 0, 0x0000, Ok(2)),
     (32, 16, 512, 0xF800, Ok(33)),
@@ -87,7 +87,7 @@ fn epc_words(
 
 #[test]
 fn images_are_refused_by_size_then_by_pc(rt: HostRuntime) -> Result<(), Fail> {
-    for (epc, tid, user, pc, wanted) in IMAGES {
+    for &(epc, tid, user, pc, wanted) in IMAGES {
         let size = epc_words(rt.alloc(), (epc, tid, user, pc))?;
         assert!(rt; size == wanted, "{epc} {tid} {user} {pc}");
     }

@@ -184,7 +184,7 @@ fn access_commands_are_written(rt: HostRuntime) -> Result<(), Fail> {
 }
 
 /// Refusals, and their texts.
-const REFUSALS: [(CommandRefusal, &str); 5] = [
+const REFUSALS: &[(CommandRefusal, &str)] = &[
     (CommandRefusal::At(8, Reason::UpDn), "refused 8 updn"),
     (CommandRefusal::At(17, Reason::Ebv), "refused 17 ebv"),
     (CommandRefusal::At(4, Reason::Extra), "refused 4 extra"),
@@ -200,7 +200,7 @@ fn is_refusal_text(alloc: Global, refusal: CommandRefusal, wanted: &str) -> bool
 
 #[test]
 fn refusals_are_written(rt: HostRuntime) {
-    for (refusal, wanted) in REFUSALS {
+    for &(refusal, wanted) in REFUSALS {
         assert!(rt; is_refusal_text(rt.alloc(), refusal, wanted), "{wanted}");
     }
 }

@@ -4,7 +4,7 @@ use scenario::{Fault, fault_text};
 use std::alloc::Global;
 
 /// The number of a line, its fault, and the line that reports it.
-const FAULTS: [(u32, Fault, &str); 15] = [
+const FAULTS: &[(u32, Fault, &str)] = &[
     (1, Fault::Extra, "fault 1 extra\n"),
     (5, Fault::End, "fault 5 end\n"),
     (1, Fault::Version, "fault 1 version\n"),
@@ -31,7 +31,7 @@ fn is_fault_line(alloc: Global, number: u32, fault: Fault, wanted: &str) -> bool
 
 #[test]
 fn each_fault_has_its_word(rt: HostRuntime) {
-    for (number, fault, wanted) in FAULTS {
+    for &(number, fault, wanted) in FAULTS {
         assert!(rt;
             is_fault_line(rt.alloc(), number, fault, wanted),
             "{wanted}"

@@ -52,7 +52,7 @@ const TAG: &str = "tag 00000000 00000000 0000000000 08001234 E2000001 - A1B2";
 const ROUND: &str = "round all 0 a 0 300 5";
 
 /// The lines of a scenario of one tag, what ends each, and the answer.
-const ONE_TAG: [(&[&str], &str, Answer); 7] = [
+const ONE_TAG: &[(&[&str], &str, Answer)] = &[
     (&["gen2 1", LINK, TAG, ROUND, "end"], "\n", None),
     (
         &["gen2 1", LINK, TAG, ROUND, ""],
@@ -96,7 +96,7 @@ fn answer_to_lines(alloc: Global, lines: &[&str], line_end: &str) -> Result<Answ
 
 #[test]
 fn one_tag(rt: HostRuntime) -> Result<(), Fail> {
-    for (lines, line_end, wanted) in ONE_TAG {
+    for &(lines, line_end, wanted) in ONE_TAG {
         assert!(rt;
             answer_to_lines(rt.alloc(), lines, line_end)? == wanted,
             "{lines:?}"
@@ -564,7 +564,7 @@ fn answer_to_long(
 
 /// What stands before a line, how it begins, a piece and how many of them follow, and the answer: the words of an EPC, those
 /// that are written at once, and the bits of a mask.
-const LONG_LINES: [(&str, &str, &str, u32, Answer); 6] = [
+const LONG_LINES: &[(&str, &str, &str, u32, Answer)] = &[
     (ROUND_LINE, "only ", "A5C3", 31, None),
     (ROUND_LINE, "only ", "A5C3", 32, Some((4, Fault::Number))),
     (ROUND_LINE, "op blockwrite user 0 ", "A5C3", 255, None),
@@ -581,7 +581,7 @@ const LONG_LINES: [(&str, &str, &str, u32, Answer); 6] = [
 
 #[test]
 fn long_lines(rt: HostRuntime) -> Result<(), Fail> {
-    for (before, front, piece, count, wanted) in LONG_LINES {
+    for &(before, front, piece, count, wanted) in LONG_LINES {
         let answer = answer_to_long(rt.alloc(), before, front, piece, count)?;
         assert!(rt; answer == wanted, "{front:?} {count}");
     }
@@ -589,7 +589,7 @@ fn long_lines(rt: HostRuntime) -> Result<(), Fail> {
 }
 
 /// How many words there are of the EPC bank, of TID, of User and to draw, and whether a tag may have them.
-const LISTS: [([u32; 4], bool); 9] = [
+const LISTS: &[([u32; 4], bool)] = &[
     ([1, 2, 0, 1], true),
     ([32, 16, 512, 256], true),
     ([33, 16, 512, 256], false),
@@ -619,7 +619,7 @@ fn answer_to_lists(alloc: Global, counts: [u32; 4]) -> Result<Answer, AllocError
 
 #[test]
 fn limits_of_lists(rt: HostRuntime) -> Result<(), Fail> {
-    for (counts, is_tag) in LISTS {
+    for &(counts, is_tag) in LISTS {
         let wanted = if is_tag {
             None
         } else {

@@ -6,7 +6,7 @@ use std::alloc::Global;
 use text_fields::Fields;
 
 /// Fields, and the intervals that they are, of which there may be three.
-const NUMBERS: [(&[u8], Result<&[u32], NotNumbers>); 12] = [
+const NUMBERS: &[(&[u8], Result<&[u32], NotNumbers>)] = &[
     (b"0", Ok(&[0])),
     (b"12500", Ok(&[12_500])),
     (b"1 999999 0", Ok(&[1, 999_999, 0])),
@@ -38,7 +38,7 @@ fn are_numbers(alloc: Global, line: &[u8], wanted: Result<&[u32], NotNumbers>) -
 
 #[test]
 fn numbers_are_read(rt: HostRuntime) {
-    for (line, wanted) in NUMBERS {
+    for &(line, wanted) in NUMBERS {
         assert!(rt;
             are_numbers(rt.alloc(), line, wanted) == Some(true),
             "{line:?}"
@@ -75,7 +75,7 @@ fn is_frame(alloc: Global, kind: &FrameKind, digits: &[u8], wanted: &str) -> Opt
 
 #[test]
 fn frames_are_written(rt: HostRuntime) {
-    for (kind, digits, wanted) in [
+    for &(kind, digits, wanted) in &[
         (SYNC, b"".as_slice(), "sync 12500 31250 -"),
         (PREAMBLE, b"100", "preamble 6250 15625 17188 100"),
     ] {
@@ -87,7 +87,7 @@ fn frames_are_written(rt: HostRuntime) {
 }
 
 /// Refusals, and their texts.
-const REFUSALS: [(PieRefusal, &str); 6] = [
+const REFUSALS: &[(PieRefusal, &str)] = &[
     (PieRefusal::Delimiter, "refused delimiter"),
     (PieRefusal::Tari, "refused tari"),
     (PieRefusal::RtCal, "refused rtcal"),
@@ -104,7 +104,7 @@ fn is_refusal_text(alloc: Global, refusal: PieRefusal, wanted: &str) -> bool {
 
 #[test]
 fn refusals_are_written(rt: HostRuntime) {
-    for (refusal, wanted) in REFUSALS {
+    for &(refusal, wanted) in REFUSALS {
         assert!(rt; is_refusal_text(rt.alloc(), refusal, wanted), "{wanted}");
     }
 }

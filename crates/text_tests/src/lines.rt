@@ -127,7 +127,7 @@ fn tag_lines_are_written(rt: HostRuntime) -> Result<(), Fail> {
 }
 
 /// An exchange, what is said of it, and the line.
-const AIR: [(u32, Happening, &str); 8] = [
+const AIR: &[(u32, Happening, &str)] = &[
     (
         1,
         Happening::Event {
@@ -181,7 +181,7 @@ fn is_air_line(alloc: Global, exchange: u32, happening: Happening, wanted: &str)
 
 #[test]
 fn air_lines_are_written(rt: HostRuntime) {
-    for (exchange, happening, wanted) in AIR {
+    for &(exchange, happening, wanted) in AIR {
         assert!(rt;
             is_air_line(rt.alloc(), exchange, happening, wanted),
             "{wanted}"
@@ -190,7 +190,7 @@ fn air_lines_are_written(rt: HostRuntime) {
 }
 
 /// An event, the tag, and the line.
-const EVENTS: [(Event, u32, &str); 4] = [
+const EVENTS: &[(Event, u32, &str)] = &[
     (Event::Expire(FlagName::Sl), 3, "event expire sl 3\n"),
     (Event::Expire(FlagName::S2), 0, "event expire s2 0\n"),
     (Event::Expire(FlagName::S3), 10, "event expire s3 10\n"),
@@ -204,7 +204,7 @@ fn is_event_line(alloc: Global, event: Event, tag: u32, wanted: &str) -> bool {
 
 #[test]
 fn event_lines_are_written(rt: HostRuntime) {
-    for (event, tag, wanted) in EVENTS {
+    for &(event, tag, wanted) in EVENTS {
         assert!(rt; is_event_line(rt.alloc(), event, tag, wanted), "{wanted}");
     }
 }

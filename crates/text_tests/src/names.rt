@@ -5,7 +5,7 @@ use std::alloc::Global;
 use std::test::Fail;
 
 /// Lines, and whether they have a name.
-const LINES: [(&[u8], bool); 25] = [
+const LINES: &[(&[u8], bool)] = &[
     (b"list 1 1 3000 3074257BF7194E4000001A85", true),
     (b"list 17 1024 FFFF 3074257BF7194E4000001A85", true),
     (b"list x - 0000 3074257BF7194E4000001A85", true),
@@ -38,7 +38,7 @@ const LINES: [(&[u8], bool); 25] = [
 
 #[test]
 fn lines_are_named(rt: HostRuntime) {
-    for (line, has_name) in LINES {
+    for &(line, has_name) in LINES {
         assert!(rt; named(line).is_some() == has_name, "{line:?}");
     }
 }
@@ -64,7 +64,7 @@ fn names_and_words_are_written(rt: HostRuntime) -> Result<(), Fail> {
 }
 
 /// Why words are refused, and the texts.
-const EPC_FAULTS: [(EpcFault, &str); 5] = [
+const EPC_FAULTS: &[(EpcFault, &str)] = &[
     (EpcFault::Length, "refused length"),
     (EpcFault::Header, "refused header"),
     (EpcFault::Partition, "refused partition"),
@@ -73,7 +73,7 @@ const EPC_FAULTS: [(EpcFault, &str); 5] = [
 ];
 
 /// Why URIs are refused, and the texts.
-const URI_FAULTS: [(UriFault, &str); 6] = [
+const URI_FAULTS: &[(UriFault, &str)] = &[
     (UriFault::Prefix, "refused prefix"),
     (UriFault::Parts, "refused parts"),
     (UriFault::Filter, "refused filter"),
@@ -94,10 +94,10 @@ fn is_uri_text(alloc: Global, fault: UriFault, wanted: &str) -> bool {
 
 #[test]
 fn refusals_are_written(rt: HostRuntime) {
-    for (fault, wanted) in EPC_FAULTS {
+    for &(fault, wanted) in EPC_FAULTS {
         assert!(rt; is_epc_text(rt.alloc(), fault, wanted), "{wanted}");
     }
-    for (fault, wanted) in URI_FAULTS {
+    for &(fault, wanted) in URI_FAULTS {
         assert!(rt; is_uri_text(rt.alloc(), fault, wanted), "{wanted}");
     }
 }

@@ -6,7 +6,7 @@ use std::alloc::Global;
 use std::test::Fail;
 
 /// Fields that name nothing that is expected.
-const NONE: [&[u8]; 33] = [
+const NONE: &[&[u8]] = &[
     b"",
     b"-",
     b"RN16",
@@ -47,7 +47,7 @@ fn expectations_have_one_spelling(rt: HostRuntime) -> Result<(), Fail> {
     let one = Count1::new(1).ok_or("a count")?;
     let seventy = Count1::new(70).ok_or("a count")?;
     let most = Count1::new(255).ok_or("a count")?;
-    for (field, wanted) in [
+    for &(field, wanted) in &[
         (b"rn16".as_slice(), Some(Expect::Rn16)),
         (b"epc", Some(Expect::Epc)),
         (b"handle", Some(Expect::Handle)),
@@ -66,7 +66,7 @@ fn expectations_have_one_spelling(rt: HostRuntime) -> Result<(), Fail> {
 
 #[test]
 fn other_fields_are_none(rt: HostRuntime) {
-    for field in NONE {
+    for &field in NONE {
         assert!(rt; expect_of(field) == None, "{field:?}");
     }
 }
@@ -118,7 +118,7 @@ fn replies_are_written(rt: HostRuntime) -> Result<(), Fail> {
 }
 
 /// Refusals, and their texts.
-const REFUSALS: [(ReplyRefusal, &str); 4] = [
+const REFUSALS: &[(ReplyRefusal, &str)] = &[
     (ReplyRefusal::Length, "refused length"),
     (ReplyRefusal::Crc, "refused crc"),
     (ReplyRefusal::Header, "refused header"),
@@ -133,7 +133,7 @@ fn is_refusal_text(alloc: Global, refusal: ReplyRefusal, wanted: &str) -> bool {
 
 #[test]
 fn refusals_are_written(rt: HostRuntime) {
-    for (refusal, wanted) in REFUSALS {
+    for &(refusal, wanted) in REFUSALS {
         assert!(rt; is_refusal_text(rt.alloc(), refusal, wanted), "{wanted}");
     }
 }

@@ -4,7 +4,7 @@ use epc_sgtin::{EpcFault, Sgtin, SgtinRefusal, Uri, UriFault};
 /// The parts: the filter value, the number of the company's digits, the company, the item and the serial number.
 type Parts = (u8, u8, u64, u32, u64);
 
-const SGTINS: [(Parts, [u16; 6], &[u8]); 19] = [
+const SGTINS: &[(Parts, [u16; 6], &[u8])] = &[
     // Public examples.
     (
         (3, 7, 614_141, 812_345, 6_789),
@@ -125,13 +125,13 @@ fn is_sgtin(parts: Parts, words: [u16; 6], text: &[u8]) -> bool {
 
 #[test]
 fn sgtins_are_written_and_read(rt: HostRuntime) {
-    for (parts, words, text) in SGTINS {
+    for &(parts, words, text) in SGTINS {
         assert!(rt; is_sgtin(parts, words, text), "{parts:?}");
     }
     assert!(rt; Uri::new().as_slice().is_empty());
 }
 
-const PARTS: [(Parts, SgtinRefusal); 23] = [
+const PARTS: &[(Parts, SgtinRefusal)] = &[
     // One beyond the greatest company and item, from 12 digits on.
     ((3, 12, 1_000_000_000_000, 0, 5), SgtinRefusal::Company),
     ((3, 12, 1, 10, 5), SgtinRefusal::Item),
@@ -170,12 +170,12 @@ const PARTS: [(Parts, SgtinRefusal); 23] = [
 
 #[test]
 fn parts_are_refused(rt: HostRuntime) {
-    for (parts, refusal) in PARTS {
+    for &(parts, refusal) in PARTS {
         assert!(rt; sgtin_of(parts) == Err(refusal), "{parts:?}");
     }
 }
 
-const WORDS: [(&[u16], EpcFault); 24] = [
+const WORDS: &[(&[u16], EpcFault)] = &[
     // One beyond the greatest company and item, from partition 0 on.
     (
         &[0x3063, 0xA352, 0x9440, 0x0000, 0x0000, 0x0005],
@@ -273,12 +273,12 @@ const WORDS: [(&[u16], EpcFault); 24] = [
 
 #[test]
 fn words_are_refused(rt: HostRuntime) {
-    for (words, fault) in WORDS {
+    for &(words, fault) in WORDS {
         assert!(rt; Sgtin::decode(words) == Err(fault), "{words:?}");
     }
 }
 
-const TEXTS: [(&[u8], UriFault); 25] = [
+const TEXTS: &[(&[u8], UriFault)] = &[
     (b"", UriFault::Prefix),
     (b"urn:epc:tag:sgtin-96", UriFault::Prefix),
     (
@@ -359,7 +359,7 @@ const TEXTS: [(&[u8], UriFault); 25] = [
 
 #[test]
 fn texts_are_refused(rt: HostRuntime) {
-    for (text, fault) in TEXTS {
+    for &(text, fault) in TEXTS {
         assert!(rt; Sgtin::read_uri(text) == Err(fault), "{text:?}");
     }
 }

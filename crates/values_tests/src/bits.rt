@@ -10,7 +10,7 @@ fn bits_of(alloc: Global, text: &str) -> Option<Bits> {
     Some(bits)
 }
 
-const VECTORS: [(u32, &str); 4] = [
+const VECTORS: &[(u32, &str)] = &[
     (0, "00000000"),
     (127, "01111111"),
     (128, "1000000100000000"),
@@ -49,7 +49,7 @@ fn is_vector(alloc: Global, value: u32, text: &str) -> Option<bool> {
 
 #[test]
 fn vectors_are_spelled_and_read(rt: HostRuntime) {
-    for (value, text) in VECTORS {
+    for &(value, text) in VECTORS {
         assert!(rt; is_vector(rt.alloc(), value, text) == Some(true), "{text}");
     }
 }
@@ -75,7 +75,7 @@ fn digits_are_taken_in_runs(rt: HostRuntime) {
 }
 
 /// Bits, a place, and what stands there.
-const OTHERS: [(&str, u32, Ebv); 13] = [
+const OTHERS: &[(&str, u32, Ebv)] = &[
     ("1000000000000001", 0, Ebv::NotShortest),
     ("10000000", 0, Ebv::NotShortest),
     ("", 0, Ebv::Short),
@@ -106,7 +106,7 @@ fn vector_at(alloc: Global, text: &str, from: u32) -> Option<Ebv> {
 
 #[test]
 fn other_spellings_are_refused(rt: HostRuntime) {
-    for (text, from, answer) in OTHERS {
+    for &(text, from, answer) in OTHERS {
         assert!(rt;
             vector_at(rt.alloc(), text, from) == Some(answer),
             "{text} from {from}"

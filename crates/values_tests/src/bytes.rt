@@ -15,7 +15,7 @@ fn counted_bytes(alloc: Global, count: u32) -> Option<Vec<u8>> {
 }
 
 /// How many bytes a source has, the limit, and whether they are read; 140,000 are more than one buffer.
-const LENGTHS: [(u32, u32, bool); 7] = [
+const LENGTHS: &[(u32, u32, bool)] = &[
     (0, 0, true),
     (1, 0, false),
     (5, 5, true),
@@ -40,7 +40,7 @@ fn is_read_within(alloc: Global, count: u32, limit: u32, is_read: bool) -> Optio
 
 #[test]
 fn a_source_is_read_up_to_the_limit(rt: HostRuntime) {
-    for (count, limit, is_read) in LENGTHS {
+    for &(count, limit, is_read) in LENGTHS {
         let read = is_read_within(rt.alloc(), count, limit, is_read);
         assert!(rt; read == Some(true), "{count} bytes, limit {limit}");
     }
@@ -66,7 +66,7 @@ fn reads(alloc: Global, failing: u64) -> Option<Result<bool, ReadEnd>> {
 #[test]
 fn a_failed_read_ends_the_reading(rt: HostRuntime) {
     // The second call meets the end, so there is no third.
-    for (failing, wanted) in [
+    for &(failing, wanted) in &[
         (1, Err(ReadEnd::Fault)),
         (2, Err(ReadEnd::Fault)),
         (3, Ok(true)),
@@ -79,7 +79,7 @@ fn a_failed_read_ends_the_reading(rt: HostRuntime) {
 }
 
 /// The room of a sink, the number of the write that fails, and what of the bytes 1, 2 and 3, 4 is written.
-const WRITES: [(u32, u64, &[u8]); 5] = [
+const WRITES: &[(u32, u64, &[u8])] = &[
     (4, 9, &[1, 2, 3, 4]),
     (3, 9, &[1, 2]),
     (1, 9, &[]),
@@ -96,7 +96,7 @@ fn are_written(alloc: Global, room: u32, failing: u64, written: &[u8]) -> Option
 
 #[test]
 fn a_failed_write_ends_the_writing(rt: HostRuntime) {
-    for (room, failing, written) in WRITES {
+    for &(room, failing, written) in WRITES {
         let is_so = are_written(rt.alloc(), room, failing, written);
         assert!(rt; is_so == Some(true), "room {room}, call {failing} fails");
     }

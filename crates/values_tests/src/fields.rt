@@ -7,7 +7,7 @@ use text_fields::*;
 const MOST: u32 = u32::MAX;
 
 /// A field, the greatest number, and the number that the field is.
-const NUMBERS: [(&[u8], u32, Option<u32>); 18] = [
+const NUMBERS: &[(&[u8], u32, Option<u32>)] = &[
     (b"0", MOST, Some(0)),
     (b"7", 7, Some(7)),
     (b"8", 7, None),
@@ -30,7 +30,7 @@ const NUMBERS: [(&[u8], u32, Option<u32>); 18] = [
 
 #[test]
 fn numbers_have_one_spelling(rt: HostRuntime) {
-    for (field, at_most, wanted) in NUMBERS {
+    for &(field, at_most, wanted) in NUMBERS {
         assert!(rt; number(field, at_most) == wanted, "{field:?}");
     }
 }
@@ -42,7 +42,7 @@ fn is_number_text(alloc: Global, number: u32, wanted: &str) -> bool {
 
 #[test]
 fn numbers_are_written(rt: HostRuntime) {
-    for (number, wanted) in [
+    for &(number, wanted) in &[
         (0, "0"),
         (9, "9"),
         (10, "10"),
@@ -55,7 +55,7 @@ fn numbers_are_written(rt: HostRuntime) {
 
 #[test]
 fn flags_are_one_digit(rt: HostRuntime) {
-    for (field, wanted) in [
+    for &(field, wanted) in &[
         (b"0".as_slice(), Some(false)),
         (b"1", Some(true)),
         (b"2", None),
@@ -68,7 +68,7 @@ fn flags_are_one_digit(rt: HostRuntime) {
 }
 
 /// A field, how many digits it may have, and the bits that it is, written again.
-const BITS: [(&[u8], u32, Option<&str>); 13] = [
+const BITS: &[(&[u8], u32, Option<&str>)] = &[
     (b"-", 8, Some("-")),
     (b"-", 0, Some("-")),
     (b"0", 8, Some("0")),
@@ -107,7 +107,7 @@ fn are_bits(alloc: Global, field: &[u8], most: u32, wanted: Option<&str>) -> Opt
 
 #[test]
 fn bits_are_read_and_written(rt: HostRuntime) {
-    for (field, most, wanted) in BITS {
+    for &(field, most, wanted) in BITS {
         assert!(rt;
             are_bits(rt.alloc(), field, most, wanted) == Some(true),
             "{field:?}"
@@ -140,7 +140,7 @@ fn next_fields_are_written(rt: HostRuntime) -> Result<(), Fail> {
 }
 
 /// Texts, each with its first line and what stands behind it.
-const LINES: [(&[u8], Option<(&[u8], &[u8])>); 3] = [
+const LINES: &[(&[u8], Option<(&[u8], &[u8])>)] = &[
     (b"pie 1 2\n\nbits", Some((b"pie 1 2", b"\nbits"))),
     (b"\nbits", Some((b"", b"bits"))),
     (b"bits", None),
@@ -148,13 +148,13 @@ const LINES: [(&[u8], Option<(&[u8], &[u8])>); 3] = [
 
 #[test]
 fn lines_are_cut(rt: HostRuntime) {
-    for (text, wanted) in LINES {
+    for &(text, wanted) in LINES {
         assert!(rt; split_line(text) == wanted, "{text:?}");
     }
 }
 
 /// Lines, and how many fields they have; none where one is empty.
-const COUNTS: [(&[u8], usize); 9] = [
+const COUNTS: &[(&[u8], usize)] = &[
     (b"", 0),
     (b"a", 1),
     (b"a b", 2),
@@ -178,7 +178,7 @@ fn counts(line: &[u8]) -> [bool; 4] {
 
 #[test]
 fn fields_are_counted(rt: HostRuntime) {
-    for (line, count) in COUNTS {
+    for &(line, count) in COUNTS {
         let wanted = [count == 1, count == 2, count == 3, count == 4];
         assert!(rt; counts(line) == wanted, "{line:?}");
     }
@@ -194,7 +194,7 @@ fn fields_are_cut(rt: HostRuntime) {
 }
 
 /// A field, and the word that it is.
-const WORDS: [(&[u8], Option<u16>); 12] = [
+const WORDS: &[(&[u8], Option<u16>)] = &[
     (b"0000", Some(0)),
     (b"FFFF", Some(0xFFFF)),
     (b"1D0F", Some(0x1D0F)),
@@ -211,7 +211,7 @@ const WORDS: [(&[u8], Option<u16>); 12] = [
 
 #[test]
 fn words_have_one_spelling(rt: HostRuntime) {
-    for (field, wanted) in WORDS {
+    for &(field, wanted) in WORDS {
         assert!(rt; word(field) == wanted, "{field:?}");
     }
 }
@@ -236,7 +236,7 @@ fn words_are_written(rt: HostRuntime) -> Result<(), Fail> {
 }
 
 /// A field, how many bytes it may have, and whether it has as many at most.
-const BYTES: [(&[u8], u32, bool); 9] = [
+const BYTES: &[(&[u8], u32, bool)] = &[
     (b"00", 1, true),
     (b"0000", 1, false),
     (b"", 1, false),
@@ -255,7 +255,7 @@ fn bytes_are_read_in_either_case(rt: HostRuntime) -> Result<(), Fail> {
     let mut bytes = [0; 4];
     read.decode_to(&mut bytes);
     assert_eq!(rt; bytes, [0x00, 0xFF, 0xA9, 0x0E]);
-    for (field, most, wanted) in BYTES {
+    for &(field, most, wanted) in BYTES {
         assert!(rt; HexBytes::new(field, most).is_some() == wanted, "{field:?}");
     }
     Ok(())
@@ -263,7 +263,7 @@ fn bytes_are_read_in_either_case(rt: HostRuntime) -> Result<(), Fail> {
 
 #[test]
 fn codes_have_names(rt: HostRuntime) {
-    for (name, code) in [
+    for &(name, code) in &[
         ("fm0", Code::Fm0),
         ("m2", Code::M2),
         ("m4", Code::M4),

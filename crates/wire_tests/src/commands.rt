@@ -17,7 +17,7 @@ fn fed(digits: &str) -> (Framer, Pushed) {
 
 /// Bits that no command has, the place at which the first is refused, and the field there: each field
 /// at the first place and at the last at which it can be refused, but for those of long masks.
-const REFUSED: [(&str, u32, Reason); 20] = [
+const REFUSED: &[(&str, u32, Reason)] = &[
     ("111", 2, Reason::Code),
     ("1011", 3, Reason::Code),
     ("11001001", 7, Reason::Code),
@@ -60,7 +60,7 @@ fn is_refused(digits: &str, place: u32, reason: Reason) -> bool {
 
 #[test]
 fn refusals(rt: HostRuntime) {
-    for (digits, place, reason) in REFUSED {
+    for &(digits, place, reason) in REFUSED {
         assert!(rt; is_refused(digits, place, reason), "{digits}");
     }
 }

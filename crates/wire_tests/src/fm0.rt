@@ -2,7 +2,7 @@
 use fm0_line::Fm0;
 use line_code::LineCode;
 
-const LEADS: [(bool, &[u8]); 2] = [
+const LEADS: &[(bool, &[u8])] = &[
     (false, b"110100100011"),
     (true, b"101010101010101010101010110100100011"),
 ];
@@ -22,7 +22,7 @@ fn is_lead(trext: bool, lead: &[u8]) -> bool {
 
 #[test]
 fn leads(rt: HostRuntime) {
-    for (trext, lead) in LEADS {
+    for &(trext, lead) in LEADS {
         assert!(rt; is_lead(trext, lead), "{trext}");
     }
 }

@@ -63,7 +63,7 @@ const LONGEST_PREAMBLE: FrameKind = FrameKind::Preamble {
 };
 
 /// What follows the header, and the kind and the bits of the frame.
-const FRAMES: [(&[u32], FrameKind, &str); 8] = [
+const FRAMES: &[(&[u32], FrameKind, &str)] = &[
     (
         &[6_250, 6_250, 6_250, 6_250, 6_250, 6_250, 6_250, 6_250],
         SYNC,
@@ -88,7 +88,7 @@ fn is_frame(alloc: Global, rest: &[u32], kind: FrameKind, text: &str) -> Option<
 
 #[test]
 fn frames_are_read(rt: HostRuntime) {
-    for (rest, kind, bits) in FRAMES {
+    for &(rest, kind, bits) in FRAMES {
         assert!(rt;
             is_frame(rt.alloc(), rest, kind, bits) == Some(true),
             "{rest:?}"
@@ -257,7 +257,7 @@ fn a_query_is_written(rt: HostRuntime) -> Result<(), Fail> {
 /// Tari, RTcal, TRcal and PW.
 type Durations = (u32, u32, u32, u32);
 
-const LINKS: [(Durations, Result<(), LinkRefusal>); 17] = [
+const LINKS: &[(Durations, Result<(), LinkRefusal>)] = &[
     ((6_250, 15_625, 17_188, 2_000), Ok(())),
     ((6_249, 15_625, 17_188, 2_000), Err(LinkRefusal::Tari)),
     ((25_000, 75_000, 225_000, 13_125), Ok(())),
@@ -299,7 +299,7 @@ fn is_bounded(durations: Durations, wanted: Result<(), LinkRefusal>) -> bool {
 
 #[test]
 fn links_are_bounded(rt: HostRuntime) {
-    for (durations, wanted) in LINKS {
+    for &(durations, wanted) in LINKS {
         assert!(rt; is_bounded(durations, wanted), "{durations:?}");
     }
 }

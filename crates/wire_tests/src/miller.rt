@@ -71,7 +71,7 @@ fn blocks(rt: HostRuntime) {
     let one_in_phase_1 = Miller2::after(one_in_phase_0, true);
     let zero_in_phase_0 = Miller2::after(one_in_phase_0, false);
     let zero_in_phase_1 = Miller2::after(one_in_phase_1, false);
-    for (before, bit, block) in [
+    for &(before, bit, block) in &[
         (one_in_phase_0, false, b"1010"),
         (one_in_phase_0, true, b"1001"),
         (one_in_phase_1, false, b"0101"),

@@ -102,7 +102,7 @@ fn a_wrong_check_is_refused(rt: HostRuntime) {
 #[test]
 fn refusals_come_in_order(rt: HostRuntime) -> Result<(), Fail> {
     let one = Count1::new(1).ok_or("a count")?;
-    for (text, expect, wanted) in [
+    for &(text, expect, wanted) in &[
         ("1010000110110010", Expect::Rn16, ReplyRefusal::Length),
         (
             "1010000110110010",

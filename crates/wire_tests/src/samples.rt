@@ -7,7 +7,7 @@ use std::alloc::Global;
 const THRESHOLD: u8 = 128;
 
 /// Samples, and what groups of two are.
-const GROUPS: [(&[u8], Result<(), SliceRefusal>, &[bool]); 6] = [
+const GROUPS: &[(&[u8], Result<(), SliceRefusal>, &[bool])] = &[
     (&[], Ok(()), &[]),
     (&[255, 128, 0, 127], Ok(()), &[true, false]),
     (&[255, 127, 0], Err(SliceRefusal::Mixed(0)), &[]),
@@ -45,7 +45,7 @@ fn are_levels(
 
 #[test]
 fn groups(rt: HostRuntime) {
-    for (samples, wanted, levels) in GROUPS {
+    for &(samples, wanted, levels) in GROUPS {
         assert!(rt;
             are_levels(rt.alloc(), samples, wanted, levels),
             "{samples:?}"
@@ -57,7 +57,7 @@ fn groups(rt: HostRuntime) {
 /// there are none.
 type Many = (usize, Option<usize>, u32, Result<u32, SliceRefusal>);
 
-const MANY: [Many; 13] = [
+const MANY: &[Many] = &[
     (33, Some(32), 1, Ok(33)),
     (33, Some(31), 3, Err(SliceRefusal::Mixed(30))),
     (34, None, 3, Err(SliceRefusal::Rest(33))),
@@ -84,7 +84,8 @@ fn are_high_but(levels: &[bool], low: Option<usize>) -> bool {
 }
 
 /// Whether the samples of a row are what it says.
-fn are_many(alloc: Global, (count, low, per_level, wanted): Many) -> bool {
+fn are_many(alloc: Global, row: &Many) -> bool {
+    let (count, low, per_level, wanted) = *row;
     let mut samples = [255; 128];
     if let Some(place) = low {
         if place < 128 {

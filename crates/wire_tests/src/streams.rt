@@ -14,7 +14,7 @@ const MOST_LEVELS: u32 = 131_968;
 
 /// Bits, the levels of their blocks in FM0, and the phases of the halves of their Miller symbols,
 /// `+` for 0 and `-` for 1. The dummy's come last.
-const STREAMS: [(&str, &[u8], &[u8]); 5] = [
+const STREAMS: &[(&str, &[u8], &[u8])] = &[
     ("", b"00", b"+-"),
     ("0", b"0100", b"+++-"),
     ("1", b"0011", b"+--+"),
@@ -126,7 +126,7 @@ fn are_streams(alloc: Global, bits: &str, fm0: &[u8], phases: &[u8]) -> Option<b
 
 #[test]
 fn streams_are_written_and_read(rt: HostRuntime) {
-    for (bits, fm0, phases) in STREAMS {
+    for &(bits, fm0, phases) in STREAMS {
         assert!(rt;
             are_streams(rt.alloc(), bits, fm0, phases) == Some(true),
             "{bits}"
@@ -135,7 +135,7 @@ fn streams_are_written_and_read(rt: HostRuntime) {
 }
 
 /// Streams as texts of 1 and 0, high and low.
-const TEXTS: [(Code, bool, &str, &str); 7] = [
+const TEXTS: &[(Code, bool, &str, &str)] = &[
     (Code::Fm0, false, "", "11010010001100"),
     (Code::Fm0, false, "1", "1101001000110011"),
     (Code::Fm0, false, "00", "110100100011010100"),
@@ -174,7 +174,7 @@ fn is_text(alloc: Global, code: Code, trext: bool, bits: &str, levels: &str) -> 
 
 #[test]
 fn texts_are_written_and_read(rt: HostRuntime) {
-    for (code, trext, bits, levels) in TEXTS {
+    for &(code, trext, bits, levels) in TEXTS {
         assert!(rt;
             is_text(rt.alloc(), code, trext, bits, levels) == Some(true),
             "{levels}"
@@ -194,7 +194,7 @@ fn refusal(alloc: Global, code: Code, trext: bool, levels: &Levels) -> Option<Li
 #[test]
 fn streams_in_fm0_are_refused(rt: HostRuntime) -> Result<(), Fail> {
     // The lead alone, a boundary without its inversion, and a last symbol that is no data-1.
-    for (levels, wanted) in [
+    for &(levels, wanted) in &[
         ("110100100011", LineRefusal::Unfinished(12)),
         ("11010010001111", LineRefusal::Invalid(12)),
         ("1101001000110010", LineRefusal::Unfinished(16)),

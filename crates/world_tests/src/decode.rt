@@ -253,7 +253,7 @@ fn faulty_lines_are_reported(rt: HostRuntime) -> Result<(), Fail> {
 type LongRow = (&'static str, usize, &'static str, bool, &'static str);
 
 /// Lines with as many levels, samples, intervals or bits as a line may have, and lines with one more.
-const LONG: [LongRow; 12] = [
+const LONG: &[LongRow] = &[
     (
         "fm0 0 110100100011",
         65_994,
@@ -287,8 +287,8 @@ const LONG: [LongRow; 12] = [
 ];
 
 /// Whether the line of a row gets its text.
-fn long_line_gets(alloc: Global, row: LongRow) -> Result<bool, AllocError> {
-    let (front, count, piece, answers, wanted) = row;
+fn long_line_gets(alloc: Global, row: &LongRow) -> Result<bool, AllocError> {
+    let (front, count, piece, answers, wanted) = *row;
     let mut line = String::from_str(alloc, front)?;
     for _ in 0..count {
         line.push_str(piece)?;
