@@ -24,11 +24,13 @@ use Rattle.tag_machine.specs.declared.states.Half.{Half}
 use Rattle.tag_machine.specs.declared.states.Held.{Held}
 use Rattle.tag_machine.specs.declared.states.Password.{Password}
 use Rattle.tag_machine.specs.declared.states.Password.TheVariants as passwords
+use Rattle.tag_machine.specs.declared.access.rules.Follows.{Follows}
+use Rattle.tag_machine.specs.declared.access.rules.Follows.TheVariants.{AnyHalf, HalfOf, NoHalf}
 use Rattle.tag_machine.specs.TagValue.{StateValue, ReadyState, ArbitrateState, ReplyState, AcknowledgedState, OpenState, SecuredState, KilledState, UnpoweredState, BodyValue}
 use Rattle.tag_machine.specs.Answers.{Sent, Outcome, silent, plain, extended}
 use Rattle.tag_machine.specs.Draws.{draw_of, body_after_draw, slot_of_draw, begin_reply, enter, body_after_inversion, close, back}
 use Rattle.tag_machine.specs.Inventory.{take_part, body_after_close, query, unless_half, end_turn, slot_below, count_down, query_rep, q_after_adjust, query_adjust, epc_reply, ack, nak, selected_body, select}
-use Rattle.tag_machine.specs.Access.{held_state, first_level, new_held, req_rn_held, req_rn, with_handle, unless_any_half, is_password, unless_other_half, uncover, refuse, read_answer, read_held, read, memory_outcome, write_held, write, whole_of, kill_half, kill_held, kill, has_user, locks_outcome, lock, access_half, access_held, access, block_write, block_erase}
+use Rattle.tag_machine.specs.Access.{held_state, in_access, heeded, unless_ended, first_level, new_held, req_rn_held, req_rn, is_password, unless_other_half, uncover, refuse, read_answer, read_outcome, memory_outcome, write_outcome, block_write_outcome, block_erase_outcome, has_user, locks_outcome, lock_outcome, whole_of, keep_half, whole_outcome, half_outcome, password_outcome}
 use Rattle.tag_machine.specs.Extended.{has_half, is_extended}
 use Rattle.tag_machine.specs.Step.{step}
 use Rattle.tag_machine.specs.declared.any_tag.Answered.{Answered}
@@ -83,22 +85,36 @@ either : (delayed : Bool) (before : BodyValue) (test : Bool) (x y : Outcome) →
 either delayed before true x y of_x of_y = of_x
 either delayed before false x y of_x of_y = of_y
 
-with_handle_is : (delayed : Bool) (level : Level) (rn : ℕ) (held : Held) (body : BodyValue) (outcome : Outcome) → AnswersAs delayed body outcome → AnswersAs delayed body (with_handle level rn held body outcome)
-with_handle_is delayed level rn held body outcome given = either delayed body (held.handle == rn) outcome (silent (held_state level held) body) given (silent_is delayed body (held_state level held) body)
-
 unless_half_is : (delayed : Bool) (body : BodyValue) (half : Option Half) (instead outcome : Outcome) → AnswersAs delayed body instead → AnswersAs delayed body outcome → AnswersAs delayed body (unless_half half instead outcome)
 unless_half_is delayed body None instead outcome of_instead given = given
 unless_half_is delayed body (Some half) instead outcome of_instead given = of_instead
 
--- a command of another kind than any half, with what it does where it has the handle and no half stands before it
-heard_is : (delayed : Bool) (level : Level) (rn : ℕ) (held : Held) (body : BodyValue) (outcome : Outcome) → AnswersAs delayed body outcome → AnswersAs delayed body (with_handle level rn held body (unless_any_half held body outcome))
-heard_is delayed level rn held body outcome given =
-    with_handle_is delayed level rn held body (unless_any_half held body outcome)
-    (unless_half_is delayed body held.half (back held.session held.q body) outcome (silent_is delayed body (ArbitrateState held.session held.q 0) body) given)
-
 unless_other_half_is : (delayed : Bool) (body : BodyValue) (password : Password) (half : Option Half) (instead outcome : Outcome) → AnswersAs delayed body instead → AnswersAs delayed body outcome → AnswersAs delayed body (unless_other_half password half instead outcome)
 unless_other_half_is delayed body password None instead outcome of_instead given = given
 unless_other_half_is delayed body password (Some half) instead outcome of_instead given = either delayed body (is_password password half.password) outcome instead given of_instead
+
+unless_ended_is : (delayed : Bool) (follows : Follows) (held : Held) (body : BodyValue) (outcome : Outcome) → AnswersAs delayed body outcome → AnswersAs delayed body (unless_ended follows held body outcome)
+unless_ended_is delayed AnyHalf held body outcome given = given
+unless_ended_is delayed (HalfOf password) held body outcome given =
+    unless_other_half_is delayed body password held.half (back held.session held.q body) outcome (silent_is delayed body (ArbitrateState held.session held.q 0) body) given
+unless_ended_is delayed NoHalf held body outcome given =
+    unless_half_is delayed body held.half (back held.session held.q body) outcome (silent_is delayed body (ArbitrateState held.session held.q 0) body) given
+
+heeded_is : (delayed : Bool) (rn : ℕ) (follows : Follows) (level : Level) (held : Held) (body : BodyValue) (outcome : Outcome) → AnswersAs delayed body outcome → AnswersAs delayed body (heeded rn follows level held body outcome)
+heeded_is delayed rn follows level held body outcome given =
+    either delayed body (held.handle == rn) (unless_ended follows held body outcome) (silent (held_state level held) body)
+    (unless_ended_is delayed follows held body outcome given) (silent_is delayed body (held_state level held) body)
+
+-- an access command, whose preamble may go by the state
+in_access_is : (delayed : StateValue → Bool) (rn : ℕ) (follows : Follows) (acts : Level → Held → BodyValue → Outcome) (state : StateValue) (body : BodyValue) → ((level : Level) (held : Held) → AnswersAs (delayed (held_state level held)) body (acts level held body)) → AnswersAs (delayed state) body (in_access rn follows acts state body)
+in_access_is delayed rn follows acts ReadyState body given = silent_is (delayed ReadyState) body ReadyState body
+in_access_is delayed rn follows acts (ArbitrateState session q slot) body given = silent_is (delayed (ArbitrateState session q slot)) body (ArbitrateState session q slot) body
+in_access_is delayed rn follows acts (ReplyState session q own) body given = silent_is (delayed (ReplyState session q own)) body (ArbitrateState session q 0) body
+in_access_is delayed rn follows acts (AcknowledgedState session q own) body given = silent_is (delayed (AcknowledgedState session q own)) body (ArbitrateState session q 0) body
+in_access_is delayed rn follows acts (OpenState held) body given = heeded_is (delayed (OpenState held)) rn follows levels.Opened held body (acts levels.Opened held body) (given levels.Opened held)
+in_access_is delayed rn follows acts (SecuredState held) body given = heeded_is (delayed (SecuredState held)) rn follows levels.Secured held body (acts levels.Secured held body) (given levels.Secured held)
+in_access_is delayed rn follows acts KilledState body given = silent_is (delayed KilledState) body KilledState body
+in_access_is delayed rn follows acts UnpoweredState body given = silent_is (delayed UnpoweredState) body UnpoweredState body
 
 uncover_is : (delayed : Bool) (level : Level) (held : Held) (body : BodyValue) (covered : ℕ) (cover : Option ℕ) (follows : Held → ℕ → Outcome) → ((value : ℕ) → AnswersAs delayed body (follows (record held { cover = None }) value)) → AnswersAs delayed body (uncover level held body covered cover follows)
 uncover_is delayed level held body covered None follows given = silent_is delayed body (held_state level held) body
@@ -132,127 +148,53 @@ req_rn_is rn (SecuredState held) body = give_cover_is levels.Secured rn held bod
 req_rn_is rn KilledState body = silent_is false body KilledState body
 req_rn_is rn UnpoweredState body = silent_is false body UnpoweredState body
 
--- Read
-read_held_is : (level : Level) (bank : Bank) (pointer count rn : ℕ) (held : Held) (body : BodyValue) → AnswersAs false body (read_held level bank pointer count rn held body)
-read_held_is level bank pointer count rn held body =
-    heard_is false level rn held body _ (plain_same_is (held_state level held) body (read_answer (words_read body.memory body.locks level bank pointer count)) held.handle)
-
-read_is : (bank : Bank) (pointer count rn : ℕ) (state : StateValue) (body : BodyValue) → AnswersAs false body (read bank pointer count rn state body)
-read_is bank pointer count rn ReadyState body = silent_is false body ReadyState body
-read_is bank pointer count rn (ArbitrateState session q slot) body = silent_is false body (ArbitrateState session q slot) body
-read_is bank pointer count rn (ReplyState session q own) body = silent_is false body (ArbitrateState session q 0) body
-read_is bank pointer count rn (AcknowledgedState session q own) body = silent_is false body (ArbitrateState session q 0) body
-read_is bank pointer count rn (OpenState held) body = read_held_is levels.Opened bank pointer count rn held body
-read_is bank pointer count rn (SecuredState held) body = read_held_is levels.Secured bank pointer count rn held body
-read_is bank pointer count rn KilledState body = silent_is false body KilledState body
-read_is bank pointer count rn UnpoweredState body = silent_is false body UnpoweredState body
-
 -- Write
-write_held_is : (level : Level) (bank : Bank) (pointer covered rn : ℕ) (held : Held) (body : BodyValue) → AnswersAs true body (write_held level bank pointer covered rn held body)
-write_held_is level bank pointer covered rn held body =
-    heard_is true level rn held body _
-    (uncover_is true level held body covered held.cover (λ bare word. memory_outcome level bare body (banks_after_write body.memory body.locks level bank pointer (word ∷ [])))
-    (λ word. memory_changed_is level (record held { cover = None }) body (banks_after_write body.memory body.locks level bank pointer (word ∷ []))))
-
-write_is : (bank : Bank) (pointer covered rn : ℕ) (state : StateValue) (body : BodyValue) → AnswersAs true body (write bank pointer covered rn state body)
-write_is bank pointer covered rn ReadyState body = silent_is true body ReadyState body
-write_is bank pointer covered rn (ArbitrateState session q slot) body = silent_is true body (ArbitrateState session q slot) body
-write_is bank pointer covered rn (ReplyState session q own) body = silent_is true body (ArbitrateState session q 0) body
-write_is bank pointer covered rn (AcknowledgedState session q own) body = silent_is true body (ArbitrateState session q 0) body
-write_is bank pointer covered rn (OpenState held) body = write_held_is levels.Opened bank pointer covered rn held body
-write_is bank pointer covered rn (SecuredState held) body = write_held_is levels.Secured bank pointer covered rn held body
-write_is bank pointer covered rn KilledState body = silent_is true body KilledState body
-write_is bank pointer covered rn UnpoweredState body = silent_is true body UnpoweredState body
-
--- BlockWrite
-block_write_is : (bank : Bank) (pointer : ℕ) (words : List ℕ) (rn : ℕ) (state : StateValue) (body : BodyValue) → AnswersAs true body (block_write bank pointer words rn state body)
-block_write_is bank pointer words rn ReadyState body = silent_is true body ReadyState body
-block_write_is bank pointer words rn (ArbitrateState session q slot) body = silent_is true body (ArbitrateState session q slot) body
-block_write_is bank pointer words rn (ReplyState session q own) body = silent_is true body (ArbitrateState session q 0) body
-block_write_is bank pointer words rn (AcknowledgedState session q own) body = silent_is true body (ArbitrateState session q 0) body
-block_write_is bank pointer words rn (OpenState held) body =
-    heard_is true levels.Opened rn held body _ (memory_changed_is levels.Opened held body (banks_after_write body.memory body.locks levels.Opened bank pointer words))
-block_write_is bank pointer words rn (SecuredState held) body =
-    heard_is true levels.Secured rn held body _ (memory_changed_is levels.Secured held body (banks_after_write body.memory body.locks levels.Secured bank pointer words))
-block_write_is bank pointer words rn KilledState body = silent_is true body KilledState body
-block_write_is bank pointer words rn UnpoweredState body = silent_is true body UnpoweredState body
-
--- BlockErase
-block_erase_is : (bank : Bank) (pointer count rn : ℕ) (state : StateValue) (body : BodyValue) → AnswersAs true body (block_erase bank pointer count rn state body)
-block_erase_is bank pointer count rn ReadyState body = silent_is true body ReadyState body
-block_erase_is bank pointer count rn (ArbitrateState session q slot) body = silent_is true body (ArbitrateState session q slot) body
-block_erase_is bank pointer count rn (ReplyState session q own) body = silent_is true body (ArbitrateState session q 0) body
-block_erase_is bank pointer count rn (AcknowledgedState session q own) body = silent_is true body (ArbitrateState session q 0) body
-block_erase_is bank pointer count rn (OpenState held) body =
-    heard_is true levels.Opened rn held body _ (memory_changed_is levels.Opened held body (banks_after_erase body.memory body.locks levels.Opened bank pointer count))
-block_erase_is bank pointer count rn (SecuredState held) body =
-    heard_is true levels.Secured rn held body _ (memory_changed_is levels.Secured held body (banks_after_erase body.memory body.locks levels.Secured bank pointer count))
-block_erase_is bank pointer count rn KilledState body = silent_is true body KilledState body
-block_erase_is bank pointer count rn UnpoweredState body = silent_is true body UnpoweredState body
+written_is : (bank : Bank) (pointer covered : ℕ) (level : Level) (held : Held) (body : BodyValue) → AnswersAs true body (write_outcome bank pointer covered level held body)
+written_is bank pointer covered level held body =
+    let change = λ (word : ℕ). banks_after_write body.memory body.locks level bank pointer (word ∷ []) in
+    uncover_is true level held body covered held.cover (λ bare word. memory_outcome level bare body (change word)) (λ word. memory_changed_is level (record held { cover = None }) body (change word))
 
 -- Lock
-lock_is : (payload rn : ℕ) (state : StateValue) (body : BodyValue) → AnswersAs true body (lock payload rn state body)
-lock_is payload rn ReadyState body = silent_is true body ReadyState body
-lock_is payload rn (ArbitrateState session q slot) body = silent_is true body (ArbitrateState session q slot) body
-lock_is payload rn (ReplyState session q own) body = silent_is true body (ArbitrateState session q 0) body
-lock_is payload rn (AcknowledgedState session q own) body = silent_is true body (ArbitrateState session q 0) body
-lock_is payload rn (OpenState held) body = heard_is true levels.Opened rn held body _ (silent_is true body (OpenState held) body)
-lock_is payload rn (SecuredState held) body =
-    heard_is true levels.Secured rn held body _ (locks_changed_is held body (locks_after body.locks payload (has_user body)))
-lock_is payload rn KilledState body = silent_is true body KilledState body
-lock_is payload rn UnpoweredState body = silent_is true body UnpoweredState body
+locked_is : (payload : ℕ) (level : Level) (held : Held) (body : BodyValue) → AnswersAs true body (lock_outcome payload level held body)
+locked_is payload levels.Opened held body = silent_is true body (OpenState held) body
+locked_is payload levels.Secured held body = locks_changed_is held body (locks_after body.locks payload (has_user body))
 
--- Kill: the answer to a first half is plain, and that to a second is delayed
-kill_half_is : (level : Level) (half : Option Half) (value : ℕ) (held : Held) (body : BodyValue) → AnswersAs (is_some half) body (kill_half level half value held body)
-kill_half_is level None value held body = number_is body (held_state level (record held { half = Some (record { password = passwords.Kill; value = value }) })) body held.handle held.handle
-kill_half_is level (Some half) value held body =
+-- Kill and Access: the answer to a first half is plain, and that to the second of a Kill is delayed
+abbrev is_delayed : Password → Option Half → Bool
+is_delayed passwords.Kill half = is_some half
+is_delayed passwords.Access half = false
+
+first_is : (password : Password) (level : Level) (value : ℕ) (held : Held) (body : BodyValue) → AnswersAs (is_delayed password None) body (keep_half level password value held body)
+first_is passwords.Kill level value held body = number_is body (held_state level (record held { half = Some (record { password = passwords.Kill; value = value }) })) body held.handle held.handle
+first_is passwords.Access level value held body = number_is body (held_state level (record held { half = Some (record { password = passwords.Access; value = value }) })) body held.handle held.handle
+
+whole_is : (password : Password) (half : Half) (level : Level) (value : ℕ) (held : Held) (body : BodyValue) → AnswersAs (is_delayed password (Some half)) body (whole_outcome password level value held body)
+whole_is passwords.Kill half level value held body =
     either true body (kill_word_of body.memory == 0) (refuse level (record held { half = None }) body errors.Other) _
     (delayed_same_is (held_state level (record held { half = None })) body (Error (code_of errors.Other)) held.handle)
-    (either true body (kill_word_of body.memory == whole_of half.value value) (extended KilledState body Header held.handle) (back held.session held.q body)
+    (either true body (kill_word_of body.memory == value) (extended KilledState body Header held.handle) (back held.session held.q body)
     (header_is body KilledState body held.handle)
     (silent_is true body (ArbitrateState held.session held.q 0) body))
-
-kill_held_is : (level : Level) (covered rn : ℕ) (held : Held) (body : BodyValue) → AnswersAs (is_some held.half) body (kill_held level covered rn held body)
-kill_held_is level covered rn held body =
-    with_handle_is (is_some held.half) level rn held body _
-    (unless_other_half_is (is_some held.half) body passwords.Kill held.half (back held.session held.q body) _ (silent_is (is_some held.half) body (ArbitrateState held.session held.q 0) body)
-    (uncover_is (is_some held.half) level held body covered held.cover (λ bare value. kill_half level bare.half value bare body)
-    (λ value. kill_half_is level held.half value (record held { cover = None }) body)))
-
-kill_is : (covered rn : ℕ) (state : StateValue) (body : BodyValue) → AnswersAs (has_half state) body (kill covered rn state body)
-kill_is covered rn ReadyState body = silent_is false body ReadyState body
-kill_is covered rn (ArbitrateState session q slot) body = silent_is false body (ArbitrateState session q slot) body
-kill_is covered rn (ReplyState session q own) body = silent_is false body (ArbitrateState session q 0) body
-kill_is covered rn (AcknowledgedState session q own) body = silent_is false body (ArbitrateState session q 0) body
-kill_is covered rn (OpenState held) body = kill_held_is levels.Opened covered rn held body
-kill_is covered rn (SecuredState held) body = kill_held_is levels.Secured covered rn held body
-kill_is covered rn KilledState body = silent_is false body KilledState body
-kill_is covered rn UnpoweredState body = silent_is false body UnpoweredState body
-
--- Access
-access_half_is : (level : Level) (half : Option Half) (value : ℕ) (held : Held) (body : BodyValue) → AnswersAs false body (access_half level half value held body)
-access_half_is level None value held body = number_is body (held_state level (record held { half = Some (record { password = passwords.Access; value = value }) })) body held.handle held.handle
-access_half_is level (Some half) value held body =
-    either false body (access_word_of body.memory == whole_of half.value value) (plain (SecuredState (record held { half = None })) body (Handle held.handle) held.handle) (back held.session held.q body)
+whole_is passwords.Access half level value held body =
+    either false body (access_word_of body.memory == value) (plain (SecuredState (record held { half = None })) body (Handle held.handle) held.handle) (back held.session held.q body)
     (number_is body (SecuredState (record held { half = None })) body held.handle held.handle)
     (silent_is false body (ArbitrateState held.session held.q 0) body)
 
-access_held_is : (level : Level) (covered rn : ℕ) (held : Held) (body : BodyValue) → AnswersAs false body (access_held level covered rn held body)
-access_held_is level covered rn held body =
-    with_handle_is false level rn held body _
-    (unless_other_half_is false body passwords.Access held.half (back held.session held.q body) _ (silent_is false body (ArbitrateState held.session held.q 0) body)
-    (uncover_is false level held body covered held.cover (λ bare value. access_half level bare.half value bare body)
-    (λ value. access_half_is level held.half value (record held { cover = None }) body)))
+half_is : (password : Password) (level : Level) (half : Option Half) (value : ℕ) (held : Held) (body : BodyValue) → AnswersAs (is_delayed password half) body (half_outcome password level half value held body)
+half_is password level None value held body = first_is password level value held body
+half_is password level (Some half) value held body = whole_is password half level (whole_of half.value value) held body
 
-access_is : (covered rn : ℕ) (state : StateValue) (body : BodyValue) → AnswersAs false body (access covered rn state body)
-access_is covered rn ReadyState body = silent_is false body ReadyState body
-access_is covered rn (ArbitrateState session q slot) body = silent_is false body (ArbitrateState session q slot) body
-access_is covered rn (ReplyState session q own) body = silent_is false body (ArbitrateState session q 0) body
-access_is covered rn (AcknowledgedState session q own) body = silent_is false body (ArbitrateState session q 0) body
-access_is covered rn (OpenState held) body = access_held_is levels.Opened covered rn held body
-access_is covered rn (SecuredState held) body = access_held_is levels.Secured covered rn held body
-access_is covered rn KilledState body = silent_is false body KilledState body
-access_is covered rn UnpoweredState body = silent_is false body UnpoweredState body
+password_is : (password : Password) (covered : ℕ) (level : Level) (held : Held) (body : BodyValue) → AnswersAs (is_delayed password held.half) body (password_outcome password covered level held body)
+password_is password covered level held body =
+    uncover_is (is_delayed password held.half) level held body covered held.cover (λ bare value. half_outcome password level bare.half value bare body)
+    (λ value. half_is password level held.half value (record held { cover = None }) body)
+
+killed_is : (covered : ℕ) (level : Level) (held : Held) (body : BodyValue) → AnswersAs (has_half (held_state level held)) body (password_outcome passwords.Kill covered level held body)
+killed_is covered levels.Opened held body = password_is passwords.Kill covered levels.Opened held body
+killed_is covered levels.Secured held body = password_is passwords.Kill covered levels.Secured held body
+
+accessed_is : (covered : ℕ) (level : Level) (held : Held) (body : BodyValue) → AnswersAs false body (password_outcome passwords.Access covered level held body)
+accessed_is covered level held body = password_is passwords.Access covered level held body
 
 -- Query, QueryRep and QueryAdjust
 begin_reply_is : (before : BodyValue) (session q : ℕ) (body : BodyValue) → AnswersAs false before (begin_reply session q body)
@@ -364,13 +306,23 @@ answers_as (commands.QueryAdjust session updn) state body = query_adjust_is sess
 answers_as (commands.Select target action bank pointer mask) state body = select_is target action bank pointer mask state body
 answers_as commands.Nak state body = nak_is state body
 answers_as (commands.ReqRn rn) state body = req_rn_is rn state body
-answers_as (commands.Read bank pointer count rn) state body = read_is bank pointer count rn state body
-answers_as (commands.Write bank pointer covered rn) state body = write_is bank pointer covered rn state body
-answers_as (commands.Kill covered rn) state body = kill_is covered rn state body
-answers_as (commands.Lock payload rn) state body = lock_is payload rn state body
-answers_as (commands.Access covered rn) state body = access_is covered rn state body
-answers_as (commands.BlockWrite bank pointer words rn) state body = block_write_is bank pointer words rn state body
-answers_as (commands.BlockErase bank pointer count rn) state body = block_erase_is bank pointer count rn state body
+answers_as (commands.Read bank pointer count rn) state body =
+    in_access_is (λ any. false) rn NoHalf (read_outcome bank pointer count) state body
+    (λ level held. plain_same_is (held_state level held) body (read_answer (words_read body.memory body.locks level bank pointer count)) held.handle)
+answers_as (commands.Write bank pointer covered rn) state body =
+    in_access_is (λ any. true) rn NoHalf (write_outcome bank pointer covered) state body (λ level held. written_is bank pointer covered level held body)
+answers_as (commands.Kill covered rn) state body =
+    in_access_is has_half rn (HalfOf passwords.Kill) (password_outcome passwords.Kill covered) state body (λ level held. killed_is covered level held body)
+answers_as (commands.Lock payload rn) state body =
+    in_access_is (λ any. true) rn NoHalf (lock_outcome payload) state body (λ level held. locked_is payload level held body)
+answers_as (commands.Access covered rn) state body =
+    in_access_is (λ any. false) rn (HalfOf passwords.Access) (password_outcome passwords.Access covered) state body (λ level held. accessed_is covered level held body)
+answers_as (commands.BlockWrite bank pointer words rn) state body =
+    in_access_is (λ any. true) rn NoHalf (block_write_outcome bank pointer words) state body
+    (λ level held. memory_changed_is level held body (banks_after_write body.memory body.locks level bank pointer words))
+answers_as (commands.BlockErase bank pointer count rn) state body =
+    in_access_is (λ any. true) rn NoHalf (block_erase_outcome bank pointer count) state body
+    (λ level held. memory_changed_is level held body (banks_after_erase body.memory body.locks level bank pointer count))
 
 marked_by : (answer : Option Sent) (delayed : Bool) (answered : Answered) → answered ≡ mark_of answer → (answered ≡ Silent → ⊥) → ((sent : Sent) → answer ≡ Some sent → sent.extended ≡ delayed) → answered ≡ (if delayed then Extended else Plain)
 marked_by None delayed answered is not_silent marks = absurd (not_silent is)

@@ -17,16 +17,18 @@ use Rattle.reply_grammar.specs.declared.expected.Reply.TheVariants.{Handle, Head
 use Rattle.session_flags.specs.declared.flags.Flags.{Flags}
 use Rattle.session_flags.specs.Flags.{flags_after_inversion, matches}
 use Rattle.tag_memory.specs.Memory.{Banks, kill_word_of, access_word_of}
-use Rattle.tag_memory.specs.Access.{words_read, banks_after_write, banks_after_erase}
+use Rattle.tag_memory.specs.Access.{banks_after_write, banks_after_erase}
 use Rattle.tag_machine.specs.declared.states.Half.{Half}
 use Rattle.tag_machine.specs.declared.states.Password.{Password}
 use Rattle.tag_machine.specs.declared.states.Password.TheVariants as passwords
 use Rattle.tag_machine.specs.declared.states.Held.{Held}
+use Rattle.tag_machine.specs.declared.access.rules.Follows.{Follows}
+use Rattle.tag_machine.specs.declared.access.rules.Follows.TheVariants.{AnyHalf, HalfOf, NoHalf}
 use Rattle.tag_machine.specs.TagValue.{StateValue, ReadyState, ArbitrateState, ReplyState, AcknowledgedState, OpenState, SecuredState, KilledState, UnpoweredState, BodyValue}
 use Rattle.tag_machine.specs.Answers.{Outcome, silent, plain, extended}
 use Rattle.tag_machine.specs.Draws.{enter, begin_reply, slot_of_draw, body_after_draw, body_after_inversion, close, back}
 use Rattle.tag_machine.specs.Inventory.{take_part, body_after_close, query, unless_half, end_turn, slot_below, count_down, query_rep, q_after_adjust, query_adjust, epc_reply, ack, nak, selected_body, selected_ready, select}
-use Rattle.tag_machine.specs.Access.{held_state, give_handle, give_cover, req_rn_held, req_rn, with_handle, unless_any_half, is_password, unless_other_half, uncover, refuse, read_answer, read_held, read, memory_outcome, write_held, write, whole_of, kill_whole, kill_half, kill_held, kill, has_user, locks_outcome, lock, access_whole, access_half, access_held, access, block_write, block_erase}
+use Rattle.tag_machine.specs.Access.{held_state, in_access, heeded, unless_ended, give_handle, give_cover, req_rn_held, req_rn, is_password, unless_other_half, uncover, refuse, read_outcome, read, memory_outcome, write_outcome, write, block_write_outcome, block_write, block_erase_outcome, block_erase, has_user, locks_outcome, lock_outcome, lock, whole_of, whole_outcome, half_outcome, password_outcome}
 
 -- what is said of the flags after an outcome
 abbrev Holds : (Flags → Type 0) → Outcome → Type 0
@@ -148,15 +150,29 @@ after_select P target action bank pointer mask KilledState body p s = p
 after_select P target action bank pointer mask UnpoweredState body p s = p
 
 -- the access commands, which change no flag
-handled : (P : Flags → Type 0) (level : Level) (rn : ℕ) (held : Held) (body : BodyValue) (outcome : Outcome) → P body.flags → Holds P outcome → Holds P (with_handle level rn held body outcome)
-handled P level rn held body outcome p q = either P (held.handle == rn) outcome (silent (held_state level held) body) q p
-
-any_half_or : (P : Flags → Type 0) (held : Held) (body : BodyValue) (outcome : Outcome) → P body.flags → Holds P outcome → Holds P (unless_any_half held body outcome)
-any_half_or P held body outcome p q = half_or P held.half (back held.session held.q body) outcome p q
-
 other_half_or : (P : Flags → Type 0) (password : Password) (half : Option Half) (instead outcome : Outcome) → Holds P instead → Holds P outcome → Holds P (unless_other_half password half instead outcome)
 other_half_or P password None instead outcome p q = q
 other_half_or P password (Some half) instead outcome p q = either P (is_password password half.password) outcome instead q p
+
+unless_ended_or : (P : Flags → Type 0) (follows : Follows) (held : Held) (body : BodyValue) (outcome : Outcome) → P body.flags → Holds P outcome → Holds P (unless_ended follows held body outcome)
+unless_ended_or P AnyHalf held body outcome p q = q
+unless_ended_or P (HalfOf password) held body outcome p q = other_half_or P password held.half (back held.session held.q body) outcome p q
+unless_ended_or P NoHalf held body outcome p q = half_or P held.half (back held.session held.q body) outcome p q
+
+heeded_or : (P : Flags → Type 0) (rn : ℕ) (follows : Follows) (level : Level) (held : Held) (body : BodyValue) (outcome : Outcome) → P body.flags → Holds P outcome → Holds P (heeded rn follows level held body outcome)
+heeded_or P rn follows level held body outcome p q =
+    either P (held.handle == rn) (unless_ended follows held body outcome) (silent (held_state level held) body) (unless_ended_or P follows held body outcome p q) p
+
+-- what holds where a command acts holds after it
+accessed : (P : Flags → Type 0) (rn : ℕ) (follows : Follows) (acts : Level → Held → BodyValue → Outcome) (state : StateValue) (body : BodyValue) → P body.flags → ((level : Level) (held : Held) → Holds P (acts level held body)) → Holds P (in_access rn follows acts state body)
+accessed P rn follows acts ReadyState body p given = p
+accessed P rn follows acts (ArbitrateState session q slot) body p given = p
+accessed P rn follows acts (ReplyState session q own) body p given = p
+accessed P rn follows acts (AcknowledgedState session q own) body p given = p
+accessed P rn follows acts (OpenState held) body p given = heeded_or P rn follows levels.Opened held body (acts levels.Opened held body) p (given levels.Opened held)
+accessed P rn follows acts (SecuredState held) body p given = heeded_or P rn follows levels.Secured held body (acts levels.Secured held body) p (given levels.Secured held)
+accessed P rn follows acts KilledState body p given = p
+accessed P rn follows acts UnpoweredState body p given = p
 
 uncovered : (P : Flags → Type 0) (level : Level) (held : Held) (body : BodyValue) (covered : ℕ) (cover : Option ℕ) (follows : Held → ℕ → Outcome) → P body.flags → ((bare : Held) (value : ℕ) → Holds P (follows bare value)) → Holds P (uncover level held body covered cover follows)
 uncovered P level held body covered None follows p q = p
@@ -183,133 +199,52 @@ after_req_rn P rn (SecuredState held) body p = req_rn_at P levels.Secured rn hel
 after_req_rn P rn KilledState body p = p
 after_req_rn P rn UnpoweredState body p = p
 
-read_at : (P : Flags → Type 0) (level : Level) (bank : Bank) (pointer count rn : ℕ) (held : Held) (body : BodyValue) → P body.flags → Holds P (read_held level bank pointer count rn held body)
-read_at P level bank pointer count rn held body p =
-    let answered = plain (held_state level held) body (read_answer (words_read body.memory body.locks level bank pointer count)) held.handle in
-    handled P level rn held body (unless_any_half held body answered) p (any_half_or P held body answered p p)
-
 pub after_read : (P : Flags → Type 0) (bank : Bank) (pointer count rn : ℕ) (state : StateValue) (body : BodyValue) → P body.flags → Holds P (read bank pointer count rn state body)
-after_read P bank pointer count rn ReadyState body p = p
-after_read P bank pointer count rn (ArbitrateState session q slot) body p = p
-after_read P bank pointer count rn (ReplyState session q own) body p = p
-after_read P bank pointer count rn (AcknowledgedState session q own) body p = p
-after_read P bank pointer count rn (OpenState held) body p = read_at P levels.Opened bank pointer count rn held body p
-after_read P bank pointer count rn (SecuredState held) body p = read_at P levels.Secured bank pointer count rn held body p
-after_read P bank pointer count rn KilledState body p = p
-after_read P bank pointer count rn UnpoweredState body p = p
+after_read P bank pointer count rn state body p = accessed P rn NoHalf (read_outcome bank pointer count) state body p (λ level held. p)
 
-write_at : (P : Flags → Type 0) (level : Level) (bank : Bank) (pointer covered rn : ℕ) (held : Held) (body : BodyValue) → P body.flags → Holds P (write_held level bank pointer covered rn held body)
-write_at P level bank pointer covered rn held body p =
-    let follows = λ (bare : Held) (word : ℕ). memory_outcome level bare body (banks_after_write body.memory body.locks level bank pointer (word ∷ [])) in
-    handled P level rn held body (unless_any_half held body (uncover level held body covered held.cover follows)) p
-    (any_half_or P held body (uncover level held body covered held.cover follows) p
-    (uncovered P level held body covered held.cover follows p
-    (λ bare word. memory_set P level bare body (banks_after_write body.memory body.locks level bank pointer (word ∷ [])) p)))
+written : (P : Flags → Type 0) (bank : Bank) (pointer covered : ℕ) (level : Level) (held : Held) (body : BodyValue) → P body.flags → Holds P (write_outcome bank pointer covered level held body)
+written P bank pointer covered level held body p =
+    let change = λ (word : ℕ). banks_after_write body.memory body.locks level bank pointer (word ∷ []) in
+    uncovered P level held body covered held.cover (λ bare word. memory_outcome level bare body (change word)) p (λ bare word. memory_set P level bare body (change word) p)
 
 pub after_write : (P : Flags → Type 0) (bank : Bank) (pointer covered rn : ℕ) (state : StateValue) (body : BodyValue) → P body.flags → Holds P (write bank pointer covered rn state body)
-after_write P bank pointer covered rn ReadyState body p = p
-after_write P bank pointer covered rn (ArbitrateState session q slot) body p = p
-after_write P bank pointer covered rn (ReplyState session q own) body p = p
-after_write P bank pointer covered rn (AcknowledgedState session q own) body p = p
-after_write P bank pointer covered rn (OpenState held) body p = write_at P levels.Opened bank pointer covered rn held body p
-after_write P bank pointer covered rn (SecuredState held) body p = write_at P levels.Secured bank pointer covered rn held body p
-after_write P bank pointer covered rn KilledState body p = p
-after_write P bank pointer covered rn UnpoweredState body p = p
+after_write P bank pointer covered rn state body p =
+    accessed P rn NoHalf (write_outcome bank pointer covered) state body p (λ level held. written P bank pointer covered level held body p)
 
-whole_killed : (P : Flags → Type 0) (level : Level) (value : ℕ) (held : Held) (body : BodyValue) → P body.flags → Holds P (kill_whole level value held body)
-whole_killed P level value held body p =
+pub after_block_write : (P : Flags → Type 0) (bank : Bank) (pointer : ℕ) (words : List ℕ) (rn : ℕ) (state : StateValue) (body : BodyValue) → P body.flags → Holds P (block_write bank pointer words rn state body)
+after_block_write P bank pointer words rn state body p =
+    accessed P rn NoHalf (block_write_outcome bank pointer words) state body p
+    (λ level held. memory_set P level held body (banks_after_write body.memory body.locks level bank pointer words) p)
+
+pub after_block_erase : (P : Flags → Type 0) (bank : Bank) (pointer count rn : ℕ) (state : StateValue) (body : BodyValue) → P body.flags → Holds P (block_erase bank pointer count rn state body)
+after_block_erase P bank pointer count rn state body p =
+    accessed P rn NoHalf (block_erase_outcome bank pointer count) state body p
+    (λ level held. memory_set P level held body (banks_after_erase body.memory body.locks level bank pointer count) p)
+
+locked : (P : Flags → Type 0) (payload : ℕ) (level : Level) (held : Held) (body : BodyValue) → P body.flags → Holds P (lock_outcome payload level held body)
+locked P payload levels.Opened held body p = p
+locked P payload levels.Secured held body p = locks_set P held body (locks_after body.locks payload (has_user body)) p
+
+pub after_lock : (P : Flags → Type 0) (payload rn : ℕ) (state : StateValue) (body : BodyValue) → P body.flags → Holds P (lock payload rn state body)
+after_lock P payload rn state body p = accessed P rn NoHalf (lock_outcome payload) state body p (λ level held. locked P payload level held body p)
+
+-- Kill and Access
+whole_taken : (P : Flags → Type 0) (password : Password) (level : Level) (value : ℕ) (held : Held) (body : BodyValue) → P body.flags → Holds P (whole_outcome password level value held body)
+whole_taken P passwords.Kill level value held body p =
     let killed = extended KilledState body Header held.handle in
     let gone = back held.session held.q body in
     let refused = refuse level (record held { half = None }) body errors.Other in
     either P (kill_word_of body.memory == 0) refused (if kill_word_of body.memory == value then killed else gone) p
     (either P (kill_word_of body.memory == value) killed gone p p)
-
-half_killed : (P : Flags → Type 0) (level : Level) (half : Option Half) (value : ℕ) (held : Held) (body : BodyValue) → P body.flags → Holds P (kill_half level half value held body)
-half_killed P level None value held body p = p
-half_killed P level (Some half) value held body p = whole_killed P level (whole_of half.value value) held body p
-
-kill_at : (P : Flags → Type 0) (level : Level) (covered rn : ℕ) (held : Held) (body : BodyValue) → P body.flags → Holds P (kill_held level covered rn held body)
-kill_at P level covered rn held body p =
-    let gone = back held.session held.q body in
-    let follows = λ (bare : Held) (value : ℕ). kill_half level bare.half value bare body in
-    let rest = uncover level held body covered held.cover follows in
-    handled P level rn held body (unless_other_half passwords.Kill held.half gone rest) p
-    (other_half_or P passwords.Kill held.half gone rest p
-    (uncovered P level held body covered held.cover follows p (λ bare value. half_killed P level bare.half value bare body p)))
-
-pub after_kill : (P : Flags → Type 0) (covered rn : ℕ) (state : StateValue) (body : BodyValue) → P body.flags → Holds P (kill covered rn state body)
-after_kill P covered rn ReadyState body p = p
-after_kill P covered rn (ArbitrateState session q slot) body p = p
-after_kill P covered rn (ReplyState session q own) body p = p
-after_kill P covered rn (AcknowledgedState session q own) body p = p
-after_kill P covered rn (OpenState held) body p = kill_at P levels.Opened covered rn held body p
-after_kill P covered rn (SecuredState held) body p = kill_at P levels.Secured covered rn held body p
-after_kill P covered rn KilledState body p = p
-after_kill P covered rn UnpoweredState body p = p
-
-pub after_lock : (P : Flags → Type 0) (payload rn : ℕ) (state : StateValue) (body : BodyValue) → P body.flags → Holds P (lock payload rn state body)
-after_lock P payload rn ReadyState body p = p
-after_lock P payload rn (ArbitrateState session q slot) body p = p
-after_lock P payload rn (ReplyState session q own) body p = p
-after_lock P payload rn (AcknowledgedState session q own) body p = p
-after_lock P payload rn (OpenState held) body p =
-    handled P levels.Opened rn held body (unless_any_half held body (silent (OpenState held) body)) p
-    (any_half_or P held body (silent (OpenState held) body) p p)
-after_lock P payload rn (SecuredState held) body p =
-    let after = locks_after body.locks payload (has_user body) in
-    handled P levels.Secured rn held body (unless_any_half held body (locks_outcome held body after)) p
-    (any_half_or P held body (locks_outcome held body after) p (locks_set P held body after p))
-after_lock P payload rn KilledState body p = p
-after_lock P payload rn UnpoweredState body p = p
-
-whole_accessed : (P : Flags → Type 0) (value : ℕ) (held : Held) (body : BodyValue) → P body.flags → Holds P (access_whole value held body)
-whole_accessed P value held body p =
+whole_taken P passwords.Access level value held body p =
     either P (access_word_of body.memory == value) (plain (SecuredState (record held { half = None })) body (Handle held.handle) held.handle) (back held.session held.q body) p p
 
-half_accessed : (P : Flags → Type 0) (level : Level) (half : Option Half) (value : ℕ) (held : Held) (body : BodyValue) → P body.flags → Holds P (access_half level half value held body)
-half_accessed P level None value held body p = p
-half_accessed P level (Some half) value held body p = whole_accessed P (whole_of half.value value) held body p
+half_taken : (P : Flags → Type 0) (password : Password) (level : Level) (half : Option Half) (value : ℕ) (held : Held) (body : BodyValue) → P body.flags → Holds P (half_outcome password level half value held body)
+half_taken P password level None value held body p = p
+half_taken P password level (Some half) value held body p = whole_taken P password level (whole_of half.value value) held body p
 
-access_at : (P : Flags → Type 0) (level : Level) (covered rn : ℕ) (held : Held) (body : BodyValue) → P body.flags → Holds P (access_held level covered rn held body)
-access_at P level covered rn held body p =
-    let gone = back held.session held.q body in
-    let follows = λ (bare : Held) (value : ℕ). access_half level bare.half value bare body in
-    let rest = uncover level held body covered held.cover follows in
-    handled P level rn held body (unless_other_half passwords.Access held.half gone rest) p
-    (other_half_or P passwords.Access held.half gone rest p
-    (uncovered P level held body covered held.cover follows p (λ bare value. half_accessed P level bare.half value bare body p)))
-
-pub after_access : (P : Flags → Type 0) (covered rn : ℕ) (state : StateValue) (body : BodyValue) → P body.flags → Holds P (access covered rn state body)
-after_access P covered rn ReadyState body p = p
-after_access P covered rn (ArbitrateState session q slot) body p = p
-after_access P covered rn (ReplyState session q own) body p = p
-after_access P covered rn (AcknowledgedState session q own) body p = p
-after_access P covered rn (OpenState held) body p = access_at P levels.Opened covered rn held body p
-after_access P covered rn (SecuredState held) body p = access_at P levels.Secured covered rn held body p
-after_access P covered rn KilledState body p = p
-after_access P covered rn UnpoweredState body p = p
-
-changed_at : (P : Flags → Type 0) (level : Level) (rn : ℕ) (held : Held) (body : BodyValue) (after : Result Banks ErrorCode) → P body.flags → Holds P (with_handle level rn held body (unless_any_half held body (memory_outcome level held body after)))
-changed_at P level rn held body after p =
-    handled P level rn held body (unless_any_half held body (memory_outcome level held body after)) p
-    (any_half_or P held body (memory_outcome level held body after) p (memory_set P level held body after p))
-
-pub after_block_write : (P : Flags → Type 0) (bank : Bank) (pointer : ℕ) (words : List ℕ) (rn : ℕ) (state : StateValue) (body : BodyValue) → P body.flags → Holds P (block_write bank pointer words rn state body)
-after_block_write P bank pointer words rn ReadyState body p = p
-after_block_write P bank pointer words rn (ArbitrateState session q slot) body p = p
-after_block_write P bank pointer words rn (ReplyState session q own) body p = p
-after_block_write P bank pointer words rn (AcknowledgedState session q own) body p = p
-after_block_write P bank pointer words rn (OpenState held) body p = changed_at P levels.Opened rn held body (banks_after_write body.memory body.locks levels.Opened bank pointer words) p
-after_block_write P bank pointer words rn (SecuredState held) body p = changed_at P levels.Secured rn held body (banks_after_write body.memory body.locks levels.Secured bank pointer words) p
-after_block_write P bank pointer words rn KilledState body p = p
-after_block_write P bank pointer words rn UnpoweredState body p = p
-
-pub after_block_erase : (P : Flags → Type 0) (bank : Bank) (pointer count rn : ℕ) (state : StateValue) (body : BodyValue) → P body.flags → Holds P (block_erase bank pointer count rn state body)
-after_block_erase P bank pointer count rn ReadyState body p = p
-after_block_erase P bank pointer count rn (ArbitrateState session q slot) body p = p
-after_block_erase P bank pointer count rn (ReplyState session q own) body p = p
-after_block_erase P bank pointer count rn (AcknowledgedState session q own) body p = p
-after_block_erase P bank pointer count rn (OpenState held) body p = changed_at P levels.Opened rn held body (banks_after_erase body.memory body.locks levels.Opened bank pointer count) p
-after_block_erase P bank pointer count rn (SecuredState held) body p = changed_at P levels.Secured rn held body (banks_after_erase body.memory body.locks levels.Secured bank pointer count) p
-after_block_erase P bank pointer count rn KilledState body p = p
-after_block_erase P bank pointer count rn UnpoweredState body p = p
+pub after_half : (P : Flags → Type 0) (password : Password) (covered rn : ℕ) (state : StateValue) (body : BodyValue) → P body.flags → Holds P (in_access rn (HalfOf password) (password_outcome password covered) state body)
+after_half P password covered rn state body p =
+    accessed P rn (HalfOf password) (password_outcome password covered) state body p
+    (λ level held. uncovered P level held body covered held.cover (λ bare value. half_outcome password level bare.half value bare body) p
+    (λ bare value. half_taken P password level bare.half value bare body p))

@@ -7,10 +7,11 @@ use Rattle.session_flags.specs.declared.flags.Flags.{Flags}
 use Rattle.session_flags.specs.Flags.{side_of, flags_after_inversion}
 use Rattle.session_flags.specs.Actions.{effect_of}
 use Rattle.session_flags.specs.FlagLaws.{side_of-flags_after_effect, side_of-flags_after_inversion, sl-flags_after_effect, sl-flags_after_inversion}
+use Rattle.tag_machine.specs.declared.states.Password.TheVariants as passwords
 use Rattle.tag_machine.specs.TagValue.{StateValue, BodyValue}
 use Rattle.tag_machine.specs.Step.{step}
 use Rattle.tag_machine.specs.Isolation.{IsIsolated}
-use Rattle.tag_machine.proofs.FlagsAfter.{after_query, after_query_rep, after_query_adjust, after_ack, after_nak, after_select, after_req_rn, after_read, after_write, after_kill, after_lock, after_access, after_block_write, after_block_erase}
+use Rattle.tag_machine.proofs.FlagsAfter.{after_query, after_query_rep, after_query_adjust, after_ack, after_nak, after_select, after_req_rn, after_read, after_write, after_half, after_lock, after_block_write, after_block_erase}
 
 -- flags as they were are isolated
 unchanged : (command : Command) (flags : Flags) → IsIsolated command flags flags
@@ -61,13 +62,13 @@ isolated (commands.Write bank pointer covered rn) state body =
     after_write (λ flags. IsIsolated command body.flags flags) bank pointer covered rn state body (unchanged command body.flags)
 isolated (commands.Kill covered rn) state body =
     let command = commands.Kill covered rn in
-    after_kill (λ flags. IsIsolated command body.flags flags) covered rn state body (unchanged command body.flags)
+    after_half (λ flags. IsIsolated command body.flags flags) passwords.Kill covered rn state body (unchanged command body.flags)
 isolated (commands.Lock payload rn) state body =
     let command = commands.Lock payload rn in
     after_lock (λ flags. IsIsolated command body.flags flags) payload rn state body (unchanged command body.flags)
 isolated (commands.Access covered rn) state body =
     let command = commands.Access covered rn in
-    after_access (λ flags. IsIsolated command body.flags flags) covered rn state body (unchanged command body.flags)
+    after_half (λ flags. IsIsolated command body.flags flags) passwords.Access covered rn state body (unchanged command body.flags)
 isolated (commands.BlockWrite bank pointer words rn) state body =
     let command = commands.BlockWrite bank pointer words rn in
     after_block_write (λ flags. IsIsolated command body.flags flags) bank pointer words rn state body (unchanged command body.flags)

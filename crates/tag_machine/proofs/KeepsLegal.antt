@@ -27,16 +27,18 @@ use Rattle.reply_grammar.specs.Table.{AreWords}
 use Rattle.session_flags.specs.declared.flags.Flags.{Flags}
 use Rattle.session_flags.specs.Flags.{matches, flags_after_power_loss, flags_after_expiry}
 use Rattle.tag_memory.specs.Memory.{Banks, kill_word_of, access_word_of, with_stored_crc}
-use Rattle.tag_memory.specs.Access.{words_read, banks_after_write, banks_after_erase}
+use Rattle.tag_memory.specs.Access.{banks_after_write, banks_after_erase}
 use Rattle.tag_machine.specs.declared.states.Half.{Half}
 use Rattle.tag_machine.specs.declared.states.Held.{Held}
 use Rattle.tag_machine.specs.declared.states.Password.{Password}
 use Rattle.tag_machine.specs.declared.states.Password.TheVariants as passwords
+use Rattle.tag_machine.specs.declared.access.rules.Follows.{Follows}
+use Rattle.tag_machine.specs.declared.access.rules.Follows.TheVariants.{AnyHalf, HalfOf, NoHalf}
 use Rattle.tag_machine.specs.TagValue.{StateValue, ReadyState, ArbitrateState, ReplyState, AcknowledgedState, OpenState, SecuredState, KilledState, UnpoweredState, BodyValue, IsWordOrNone, IsHalfOrNone, IsLegalHeld, IsLegalState, IsLegalBody, IsLegalTag}
 use Rattle.tag_machine.specs.Answers.{Outcome, silent, plain, extended}
 use Rattle.tag_machine.specs.Draws.{draw_of, place_behind, body_after_draw, slot_of_draw, begin_reply, enter, body_after_inversion, close, back}
 use Rattle.tag_machine.specs.Inventory.{take_part, body_after_close, query, unless_half, end_turn, slot_below, count_down, query_rep, q_after_adjust, query_adjust, epc_reply, ack, nak, selected_body, selected_ready, select}
-use Rattle.tag_machine.specs.Access.{held_state, first_level, new_held, give_handle, give_cover, req_rn_held, req_rn, with_handle, unless_any_half, is_password, unless_other_half, uncover, refuse, read_answer, read_held, read, memory_outcome, write_held, write, whole_of, keep_half, kill_half, kill_held, kill, has_user, locks_outcome, lock, access_half, access_held, access, block_write, block_erase}
+use Rattle.tag_machine.specs.Access.{held_state, in_access, heeded, unless_ended, first_level, new_held, give_handle, give_cover, req_rn_held, req_rn, is_password, unless_other_half, uncover, refuse, read_outcome, memory_outcome, write_outcome, block_write_outcome, block_erase_outcome, has_user, locks_outcome, lock_outcome, whole_of, keep_half, whole_outcome, half_outcome, password_outcome}
 use Rattle.tag_machine.specs.Events.{after_timeout, tag_without_power, after_off, after_on, body_after_expiry, after_expiry, tag_after_event}
 use Rattle.tag_machine.specs.Step.{step}
 use Rattle.tag_memory.specs.Memory.{AreSound}
@@ -274,19 +276,30 @@ with_half held half legal small = record { session = legal.session; q = legal.q;
 held_back : (held : Held) (body : BodyValue) → IsLegalHeld held → IsLegalBody body → Leaves (back held.session held.q body)
 held_back held body of_held of_body = gone_back held.session held.q body of_held.session of_held.q of_body
 
-handled : (level : Level) (rn : ℕ) (held : Held) (body : BodyValue) (outcome : Outcome) → IsLegalHeld held → IsLegalBody body → Leaves outcome → Leaves (with_handle level rn held body outcome)
-handled level rn held body outcome of_held of_body given =
-    either (held.handle == rn) outcome (silent (held_state level held) body) given (held_tag level held body of_held of_body)
-
--- a command of another kind than any half, with what it does where it has the handle and no half stands before it
-heard : (level : Level) (rn : ℕ) (held : Held) (body : BodyValue) (outcome : Outcome) → IsLegalHeld held → IsLegalBody body → Leaves outcome → Leaves (with_handle level rn held body (unless_any_half held body outcome))
-heard level rn held body outcome of_held of_body given =
-    handled level rn held body (unless_any_half held body outcome) of_held of_body
-    (half_or held.half (back held.session held.q body) outcome (held_back held body of_held of_body) given)
-
 other_half_or : (password : Password) (half : Option Half) (instead outcome : Outcome) → Leaves instead → Leaves outcome → Leaves (unless_other_half password half instead outcome)
 other_half_or password None instead outcome of_instead given = given
 other_half_or password (Some half) instead outcome of_instead given = either (is_password password half.password) outcome instead given of_instead
+
+unless_ended_or : (follows : Follows) (held : Held) (body : BodyValue) (outcome : Outcome) → IsLegalHeld held → IsLegalBody body → Leaves outcome → Leaves (unless_ended follows held body outcome)
+unless_ended_or AnyHalf held body outcome of_held of_body given = given
+unless_ended_or (HalfOf password) held body outcome of_held of_body given = other_half_or password held.half (back held.session held.q body) outcome (held_back held body of_held of_body) given
+unless_ended_or NoHalf held body outcome of_held of_body given = half_or held.half (back held.session held.q body) outcome (held_back held body of_held of_body) given
+
+heeded_or : (rn : ℕ) (follows : Follows) (level : Level) (held : Held) (body : BodyValue) (outcome : Outcome) → IsLegalHeld held → IsLegalBody body → Leaves outcome → Leaves (heeded rn follows level held body outcome)
+heeded_or rn follows level held body outcome of_held of_body given =
+    either (held.handle == rn) (unless_ended follows held body outcome) (silent (held_state level held) body)
+    (unless_ended_or follows held body outcome of_held of_body given) (held_tag level held body of_held of_body)
+
+-- an access command
+accessed : (rn : ℕ) (follows : Follows) (acts : Level → Held → BodyValue → Outcome) (state : StateValue) (body : BodyValue) → IsLegalAt state body → ((level : Level) (held : Held) → IsLegalHeld held → Leaves (acts level held body)) → Leaves (in_access rn follows acts state body)
+accessed rn follows acts ReadyState body before given = before
+accessed rn follows acts (ArbitrateState session q slot) body before given = before
+accessed rn follows acts (ReplyState session q own) body before given = gone_back session q body before.state.0 before.state.1 before.body
+accessed rn follows acts (AcknowledgedState session q own) body before given = gone_back session q body before.state.0 before.state.1 before.body
+accessed rn follows acts (OpenState held) body before given = heeded_or rn follows levels.Opened held body (acts levels.Opened held body) before.state before.body (given levels.Opened held before.state)
+accessed rn follows acts (SecuredState held) body before given = heeded_or rn follows levels.Secured held body (acts levels.Secured held body) before.state before.body (given levels.Secured held before.state)
+accessed rn follows acts KilledState body before given = before
+accessed rn follows acts UnpoweredState body before given = before
 
 uncovered : (level : Level) (held : Held) (body : BodyValue) (covered : ℕ) (cover : Option ℕ) (follows : Held → ℕ → Outcome) → IsLegalHeld held → IsLegalBody body → covered < 2 ^ 16 → IsWordOrNone cover → ((bare : Held) (value : ℕ) → IsLegalHeld bare → value < 2 ^ 16 → Leaves (follows bare value)) → Leaves (uncover level held body covered cover follows)
 uncovered level held body covered None follows of_held of_body small of_cover given = held_tag level held body of_held of_body
@@ -324,153 +337,60 @@ after_req_rn rn (SecuredState held) body before = req_rn_at levels.Secured rn he
 after_req_rn rn KilledState body before = before
 after_req_rn rn UnpoweredState body before = before
 
--- Read
-read_at : (level : Level) (bank : Bank) (pointer count rn : ℕ) (held : Held) (body : BodyValue) → IsLegalHeld held → IsLegalBody body → Leaves (read_held level bank pointer count rn held body)
-read_at level bank pointer count rn held body of_held of_body =
-    heard level rn held body (plain (held_state level held) body (read_answer (words_read body.memory body.locks level bank pointer count)) held.handle) of_held of_body
-    (held_tag level held body of_held of_body)
-
-after_read : (bank : Bank) (pointer count rn : ℕ) (state : StateValue) (body : BodyValue) → IsLegalAt state body → Leaves (read bank pointer count rn state body)
-after_read bank pointer count rn ReadyState body before = before
-after_read bank pointer count rn (ArbitrateState session q slot) body before = before
-after_read bank pointer count rn (ReplyState session q own) body before = gone_back session q body before.state.0 before.state.1 before.body
-after_read bank pointer count rn (AcknowledgedState session q own) body before = gone_back session q body before.state.0 before.state.1 before.body
-after_read bank pointer count rn (OpenState held) body before = read_at levels.Opened bank pointer count rn held body before.state before.body
-after_read bank pointer count rn (SecuredState held) body before = read_at levels.Secured bank pointer count rn held body before.state before.body
-after_read bank pointer count rn KilledState body before = before
-after_read bank pointer count rn UnpoweredState body before = before
-
--- Write
-write_at : (level : Level) (bank : Bank) (pointer covered rn : ℕ) (held : Held) (body : BodyValue) → covered < 2 ^ 16 → IsLegalHeld held → IsLegalBody body → Leaves (write_held level bank pointer covered rn held body)
-write_at level bank pointer covered rn held body small of_held of_body =
+-- Write, BlockWrite and BlockErase
+written : (bank : Bank) (pointer covered : ℕ) (level : Level) (held : Held) (body : BodyValue) → covered < 2 ^ 16 → IsLegalHeld held → IsLegalBody body → Leaves (write_outcome bank pointer covered level held body)
+written bank pointer covered level held body small of_held of_body =
     let change = λ (word : ℕ). banks_after_write body.memory body.locks level bank pointer (word ∷ []) in
-    let follows = λ (bare : Held) (word : ℕ). memory_outcome level bare body (change word) in
-    heard level rn held body (uncover level held body covered held.cover follows) of_held of_body
-    (uncovered level held body covered held.cover follows of_held of_body small of_held.cover
+    uncovered level held body covered held.cover (λ bare word. memory_outcome level bare body (change word)) of_held of_body small of_held.cover
     (λ bare word of_bare of_word.
     memory_after level bare body (change word) of_bare of_body
     (written_sound body.memory body.locks level bank pointer (word ∷ []) (sound_of body of_body)
-    (All-cons (λ (w : ℕ). w < 2 ^ 16) word [] of_word (All-nil (λ (w : ℕ). w < 2 ^ 16))))))
+    (All-cons (λ (w : ℕ). w < 2 ^ 16) word [] of_word (All-nil (λ (w : ℕ). w < 2 ^ 16)))))
 
-after_write : (bank : Bank) (pointer covered rn : ℕ) (state : StateValue) (body : BodyValue) → covered < 2 ^ 16 → IsLegalAt state body → Leaves (write bank pointer covered rn state body)
-after_write bank pointer covered rn ReadyState body small before = before
-after_write bank pointer covered rn (ArbitrateState session q slot) body small before = before
-after_write bank pointer covered rn (ReplyState session q own) body small before = gone_back session q body before.state.0 before.state.1 before.body
-after_write bank pointer covered rn (AcknowledgedState session q own) body small before = gone_back session q body before.state.0 before.state.1 before.body
-after_write bank pointer covered rn (OpenState held) body small before = write_at levels.Opened bank pointer covered rn held body small before.state before.body
-after_write bank pointer covered rn (SecuredState held) body small before = write_at levels.Secured bank pointer covered rn held body small before.state before.body
-after_write bank pointer covered rn KilledState body small before = before
-after_write bank pointer covered rn UnpoweredState body small before = before
+block_written : (bank : Bank) (pointer : ℕ) (words : List ℕ) (level : Level) (held : Held) (body : BodyValue) → AreWords words → IsLegalHeld held → IsLegalBody body → Leaves (block_write_outcome bank pointer words level held body)
+block_written bank pointer words level held body small of_held of_body =
+    memory_after level held body (banks_after_write body.memory body.locks level bank pointer words) of_held of_body
+    (written_sound body.memory body.locks level bank pointer words (sound_of body of_body) small)
 
--- Kill
+block_erased : (bank : Bank) (pointer count : ℕ) (level : Level) (held : Held) (body : BodyValue) → IsLegalHeld held → IsLegalBody body → Leaves (block_erase_outcome bank pointer count level held body)
+block_erased bank pointer count level held body of_held of_body =
+    memory_after level held body (banks_after_erase body.memory body.locks level bank pointer count) of_held of_body
+    (erased_sound body.memory body.locks level bank pointer count (sound_of body of_body))
+
+-- Lock
+locked : (payload : ℕ) (level : Level) (held : Held) (body : BodyValue) → IsLegalHeld held → IsLegalBody body → Leaves (lock_outcome payload level held body)
+locked payload levels.Opened held body of_held of_body = tag_is (OpenState held) body of_held of_body
+locked payload levels.Secured held body of_held of_body = locks_keep held body (locks_after body.locks payload (has_user body)) of_held of_body
+
+-- Kill and Access
 half_kept : (level : Level) (password : Password) (value : ℕ) (held : Held) (body : BodyValue) → value < 2 ^ 16 → IsLegalHeld held → IsLegalBody body → Leaves (keep_half level password value held body)
 half_kept level password value held body small of_held of_body =
     let half = Some (record { password = password; value = value }) in
     held_tag level (record held { half = half }) body (with_half held half of_held small) of_body
 
-half_killed : (level : Level) (half : Option Half) (value : ℕ) (held : Held) (body : BodyValue) → value < 2 ^ 16 → IsLegalHeld held → IsLegalBody body → Leaves (kill_half level half value held body)
-half_killed level None value held body small of_held of_body = half_kept level passwords.Kill value held body small of_held of_body
-half_killed level (Some half) value held body small of_held of_body =
+whole_taken : (password : Password) (level : Level) (value : ℕ) (held : Held) (body : BodyValue) → IsLegalHeld held → IsLegalBody body → Leaves (whole_outcome password level value held body)
+whole_taken passwords.Kill level value held body of_held of_body =
     let bare = record held { half = None } in
     let killed = extended KilledState body Header held.handle in
     let gone = back held.session held.q body in
-    either (kill_word_of body.memory == 0) (refuse level bare body errors.Other) (if kill_word_of body.memory == whole_of half.value value then killed else gone)
+    either (kill_word_of body.memory == 0) (refuse level bare body errors.Other) (if kill_word_of body.memory == value then killed else gone)
     (held_tag level bare body (with_half held None of_held tt) of_body)
-    (either (kill_word_of body.memory == whole_of half.value value) killed gone (tag_is KilledState body tt of_body) (held_back held body of_held of_body))
-
-kill_at : (level : Level) (covered rn : ℕ) (held : Held) (body : BodyValue) → covered < 2 ^ 16 → IsLegalHeld held → IsLegalBody body → Leaves (kill_held level covered rn held body)
-kill_at level covered rn held body small of_held of_body =
-    let gone = back held.session held.q body in
-    let follows = λ (bare : Held) (value : ℕ). kill_half level bare.half value bare body in
-    let rest = uncover level held body covered held.cover follows in
-    handled level rn held body (unless_other_half passwords.Kill held.half gone rest) of_held of_body
-    (other_half_or passwords.Kill held.half gone rest (held_back held body of_held of_body)
-    (uncovered level held body covered held.cover follows of_held of_body small of_held.cover
-    (λ bare value of_bare of_value. half_killed level bare.half value bare body of_value of_bare of_body)))
-
-after_kill : (covered rn : ℕ) (state : StateValue) (body : BodyValue) → covered < 2 ^ 16 → IsLegalAt state body → Leaves (kill covered rn state body)
-after_kill covered rn ReadyState body small before = before
-after_kill covered rn (ArbitrateState session q slot) body small before = before
-after_kill covered rn (ReplyState session q own) body small before = gone_back session q body before.state.0 before.state.1 before.body
-after_kill covered rn (AcknowledgedState session q own) body small before = gone_back session q body before.state.0 before.state.1 before.body
-after_kill covered rn (OpenState held) body small before = kill_at levels.Opened covered rn held body small before.state before.body
-after_kill covered rn (SecuredState held) body small before = kill_at levels.Secured covered rn held body small before.state before.body
-after_kill covered rn KilledState body small before = before
-after_kill covered rn UnpoweredState body small before = before
-
--- Lock
-after_lock : (payload rn : ℕ) (state : StateValue) (body : BodyValue) → IsLegalAt state body → Leaves (lock payload rn state body)
-after_lock payload rn ReadyState body before = before
-after_lock payload rn (ArbitrateState session q slot) body before = before
-after_lock payload rn (ReplyState session q own) body before = gone_back session q body before.state.0 before.state.1 before.body
-after_lock payload rn (AcknowledgedState session q own) body before = gone_back session q body before.state.0 before.state.1 before.body
-after_lock payload rn (OpenState held) body before = heard levels.Opened rn held body (silent (OpenState held) body) before.state before.body before
-after_lock payload rn (SecuredState held) body before =
-    let change = locks_after body.locks payload (has_user body) in
-    heard levels.Secured rn held body (locks_outcome held body change) before.state before.body (locks_keep held body change before.state before.body)
-after_lock payload rn KilledState body before = before
-after_lock payload rn UnpoweredState body before = before
-
--- Access
-half_accessed : (level : Level) (half : Option Half) (value : ℕ) (held : Held) (body : BodyValue) → value < 2 ^ 16 → IsLegalHeld held → IsLegalBody body → Leaves (access_half level half value held body)
-half_accessed level None value held body small of_held of_body = half_kept level passwords.Access value held body small of_held of_body
-half_accessed level (Some half) value held body small of_held of_body =
+    (either (kill_word_of body.memory == value) killed gone (tag_is KilledState body tt of_body) (held_back held body of_held of_body))
+whole_taken passwords.Access level value held body of_held of_body =
     let bare = record held { half = None } in
-    either (access_word_of body.memory == whole_of half.value value) (plain (SecuredState bare) body (Handle held.handle) held.handle) (back held.session held.q body)
+    either (access_word_of body.memory == value) (plain (SecuredState bare) body (Handle held.handle) held.handle) (back held.session held.q body)
     (tag_is (SecuredState bare) body (with_half held None of_held tt) of_body) (held_back held body of_held of_body)
 
-access_at : (level : Level) (covered rn : ℕ) (held : Held) (body : BodyValue) → covered < 2 ^ 16 → IsLegalHeld held → IsLegalBody body → Leaves (access_held level covered rn held body)
-access_at level covered rn held body small of_held of_body =
-    let gone = back held.session held.q body in
-    let follows = λ (bare : Held) (value : ℕ). access_half level bare.half value bare body in
-    let rest = uncover level held body covered held.cover follows in
-    handled level rn held body (unless_other_half passwords.Access held.half gone rest) of_held of_body
-    (other_half_or passwords.Access held.half gone rest (held_back held body of_held of_body)
-    (uncovered level held body covered held.cover follows of_held of_body small of_held.cover
-    (λ bare value of_bare of_value. half_accessed level bare.half value bare body of_value of_bare of_body)))
+half_taken : (password : Password) (level : Level) (half : Option Half) (value : ℕ) (held : Held) (body : BodyValue) → value < 2 ^ 16 → IsLegalHeld held → IsLegalBody body → Leaves (half_outcome password level half value held body)
+half_taken password level None value held body small of_held of_body = half_kept level password value held body small of_held of_body
+half_taken password level (Some half) value held body small of_held of_body = whole_taken password level (whole_of half.value value) held body of_held of_body
 
-after_access : (covered rn : ℕ) (state : StateValue) (body : BodyValue) → covered < 2 ^ 16 → IsLegalAt state body → Leaves (access covered rn state body)
-after_access covered rn ReadyState body small before = before
-after_access covered rn (ArbitrateState session q slot) body small before = before
-after_access covered rn (ReplyState session q own) body small before = gone_back session q body before.state.0 before.state.1 before.body
-after_access covered rn (AcknowledgedState session q own) body small before = gone_back session q body before.state.0 before.state.1 before.body
-after_access covered rn (OpenState held) body small before = access_at levels.Opened covered rn held body small before.state before.body
-after_access covered rn (SecuredState held) body small before = access_at levels.Secured covered rn held body small before.state before.body
-after_access covered rn KilledState body small before = before
-after_access covered rn UnpoweredState body small before = before
-
--- BlockWrite and BlockErase
-changed_at : (level : Level) (rn : ℕ) (held : Held) (body : BodyValue) (change : Result Banks ErrorCode) → IsLegalHeld held → IsLegalBody body → IfOk change AreSound → Leaves (with_handle level rn held body (unless_any_half held body (memory_outcome level held body change)))
-changed_at level rn held body change of_held of_body sound =
-    heard level rn held body (memory_outcome level held body change) of_held of_body (memory_after level held body change of_held of_body sound)
-
-after_block_write : (bank : Bank) (pointer : ℕ) (words : List ℕ) (rn : ℕ) (state : StateValue) (body : BodyValue) → AreWords words → IsLegalAt state body → Leaves (block_write bank pointer words rn state body)
-after_block_write bank pointer words rn ReadyState body small before = before
-after_block_write bank pointer words rn (ArbitrateState session q slot) body small before = before
-after_block_write bank pointer words rn (ReplyState session q own) body small before = gone_back session q body before.state.0 before.state.1 before.body
-after_block_write bank pointer words rn (AcknowledgedState session q own) body small before = gone_back session q body before.state.0 before.state.1 before.body
-after_block_write bank pointer words rn (OpenState held) body small before =
-    changed_at levels.Opened rn held body (banks_after_write body.memory body.locks levels.Opened bank pointer words) before.state before.body
-    (written_sound body.memory body.locks levels.Opened bank pointer words (sound_of body before.body) small)
-after_block_write bank pointer words rn (SecuredState held) body small before =
-    changed_at levels.Secured rn held body (banks_after_write body.memory body.locks levels.Secured bank pointer words) before.state before.body
-    (written_sound body.memory body.locks levels.Secured bank pointer words (sound_of body before.body) small)
-after_block_write bank pointer words rn KilledState body small before = before
-after_block_write bank pointer words rn UnpoweredState body small before = before
-
-after_block_erase : (bank : Bank) (pointer count rn : ℕ) (state : StateValue) (body : BodyValue) → IsLegalAt state body → Leaves (block_erase bank pointer count rn state body)
-after_block_erase bank pointer count rn ReadyState body before = before
-after_block_erase bank pointer count rn (ArbitrateState session q slot) body before = before
-after_block_erase bank pointer count rn (ReplyState session q own) body before = gone_back session q body before.state.0 before.state.1 before.body
-after_block_erase bank pointer count rn (AcknowledgedState session q own) body before = gone_back session q body before.state.0 before.state.1 before.body
-after_block_erase bank pointer count rn (OpenState held) body before =
-    changed_at levels.Opened rn held body (banks_after_erase body.memory body.locks levels.Opened bank pointer count) before.state before.body
-    (erased_sound body.memory body.locks levels.Opened bank pointer count (sound_of body before.body))
-after_block_erase bank pointer count rn (SecuredState held) body before =
-    changed_at levels.Secured rn held body (banks_after_erase body.memory body.locks levels.Secured bank pointer count) before.state before.body
-    (erased_sound body.memory body.locks levels.Secured bank pointer count (sound_of body before.body))
-after_block_erase bank pointer count rn KilledState body before = before
-after_block_erase bank pointer count rn UnpoweredState body before = before
+after_half : (password : Password) (covered rn : ℕ) (state : StateValue) (body : BodyValue) → covered < 2 ^ 16 → IsLegalAt state body → Leaves (in_access rn (HalfOf password) (password_outcome password covered) state body)
+after_half password covered rn state body small before =
+    accessed rn (HalfOf password) (password_outcome password covered) state body before
+    (λ level held of_held.
+    uncovered level held body covered held.cover (λ bare value. half_outcome password level bare.half value bare body) of_held before.body small of_held.cover
+    (λ bare value of_bare of_value. half_taken password level bare.half value bare body of_value of_bare before.body))
 
 pub step_keeps : (command : Command) (state : StateValue) (body : BodyValue) → IsLegalCommand command → IsLegalAt state body → IsLegalTag (step command state body).tag
 step_keeps (commands.QueryRep session) state body legal before = after_query_rep session state body legal before
@@ -480,14 +400,19 @@ step_keeps (commands.QueryAdjust session updn) state body legal before = after_q
 step_keeps (commands.Select target action bank pointer mask) state body legal before = after_select target action bank pointer mask state body before
 step_keeps commands.Nak state body legal before = after_nak state body before
 step_keeps (commands.ReqRn rn) state body legal before = after_req_rn rn state body before
-step_keeps (commands.Read bank pointer count rn) state body legal before = after_read bank pointer count rn state body before
-step_keeps (commands.Write bank pointer covered rn) state body legal before = after_write bank pointer covered rn state body legal.1 before
-step_keeps (commands.Kill covered rn) state body legal before = after_kill covered rn state body legal.0 before
-step_keeps (commands.Lock payload rn) state body legal before = after_lock payload rn state body before
-step_keeps (commands.Access covered rn) state body legal before = after_access covered rn state body legal.0 before
+step_keeps (commands.Read bank pointer count rn) state body legal before =
+    accessed rn NoHalf (read_outcome bank pointer count) state body before (λ level held of_held. held_tag level held body of_held before.body)
+step_keeps (commands.Write bank pointer covered rn) state body legal before =
+    accessed rn NoHalf (write_outcome bank pointer covered) state body before (λ level held of_held. written bank pointer covered level held body legal.1 of_held before.body)
+step_keeps (commands.Kill covered rn) state body legal before = after_half passwords.Kill covered rn state body legal.0 before
+step_keeps (commands.Lock payload rn) state body legal before =
+    accessed rn NoHalf (lock_outcome payload) state body before (λ level held of_held. locked payload level held body of_held before.body)
+step_keeps (commands.Access covered rn) state body legal before = after_half passwords.Access covered rn state body legal.0 before
 step_keeps (commands.BlockWrite bank pointer words rn) state body legal before =
-    after_block_write bank pointer words rn state body (All-from_recursion (λ (w : ℕ). w < 2 ^ 16) words legal.3) before
-step_keeps (commands.BlockErase bank pointer count rn) state body legal before = after_block_erase bank pointer count rn state body before
+    accessed rn NoHalf (block_write_outcome bank pointer words) state body before
+    (λ level held of_held. block_written bank pointer words level held body (All-from_recursion (λ (w : ℕ). w < 2 ^ 16) words legal.3) of_held before.body)
+step_keeps (commands.BlockErase bank pointer count rn) state body legal before =
+    accessed rn NoHalf (block_erase_outcome bank pointer count) state body before (λ level held of_held. block_erased bank pointer count level held body of_held before.body)
 
 -- events
 timed_out : (state : StateValue) (body : BodyValue) → IsLegalAt state body → IsLegalTag (after_timeout state body)

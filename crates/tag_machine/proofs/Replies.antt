@@ -29,11 +29,13 @@ use Rattle.tag_machine.specs.declared.states.Half.{Half}
 use Rattle.tag_machine.specs.declared.states.Held.{Held}
 use Rattle.tag_machine.specs.declared.states.Password.{Password}
 use Rattle.tag_machine.specs.declared.states.Password.TheVariants as passwords
+use Rattle.tag_machine.specs.declared.access.rules.Follows.{Follows}
+use Rattle.tag_machine.specs.declared.access.rules.Follows.TheVariants.{AnyHalf, HalfOf, NoHalf}
 use Rattle.tag_machine.specs.TagValue.{StateValue, ReadyState, ArbitrateState, ReplyState, AcknowledgedState, OpenState, SecuredState, KilledState, UnpoweredState, BodyValue, TagValue, IsLegalHeld, IsLegalBody, IsLegalTag}
 use Rattle.tag_machine.specs.Answers.{Sent, Outcome, silent, plain, extended, IsSent}
 use Rattle.tag_machine.specs.Draws.{draw_of, body_after_draw, slot_of_draw, begin_reply, enter, body_after_inversion, close, back}
 use Rattle.tag_machine.specs.Inventory.{take_part, query, unless_half, end_turn, slot_below, count_down, query_rep, q_after_adjust, query_adjust, epc_reply, ack, nak, selected_body, selected_ready, select}
-use Rattle.tag_machine.specs.Access.{held_state, first_level, new_held, req_rn, with_handle, unless_any_half, is_password, unless_other_half, uncover, refuse, read_answer, read_held, read, memory_outcome, write_held, write, whole_of, kill_half, kill_held, kill, has_user, locks_outcome, lock, access_half, access_held, access, block_write, block_erase}
+use Rattle.tag_machine.specs.Access.{held_state, in_access, heeded, unless_ended, first_level, new_held, req_rn, is_password, unless_other_half, uncover, refuse, read_answer, read_outcome, memory_outcome, write_outcome, block_write_outcome, block_erase_outcome, has_user, locks_outcome, lock_outcome, whole_of, keep_half, whole_outcome, half_outcome, password_outcome}
 use Rattle.tag_machine.specs.Extended.{has_half}
 use Rattle.tag_machine.specs.Replies.{number_of, IsRn16Answer, IsEpcAnswer, IsNewNumberAnswer, IsHandleAnswer, IsReadReply, IsReadAnswer, IsDelayedAnswer, IsKillAnswer, IsAnswerTo}
 use Rattle.tag_machine.specs.Step.{step}
@@ -250,19 +252,32 @@ number_held : (level : Level) (held : Held) → number_of (held_state level held
 number_held levels.Opened held = refl
 number_held levels.Secured held = refl
 
-called : (P : Sent → Type 0) (level : Level) (rn : ℕ) (held : Held) (body : BodyValue) (outcome : Outcome) → (held.handle ≡ rn → Sends P outcome) → Sends P (with_handle level rn held body outcome)
-called P level rn held body outcome given =
-    chosen P (held.handle == rn) outcome (silent (held_state level held) body) (λ is. given (same_number held.handle rn is)) (nothing P (held_state level held) body)
-
--- a command of another kind than any half
-acting : (P : Sent → Type 0) (level : Level) (rn : ℕ) (held : Held) (body : BodyValue) (outcome : Outcome) → (held.handle ≡ rn → Sends P outcome) → Sends P (with_handle level rn held body (unless_any_half held body outcome))
-acting P level rn held body outcome given =
-    called P level rn held body (unless_any_half held body outcome)
-    (λ same. past_half P held.half (back held.session held.q body) outcome (went_back P held.session held.q body) (given same))
-
 past_other_half : (P : Sent → Type 0) (password : Password) (half : Option Half) (instead outcome : Outcome) → Sends P instead → Sends P outcome → Sends P (unless_other_half password half instead outcome)
 past_other_half P password None instead outcome of_instead given = given
 past_other_half P password (Some half) instead outcome of_instead given = chosen P (is_password password half.password) outcome instead (λ is. given) of_instead
+
+past_ended : (P : Sent → Type 0) (follows : Follows) (held : Held) (body : BodyValue) (outcome : Outcome) → Sends P outcome → Sends P (unless_ended follows held body outcome)
+past_ended P AnyHalf held body outcome given = given
+past_ended P (HalfOf password) held body outcome given = past_other_half P password held.half (back held.session held.q body) outcome (went_back P held.session held.q body) given
+past_ended P NoHalf held body outcome given = past_half P held.half (back held.session held.q body) outcome (went_back P held.session held.q body) given
+
+past_rules : (P : Sent → Type 0) (rn : ℕ) (follows : Follows) (level : Level) (held : Held) (body : BodyValue) (outcome : Outcome) → (held.handle ≡ rn → Sends P outcome) → Sends P (heeded rn follows level held body outcome)
+past_rules P rn follows level held body outcome given =
+    chosen P (held.handle == rn) (unless_ended follows held body outcome) (silent (held_state level held) body)
+    (λ is. past_ended P follows held body outcome (given (same_number held.handle rn is))) (nothing P (held_state level held) body)
+
+-- to an access command, which carries the handle
+accessed : (P : StateValue → Sent → Type 0) (rn : ℕ) (follows : Follows) (acts : Level → Held → BodyValue → Outcome) (state : StateValue) (body : BodyValue) → IsLegalAt state body → ((level : Level) (held : Held) → held.handle ≡ rn → IsLegalHeld held → Sends (P (held_state level held)) (acts level held body)) → Sends (P state) (in_access rn follows acts state body)
+accessed P rn follows acts ReadyState body legal given = nothing (P ReadyState) ReadyState body
+accessed P rn follows acts (ArbitrateState session q slot) body legal given = nothing (P (ArbitrateState session q slot)) (ArbitrateState session q slot) body
+accessed P rn follows acts (ReplyState session q own) body legal given = went_back (P (ReplyState session q own)) session q body
+accessed P rn follows acts (AcknowledgedState session q own) body legal given = went_back (P (AcknowledgedState session q own)) session q body
+accessed P rn follows acts (OpenState held) body legal given =
+    past_rules (P (OpenState held)) rn follows levels.Opened held body (acts levels.Opened held body) (λ same. given levels.Opened held same legal.state)
+accessed P rn follows acts (SecuredState held) body legal given =
+    past_rules (P (SecuredState held)) rn follows levels.Secured held body (acts levels.Secured held body) (λ same. given levels.Secured held same legal.state)
+accessed P rn follows acts KilledState body legal given = nothing (P KilledState) KilledState body
+accessed P rn follows acts UnpoweredState body legal given = nothing (P UnpoweredState) UnpoweredState body
 
 uncovered : (P : Sent → Type 0) (level : Level) (held : Held) (body : BodyValue) (covered : ℕ) (cover : Option ℕ) (follows : Held → ℕ → Outcome) → ((value : ℕ) → Sends P (follows (record held { cover = None }) value)) → Sends P (uncover level held body covered cover follows)
 uncovered P level held body covered None follows given = nothing P (held_state level held) body
@@ -341,23 +356,11 @@ read_fits level count rn held (Ok words) same legal brings =
 read_fits level count rn held (Err code) same legal brings =
     (record { number = number_held level held ∙ ap (λ n. Some n) same; reply = an_error_is_read count (code_of code); handle = same; plain = refl }, (code_small code, legal.handle, tt))
 
-to_read_held : (level : Level) (bank : Bank) (pointer count rn : ℕ) (held : Held) (body : BodyValue) → IsLegalHeld held → IsLegalBody body → Sends (IsRead count rn (held_state level held)) (read_held level bank pointer count rn held body)
-to_read_held level bank pointer count rn held body of_held of_body =
-    let P = IsRead count rn (held_state level held) in
+read_sent : (bank : Bank) (pointer count rn : ℕ) (level : Level) (held : Held) (body : BodyValue) → IsLegalBody body → held.handle ≡ rn → IsLegalHeld held → Sends (IsRead count rn (held_state level held)) (read_outcome bank pointer count level held body)
+read_sent bank pointer count rn level held body of_body same of_held =
     let found = words_read body.memory body.locks level bank pointer count in
-    acting P level rn held body (plain (held_state level held) body (read_answer found) held.handle)
-    (λ same. one P (record { state = held_state level held; body = body }) (record { reply = read_answer found; handle = held.handle; extended = false })
-    (read_fits level count rn held found same of_held (brought body level bank pointer count of_body)))
-
-to_read : (bank : Bank) (pointer count rn : ℕ) (state : StateValue) (body : BodyValue) → IsLegalAt state body → Sends (IsRead count rn state) (read bank pointer count rn state body)
-to_read bank pointer count rn ReadyState body legal = nothing _ ReadyState body
-to_read bank pointer count rn (ArbitrateState session q slot) body legal = nothing _ (ArbitrateState session q slot) body
-to_read bank pointer count rn (ReplyState session q own) body legal = went_back _ session q body
-to_read bank pointer count rn (AcknowledgedState session q own) body legal = went_back _ session q body
-to_read bank pointer count rn (OpenState held) body legal = to_read_held levels.Opened bank pointer count rn held body legal.state legal.body
-to_read bank pointer count rn (SecuredState held) body legal = to_read_held levels.Secured bank pointer count rn held body legal.state legal.body
-to_read bank pointer count rn KilledState body legal = nothing _ KilledState body
-to_read bank pointer count rn UnpoweredState body legal = nothing _ UnpoweredState body
+    one (IsRead count rn (held_state level held)) (record { state = held_state level held; body = body }) (record { reply = read_answer found; handle = held.handle; extended = false })
+    (read_fits level count rn held found same of_held (brought body level bank pointer count of_body))
 
 -- commands that change the memory or the locks
 abbrev IsDelayed : ℕ → StateValue → Sent → Type 0
@@ -385,65 +388,18 @@ locks_answered rn held body (Ok locks) same small =
 locks_answered rn held body (Err code) same small =
     error_sent rn held.handle code (SecuredState held) (record { state = SecuredState held; body = body }) refl same small
 
-to_write_held : (level : Level) (bank : Bank) (pointer covered rn : ℕ) (held : Held) (body : BodyValue) → IsLegalHeld held → Sends (IsDelayed rn (held_state level held)) (write_held level bank pointer covered rn held body)
-to_write_held level bank pointer covered rn held body of_held =
-    let P = IsDelayed rn (held_state level held) in
-    let follows : Held → ℕ → Outcome = λ bare word. memory_outcome level bare body (banks_after_write body.memory body.locks level bank pointer (word ∷ [])) in
-    acting P level rn held body (uncover level held body covered held.cover follows)
-    (λ same. uncovered P level held body covered held.cover follows
-    (λ word. memory_answered rn (held_state level held) level (record held { cover = None }) body (banks_after_write body.memory body.locks level bank pointer (word ∷ [])) (number_held level held) same of_held.handle))
+memory_sent : (rn : ℕ) (level : Level) (held : Held) (body : BodyValue) (change : Result Banks ErrorCode) → held.handle ≡ rn → IsLegalHeld held → Sends (IsDelayed rn (held_state level held)) (memory_outcome level held body change)
+memory_sent rn level held body change same of_held = memory_answered rn (held_state level held) level held body change (number_held level held) same of_held.handle
 
-to_write : (bank : Bank) (pointer covered rn : ℕ) (state : StateValue) (body : BodyValue) → IsLegalAt state body → Sends (IsDelayed rn state) (write bank pointer covered rn state body)
-to_write bank pointer covered rn ReadyState body legal = nothing _ ReadyState body
-to_write bank pointer covered rn (ArbitrateState session q slot) body legal = nothing _ (ArbitrateState session q slot) body
-to_write bank pointer covered rn (ReplyState session q own) body legal = went_back _ session q body
-to_write bank pointer covered rn (AcknowledgedState session q own) body legal = went_back _ session q body
-to_write bank pointer covered rn (OpenState held) body legal = to_write_held levels.Opened bank pointer covered rn held body legal.state
-to_write bank pointer covered rn (SecuredState held) body legal = to_write_held levels.Secured bank pointer covered rn held body legal.state
-to_write bank pointer covered rn KilledState body legal = nothing _ KilledState body
-to_write bank pointer covered rn UnpoweredState body legal = nothing _ UnpoweredState body
+write_sent : (bank : Bank) (pointer covered rn : ℕ) (level : Level) (held : Held) (body : BodyValue) → held.handle ≡ rn → IsLegalHeld held → Sends (IsDelayed rn (held_state level held)) (write_outcome bank pointer covered level held body)
+write_sent bank pointer covered rn level held body same of_held =
+    let change = λ (word : ℕ). banks_after_write body.memory body.locks level bank pointer (word ∷ []) in
+    uncovered (IsDelayed rn (held_state level held)) level held body covered held.cover (λ bare word. memory_outcome level bare body (change word))
+    (λ word. memory_answered rn (held_state level held) level (record held { cover = None }) body (change word) (number_held level held) same of_held.handle)
 
-change_answered : (level : Level) (rn : ℕ) (held : Held) (body : BodyValue) (change : Result Banks ErrorCode) → IsLegalHeld held → Sends (IsDelayed rn (held_state level held)) (with_handle level rn held body (unless_any_half held body (memory_outcome level held body change)))
-change_answered level rn held body change of_held =
-    acting (IsDelayed rn (held_state level held)) level rn held body (memory_outcome level held body change)
-    (λ same. memory_answered rn (held_state level held) level held body change (number_held level held) same of_held.handle)
-
-to_block_write : (bank : Bank) (pointer : ℕ) (words : List ℕ) (rn : ℕ) (state : StateValue) (body : BodyValue) → IsLegalAt state body → Sends (IsDelayed rn state) (block_write bank pointer words rn state body)
-to_block_write bank pointer words rn ReadyState body legal = nothing _ ReadyState body
-to_block_write bank pointer words rn (ArbitrateState session q slot) body legal = nothing _ (ArbitrateState session q slot) body
-to_block_write bank pointer words rn (ReplyState session q own) body legal = went_back _ session q body
-to_block_write bank pointer words rn (AcknowledgedState session q own) body legal = went_back _ session q body
-to_block_write bank pointer words rn (OpenState held) body legal =
-    change_answered levels.Opened rn held body (banks_after_write body.memory body.locks levels.Opened bank pointer words) legal.state
-to_block_write bank pointer words rn (SecuredState held) body legal =
-    change_answered levels.Secured rn held body (banks_after_write body.memory body.locks levels.Secured bank pointer words) legal.state
-to_block_write bank pointer words rn KilledState body legal = nothing _ KilledState body
-to_block_write bank pointer words rn UnpoweredState body legal = nothing _ UnpoweredState body
-
-to_block_erase : (bank : Bank) (pointer count rn : ℕ) (state : StateValue) (body : BodyValue) → IsLegalAt state body → Sends (IsDelayed rn state) (block_erase bank pointer count rn state body)
-to_block_erase bank pointer count rn ReadyState body legal = nothing _ ReadyState body
-to_block_erase bank pointer count rn (ArbitrateState session q slot) body legal = nothing _ (ArbitrateState session q slot) body
-to_block_erase bank pointer count rn (ReplyState session q own) body legal = went_back _ session q body
-to_block_erase bank pointer count rn (AcknowledgedState session q own) body legal = went_back _ session q body
-to_block_erase bank pointer count rn (OpenState held) body legal =
-    change_answered levels.Opened rn held body (banks_after_erase body.memory body.locks levels.Opened bank pointer count) legal.state
-to_block_erase bank pointer count rn (SecuredState held) body legal =
-    change_answered levels.Secured rn held body (banks_after_erase body.memory body.locks levels.Secured bank pointer count) legal.state
-to_block_erase bank pointer count rn KilledState body legal = nothing _ KilledState body
-to_block_erase bank pointer count rn UnpoweredState body legal = nothing _ UnpoweredState body
-
-to_lock : (payload rn : ℕ) (state : StateValue) (body : BodyValue) → IsLegalAt state body → Sends (IsDelayed rn state) (lock payload rn state body)
-to_lock payload rn ReadyState body legal = nothing _ ReadyState body
-to_lock payload rn (ArbitrateState session q slot) body legal = nothing _ (ArbitrateState session q slot) body
-to_lock payload rn (ReplyState session q own) body legal = went_back _ session q body
-to_lock payload rn (AcknowledgedState session q own) body legal = went_back _ session q body
-to_lock payload rn (OpenState held) body legal =
-    acting (IsDelayed rn (OpenState held)) levels.Opened rn held body (silent (OpenState held) body) (λ same. nothing _ (OpenState held) body)
-to_lock payload rn (SecuredState held) body legal =
-    acting (IsDelayed rn (SecuredState held)) levels.Secured rn held body (locks_outcome held body (locks_after body.locks payload (has_user body)))
-    (λ same. locks_answered rn held body (locks_after body.locks payload (has_user body)) same legal.state.handle)
-to_lock payload rn KilledState body legal = nothing _ KilledState body
-to_lock payload rn UnpoweredState body legal = nothing _ UnpoweredState body
+lock_sent : (payload rn : ℕ) (level : Level) (held : Held) (body : BodyValue) → held.handle ≡ rn → IsLegalHeld held → Sends (IsDelayed rn (held_state level held)) (lock_outcome payload level held body)
+lock_sent payload rn levels.Opened held body same of_held = nothing _ (OpenState held) body
+lock_sent payload rn levels.Secured held body same of_held = locks_answered rn held body (locks_after body.locks payload (has_user body)) same of_held.handle
 
 -- Kill and Access
 abbrev IsOwnHandle : ℕ → StateValue → Sent → Type 0
@@ -457,66 +413,46 @@ handle_sent rn handle before tag number same small =
 abbrev IsKill : Bool → ℕ → StateValue → Sent → Type 0
 IsKill second rn state sent = IsKillAnswer second rn state sent × IsSent (Some sent)
 
-kill_half_answered : (rn : ℕ) (before : StateValue) (level : Level) (half : Option Half) (value : ℕ) (held : Held) (body : BodyValue) → number_of before ≡ Some held.handle → held.handle ≡ rn → held.handle < 2 ^ 16 → Sends (IsKill (is_some half) rn before) (kill_half level half value held body)
-kill_half_answered rn before level None value held body number same small =
+-- to a half of a password, where the tag holds a first half or none
+abbrev IsHalf : Password → Option Half → ℕ → StateValue → Sent → Type 0
+IsHalf passwords.Kill half rn state sent = IsKill (is_some half) rn state sent
+IsHalf passwords.Access half rn state sent = IsOwnHandle rn state sent
+
+first_answered : (password : Password) (rn : ℕ) (before : StateValue) (level : Level) (value : ℕ) (held : Held) (body : BodyValue) → number_of before ≡ Some held.handle → held.handle ≡ rn → held.handle < 2 ^ 16 → Sends (IsHalf password None rn before) (keep_half level password value held body)
+first_answered passwords.Kill rn before level value held body number same small =
     handle_sent rn held.handle before (record { state = held_state level (record held { half = Some (record { password = passwords.Kill; value = value }) }); body = body }) number same small
-kill_half_answered rn before level (Some half) value held body number same small =
+first_answered passwords.Access rn before level value held body number same small =
+    handle_sent rn held.handle before (record { state = held_state level (record held { half = Some (record { password = passwords.Access; value = value }) }); body = body }) number same small
+
+whole_answered : (password : Password) (half : Half) (rn : ℕ) (before : StateValue) (level : Level) (value : ℕ) (held : Held) (body : BodyValue) → number_of before ≡ Some held.handle → held.handle ≡ rn → held.handle < 2 ^ 16 → Sends (IsHalf password (Some half) rn before) (whole_outcome password level value held body)
+whole_answered passwords.Kill half rn before level value held body number same small =
     let P = IsDelayed rn before in
     let bare = record held { half = None } in
-    let whole = whole_of half.value value in
-    chosen P (kill_word_of body.memory == 0) (refuse level bare body errors.Other) (if kill_word_of body.memory == whole then extended KilledState body Header held.handle else back held.session held.q body)
+    chosen P (kill_word_of body.memory == 0) (refuse level bare body errors.Other) (if kill_word_of body.memory == value then extended KilledState body Header held.handle else back held.session held.q body)
     (λ is. error_sent rn held.handle errors.Other before (record { state = held_state level bare; body = body }) number same small)
-    (chosen P (kill_word_of body.memory == whole) (extended KilledState body Header held.handle) (back held.session held.q body)
+    (chosen P (kill_word_of body.memory == value) (extended KilledState body Header held.handle) (back held.session held.q body)
     (λ is. header_sent rn held.handle before (record { state = KilledState; body = body }) number same small)
     (went_back P held.session held.q body))
-
-to_kill_held : (level : Level) (covered rn : ℕ) (held : Held) (body : BodyValue) → IsLegalHeld held → Sends (IsKill (is_some held.half) rn (held_state level held)) (kill_held level covered rn held body)
-to_kill_held level covered rn held body of_held =
-    let P = IsKill (is_some held.half) rn (held_state level held) in
-    let follows : Held → ℕ → Outcome = λ bare value. kill_half level bare.half value bare body in
-    called P level rn held body (unless_other_half passwords.Kill held.half (back held.session held.q body) (uncover level held body covered held.cover follows))
-    (λ same. past_other_half P passwords.Kill held.half (back held.session held.q body) (uncover level held body covered held.cover follows) (went_back P held.session held.q body)
-    (uncovered P level held body covered held.cover follows
-    (λ value. kill_half_answered rn (held_state level held) level held.half value (record held { cover = None }) body (number_held level held) same of_held.handle)))
-
-to_kill : (covered rn : ℕ) (state : StateValue) (body : BodyValue) → IsLegalAt state body → Sends (IsKill (has_half state) rn state) (kill covered rn state body)
-to_kill covered rn ReadyState body legal = nothing _ ReadyState body
-to_kill covered rn (ArbitrateState session q slot) body legal = nothing _ (ArbitrateState session q slot) body
-to_kill covered rn (ReplyState session q own) body legal = went_back _ session q body
-to_kill covered rn (AcknowledgedState session q own) body legal = went_back _ session q body
-to_kill covered rn (OpenState held) body legal = to_kill_held levels.Opened covered rn held body legal.state
-to_kill covered rn (SecuredState held) body legal = to_kill_held levels.Secured covered rn held body legal.state
-to_kill covered rn KilledState body legal = nothing _ KilledState body
-to_kill covered rn UnpoweredState body legal = nothing _ UnpoweredState body
-
-access_half_answered : (rn : ℕ) (before : StateValue) (level : Level) (half : Option Half) (value : ℕ) (held : Held) (body : BodyValue) → number_of before ≡ Some held.handle → held.handle ≡ rn → held.handle < 2 ^ 16 → Sends (IsOwnHandle rn before) (access_half level half value held body)
-access_half_answered rn before level None value held body number same small =
-    handle_sent rn held.handle before (record { state = held_state level (record held { half = Some (record { password = passwords.Access; value = value }) }); body = body }) number same small
-access_half_answered rn before level (Some half) value held body number same small =
+whole_answered passwords.Access half rn before level value held body number same small =
     let P = IsOwnHandle rn before in
     let bare = record held { half = None } in
-    chosen P (access_word_of body.memory == whole_of half.value value) (plain (SecuredState bare) body (Handle held.handle) held.handle) (back held.session held.q body)
+    chosen P (access_word_of body.memory == value) (plain (SecuredState bare) body (Handle held.handle) held.handle) (back held.session held.q body)
     (λ is. handle_sent rn held.handle before (record { state = SecuredState bare; body = body }) number same small)
     (went_back P held.session held.q body)
 
-to_access_held : (level : Level) (covered rn : ℕ) (held : Held) (body : BodyValue) → IsLegalHeld held → Sends (IsOwnHandle rn (held_state level held)) (access_held level covered rn held body)
-to_access_held level covered rn held body of_held =
-    let P = IsOwnHandle rn (held_state level held) in
-    let follows : Held → ℕ → Outcome = λ bare value. access_half level bare.half value bare body in
-    called P level rn held body (unless_other_half passwords.Access held.half (back held.session held.q body) (uncover level held body covered held.cover follows))
-    (λ same. past_other_half P passwords.Access held.half (back held.session held.q body) (uncover level held body covered held.cover follows) (went_back P held.session held.q body)
-    (uncovered P level held body covered held.cover follows
-    (λ value. access_half_answered rn (held_state level held) level held.half value (record held { cover = None }) body (number_held level held) same of_held.handle)))
+half_answered : (password : Password) (rn : ℕ) (before : StateValue) (level : Level) (half : Option Half) (value : ℕ) (held : Held) (body : BodyValue) → number_of before ≡ Some held.handle → held.handle ≡ rn → held.handle < 2 ^ 16 → Sends (IsHalf password half rn before) (half_outcome password level half value held body)
+half_answered password rn before level None value held body number same small = first_answered password rn before level value held body number same small
+half_answered password rn before level (Some half) value held body number same small =
+    whole_answered password half rn before level (whole_of half.value value) held body number same small
 
-to_access : (covered rn : ℕ) (state : StateValue) (body : BodyValue) → IsLegalAt state body → Sends (IsOwnHandle rn state) (access covered rn state body)
-to_access covered rn ReadyState body legal = nothing _ ReadyState body
-to_access covered rn (ArbitrateState session q slot) body legal = nothing _ (ArbitrateState session q slot) body
-to_access covered rn (ReplyState session q own) body legal = went_back _ session q body
-to_access covered rn (AcknowledgedState session q own) body legal = went_back _ session q body
-to_access covered rn (OpenState held) body legal = to_access_held levels.Opened covered rn held body legal.state
-to_access covered rn (SecuredState held) body legal = to_access_held levels.Secured covered rn held body legal.state
-to_access covered rn KilledState body legal = nothing _ KilledState body
-to_access covered rn UnpoweredState body legal = nothing _ UnpoweredState body
+password_answered : (password : Password) (covered rn : ℕ) (level : Level) (held : Held) (body : BodyValue) → held.handle ≡ rn → IsLegalHeld held → Sends (IsHalf password held.half rn (held_state level held)) (password_outcome password covered level held body)
+password_answered password covered rn level held body same of_held =
+    uncovered (IsHalf password held.half rn (held_state level held)) level held body covered held.cover (λ bare value. half_outcome password level bare.half value bare body)
+    (λ value. half_answered password rn (held_state level held) level held.half value (record held { cover = None }) body (number_held level held) same of_held.handle)
+
+kill_answered : (covered rn : ℕ) (level : Level) (held : Held) (body : BodyValue) → held.handle ≡ rn → IsLegalHeld held → Sends (IsKill (has_half (held_state level held)) rn (held_state level held)) (password_outcome passwords.Kill covered level held body)
+kill_answered covered rn levels.Opened held body same of_held = password_answered passwords.Kill covered rn levels.Opened held body same of_held
+kill_answered covered rn levels.Secured held body same of_held = password_answered passwords.Kill covered rn levels.Secured held body same of_held
 
 pub sent_fits : (command : Command) (state : StateValue) (body : BodyValue) → IsLegalAt state body → (sent : Sent) → (step command state body).answer ≡ Some sent → Fits command state body sent
 sent_fits (commands.QueryRep session) state body legal = to_query_rep session state body legal
@@ -527,10 +463,21 @@ sent_fits (commands.Select target action bank pointer mask) state body legal =
     to_select (Fits (commands.Select target action bank pointer mask) state body) target action bank pointer mask state body
 sent_fits commands.Nak state body legal = to_nak (Fits commands.Nak state body) state body
 sent_fits (commands.ReqRn rn) state body legal = to_req_rn rn state body legal
-sent_fits (commands.Read bank pointer count rn) state body legal = to_read bank pointer count rn state body legal
-sent_fits (commands.Write bank pointer covered rn) state body legal = to_write bank pointer covered rn state body legal
-sent_fits (commands.Kill covered rn) state body legal = to_kill covered rn state body legal
-sent_fits (commands.Lock payload rn) state body legal = to_lock payload rn state body legal
-sent_fits (commands.Access covered rn) state body legal = to_access covered rn state body legal
-sent_fits (commands.BlockWrite bank pointer words rn) state body legal = to_block_write bank pointer words rn state body legal
-sent_fits (commands.BlockErase bank pointer count rn) state body legal = to_block_erase bank pointer count rn state body legal
+sent_fits (commands.Read bank pointer count rn) state body legal =
+    accessed (IsRead count rn) rn NoHalf (read_outcome bank pointer count) state body legal (λ level held same of_held. read_sent bank pointer count rn level held body legal.body same of_held)
+sent_fits (commands.Write bank pointer covered rn) state body legal =
+    accessed (IsDelayed rn) rn NoHalf (write_outcome bank pointer covered) state body legal (λ level held same of_held. write_sent bank pointer covered rn level held body same of_held)
+sent_fits (commands.Kill covered rn) state body legal =
+    accessed (λ any. IsKill (has_half any) rn any) rn (HalfOf passwords.Kill) (password_outcome passwords.Kill covered) state body legal
+    (λ level held same of_held. kill_answered covered rn level held body same of_held)
+sent_fits (commands.Lock payload rn) state body legal =
+    accessed (IsDelayed rn) rn NoHalf (lock_outcome payload) state body legal (λ level held same of_held. lock_sent payload rn level held body same of_held)
+sent_fits (commands.Access covered rn) state body legal =
+    accessed (IsOwnHandle rn) rn (HalfOf passwords.Access) (password_outcome passwords.Access covered) state body legal
+    (λ level held same of_held. password_answered passwords.Access covered rn level held body same of_held)
+sent_fits (commands.BlockWrite bank pointer words rn) state body legal =
+    accessed (IsDelayed rn) rn NoHalf (block_write_outcome bank pointer words) state body legal
+    (λ level held same of_held. memory_sent rn level held body (banks_after_write body.memory body.locks level bank pointer words) same of_held)
+sent_fits (commands.BlockErase bank pointer count rn) state body legal =
+    accessed (IsDelayed rn) rn NoHalf (block_erase_outcome bank pointer count) state body legal
+    (λ level held same of_held. memory_sent rn level held body (banks_after_erase body.memory body.locks level bank pointer count) same of_held)

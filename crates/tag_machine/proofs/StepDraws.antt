@@ -17,17 +17,19 @@ use Rattle.lock_rules.specs.Lock.{locks_after}
 use Rattle.reply_grammar.specs.declared.expected.Reply.TheVariants.{Handle, Header}
 use Rattle.session_flags.specs.Flags.{matches}
 use Rattle.tag_memory.specs.Memory.{Banks, kill_word_of, access_word_of}
-use Rattle.tag_memory.specs.Access.{words_read, banks_after_write, banks_after_erase}
+use Rattle.tag_memory.specs.Access.{banks_after_write, banks_after_erase}
 use Rattle.tag_machine.specs.declared.states.Half.{Half}
 use Rattle.tag_machine.specs.declared.states.Held.{Held}
 use Rattle.tag_machine.specs.declared.states.Password.{Password}
 use Rattle.tag_machine.specs.declared.states.Password.TheVariants as passwords
+use Rattle.tag_machine.specs.declared.access.rules.Follows.{Follows}
+use Rattle.tag_machine.specs.declared.access.rules.Follows.TheVariants.{AnyHalf, HalfOf, NoHalf}
 use Rattle.tag_machine.specs.TagValue.{StateValue, ReadyState, ArbitrateState, ReplyState, AcknowledgedState, OpenState, SecuredState, KilledState, UnpoweredState, BodyValue}
 use Rattle.tag_machine.specs.Answers.{Outcome, silent, plain, extended}
 use Rattle.tag_machine.specs.Draws.{draw_of, place_behind, body_after_draw, body_after_draws, slot_of_draw, begin_reply, enter, body_after_inversion, close, back}
 use Rattle.tag_machine.specs.DrawCounts.{draws_to_enter, draws_to_take_part, query_draws, query_rep_draws, query_adjust_draws, req_rn_draws, draws_in}
 use Rattle.tag_machine.specs.Inventory.{take_part, body_after_close, query, unless_half, end_turn, slot_below, count_down, query_rep, q_after_adjust, query_adjust, epc_reply, ack, nak, selected_ready, select}
-use Rattle.tag_machine.specs.Access.{held_state, first_level, new_held, req_rn, with_handle, unless_any_half, is_password, unless_other_half, uncover, refuse, read_answer, read_held, read, memory_outcome, write_held, write, whole_of, kill_half, kill_held, kill, has_user, locks_outcome, lock, access_half, access_held, access, block_write, block_erase}
+use Rattle.tag_machine.specs.Access.{held_state, in_access, heeded, unless_ended, first_level, new_held, req_rn, is_password, unless_other_half, uncover, refuse, read_outcome, memory_outcome, write_outcome, block_write_outcome, block_erase_outcome, has_user, locks_outcome, lock_outcome, whole_of, whole_outcome, half_outcome, password_outcome}
 use Rattle.tag_machine.specs.Step.{step}
 
 -- an outcome is so many draws behind a body, whose words it keeps
@@ -183,18 +185,31 @@ after_req_rn rn (SecuredState held) body = numbered (held.handle == rn) (Secured
 after_req_rn rn KilledState body = stays KilledState body
 after_req_rn rn UnpoweredState body = stays UnpoweredState body
 
--- the rules that stand before each access command in open and secured
-called : (level : Level) (rn : ℕ) (held : Held) (body : BodyValue) (outcome : Outcome) → IsBehind body 0 outcome → IsBehind body 0 (with_handle level rn held body outcome)
-called level rn held body outcome given = neither body (held.handle == rn) outcome (silent (held_state level held) body) given (stays (held_state level held) body)
-
-acting : (level : Level) (rn : ℕ) (held : Held) (body : BodyValue) (outcome : Outcome) → IsBehind body 0 outcome → IsBehind body 0 (with_handle level rn held body (unless_any_half held body outcome))
-acting level rn held body outcome given =
-    called level rn held body (unless_any_half held body outcome)
-    (past_half body held.half (back held.session held.q body) outcome (stays (ArbitrateState held.session held.q 0) body) given)
-
+-- the rules that stand before each access command
 past_other_half : (before : BodyValue) (password : Password) (half : Option Half) (instead outcome : Outcome) → IsBehind before 0 instead → IsBehind before 0 outcome → IsBehind before 0 (unless_other_half password half instead outcome)
 past_other_half before password None instead outcome of_instead given = given
 past_other_half before password (Some half) instead outcome of_instead given = neither before (is_password password half.password) outcome instead given of_instead
+
+past_ended : (follows : Follows) (held : Held) (body : BodyValue) (outcome : Outcome) → IsBehind body 0 outcome → IsBehind body 0 (unless_ended follows held body outcome)
+past_ended AnyHalf held body outcome given = given
+past_ended (HalfOf password) held body outcome given =
+    past_other_half body password held.half (back held.session held.q body) outcome (stays (ArbitrateState held.session held.q 0) body) given
+past_ended NoHalf held body outcome given =
+    past_half body held.half (back held.session held.q body) outcome (stays (ArbitrateState held.session held.q 0) body) given
+
+past_rules : (rn : ℕ) (follows : Follows) (level : Level) (held : Held) (body : BodyValue) (outcome : Outcome) → IsBehind body 0 outcome → IsBehind body 0 (heeded rn follows level held body outcome)
+past_rules rn follows level held body outcome given =
+    neither body (held.handle == rn) (unless_ended follows held body outcome) (silent (held_state level held) body) (past_ended follows held body outcome given) (stays (held_state level held) body)
+
+accessed : (rn : ℕ) (follows : Follows) (acts : Level → Held → BodyValue → Outcome) (state : StateValue) (body : BodyValue) → ((level : Level) (held : Held) → IsBehind body 0 (acts level held body)) → IsBehind body 0 (in_access rn follows acts state body)
+accessed rn follows acts ReadyState body given = stays ReadyState body
+accessed rn follows acts (ArbitrateState session q slot) body given = stays (ArbitrateState session q slot) body
+accessed rn follows acts (ReplyState session q own) body given = stays (ArbitrateState session q 0) body
+accessed rn follows acts (AcknowledgedState session q own) body given = stays (ArbitrateState session q 0) body
+accessed rn follows acts (OpenState held) body given = past_rules rn follows levels.Opened held body (acts levels.Opened held body) (given levels.Opened held)
+accessed rn follows acts (SecuredState held) body given = past_rules rn follows levels.Secured held body (acts levels.Secured held body) (given levels.Secured held)
+accessed rn follows acts KilledState body given = stays KilledState body
+accessed rn follows acts UnpoweredState body given = stays UnpoweredState body
 
 uncovered : (level : Level) (held : Held) (body : BodyValue) (covered : ℕ) (cover : Option ℕ) (follows : Held → ℕ → Outcome) → ((value : ℕ) → IsBehind body 0 (follows (record held { cover = None }) value)) → IsBehind body 0 (uncover level held body covered cover follows)
 uncovered level held body covered None follows given = stays (held_state level held) body
@@ -208,118 +223,34 @@ locks_done : (held : Held) (body : BodyValue) (change : Result Locks ErrorCode) 
 locks_done held body (Ok locks) = record { place = refl; words = refl }
 locks_done held body (Err code) = record { place = refl; words = refl }
 
-after_read_held : (level : Level) (bank : Bank) (pointer count rn : ℕ) (held : Held) (body : BodyValue) → IsBehind body 0 (read_held level bank pointer count rn held body)
-after_read_held level bank pointer count rn held body =
-    acting level rn held body (plain (held_state level held) body (read_answer (words_read body.memory body.locks level bank pointer count)) held.handle) (record { place = refl; words = refl })
+written : (bank : Bank) (pointer covered : ℕ) (level : Level) (held : Held) (body : BodyValue) → IsBehind body 0 (write_outcome bank pointer covered level held body)
+written bank pointer covered level held body =
+    let change = λ (word : ℕ). banks_after_write body.memory body.locks level bank pointer (word ∷ []) in
+    uncovered level held body covered held.cover (λ bare word. memory_outcome level bare body (change word)) (λ word. memory_done level (record held { cover = None }) body (change word))
 
-after_read : (bank : Bank) (pointer count rn : ℕ) (state : StateValue) (body : BodyValue) → IsBehind body 0 (read bank pointer count rn state body)
-after_read bank pointer count rn ReadyState body = stays ReadyState body
-after_read bank pointer count rn (ArbitrateState session q slot) body = stays (ArbitrateState session q slot) body
-after_read bank pointer count rn (ReplyState session q own) body = stays (ArbitrateState session q 0) body
-after_read bank pointer count rn (AcknowledgedState session q own) body = stays (ArbitrateState session q 0) body
-after_read bank pointer count rn (OpenState held) body = after_read_held levels.Opened bank pointer count rn held body
-after_read bank pointer count rn (SecuredState held) body = after_read_held levels.Secured bank pointer count rn held body
-after_read bank pointer count rn KilledState body = stays KilledState body
-after_read bank pointer count rn UnpoweredState body = stays UnpoweredState body
-
-after_write_held : (level : Level) (bank : Bank) (pointer covered rn : ℕ) (held : Held) (body : BodyValue) → IsBehind body 0 (write_held level bank pointer covered rn held body)
-after_write_held level bank pointer covered rn held body =
-    let follows : Held → ℕ → Outcome = λ bare word. memory_outcome level bare body (banks_after_write body.memory body.locks level bank pointer (word ∷ [])) in
-    acting level rn held body (uncover level held body covered held.cover follows)
-    (uncovered level held body covered held.cover follows
-    (λ word. memory_done level (record held { cover = None }) body (banks_after_write body.memory body.locks level bank pointer (word ∷ []))))
-
-after_write : (bank : Bank) (pointer covered rn : ℕ) (state : StateValue) (body : BodyValue) → IsBehind body 0 (write bank pointer covered rn state body)
-after_write bank pointer covered rn ReadyState body = stays ReadyState body
-after_write bank pointer covered rn (ArbitrateState session q slot) body = stays (ArbitrateState session q slot) body
-after_write bank pointer covered rn (ReplyState session q own) body = stays (ArbitrateState session q 0) body
-after_write bank pointer covered rn (AcknowledgedState session q own) body = stays (ArbitrateState session q 0) body
-after_write bank pointer covered rn (OpenState held) body = after_write_held levels.Opened bank pointer covered rn held body
-after_write bank pointer covered rn (SecuredState held) body = after_write_held levels.Secured bank pointer covered rn held body
-after_write bank pointer covered rn KilledState body = stays KilledState body
-after_write bank pointer covered rn UnpoweredState body = stays UnpoweredState body
-
-after_block_write : (bank : Bank) (pointer : ℕ) (words : List ℕ) (rn : ℕ) (state : StateValue) (body : BodyValue) → IsBehind body 0 (block_write bank pointer words rn state body)
-after_block_write bank pointer words rn ReadyState body = stays ReadyState body
-after_block_write bank pointer words rn (ArbitrateState session q slot) body = stays (ArbitrateState session q slot) body
-after_block_write bank pointer words rn (ReplyState session q own) body = stays (ArbitrateState session q 0) body
-after_block_write bank pointer words rn (AcknowledgedState session q own) body = stays (ArbitrateState session q 0) body
-after_block_write bank pointer words rn (OpenState held) body =
-    acting levels.Opened rn held body _ (memory_done levels.Opened held body (banks_after_write body.memory body.locks levels.Opened bank pointer words))
-after_block_write bank pointer words rn (SecuredState held) body =
-    acting levels.Secured rn held body _ (memory_done levels.Secured held body (banks_after_write body.memory body.locks levels.Secured bank pointer words))
-after_block_write bank pointer words rn KilledState body = stays KilledState body
-after_block_write bank pointer words rn UnpoweredState body = stays UnpoweredState body
-
-after_block_erase : (bank : Bank) (pointer count rn : ℕ) (state : StateValue) (body : BodyValue) → IsBehind body 0 (block_erase bank pointer count rn state body)
-after_block_erase bank pointer count rn ReadyState body = stays ReadyState body
-after_block_erase bank pointer count rn (ArbitrateState session q slot) body = stays (ArbitrateState session q slot) body
-after_block_erase bank pointer count rn (ReplyState session q own) body = stays (ArbitrateState session q 0) body
-after_block_erase bank pointer count rn (AcknowledgedState session q own) body = stays (ArbitrateState session q 0) body
-after_block_erase bank pointer count rn (OpenState held) body =
-    acting levels.Opened rn held body _ (memory_done levels.Opened held body (banks_after_erase body.memory body.locks levels.Opened bank pointer count))
-after_block_erase bank pointer count rn (SecuredState held) body =
-    acting levels.Secured rn held body _ (memory_done levels.Secured held body (banks_after_erase body.memory body.locks levels.Secured bank pointer count))
-after_block_erase bank pointer count rn KilledState body = stays KilledState body
-after_block_erase bank pointer count rn UnpoweredState body = stays UnpoweredState body
-
-after_lock : (payload rn : ℕ) (state : StateValue) (body : BodyValue) → IsBehind body 0 (lock payload rn state body)
-after_lock payload rn ReadyState body = stays ReadyState body
-after_lock payload rn (ArbitrateState session q slot) body = stays (ArbitrateState session q slot) body
-after_lock payload rn (ReplyState session q own) body = stays (ArbitrateState session q 0) body
-after_lock payload rn (AcknowledgedState session q own) body = stays (ArbitrateState session q 0) body
-after_lock payload rn (OpenState held) body = acting levels.Opened rn held body (silent (OpenState held) body) (stays (OpenState held) body)
-after_lock payload rn (SecuredState held) body = acting levels.Secured rn held body _ (locks_done held body (locks_after body.locks payload (has_user body)))
-after_lock payload rn KilledState body = stays KilledState body
-after_lock payload rn UnpoweredState body = stays UnpoweredState body
+locked : (payload : ℕ) (level : Level) (held : Held) (body : BodyValue) → IsBehind body 0 (lock_outcome payload level held body)
+locked payload levels.Opened held body = stays (OpenState held) body
+locked payload levels.Secured held body = locks_done held body (locks_after body.locks payload (has_user body))
 
 -- Kill and Access
-kill_half_done : (level : Level) (half : Option Half) (value : ℕ) (held : Held) (body : BodyValue) → IsBehind body 0 (kill_half level half value held body)
-kill_half_done level None value held body = record { place = refl; words = refl }
-kill_half_done level (Some half) value held body =
+whole_taken : (password : Password) (level : Level) (value : ℕ) (held : Held) (body : BodyValue) → IsBehind body 0 (whole_outcome password level value held body)
+whole_taken passwords.Kill level value held body =
     neither body (kill_word_of body.memory == 0) (refuse level (record held { half = None }) body errors.Other) _ (record { place = refl; words = refl })
-    (neither body (kill_word_of body.memory == whole_of half.value value) (extended KilledState body Header held.handle) (back held.session held.q body)
+    (neither body (kill_word_of body.memory == value) (extended KilledState body Header held.handle) (back held.session held.q body)
     (record { place = refl; words = refl }) (stays (ArbitrateState held.session held.q 0) body))
-
-after_kill_held : (level : Level) (covered rn : ℕ) (held : Held) (body : BodyValue) → IsBehind body 0 (kill_held level covered rn held body)
-after_kill_held level covered rn held body =
-    let follows : Held → ℕ → Outcome = λ bare value. kill_half level bare.half value bare body in
-    called level rn held body (unless_other_half passwords.Kill held.half (back held.session held.q body) (uncover level held body covered held.cover follows))
-    (past_other_half body passwords.Kill held.half (back held.session held.q body) _ (stays (ArbitrateState held.session held.q 0) body)
-    (uncovered level held body covered held.cover follows (λ value. kill_half_done level held.half value (record held { cover = None }) body)))
-
-after_kill : (covered rn : ℕ) (state : StateValue) (body : BodyValue) → IsBehind body 0 (kill covered rn state body)
-after_kill covered rn ReadyState body = stays ReadyState body
-after_kill covered rn (ArbitrateState session q slot) body = stays (ArbitrateState session q slot) body
-after_kill covered rn (ReplyState session q own) body = stays (ArbitrateState session q 0) body
-after_kill covered rn (AcknowledgedState session q own) body = stays (ArbitrateState session q 0) body
-after_kill covered rn (OpenState held) body = after_kill_held levels.Opened covered rn held body
-after_kill covered rn (SecuredState held) body = after_kill_held levels.Secured covered rn held body
-after_kill covered rn KilledState body = stays KilledState body
-after_kill covered rn UnpoweredState body = stays UnpoweredState body
-
-access_half_done : (level : Level) (half : Option Half) (value : ℕ) (held : Held) (body : BodyValue) → IsBehind body 0 (access_half level half value held body)
-access_half_done level None value held body = record { place = refl; words = refl }
-access_half_done level (Some half) value held body =
-    neither body (access_word_of body.memory == whole_of half.value value) (plain (SecuredState (record held { half = None })) body (Handle held.handle) held.handle) (back held.session held.q body)
+whole_taken passwords.Access level value held body =
+    neither body (access_word_of body.memory == value) (plain (SecuredState (record held { half = None })) body (Handle held.handle) held.handle) (back held.session held.q body)
     (record { place = refl; words = refl }) (stays (ArbitrateState held.session held.q 0) body)
 
-after_access_held : (level : Level) (covered rn : ℕ) (held : Held) (body : BodyValue) → IsBehind body 0 (access_held level covered rn held body)
-after_access_held level covered rn held body =
-    let follows : Held → ℕ → Outcome = λ bare value. access_half level bare.half value bare body in
-    called level rn held body (unless_other_half passwords.Access held.half (back held.session held.q body) (uncover level held body covered held.cover follows))
-    (past_other_half body passwords.Access held.half (back held.session held.q body) _ (stays (ArbitrateState held.session held.q 0) body)
-    (uncovered level held body covered held.cover follows (λ value. access_half_done level held.half value (record held { cover = None }) body)))
+half_taken : (password : Password) (level : Level) (half : Option Half) (value : ℕ) (held : Held) (body : BodyValue) → IsBehind body 0 (half_outcome password level half value held body)
+half_taken password level None value held body = record { place = refl; words = refl }
+half_taken password level (Some half) value held body = whole_taken password level (whole_of half.value value) held body
 
-after_access : (covered rn : ℕ) (state : StateValue) (body : BodyValue) → IsBehind body 0 (access covered rn state body)
-after_access covered rn ReadyState body = stays ReadyState body
-after_access covered rn (ArbitrateState session q slot) body = stays (ArbitrateState session q slot) body
-after_access covered rn (ReplyState session q own) body = stays (ArbitrateState session q 0) body
-after_access covered rn (AcknowledgedState session q own) body = stays (ArbitrateState session q 0) body
-after_access covered rn (OpenState held) body = after_access_held levels.Opened covered rn held body
-after_access covered rn (SecuredState held) body = after_access_held levels.Secured covered rn held body
-after_access covered rn KilledState body = stays KilledState body
-after_access covered rn UnpoweredState body = stays UnpoweredState body
+after_half : (password : Password) (covered rn : ℕ) (state : StateValue) (body : BodyValue) → IsBehind body 0 (in_access rn (HalfOf password) (password_outcome password covered) state body)
+after_half password covered rn state body =
+    accessed rn (HalfOf password) (password_outcome password covered) state body
+    (λ level held. uncovered level held body covered held.cover (λ bare value. half_outcome password level bare.half value bare body)
+    (λ value. half_taken password level held.half value (record held { cover = None }) body))
 
 pub step_draws : (command : Command) (state : StateValue) (body : BodyValue) → IsBehind body (draws_in command state body) (step command state body)
 step_draws (commands.QueryRep session) state body = after_query_rep session state body
@@ -329,10 +260,17 @@ step_draws (commands.QueryAdjust session updn) state body = after_query_adjust s
 step_draws (commands.Select target action bank pointer mask) state body = after_select target action bank pointer mask state body
 step_draws commands.Nak state body = after_nak state body
 step_draws (commands.ReqRn rn) state body = after_req_rn rn state body
-step_draws (commands.Read bank pointer count rn) state body = after_read bank pointer count rn state body
-step_draws (commands.Write bank pointer covered rn) state body = after_write bank pointer covered rn state body
-step_draws (commands.Kill covered rn) state body = after_kill covered rn state body
-step_draws (commands.Lock payload rn) state body = after_lock payload rn state body
-step_draws (commands.Access covered rn) state body = after_access covered rn state body
-step_draws (commands.BlockWrite bank pointer words rn) state body = after_block_write bank pointer words rn state body
-step_draws (commands.BlockErase bank pointer count rn) state body = after_block_erase bank pointer count rn state body
+step_draws (commands.Read bank pointer count rn) state body =
+    accessed rn NoHalf (read_outcome bank pointer count) state body (λ level held. record { place = refl; words = refl })
+step_draws (commands.Write bank pointer covered rn) state body =
+    accessed rn NoHalf (write_outcome bank pointer covered) state body (λ level held. written bank pointer covered level held body)
+step_draws (commands.Kill covered rn) state body = after_half passwords.Kill covered rn state body
+step_draws (commands.Lock payload rn) state body =
+    accessed rn NoHalf (lock_outcome payload) state body (λ level held. locked payload level held body)
+step_draws (commands.Access covered rn) state body = after_half passwords.Access covered rn state body
+step_draws (commands.BlockWrite bank pointer words rn) state body =
+    accessed rn NoHalf (block_write_outcome bank pointer words) state body
+    (λ level held. memory_done level held body (banks_after_write body.memory body.locks level bank pointer words))
+step_draws (commands.BlockErase bank pointer count rn) state body =
+    accessed rn NoHalf (block_erase_outcome bank pointer count) state body
+    (λ level held. memory_done level held body (banks_after_erase body.memory body.locks level bank pointer count))

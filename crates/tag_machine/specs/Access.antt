@@ -2,6 +2,8 @@
 -- Access ends, and what becomes of a cover, is profile.
 use Rattle.std.specs.Prelude.{ℕ, ◌+◌, ◌*◌, ◌^◌, ◌==◌, nat_lt, Bool, true, false, List, [], ◌∷◌, length, Option, Some, None, Result, Ok, Err, bit_xor, if◌then◌else◌}
 use Rattle.command_grammar.specs.declared.field_values.Bank.{Bank}
+use Rattle.tag_machine.specs.declared.access.AccessCommand.{AccessCommand}
+use Rattle.tag_machine.specs.declared.access.AccessCommand.TheVariants as commands
 use Rattle.lock_rules.specs.declared.locks.Locks.{Locks}
 use Rattle.lock_rules.specs.declared.terms.ErrorCode.{ErrorCode}
 use Rattle.lock_rules.specs.declared.terms.ErrorCode.TheVariants as errors
@@ -117,13 +119,12 @@ abbrev pub read_answer : Result (List ℕ) ErrorCode → Reply
 read_answer (Ok words) = Words words
 read_answer (Err code) = Error (code_of code)
 
-abbrev pub read_held : Level → Bank → ℕ → ℕ → ℕ → Held → BodyValue → Outcome
-read_held level bank pointer count rn held body =
-    heeded rn NoHalf level held body
-    (plain (held_state level held) body (read_answer (words_read body.memory body.locks level bank pointer count)) held.handle)
+abbrev pub read_outcome : Bank → ℕ → ℕ → Level → Held → BodyValue → Outcome
+read_outcome bank pointer count level held body =
+    plain (held_state level held) body (read_answer (words_read body.memory body.locks level bank pointer count)) held.handle
 
 abbrev pub read : Bank → ℕ → ℕ → ℕ → StateValue → BodyValue → Outcome
-read bank pointer count rn state body = with_level (λ level held rest. read_held level bank pointer count rn held rest) state body
+read bank pointer count rn state body = in_access rn NoHalf (read_outcome bank pointer count) state body
 
 -- what is asked to change is changed, and the answer is the header; or it is refused, and the answer is an error
 abbrev pub change_answer : {T : Type 0} → Result T ErrorCode → Reply
@@ -140,13 +141,29 @@ memory_outcome level held body change =
     extended (held_state level held) (record body { memory = changed_or body.memory change }) (change_answer change) held.handle
 
 -- 6.3.2.11.3.3 Write
-abbrev pub write_held : Level → Bank → ℕ → ℕ → ℕ → Held → BodyValue → Outcome
-write_held level bank pointer covered rn held body =
-    heeded rn NoHalf level held body (uncover level held body covered held.cover
-    (λ bare word. memory_outcome level bare body (banks_after_write body.memory body.locks level bank pointer (word ∷ []))))
+abbrev pub write_outcome : Bank → ℕ → ℕ → Level → Held → BodyValue → Outcome
+write_outcome bank pointer covered level held body =
+    uncover level held body covered held.cover
+    (λ bare word. memory_outcome level bare body (banks_after_write body.memory body.locks level bank pointer (word ∷ [])))
 
 abbrev pub write : Bank → ℕ → ℕ → ℕ → StateValue → BodyValue → Outcome
-write bank pointer covered rn state body = with_level (λ level held rest. write_held level bank pointer covered rn held rest) state body
+write bank pointer covered rn state body = in_access rn NoHalf (write_outcome bank pointer covered) state body
+
+-- 6.3.2.11.3.7 BlockWrite
+abbrev pub block_write_outcome : Bank → ℕ → List ℕ → Level → Held → BodyValue → Outcome
+block_write_outcome bank pointer words level held body =
+    memory_outcome level held body (banks_after_write body.memory body.locks level bank pointer words)
+
+abbrev pub block_write : Bank → ℕ → List ℕ → ℕ → StateValue → BodyValue → Outcome
+block_write bank pointer words rn state body = in_access rn NoHalf (block_write_outcome bank pointer words) state body
+
+-- 6.3.2.11.3.8 BlockErase
+abbrev pub block_erase_outcome : Bank → ℕ → ℕ → Level → Held → BodyValue → Outcome
+block_erase_outcome bank pointer count level held body =
+    memory_outcome level held body (banks_after_erase body.memory body.locks level bank pointer count)
+
+abbrev pub block_erase : Bank → ℕ → ℕ → ℕ → StateValue → BodyValue → Outcome
+block_erase bank pointer count rn state body = in_access rn NoHalf (block_erase_outcome bank pointer count) state body
 
 -- both halves of a password, the upper one first
 abbrev pub whole_of : ℕ → ℕ → ℕ
@@ -166,18 +183,6 @@ kill_whole level value held body =
     else (if kill_word_of body.memory == value then extended KilledState body Header held.handle
     else back held.session held.q body))
 
-abbrev pub kill_half : Level → Option Half → ℕ → Held → BodyValue → Outcome
-kill_half level None value held body = keep_half level passwords.Kill value held body
-kill_half level (Some half) value held body = kill_whole level (whole_of half.value value) held body
-
-abbrev pub kill_held : Level → ℕ → ℕ → Held → BodyValue → Outcome
-kill_held level covered rn held body =
-    heeded rn (HalfOf passwords.Kill) level held body
-    (uncover level held body covered held.cover (λ bare value. kill_half level bare.half value bare body))
-
-abbrev pub kill : ℕ → ℕ → StateValue → BodyValue → Outcome
-kill covered rn state body = with_level (λ level held rest. kill_held level covered rn held rest) state body
-
 -- 6.3.2.11.3.5 Lock: in open nothing changes, and there is no reply. In secured: the new pairs and the header, or an error.
 abbrev pub has_user : BodyValue → Bool
 has_user body = nat_lt 0 (length body.memory.user)
@@ -186,12 +191,12 @@ abbrev pub locks_outcome : Held → BodyValue → Result Locks ErrorCode → Out
 locks_outcome held body change =
     extended (SecuredState held) (record body { locks = changed_or body.locks change }) (change_answer change) held.handle
 
-abbrev pub lock_outcome : Level → ℕ → Held → BodyValue → Outcome
-lock_outcome levels.Opened payload held body = silent (OpenState held) body
-lock_outcome levels.Secured payload held body = locks_outcome held body (locks_after body.locks payload (has_user body))
+abbrev pub lock_outcome : ℕ → Level → Held → BodyValue → Outcome
+lock_outcome payload levels.Opened held body = silent (OpenState held) body
+lock_outcome payload levels.Secured held body = locks_outcome held body (locks_after body.locks payload (has_user body))
 
 abbrev pub lock : ℕ → ℕ → StateValue → BodyValue → Outcome
-lock payload rn state body = with_level (λ level held rest. heeded rn NoHalf level held rest (lock_outcome level payload held rest)) state body
+lock payload rn state body = in_access rn NoHalf (lock_outcome payload) state body
 
 -- 6.3.2.11.3.6 Access: what both halves give. With the access password the tag is secured; with another value it goes
 -- back, without a reply.
@@ -201,32 +206,38 @@ access_whole value held body =
     then plain (SecuredState (record held { half = None })) body (Handle held.handle) held.handle
     else back held.session held.q body)
 
-abbrev pub access_half : Level → Option Half → ℕ → Held → BodyValue → Outcome
-access_half level None value held body = keep_half level passwords.Access value held body
-access_half level (Some half) value held body = access_whole (whole_of half.value value) held body
+-- Kill and Access: a first half is kept, and with a second one the password is whole.
+abbrev pub whole_outcome : Password → Level → ℕ → Held → BodyValue → Outcome
+whole_outcome passwords.Kill level value held body = kill_whole level value held body
+whole_outcome passwords.Access level value held body = access_whole value held body
 
-abbrev pub access_held : Level → ℕ → ℕ → Held → BodyValue → Outcome
-access_held level covered rn held body =
-    heeded rn (HalfOf passwords.Access) level held body
-    (uncover level held body covered held.cover (λ bare value. access_half level bare.half value bare body))
+abbrev pub half_outcome : Password → Level → Option Half → ℕ → Held → BodyValue → Outcome
+half_outcome password level None value held body = keep_half level password value held body
+half_outcome password level (Some half) value held body = whole_outcome password level (whole_of half.value value) held body
+
+abbrev pub password_outcome : Password → ℕ → Level → Held → BodyValue → Outcome
+password_outcome password covered level held body =
+    uncover level held body covered held.cover (λ bare value. half_outcome password level bare.half value bare body)
+
+abbrev pub kill : ℕ → ℕ → StateValue → BodyValue → Outcome
+kill covered rn state body = in_access rn (HalfOf passwords.Kill) (password_outcome passwords.Kill covered) state body
 
 abbrev pub access : ℕ → ℕ → StateValue → BodyValue → Outcome
-access covered rn state body = with_level (λ level held rest. access_held level covered rn held rest) state body
+access covered rn state body = in_access rn (HalfOf passwords.Access) (password_outcome passwords.Access covered) state body
 
--- 6.3.2.11.3.7 BlockWrite
-abbrev pub block_write_held : Level → Bank → ℕ → List ℕ → ℕ → Held → BodyValue → Outcome
-block_write_held level bank pointer words rn held body =
-    heeded rn NoHalf level held body
-    (memory_outcome level held body (banks_after_write body.memory body.locks level bank pointer words))
+-- the half that each access command may follow, and what it does where the rules before it let it act
+abbrev pub follows_of : AccessCommand → Follows
+follows_of (commands.Read bank pointer count) = NoHalf
+follows_of (commands.Write bank pointer covered) = NoHalf
+follows_of (commands.Kill covered) = HalfOf passwords.Kill
+follows_of (commands.Lock payload) = NoHalf
+follows_of (commands.Access covered) = HalfOf passwords.Access
+follows_of (commands.BlockErase bank pointer count) = NoHalf
 
-abbrev pub block_write : Bank → ℕ → List ℕ → ℕ → StateValue → BodyValue → Outcome
-block_write bank pointer words rn state body = with_level (λ level held rest. block_write_held level bank pointer words rn held rest) state body
-
--- 6.3.2.11.3.8 BlockErase
-abbrev pub block_erase_held : Level → Bank → ℕ → ℕ → ℕ → Held → BodyValue → Outcome
-block_erase_held level bank pointer count rn held body =
-    heeded rn NoHalf level held body
-    (memory_outcome level held body (banks_after_erase body.memory body.locks level bank pointer count))
-
-abbrev pub block_erase : Bank → ℕ → ℕ → ℕ → StateValue → BodyValue → Outcome
-block_erase bank pointer count rn state body = with_level (λ level held rest. block_erase_held level bank pointer count rn held rest) state body
+abbrev pub act_of : AccessCommand → Level → Held → BodyValue → Outcome
+act_of (commands.Read bank pointer count) = read_outcome bank pointer count
+act_of (commands.Write bank pointer covered) = write_outcome bank pointer covered
+act_of (commands.Kill covered) = password_outcome passwords.Kill covered
+act_of (commands.Lock payload) = lock_outcome payload
+act_of (commands.Access covered) = password_outcome passwords.Access covered
+act_of (commands.BlockErase bank pointer count) = block_erase_outcome bank pointer count

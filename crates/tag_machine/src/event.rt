@@ -24,15 +24,6 @@ impl Body {
             body,
         })
     }
-
-    /// The tag that gets power: it is ready, with StoredCRC computed again.
-    fn with_power(self) -> AnyTag
-        ensures { tag_value_of result ≡ after_on UnpoweredState self }
-    {
-        let mut body = self;
-        body.power_on();
-        AnyTag::Ready(Tag { state: Ready, body })
-    }
 }
 
 impl<S: State> Tag<S> {
@@ -78,12 +69,15 @@ impl AnyTag {
         }
     }
 
-    /// Power comes, which a tag that has it doesn't see.
+    /// Power comes, which a tag that has it doesn't see: the tag is ready, with StoredCRC computed again.
     fn get_power(self) -> AnyTag
         ensures { tag_value_of result ≡ after_on (tag_value_of self).state (tag_value_of self).body }
     {
         match self {
-            AnyTag::Unpowered(Tag { state: _, body }) => body.with_power(),
+            AnyTag::Unpowered(Tag { state: _, mut body }) => {
+                body.power_on();
+                AnyTag::Ready(Tag { state: Ready, body })
+            }
             other => other,
         }
     }

@@ -9,6 +9,7 @@ ghost use Rattle.tag_machine.specs.Step.{step};
 ghost use Rattle.tag_machine.specs.Isolation.{IsIsolated};
 ghost use Rattle.reply_grammar.specs.Table.{reply_room};
 
+use crate::access::AccessCommand;
 use crate::any_tag::{Answered, AnyTag, Heard};
 use crate::steps::Steps;
 use bit_strings::Bits;
@@ -48,16 +49,18 @@ impl AnyTag {
                 pointer,
                 count,
                 rn,
-            } => self.read(*bank, *pointer, *count, *rn, out),
+            } => self.access(AccessCommand::Read(*bank, *pointer, *count), *rn, out),
             Command::Write {
                 bank,
                 pointer,
                 covered,
                 rn,
-            } => self.write(*bank, *pointer, *covered, *rn, out),
-            Command::Kill { covered, rn } => self.kill(*covered, *rn, out),
-            Command::Lock { payload, rn } => self.lock(*payload, *rn, out),
-            Command::Access { covered, rn } => self.access(*covered, *rn, out),
+            } => self.access(AccessCommand::Write(*bank, *pointer, *covered), *rn, out),
+            Command::Kill { covered, rn } => self.access(AccessCommand::Kill(*covered), *rn, out),
+            Command::Lock { payload, rn } => self.access(AccessCommand::Lock(*payload), *rn, out),
+            Command::Access { covered, rn } => {
+                self.access(AccessCommand::Access(*covered), *rn, out)
+            }
             Command::BlockWrite {
                 bank,
                 pointer,
@@ -69,7 +72,7 @@ impl AnyTag {
                 pointer,
                 count,
                 rn,
-            } => self.block_erase(*bank, *pointer, *count, *rn, out),
+            } => self.access(AccessCommand::BlockErase(*bank, *pointer, *count), *rn, out),
         }
     }
 

@@ -41,6 +41,16 @@ pub trait State: Copy {
 #[derive(Clone, Copy, Debug, PartialEq, Eq)]
 pub struct Ready;
 
+impl State for Ready {
+    ghost use Rattle.tag_machine.specs.States.{ready_state};
+
+    ghost value = { ready_state };
+
+    fn name(&self) -> StateName {
+        StateName::Ready
+    }
+}
+
 /// In a round, and waiting for its slot (6.3.2.4.2 Arbitrate state).
 #[derive(Clone, Copy, Debug, PartialEq, Eq)]
 pub struct Arbitrate {
@@ -49,75 +59,14 @@ pub struct Arbitrate {
     pub(crate) slot: Slot,
 }
 
-/// An RN16 was sent, and the tag waits for it to be acknowledged (6.3.2.4.3 Reply state).
-#[derive(Clone, Copy, Debug, PartialEq, Eq)]
-pub struct InReply {
-    pub(crate) session: Session,
-    pub(crate) q: QValue,
-    /// The RN16 that was sent.
-    pub(crate) rn: u16,
-}
+impl State for Arbitrate {
+    ghost use Rattle.tag_machine.specs.States.{arbitrate_state};
 
-/// The EPC was sent (6.3.2.4.4 Acknowledged state).
-#[derive(Clone, Copy, Debug, PartialEq, Eq)]
-pub struct Acknowledged {
-    pub(crate) session: Session,
-    pub(crate) q: QValue,
-    /// The RN16 that was acknowledged.
-    pub(crate) rn: u16,
-}
+    ghost value = { arbitrate_state };
 
-/// Access commands may come (6.3.2.4.5 Open state).
-#[derive(Clone, Copy, Debug, PartialEq, Eq)]
-pub struct Opened {
-    pub(crate) held: Held,
-}
-
-/// Access commands may come, Lock among them (6.3.2.4.6 Secured state).
-#[derive(Clone, Copy, Debug, PartialEq, Eq)]
-pub struct Secured {
-    pub(crate) held: Held,
-}
-
-/// The tag never answers again (6.3.2.4.7 Killed state).
-#[derive(Clone, Copy, Debug, PartialEq, Eq)]
-pub struct Killed;
-
-/// The tag has no power (profile).
-#[derive(Clone, Copy, Debug, PartialEq, Eq)]
-pub struct Unpowered;
-
-/// What open and secured hold.
-#[derive(Clone, Copy, Debug, PartialEq, Eq)]
-pub struct Held {
-    /// The session of the round.
-    pub session: Session,
-    /// Q of the round.
-    pub q: QValue,
-    /// The number that commands to this tag must carry.
-    pub handle: u16,
-    /// The RN16 that covers the number in the next Write, Kill or Access, where one was asked for.
-    pub cover: Option<u16>,
-    /// The half of a Kill or Access that is not finished.
-    pub half: Option<Half>,
-}
-
-/// The first half of a password, which came with a Kill or an Access.
-#[derive(Clone, Copy, Debug, PartialEq, Eq)]
-pub struct Half {
-    /// The password that it is a half of.
-    pub password: Password,
-    /// The half, without its cover.
-    pub value: u16,
-}
-
-/// The password that a half belongs to.
-#[derive(Clone, Copy, Debug, PartialEq, Eq)]
-pub enum Password {
-    /// The kill password (6.3.2.11.3.4 Kill).
-    Kill,
-    /// The access password (6.3.2.11.3.6 Access).
-    Access,
+    fn name(&self) -> StateName {
+        StateName::Arbitrate
+    }
 }
 
 /// A slot counter: 15 bits (6.3.2.4.8 Slot counter). A contract sees its number.
@@ -156,24 +105,22 @@ impl Slot {
     }
 }
 
-impl State for Ready {
-    ghost use Rattle.tag_machine.specs.States.{ready_state};
-
-    ghost value = { ready_state };
-
-    fn name(&self) -> StateName {
-        StateName::Ready
-    }
+/// An RN16 was sent, and the tag waits for it to be acknowledged (6.3.2.4.3 Reply state).
+#[derive(Clone, Copy, Debug, PartialEq, Eq)]
+pub struct InReply {
+    pub(crate) session: Session,
+    pub(crate) q: QValue,
+    /// The RN16 that was sent.
+    pub(crate) rn: u16,
 }
 
-impl State for Arbitrate {
-    ghost use Rattle.tag_machine.specs.States.{arbitrate_state};
-
-    ghost value = { arbitrate_state };
-
-    fn name(&self) -> StateName {
-        StateName::Arbitrate
-    }
+/// The EPC was sent (6.3.2.4.4 Acknowledged state).
+#[derive(Clone, Copy, Debug, PartialEq, Eq)]
+pub struct Acknowledged {
+    pub(crate) session: Session,
+    pub(crate) q: QValue,
+    /// The RN16 that was acknowledged.
+    pub(crate) rn: u16,
 }
 
 impl State for InReply {
@@ -196,6 +143,45 @@ impl State for Acknowledged {
     }
 }
 
+/// What open and secured hold.
+#[derive(Clone, Copy, Debug, PartialEq, Eq)]
+pub struct Held {
+    /// The session of the round.
+    pub session: Session,
+    /// Q of the round.
+    pub q: QValue,
+    /// The number that commands to this tag must carry.
+    pub handle: u16,
+    /// The RN16 that covers the number in the next Write, Kill or Access, where one was asked for.
+    pub cover: Option<u16>,
+    /// The half of a Kill or Access that is not finished.
+    pub half: Option<Half>,
+}
+
+/// The first half of a password, which came with a Kill or an Access.
+#[derive(Clone, Copy, Debug, PartialEq, Eq)]
+pub struct Half {
+    /// The password that it is a half of.
+    pub password: Password,
+    /// The half, without its cover.
+    pub value: u16,
+}
+
+/// The password that a half belongs to.
+#[derive(Clone, Copy, Debug, PartialEq, Eq)]
+pub enum Password {
+    /// The kill password (6.3.2.11.3.4 Kill).
+    Kill,
+    /// The access password (6.3.2.11.3.6 Access).
+    Access,
+}
+
+/// Access commands may come (6.3.2.4.5 Open state).
+#[derive(Clone, Copy, Debug, PartialEq, Eq)]
+pub struct Opened {
+    pub(crate) held: Held,
+}
+
 impl State for Opened {
     ghost use Rattle.tag_machine.specs.States.{open_state};
 
@@ -204,6 +190,12 @@ impl State for Opened {
     fn name(&self) -> StateName {
         StateName::Opened
     }
+}
+
+/// Access commands may come, Lock among them (6.3.2.4.6 Secured state).
+#[derive(Clone, Copy, Debug, PartialEq, Eq)]
+pub struct Secured {
+    pub(crate) held: Held,
 }
 
 impl State for Secured {
@@ -216,6 +208,10 @@ impl State for Secured {
     }
 }
 
+/// The tag never answers again (6.3.2.4.7 Killed state).
+#[derive(Clone, Copy, Debug, PartialEq, Eq)]
+pub struct Killed;
+
 impl State for Killed {
     ghost use Rattle.tag_machine.specs.States.{killed_state};
 
@@ -225,6 +221,10 @@ impl State for Killed {
         StateName::Killed
     }
 }
+
+/// The tag has no power (profile).
+#[derive(Clone, Copy, Debug, PartialEq, Eq)]
+pub struct Unpowered;
 
 impl State for Unpowered {
     ghost use Rattle.tag_machine.specs.States.{unpowered_state};

@@ -1,19 +1,20 @@
 //! Kill and Access (6.3.2.11.3.4 and 6.3.2.11.3.6): a password comes in two halves, each with a cover of its own. How an
 //! unfinished Kill or Access ends is profile.
 ghost use Rattle.std.specs.Prelude.{◌≡◌, ◌+◌, ◌≤◌};
-ghost use Rattle.tag_machine.specs.Access.{whole_of, keep_half, kill_whole, kill, access_whole, access};
+ghost use Rattle.tag_machine.specs.Access.{whole_of, keep_half, kill_whole, kill, access_whole, access, password_outcome};
 ghost use Rattle.tag_machine.specs.Hearing.{GivesOutcome, tag_value_of};
 ghost use Rattle.reply_grammar.specs.Table.{reply_room};
 
-use super::rules::{Follows, TagWithHandle};
-use crate::abilities::{Present, WithHandle};
+use super::AccessCommand;
+use super::rules::TagWithHandle;
+use crate::abilities::WithHandle;
 use crate::any_tag::{AnyTag, Heard};
-use crate::moves::{answer, answer_extended};
-use crate::states::{Half, Held, Killed, Password, Secured};
+use crate::moves::answer_extended;
+use crate::states::{Half, Held, Killed, Password};
 use crate::steps::Steps;
 use crate::tag::Tag;
 use bit_strings::Bits;
-use lock_rules::ErrorCode;
+use lock_rules::{ErrorCode, Level};
 use reply_grammar::Reply;
 use std::sync::ledger::Ledger;
 
@@ -36,8 +37,7 @@ impl TagWithHandle {
             half: Some(Half { password, value }),
             ..held
         };
-        let tag = TagWithHandle { level, held, body };
-        answer(tag.tag(), &Reply::Handle(handle), handle, out)
+        TagWithHandle { level, held, body }.answer(&Reply::Handle(handle), out)
     }
 
     /// What both halves of a Kill give.
@@ -50,9 +50,8 @@ impl TagWithHandle {
         let handle = held.handle;
         if own == 0 {
             let held = Held { half: None, ..held };
-            let tag = TagWithHandle { level, held, body };
             let reply = Reply::Error(ErrorCode::Other.code());
-            return answer_extended(tag.tag(), &reply, handle, out);
+            return TagWithHandle { level, held, body }.answer_extended(&reply, out);
         }
         if own != password {
             return body.go_back(held.session, held.q, out);
@@ -79,51 +78,26 @@ impl TagWithHandle {
         }
         let handle = held.handle;
         let held = Held { half: None, ..held };
-        answer(
-            Secured { held }.tag(body),
-            &Reply::Handle(handle),
-            handle,
-            out,
-        )
+        let level = Level::Secured;
+        TagWithHandle { level, held, body }.answer(&Reply::Handle(handle), out)
     }
-}
 
-impl AnyTag {
-    /// Kill, in each state.
-    pub(crate) fn kill(self, covered: u16, rn: u16, out: &mut Bits) -> Heard
+    /// What a Kill or an Access does that the tag heeds: a first half is kept, and with a second one the password is whole.
+    pub fn take_half(self, password: Password, covered: u16, out: &mut Bits) -> Heard
         requires room { reply_room ≤ out.old.capacity }
-        ensures { GivesOutcome (kill covered rn (tag_value_of self).state (tag_value_of self).body) result out.old out.new }
+        ensures { GivesOutcome (password_outcome password covered self.level self.held self.body) result out.old out.new }
     {
-        let tag = match self.heeding(rn, Follows::HalfOf(Password::Kill), out) {
-            Ok(tag) => tag,
-            Err(heard) => return heard,
-        };
-        let (tag, value) = match tag.uncover(covered, out) {
+        let (tag, value) = match self.uncover(covered, out) {
             Ok(found) => found,
             Err(heard) => return heard,
         };
-        match tag.held.half {
-            None => tag.keep_half(Password::Kill, value, out),
-            Some(half) => tag.kill_whole(whole(half.value, value), out),
-        }
-    }
-
-    /// Access, in each state.
-    pub(crate) fn access(self, covered: u16, rn: u16, out: &mut Bits) -> Heard
-        requires room { reply_room ≤ out.old.capacity }
-        ensures { GivesOutcome (access covered rn (tag_value_of self).state (tag_value_of self).body) result out.old out.new }
-    {
-        let tag = match self.heeding(rn, Follows::HalfOf(Password::Access), out) {
-            Ok(tag) => tag,
-            Err(heard) => return heard,
+        let Some(half) = tag.held.half else {
+            return tag.keep_half(password, value, out);
         };
-        let (tag, value) = match tag.uncover(covered, out) {
-            Ok(found) => found,
-            Err(heard) => return heard,
-        };
-        match tag.held.half {
-            None => tag.keep_half(Password::Access, value, out),
-            Some(half) => tag.access_whole(whole(half.value, value), out),
+        let whole = whole(half.value, value);
+        match password {
+            Password::Kill => tag.kill_whole(whole, out),
+            Password::Access => tag.access_whole(whole, out),
         }
     }
 }
@@ -144,7 +118,8 @@ impl<S: WithHandle> Tag<S> {
         ensures step { GivesOutcome (kill covered rn self.state self.body) result out.old out.new }
         ensures counted { steps.new ≡ steps.old + 1 }
     {
-        self.one_step(steps).kill(covered, rn, out)
+        self.one_step(steps)
+            .access(AccessCommand::Kill(covered), rn, out)
     }
 
     /// With the handle and a cover, a first Access keeps its half and answers the handle; with a second one the tag is in
@@ -162,6 +137,7 @@ impl<S: WithHandle> Tag<S> {
         ensures step { GivesOutcome (access covered rn self.state self.body) result out.old out.new }
         ensures counted { steps.new ≡ steps.old + 1 }
     {
-        self.one_step(steps).access(covered, rn, out)
+        self.one_step(steps)
+            .access(AccessCommand::Access(covered), rn, out)
     }
 }

@@ -1,6 +1,6 @@
 //! Req_RN (6.3.2.11.3.1).
 ghost use Rattle.std.specs.Prelude.{◌≡◌, ◌+◌, ◌≤◌};
-ghost use Rattle.tag_machine.specs.Access.{give_cover, give_handle, req_rn, req_rn_held};
+ghost use Rattle.tag_machine.specs.Access.{give_handle, req_rn, req_rn_held};
 ghost use Rattle.tag_machine.specs.Hearing.{GivesOutcome, tag_value_of};
 ghost use Rattle.reply_grammar.specs.Table.{reply_room};
 
@@ -43,16 +43,19 @@ impl Body {
 }
 
 impl TagWithHandle {
-    /// Draws a cover and answers it.
-    fn give_cover(self, out: &mut Bits) -> Heard
+    /// Req_RN in open and secured, which may follow each first half: the tag draws a cover and answers it.
+    fn req_rn(self, rn: u16, out: &mut Bits) -> Heard
         requires { reply_room ≤ out.old.capacity }
-        ensures { GivesOutcome (give_cover self.level self.held self.body) result out.old out.new }
+        ensures { GivesOutcome (req_rn_held self.level rn self.held self.body) result out.old out.new }
     {
         let TagWithHandle {
             level,
             held,
             mut body,
-        } = self;
+        } = match self.heeding(rn, Follows::AnyHalf, out) {
+            Ok(tag) => tag,
+            Err(heard) => return heard,
+        };
         let cover = body.draw();
         let held = Held {
             cover: Some(cover),
@@ -60,19 +63,6 @@ impl TagWithHandle {
         };
         let tag = TagWithHandle { level, held, body };
         answer(tag.tag(), &Reply::Handle(cover), 0, out)
-    }
-}
-
-impl TagWithHandle {
-    /// Req_RN in open and secured, which may follow each first half.
-    fn req_rn(self, rn: u16, out: &mut Bits) -> Heard
-        requires { reply_room ≤ out.old.capacity }
-        ensures { GivesOutcome (req_rn_held self.level rn self.held self.body) result out.old out.new }
-    {
-        match self.heeding(rn, Follows::AnyHalf, out) {
-            Ok(tag) => tag.give_cover(out),
-            Err(heard) => heard,
-        }
     }
 }
 

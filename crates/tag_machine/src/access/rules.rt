@@ -1,10 +1,11 @@
 //! The rules that stand before an access command, in their order (6.3.2.11.3): the tag has a handle, the command carries it,
 //! an unfinished Kill or Access goes on, and the covered number of a Write, Kill or Access has a cover.
-ghost use Rattle.std.specs.Prelude.{◌≡◌, ℕ, IfOk, IfErr, OnOk, if◌then◌else◌};
+ghost use Rattle.std.specs.Prelude.{◌≡◌, ◌≤◌, ℕ, IfOk, IfErr, OnOk, if◌then◌else◌};
 ghost use Rattle.lock_rules.specs.declared.terms.Level.{Level};
 ghost use Rattle.tag_machine.specs.declared.states.Held.{Held};
 ghost use Rattle.tag_machine.specs.TagValue.{BodyValue};
-ghost use Rattle.tag_machine.specs.Answers.{Outcome};
+ghost use Rattle.reply_grammar.specs.Table.{CanBeSent, reply_room};
+ghost use Rattle.tag_machine.specs.Answers.{Outcome, plain, extended, HasFewWords};
 ghost use Rattle.tag_machine.specs.Access.{held_state, heeded, in_access, uncover, unless_ended};
 ghost use Rattle.tag_machine.specs.Draws.{back};
 ghost use Rattle.tag_machine.specs.Hearing.{GivesOutcome, tag_value_of};
@@ -12,11 +13,12 @@ ghost use Rattle.tag_machine.specs.Hearing.{GivesOutcome, tag_value_of};
 use crate::abilities::Present;
 use crate::any_tag::{AnyTag, Heard};
 use crate::body::Body;
-use crate::moves::unanswered;
+use crate::moves::{answer, answer_extended, unanswered};
 use crate::states::{Held, Opened, Password, Secured};
 use crate::tag::Tag;
 use bit_strings::{Bits, xor16};
 use lock_rules::Level;
+use reply_grammar::Reply;
 
 /// The first half of a Kill or an Access that a command may follow. After another the tag goes back to arbitrate.
 #[derive(Clone, Copy, Debug, PartialEq, Eq)]
@@ -63,6 +65,28 @@ impl TagWithHandle {
             Level::Opened => Opened { held }.tag(body),
             Level::Secured => Secured { held }.tag(body),
         }
+    }
+
+    /// An answer with the preamble of the Query's TRext, which carries the handle; the tag stays as it is.
+    pub fn answer(self, reply: &Reply, out: &mut Bits) -> Heard
+        requires room { reply_room ≤ out.old.capacity }
+        requires sendable { CanBeSent reply.now }
+        requires few { HasFewWords reply.now }
+        ensures { GivesOutcome (plain (held_state self.level self.held) self.body reply.now self.held.handle) result out.old out.new }
+    {
+        let handle = self.held.handle;
+        answer(self.tag(), reply, handle, out)
+    }
+
+    /// The same with the extended preamble.
+    pub fn answer_extended(self, reply: &Reply, out: &mut Bits) -> Heard
+        requires room { reply_room ≤ out.old.capacity }
+        requires sendable { CanBeSent reply.now }
+        requires few { HasFewWords reply.now }
+        ensures { GivesOutcome (extended (held_state self.level self.held) self.body reply.now self.held.handle) result out.old out.new }
+    {
+        let handle = self.held.handle;
+        answer_extended(self.tag(), reply, handle, out)
     }
 
     /// The tag where it heeds a command with this number, else what comes of the command: with another number than the handle

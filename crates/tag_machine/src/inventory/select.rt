@@ -1,7 +1,6 @@
 //! Select (6.3.2.11.1.1).
 ghost use Rattle.std.specs.Prelude.{◌≡◌, ◌+◌, ◌≤◌};
-ghost use Rattle.tag_machine.specs.Draws.{back};
-ghost use Rattle.tag_machine.specs.Inventory.{select, selected_ready, unless_half};
+ghost use Rattle.tag_machine.specs.Inventory.{select, selected_ready};
 ghost use Rattle.tag_machine.specs.Hearing.{GivesOutcome, tag_value_of};
 ghost use Rattle.reply_grammar.specs.Table.{reply_room};
 
@@ -9,7 +8,7 @@ use crate::abilities::Present;
 use crate::any_tag::{AnyTag, Heard};
 use crate::body::Body;
 use crate::moves::unanswered;
-use crate::states::{Held, Ready};
+use crate::states::Ready;
 use crate::steps::Steps;
 use crate::tag::Tag;
 use bit_strings::{Action, Bits, Pointer};
@@ -33,25 +32,6 @@ impl Body {
         body.select(target, action, bank, pointer, mask);
         unanswered(AnyTag::Ready(Tag { state: Ready, body }), out)
     }
-
-    /// The same for a tag that has a handle, which goes back where a Kill or Access is not finished.
-    fn select_held(
-        self,
-        held: Held,
-        target: FlagName,
-        action: Action,
-        bank: MaskBank,
-        pointer: Pointer,
-        mask: &Mask,
-        out: &mut Bits,
-    ) -> Heard
-        ensures { GivesOutcome (unless_half held.half (back held.session held.q self) (selected_ready target action bank pointer mask.now self)) result out.old out.new }
-    {
-        match held.half {
-            Some(_) => self.go_back(held.session, held.q, out),
-            None => self.select_ready(target, action, bank, pointer, mask, out),
-        }
-    }
 }
 
 impl AnyTag {
@@ -74,12 +54,14 @@ impl AnyTag {
             | AnyTag::Acknowledged(Tag { state: _, body }) => {
                 body.select_ready(target, action, bank, pointer, mask, out)
             }
-            AnyTag::Opened(Tag { state, body }) => {
-                body.select_held(state.held, target, action, bank, pointer, mask, out)
-            }
-            AnyTag::Secured(Tag { state, body }) => {
-                body.select_held(state.held, target, action, bank, pointer, mask, out)
-            }
+            AnyTag::Opened(Tag { state, body }) => match state.held.half {
+                Some(_) => body.go_back(state.held.session, state.held.q, out),
+                None => body.select_ready(target, action, bank, pointer, mask, out),
+            },
+            AnyTag::Secured(Tag { state, body }) => match state.held.half {
+                Some(_) => body.go_back(state.held.session, state.held.q, out),
+                None => body.select_ready(target, action, bank, pointer, mask, out),
+            },
             AnyTag::Killed(tag) => unanswered(AnyTag::Killed(tag), out),
             AnyTag::Unpowered(tag) => unanswered(AnyTag::Unpowered(tag), out),
         }
