@@ -1,6 +1,5 @@
 pub mod Commands
 pub mod Framing
-pub mod PartialLists
 pub mod Reading
 pub mod Writing
 pub use Rattle.bit_strings.specs.BitString

@@ -33,6 +33,7 @@ impl Default for Mask {
 
 impl Mask {
     /// The empty mask, which every tag matches that has the place it names.
+    #[inline]
     pub fn new() -> Mask
         ensures { result ≡ [] }
     {
@@ -115,6 +116,7 @@ impl Model for BlockWords {
 
 impl BlockWords {
     /// The block of this one word.
+    #[inline]
     pub fn first(word: u16) -> BlockWords
         ensures { result ≡ word ∷ [] }
     {

@@ -3,12 +3,12 @@ ghost use Rattle.std.specs.Prelude.{◌≡◌, ◌≢◌, ◌^◌, ◌<◌, ◌�
 ghost use Rattle.command_grammar.specs.Framing.{fields_of, command_of};
 
 use crate::choices::CommandKind;
+use crate::command_lists::{BlockWords, Mask};
 use crate::commands::{
     Command, access, ack, block_erase, block_write, kill, lock, nak, query, query_adjust,
     query_rep, read, req_rn, select, write,
 };
 use crate::field_values::{Bank, FlagName, MaskBank, Sel, Side, UpDn};
-use crate::partial_lists::{PartialMask, PartialWords};
 use crate::refusal::CommandRefusal;
 use bit_strings::{Action, Code, Count1, Payload, Pointer, QValue, Session};
 
@@ -104,10 +104,10 @@ pub(crate) struct Fields {
     pub(crate) action: Action,
     pub(crate) mask_bank: MaskBank,
     pub(crate) pointer: Pointer,
-    pub(crate) mask: PartialMask,
+    pub(crate) mask: Mask,
     pub(crate) bank: Bank,
     pub(crate) count: u8,
-    pub(crate) words: PartialWords,
+    pub(crate) words: BlockWords,
     pub(crate) word_count: Count1,
     pub(crate) covered: u16,
     pub(crate) payload: Payload,
@@ -131,10 +131,10 @@ impl Fields {
             action: action_of(0),
             mask_bank: MaskBank::Epc,
             pointer: pointer_of(0),
-            mask: PartialMask::new(),
+            mask: Mask::new(),
             bank: Bank::Reserved,
             count: 0,
-            words: PartialWords::new(),
+            words: BlockWords::first(0),
             word_count: count_of(1),
             covered: 0,
             payload: payload_of(0),
@@ -180,7 +180,7 @@ impl Fields {
                     action: self.action,
                     bank: self.mask_bank,
                     pointer: self.pointer,
-                    mask: self.mask.whole(),
+                    mask: self.mask,
                 });
             }
             CommandKind::Nak => *answer = Ok(Command::Nak),
@@ -225,7 +225,7 @@ impl Fields {
                 *answer = Ok(Command::BlockWrite {
                     bank: self.bank,
                     pointer: self.pointer,
-                    words: self.words.whole(),
+                    words: self.words,
                     rn: self.rn,
                 });
             }

@@ -11,7 +11,6 @@ mod field_values;
 mod fields;
 mod framer;
 mod laws;
-mod partial_lists;
 mod refusal;
 mod spelling;
 mod stage;

@@ -8,8 +8,8 @@ ghost use Rattle.command_grammar.specs.declared.refusal.Reason.{Reason};
 
 use crate::check::Check;
 use crate::choices::{bank, line_code, mask_bank, sel, side, target, updn};
+use crate::command_lists::{BlockWords, Mask};
 use crate::fields::{Field, Fields, action_of, count_of, payload_of, pointer_of, q_of, session_of};
-use crate::partial_lists::{PartialMask, PartialWords};
 use crate::refusal::Reason;
 use bit_strings::{EbvFront, EbvStep};
 
@@ -364,7 +364,7 @@ fn take_number(field: NumberField, value: u32, fields: &mut Fields) -> Next
             Next::Done
         }
         NumberField::MaskLength => {
-            fields.mask = PartialMask::new();
+            fields.mask = Mask::new();
             if value == 0 {
                 return Next::Done;
             }
@@ -377,7 +377,7 @@ fn take_number(field: NumberField, value: u32, fields: &mut Fields) -> Next
             Next::Stay(Stage::Number(NumberField::FirstWord(value - 1), Number::of(16)))
         }
         NumberField::FirstWord(left) => {
-            fields.words = PartialWords::first(value as u16);
+            fields.words = BlockWords::first(value as u16);
             next_word(left)
         }
         NumberField::Word(left) => {
