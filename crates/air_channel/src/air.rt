@@ -2,12 +2,14 @@
 ghost use Rattle.std.specs.Prelude.{◌≡◌, ◌+◌, ◌*◌, ◌<◌, ◌≤◌, [], All, Some, length, slice_get, IfOk};
 ghost use Rattle.std.specs.Borrow.{sem};
 ghost use Rattle.command_grammar.specs.Commands.{IsLegalCommand};
+ghost use Rattle.pie_line.specs.Pie.{longest_interval};
 ghost use Rattle.tag_machine.specs.Hearing.{tag_value_of};
 ghost use Rattle.tag_machine.specs.TagValue.{IsLegalTag};
 ghost use Rattle.air_channel.specs.Air.{AreLegalTags, NamesTags, air_after, air_after_event, given_in, next_exchange};
 ghost use Rattle.air_channel.specs.Channel.{got_of};
 ghost use Rattle.air_channel.specs.Exchange.{IsQueryRep, busy_from};
 ghost use Rattle.air_channel.specs.Lent.{KeepsAir};
+ghost use Rattle.air_channel.specs.Rooms.{longest_frame, longest_stream};
 
 use crate::population::Population;
 use crate::replies::Replies;
@@ -169,8 +171,8 @@ impl Air {
     /// The frame that was sent last, in nanoseconds; none before the first exchange.
     pub fn intervals(&self) -> &Intervals
         ensures value { result.now.items ≡ self.now.frame }
-        ensures count { length self.now.frame ≤ 8331 }
-        ensures each { All (λ interval. interval ≤ 999999) self.now.frame }
+        ensures count { length self.now.frame ≤ longest_frame }
+        ensures each { All (λ interval. interval ≤ longest_interval) self.now.frame }
     {
         &self.frame
     }
@@ -178,7 +180,7 @@ impl Air {
     /// The stream of the last exchange; none after silence, and before the first exchange.
     pub fn stream(&self) -> &Levels
         ensures value { result.now.items ≡ self.now.stream }
-        ensures count { length self.now.stream ≤ 131968 }
+        ensures count { length self.now.stream ≤ longest_stream }
     {
         &self.stream
     }

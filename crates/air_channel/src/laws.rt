@@ -14,6 +14,7 @@ ghost use Rattle.reply_grammar.specs.declared.expected.Received.TheVariants.{Who
 ghost use Rattle.air_channel.specs.Channel.{Given, silence, whole, broken, heard_levels, got_of};
 ghost use Rattle.air_channel.specs.Exchange.{Replied};
 ghost use Rattle.air_channel.specs.Received.{IsReceived};
+ghost use Rattle.air_channel.specs.Rooms.{longest_stream};
 ghost use Rattle.air_channel.specs.Reception.{HoldsOfSent, IsGiven, IsGivenFor, IsReplyFor, IsUnmistakable, reception_of, reception_with};
 ghost use Rattle.reply_grammar.specs.Reception.{no_stream, reception_from};
 ghost use Rattle.air_channel.specs.declared.air.Got.TheVariants.{Silence, Stream};
@@ -82,5 +83,5 @@ pub fn reception_law()
     ensures by_link { (trext : Bool) (expect : Expect) (given : Given) → HoldsOfSent (λ sent. sent.extended ≡ false) given → reception_with trext false expect given ≡ reception_of expect given }
     ensures nothing { (link : LinkValue) (given : Given) → (heard_levels link given ≡ []) ↔ (given ≡ silence) }
     ensures least { (link : LinkValue) (given : Given) → given ≢ silence → 1 ≤ length (heard_levels link given) }
-    ensures most { (link : LinkValue) (given : Given) → IsGiven given → length (heard_levels link given) ≤ 131968 }
+    ensures most { (link : LinkValue) (given : Given) → IsGiven given → length (heard_levels link given) ≤ longest_stream }
 {}

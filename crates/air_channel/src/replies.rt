@@ -8,6 +8,7 @@ ghost use Rattle.air_channel.specs.Exchange.{Replied, outcome_unless, reply_of};
 ghost use Rattle.air_channel.specs.Channel.{default_given, first_broken, given_of, got_of, heard_levels, whole_or_silence};
 ghost use Rattle.air_channel.specs.Kept.{RepliesStandFor, kept_levels, wanted_by};
 ghost use Rattle.air_channel.specs.Giving.{Means};
+ghost use Rattle.air_channel.specs.Rooms.{longest_stream, room_for_streams};
 
 use crate::air::Got;
 use crate::seat::Seat;
@@ -39,13 +40,14 @@ pub(crate) struct Replies {
 
 impl Model for Replies {
     ghost use Rattle.std.specs.Prelude.{◌≤◌};
+    ghost use Rattle.reply_grammar.specs.Table.{reply_room};
     ghost use Rattle.air_channel.specs.Kept.{KeptReplies};
 
     ghost Value = { KeptReplies };
 
     ghost view = { λ a. record { wanted = a.wanted; count = a.count; bits = a.kept.items; extended = a.extended } };
 
-    ghost invariant = { λ a. (8240 ≤ a.kept.capacity) × (8240 ≤ a.passing.capacity) };
+    ghost invariant = { λ a. (reply_room ≤ a.kept.capacity) × (reply_room ≤ a.passing.capacity) };
 }
 
 /// What the channel gives of the replies.
@@ -168,10 +170,10 @@ impl Replies {
     ) -> Got
         requires stands { (replies : List Replied) × RepliesStandFor replies self.now }
         requires wanted { self.now.wanted ≡ wanted_by choice.now }
-        requires room { 132208 ≤ stream.old.capacity }
+        requires room { room_for_streams ≤ stream.old.capacity }
         ensures stream { (replies : List Replied) → RepliesStandFor replies self.now → stream.new.items ≡ heard_levels link.now (given_of replies choice.now several) }
         ensures got { (replies : List Replied) → RepliesStandFor replies self.now → result ≡ got_of (given_of replies choice.now several) }
-        ensures most { length stream.new.items ≤ 131968 }
+        ensures most { length stream.new.items ≤ longest_stream }
         ensures capacity { stream.new.capacity ≡ stream.old.capacity }
     {
         match giving_of(choice, several, self.count) {
@@ -194,10 +196,10 @@ impl Replies {
     /// Writes the stream of the reply that is kept.
     fn encode(&self, link: &Link, stream: &mut Levels)
         requires short { length self.now.bits ≤ 8225 }
-        requires room { 132208 ≤ stream.old.capacity }
+        requires room { room_for_streams ≤ stream.old.capacity }
         ensures stream { stream.new ≡ record stream.old { items = kept_levels link.now self.now } }
         ensures least { 1 ≤ length stream.new.items }
-        ensures most { length stream.new.items ≤ 131968 }
+        ensures most { length stream.new.items ≤ longest_stream }
     {
         encode_bits(
             link.code(),

@@ -1,5 +1,6 @@
 //! One place in a population, which has a tag.
 ghost use Rattle.std.specs.Prelude.{◌≡◌, ◌+◌, ◌<◌, ◌≤◌, Some, true, false, if◌then◌else◌};
+ghost use Rattle.reply_grammar.specs.Table.{reply_room};
 ghost use Rattle.tag_machine.specs.Answers.{IsSent, bits_sent, silent};
 ghost use Rattle.tag_machine.specs.Events.{tag_after_event};
 ghost use Rattle.tag_machine.specs.Hearing.{mark_of, tag_value_of, typed_name_of};
@@ -105,7 +106,7 @@ impl Seat {
         out: &mut Bits,
         steps: &mut Steps<L>,
     ) -> Answered
-        requires room { 8240 ≤ out.old.capacity }
+        requires room { reply_room ≤ out.old.capacity }
         ensures tag { self.new ≡ (outcome_unless misses command.now self.old).tag }
         ensures answered { result ≡ mark_of (outcome_unless misses command.now self.old).answer }
         ensures bits { out.new ≡ record out.old { items = bits_sent (outcome_unless misses command.now self.old).answer } }

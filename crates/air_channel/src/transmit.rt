@@ -4,6 +4,7 @@ ghost use Rattle.bit_strings.specs.BitString.{most_counted};
 ghost use Rattle.command_grammar.specs.Commands.{IsLegalCommand};
 ghost use Rattle.pie_line.specs.Pie.{longest_interval};
 ghost use Rattle.air_channel.specs.Channel.{lead_of, wave_for};
+ghost use Rattle.air_channel.specs.Rooms.{longest_frame, room_for_frames};
 ghost use Rattle.air_channel.specs.Taken.{HasTaken};
 
 use crate::receiver::Receiver;
@@ -21,13 +22,13 @@ pub(crate) fn transmit(
     bits: &mut Bits,
     frame: &mut Intervals,
 ) -> Command
-    requires bits_room { 8400 ≤ bits.old.capacity }
-    requires frame_room { 8400 ≤ frame.old.capacity }
+    requires bits_room { room_for_frames ≤ bits.old.capacity }
+    requires frame_room { room_for_frames ≤ frame.old.capacity }
     ensures heard { result ≡ command.now }
     ensures legal { IsLegalCommand command.now }
     ensures wave { frame.new.items ≡ wave_for link.now command.now }
-    ensures each { All (λ interval. interval ≤ 999999) frame.new.items }
-    ensures count { length frame.new.items ≤ 8331 }
+    ensures each { All (λ interval. interval ≤ longest_interval) frame.new.items }
+    ensures count { length frame.new.items ≤ longest_frame }
     ensures bits_capacity { bits.new.capacity ≡ bits.old.capacity }
     ensures frame_capacity { frame.new.capacity ≡ frame.old.capacity }
 {

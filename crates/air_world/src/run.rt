@@ -59,13 +59,14 @@ pub(crate) struct Run<'a, L: Ledger> {
 
 impl<'a, L: Ledger> Model for Run<'a, L> {
     ghost use Rattle.std.specs.Prelude.{◌≤◌};
+    ghost use Rattle.air_channel.specs.Rooms.{longest_stream};
     ghost use Rattle.air_world.specs.Playing.{RunValue};
 
     ghost Value = { RunValue };
 
     ghost view = { λ a. record { mode = a.mode; entries = a.entries; seen = a.seen; rounds = a.rounds; slots = a.slots; quiet = a.quiet } };
 
-    ghost invariant = { λ a. 131968 ≤ a.bits.capacity };
+    ghost invariant = { λ a. longest_stream ≤ a.bits.capacity };
 }
 
 impl<'a, L: Ledger> Run<'a, L> {
