@@ -51,22 +51,9 @@ impl Check {
         }
     }
 
-    /// One bit more.
-    #[inline]
-    pub(crate) fn push(&mut self, bit: bool)
-        ensures counts { (bits : List Bool) → Counts self.old bits → Counts self.new (bits ++ bit ∷ []) }
-        ensures kept { check_kept self.new ≡ check_kept self.old }
-    {
-        match self {
-            Check::Long(crc) => crc.push(bit),
-            Check::Short(crc) => crc.push(bit),
-            Check::Over => {}
-        }
-    }
-
     /// These bits more.
     #[inline]
-    pub(crate) fn push_all(&mut self, bits: &[bool])
+    pub(crate) fn push(&mut self, bits: &[bool])
         ensures counts { (front : List Bool) → Counts self.old front → Counts self.new (front ++ bits.now) }
         ensures kept { check_kept self.new ≡ check_kept self.old }
     {
