@@ -1,4 +1,4 @@
--- Each tag hears a command, one after another, with its slot counter written back.
+-- Each tag hears a command, one after another, with its slot counter written back, and takes part as its state says from then on.
 use Rattle.std.proofs.Common.{◌≡◌, ◌≢◌, ℕ, zero, suc, ◌+◌, ◌*◌, ◌<◌, ◌≤◌, inl, inr, Bool, List, [], ◌∷◌, ◌++◌, length, take, get_or, set, Option, None, refl, sym, ap, ◌∙◌, subst, arith, if◌then◌else◌, append_assoc, append-nil, length-append, take_all}
 use Rattle.std.proofs.lemmas.Bool.Decides.{eqb_tells}
 use Rattle.std.proofs.lemmas.List.{get_or-set_same, get_or-set_other, length-set, ext_get_or}
@@ -10,6 +10,7 @@ use Rattle.tag_machine.specs.TagValue.{StateValue, BodyValue, TagValue, IsLegalT
 use Rattle.air_channel.proofs.Calling.{unless_stays}
 use Rattle.air_channel.proofs.Heard.{sum-zero, zero-sum, later, one_reply, step_most, standing_of_tag}
 use Rattle.air_channel.proofs.Populations.{legal-set, length-heard}
+use Rattle.air_channel.proofs.Resting.{SettledBelow, settled_next}
 use Rattle.air_channel.proofs.Seating.{length-tags_of, tag_at, back_and_called}
 use Rattle.air_channel.specs.Air.{AreLegalTags}
 use Rattle.air_channel.specs.Exchange.{Replied, outcome_unless, is_missed, tags_after, reply_of, replies_from}
@@ -181,6 +182,50 @@ each_idle command entry standings seats counted wanted number seated kept steps 
       wanted_is = so_far.wanted_is;
       legal = so_far.legal;
     }
+
+-- ... where nothing is known of it but that it took no part
+pub idle_stands : (command : Command) (entry : Entry) (standings now : List (Option Standing)) (seats : List TagValue) (counted wanted number : ℕ) (seated : List TagValue) (kept : KeptReplies) (steps : ℕ)
+    → AreAtRest standings seats → number < length seats → HeardBelow command entry standings seats counted wanted number seated kept steps
+    → standing_at now number ≡ standing_at standings number → standing_at now number ≡ None → standing_at now number ≡ standing_in (get_or seated number no_tag).state
+idle_stands command entry standings now seats counted wanted number seated kept steps rest within so_far same idle =
+    let tags : List TagValue = tags_of standings seats in
+    let here : get_or seated number no_tag ≡ get_or tags number no_tag =
+    so_far.left number (omega arith)
+    ∙ ap (λ (s : Option Standing). tag_seated s (get_or seats number no_tag)) (sym idle ∙ same)
+    ∙ sym (tag_at standings seats number no_tag rest.whole within) in
+    same
+    ∙ ap (λ (l : List (Option Standing)). standing_at l number) rest.settled
+    ∙ standing_of_tag tags number
+    ∙ ap (λ (t : TagValue). standing_in t.state) (sym here)
+
+-- a slot counter is written back where the tag takes part as before
+pub back_same : (standings now : List (Option Standing)) (number : ℕ) (seated between : List TagValue) → standing_at now number ≡ standing_at standings number
+    → between ≡ seats_written_back now number seated → between ≡ seats_written_back standings number seated
+back_same standings now number seated between same back =
+    back ∙ ap (λ (s : Option Standing). set seated number (tag_seated s (get_or seated number no_tag))) same
+
+-- the next tag is put where it takes part
+pub each_settled : (standings now after : List (Option Standing)) (number : ℕ) (seated between : List TagValue) (new : TagValue) (standing : Option Standing) → SettledBelow seated number now
+    → number < length seated → between ≡ seats_written_back standings number seated → standing ≡ standing_in new.state → after ≡ set now number standing
+    → SettledBelow (set between number new) (number + 1) after
+each_settled standings now after number seated between new standing so_far within back is put =
+    let written : TagValue = tag_seated (standing_at standings number) (get_or seated number no_tag) in
+    let long : length between ≡ length seated = ap (λ (l : List TagValue). length l) back ∙ length-set seated number written in
+    settled_next seated (set between number new) number now after standing new so_far within (length-set between number new ∙ long)
+    (get_or-set_same between number new no_tag (rw long within))
+    (λ other apart.
+    get_or-set_other between number other new no_tag apart
+    ∙ ap (λ (l : List TagValue). get_or l other no_tag) back
+    ∙ get_or-set_other seated number other written no_tag apart)
+    is put
+
+-- the tags behind it take part as before
+pub left_by_put : (standings now after : List (Option Standing)) (number : ℕ) (standing : Option Standing) → after ≡ set now number standing
+    → ((other : ℕ) → number ≤ other → standing_at now other ≡ standing_at standings other) → (other : ℕ) → number + 1 ≤ other → standing_at after other ≡ standing_at standings other
+left_by_put standings now after number standing put left other past =
+    ap (λ (l : List (Option Standing)). standing_at l other) put
+    ∙ get_or-set_other now number other standing None (λ same. omega (arith, same, past))
+    ∙ left other (omega (arith, past))
 
 length-hearing : (number : ℕ) (command : Command) (entry : Entry) (tags : List TagValue) → length (hearing_from number command entry tags) ≡ length tags
 length-hearing number command entry [] = refl

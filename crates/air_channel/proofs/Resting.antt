@@ -1,5 +1,5 @@
 -- Tags between commands: each takes part as its state says.
-use Rattle.std.proofs.Common.{◌≡◌, ℕ, zero, suc, ◌+◌, ◌<◌, ◌≤◌, inl, inr, List, [], ◌∷◌, ◌++◌, length, take, drop, Option, Some, None, get_or, set, refl, sym, ap, ◌∙◌, subst, arith, take_all}
+use Rattle.std.proofs.Common.{◌≡◌, ◌≢◌, ℕ, zero, suc, ◌+◌, ◌<◌, ◌≤◌, inl, inr, List, [], ◌∷◌, ◌++◌, length, take, drop, Option, Some, None, get_or, set, refl, sym, ap, ◌∙◌, subst, arith, take_all}
 use Rattle.std.specs.Prelude.{slice_get}
 use Rattle.std.proofs.lemmas.Bool.Decides.{eqb_tells}
 use Rattle.std.proofs.lemmas.Option.{same_Some}
@@ -184,38 +184,53 @@ pub befalls_steps : (standings called : List (Option Standing)) (number steps st
 befalls_steps standings called number steps stepped within is counts =
     omega (arith, counts, ap (λ (l : List (Option Standing)). called_in l) is, called_in-set standings number within)
 
--- all tags are settled, from the last one on
-pub record SettledFrom (seats : List TagValue) (from : ℕ) (standings : List (Option Standing)) : Type 0 where
+-- the tags below a number take part as their states say
+pub record SettledBelow (seats : List TagValue) (number : ℕ) (standings : List (Option Standing)) : Type 0 where
   pub whole : length standings ≡ length seats
-  pub each : (other : ℕ) → from ≤ other → other < length seats → standing_at standings other ≡ standing_in (get_or seats other no_tag).state
+  pub each : (other : ℕ) → other < number → standing_at standings other ≡ standing_in (get_or seats other no_tag).state
 
-pub settled_none : (seats : List TagValue) (from : ℕ) (standings : List (Option Standing)) → length standings ≡ length seats → length seats ≤ from → SettledFrom seats from standings
-settled_none seats from standings same past = record { whole = same; each = λ other least within. absurd (omega (arith, past, least, within)) }
+pub settled_none : (seats : List TagValue) (standings : List (Option Standing)) → length standings ≡ length seats → SettledBelow seats 0 standings
+settled_none seats standings same = record { whole = same; each = λ other below. absurd (omega (arith, below)) }
 
-pub settled_next : (seats : List TagValue) (from number : ℕ) (standings after : List (Option Standing)) (standing : Option Standing) (seat d : TagValue) → SettledFrom seats from standings
-    → from ≡ number + 1 → number < length seats → seat ≡ get_or seats number d → standing ≡ standing_in seat.state → after ≡ set standings number standing → SettledFrom seats number after
-settled_next seats from number standings after standing seat d so_far next within at is put = record {
-  whole = ap (λ (l : List (Option Standing)). length l) put ∙ length-set standings number standing ∙ so_far.whole;
-  each = λ other least inside.
+-- ... where the next one takes part as its state says already
+pub settled_more : (seats : List TagValue) (number : ℕ) (standings : List (Option Standing)) → SettledBelow seats number standings
+    → standing_at standings number ≡ standing_in (get_or seats number no_tag).state → SettledBelow seats (number + 1) standings
+settled_more seats number standings so_far is = record {
+  whole = so_far.whole;
+  each = λ other below.
+      elim (eqb_tells other number) [
+        | inl same ↦ rw same.1 is
+        | inr apart ↦ so_far.each other (omega (arith, below, apart.1))
+      ];
+}
+
+-- ... where the next one has become another, and is put where it takes part
+pub settled_next : (seats became : List TagValue) (number : ℕ) (standings after : List (Option Standing)) (standing : Option Standing) (seat : TagValue) → SettledBelow seats number standings
+    → number < length seats → length became ≡ length seats → get_or became number no_tag ≡ seat → ((other : ℕ) → other ≢ number → get_or became other no_tag ≡ get_or seats other no_tag)
+    → standing ≡ standing_in seat.state → after ≡ set standings number standing → SettledBelow became (number + 1) after
+settled_next seats became number standings after standing seat so_far within long at others is put = record {
+  whole = ap (λ (l : List (Option Standing)). length l) put ∙ length-set standings number standing ∙ so_far.whole ∙ sym long;
+  each = λ other below.
       elim (eqb_tells other number) [
         | inl same ↦
             ap (λ n. standing_at after n) same.1
             ∙ ap (λ (l : List (Option Standing)). standing_at l number) put
             ∙ get_or-set_same standings number standing None (rw so_far.whole within)
             ∙ is
-            ∙ ap (λ (t : TagValue). standing_in t.state) (at ∙ get_or_default seats number d no_tag within)
-            ∙ ap (λ n. standing_in (get_or seats n no_tag).state) (sym same.1)
+            ∙ ap (λ (t : TagValue). standing_in t.state) (sym at)
+            ∙ ap (λ n. standing_in (get_or became n no_tag).state) (sym same.1)
         | inr apart ↦
             ap (λ (l : List (Option Standing)). standing_at l other) put
             ∙ get_or-set_other standings number other standing None apart.1
-            ∙ so_far.each other (omega (arith, least, apart.1, next)) inside
+            ∙ so_far.each other (omega (arith, below, apart.1))
+            ∙ ap (λ (t : TagValue). standing_in t.state) (sym (others other apart.1))
       ];
 }
 
-pub settled_all : (seats : List TagValue) (from : ℕ) (standings : List (Option Standing)) → SettledFrom seats from standings → from ≤ 0 → standings ≡ standings_of seats
-settled_all seats from standings so_far first =
+pub settled_all : (seats : List TagValue) (number : ℕ) (standings : List (Option Standing)) → SettledBelow seats number standings → length seats ≤ number → standings ≡ standings_of seats
+settled_all seats number standings so_far past =
     ext_get_or None standings (standings_of seats) (so_far.whole ∙ sym (length-map seats (λ (t : TagValue). standing_in t.state)))
-    (λ other below. so_far.each other (omega (arith, first)) (rw (← so_far.whole) below) ∙ sym (standing_of_tag seats other))
+    (λ other below. so_far.each other (omega (arith, below, so_far.whole, past)) ∙ sym (standing_of_tag seats other))
 
 settled_tags : (seats : List TagValue) → tags_of (standings_of seats) seats ≡ seats
 settled_tags [] = refl

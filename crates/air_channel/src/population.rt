@@ -159,18 +159,12 @@ fn seats_of(alloc: Global, tags: Vec<AnyTag>) -> Result<Vec<Seat>, OutOfMemory>
 }
 
 /// Lets each tag take part as its state says.
-///
-/// The tags leave their places from the first one on, and come to their new ones from the last one on, so that no tag has
-/// to pass another one.
 fn settle(seats: &[Seat], waiting: &mut Waiting)
     requires whole { length waiting.old ≡ length seats.now }
     requires few { length seats.now ≤ 256 }
     ensures { waiting.new ≡ standings_of seats.now }
 {
     for number in 0..seats.len() {
-        waiting.put(number as u16, None);
-    }
-    for number in (0..seats.len()).rev() {
         waiting.put(number as u16, seats[number].standing());
     }
 }
@@ -285,8 +279,8 @@ fn call_due<L: Ledger>(
     }
 }
 
-/// Lets each tag hear a command, unless it misses it, in the order of their numbers. Each takes part afterwards as its
-/// state says.
+/// Lets each tag hear a command, unless it misses it, in the order of their numbers, with its slot counter written back.
+/// Each takes part afterwards as its state says. A QueryAdjust passes by the tags that take no part.
 fn hear_all<L: Ledger>(
     seats: &mut [Seat],
     waiting: &mut Waiting,
@@ -303,33 +297,13 @@ fn hear_all<L: Ledger>(
     ensures counted { steps.new ≤ steps.old + 2 * length seats.old }
     ensures rest { AreAtRest waiting.new seats.new }
 {
-    hear_each(seats, waiting, command, entry, replies, steps);
-    settle(seats, waiting);
-}
-
-/// Lets each tag hear a command, unless it misses it, in the order of their numbers, with its slot counter written back.
-/// A QueryAdjust passes by the tags that take no part.
-fn hear_each<L: Ledger>(
-    seats: &mut [Seat],
-    waiting: &Waiting,
-    command: &Command,
-    entry: &Entry,
-    replies: &mut Replies,
-    steps: &mut Steps<L>,
-)
-    requires begun { RepliesStandFor [] replies.old }
-    requires rest { AreAtRest waiting.now seats.old }
-    ensures tags { seats.new ≡ tags_after (hearing_from 0 command.now entry.now (tags_of waiting.now seats.old)) }
-    ensures replies { RepliesStandFor (replies_from 0 (hearing_from 0 command.now entry.now (tags_of waiting.now seats.old))) replies.new }
-    ensures wanted { replies.new.wanted ≡ replies.old.wanted }
-    ensures counted { steps.new ≤ steps.old + 2 * length seats.old }
-    ensures legal { AreLegalTags seats.new }
-{
     for number in 0..seats.len() {
         if !is_passed(waiting, number as u16, command) {
             write_back(seats, waiting, number as u16, steps);
             let misses = is_missed(number as u32, entry);
-            replies.hear(&mut seats[number], misses, command, steps);
+            let seat = &mut seats[number];
+            replies.hear(seat, misses, command, steps);
+            waiting.put(number as u16, seat.standing());
         }
     }
 }
