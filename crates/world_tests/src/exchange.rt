@@ -29,14 +29,14 @@ const FOURTH_INVERTED: &[u8] = b"1100001000110010110101010100110100110101001011"
 
 const LAST_INVERTED: &[u8] = b"1101001000110010110101010100110100110101001010";
 
-const NO_TAG: [Row; 4] = [
+const NO_TAG: &[Row] = &[
     ("", 0, b""),
     ("air 1 pick 0\n", 0, b""),
     ("air 1 silent\n", 0, b""),
     ("air 1 break 0\n", 0, b""),
 ];
 
-const ONE_TAG: [Row; 8] = [
+const ONE_TAG: &[Row] = &[
     ("", 1, A1B2),
     ("air 1 pick 0\n", 1, A1B2),
     ("air 1 pick 1\n", 1, b""),
@@ -47,7 +47,7 @@ const ONE_TAG: [Row; 8] = [
     ("air 1 miss 0\n", 0, b""),
 ];
 
-const TWO_TAGS: [Row; 11] = [
+const TWO_TAGS: &[Row] = &[
     ("", 2, FIRST_INVERTED),
     ("air 1 pick 0\n", 2, A1B2),
     ("air 1 pick 1\n", 2, W5678),
@@ -100,6 +100,14 @@ fn exchange(air: &mut Air, command: &Command, entry: &Entry) -> Got
     exchange_counted::<Brand>(Blank::new(1), air, command, entry)
 }
 
+/// The exchange of the command; none where the entry names a tag that is not there.
+fn exchanged(air: &mut Air, command: &Command, entry: &Entry) -> Option<Got> {
+    if !names_tags(entry, air.len()) {
+        return None;
+    }
+    Some(exchange(air, command, entry))
+}
+
 /// The list of a text of the digits 1 and 0.
 fn list_of(alloc: Global, text: &[u8]) -> Option<Bits> {
     let mut list = Bits::new(alloc, 100).ok()?;
@@ -107,21 +115,18 @@ fn list_of(alloc: Global, text: &[u8]) -> Option<Bits> {
     Some(list)
 }
 
-/// Sends a Query with Q 0, with what the scenario says of the first exchange; none where that names no tag.
+/// Sends a Query with Q 0, with what the scenario says first of an exchange; none where that names no tag.
 fn send_query(alloc: Global, scenario: &Scenario, air: &mut Air) -> Option<Got> {
-    let empty = empty_entry(alloc);
-    let mut entries = EntryCursor::new(scenario.entries.as_slice(), &empty);
-    let entry = entries.next_entry(1);
     let query = query(0, 0)?;
-    if !names_tags(entry, air.len()) {
-        return None;
+    match scenario.entries.as_slice().first() {
+        Some((_, entry)) => exchanged(air, &query, entry),
+        None => exchanged(air, &query, &empty_entry(alloc)),
     }
-    Some(exchange(air, &query, entry))
 }
 
 /// Whether the exchange of a row goes so, with tags that reply at once.
-fn goes(alloc: Global, tags: [&'static str; 2], row: Row) -> Option<bool> {
-    let (said, replies, levels) = row;
+fn goes(alloc: Global, tags: [&'static str; 2], row: &Row) -> Option<bool> {
+    let (said, replies, levels) = *row;
     let scenario = scenario_of(alloc, &[tags[0], tags[1], said])?;
     let mut air = set_up(alloc, &scenario).ok()?;
     let got = send_query(alloc, &scenario, &mut air)?;
@@ -176,11 +181,9 @@ const FRAMES: [&[u32]; 2] = [
 
 /// Sends the command, with nothing said of the exchange, and compares the frame and the number of exchanges.
 fn sends(air: &mut Air, command: &Command, empty: &Entry, frame: &[u32], exchanges: u64) -> bool {
-    if !names_tags(empty, air.len()) {
-        return false;
-    }
-    exchange(air, command, empty);
-    air.intervals().as_slice() == frame && air.exchanges() == exchanges
+    exchanged(air, command, empty).is_some()
+        && air.intervals().as_slice() == frame
+        && air.exchanges() == exchanges
 }
 
 /// The air without a tag.
