@@ -19,7 +19,7 @@ use crate::request::{
 };
 use air_channel::receive;
 use bit_strings::{Bits, Code, Levels, OutOfMemory};
-use command_grammar::{Command, CommandRefusal, decode_command};
+use command_grammar::{Command, CommandRefusal, decode_command_to};
 use command_text::{push_command, push_command_refusal};
 use epc_sgtin::{EpcFault, Sgtin, UriFault};
 use line_codes::{LineRefusal, decode_levels};
@@ -32,7 +32,8 @@ use sgtin_text::{push_epc_fault, push_name, push_sgtin_words, push_uri_fault};
 use std::alloc::Global;
 use text_fields::{Digits, HexBytes, Words, push_bits, push_number};
 
-/// Room for the levels, bits, intervals, samples and words of the longest line, taken once for all lines.
+/// Room for the levels, bits, intervals, samples, words and the command of the longest line, taken once for all
+/// lines.
 #[derive(Drop)]
 pub struct Workspace {
     levels: Levels,
@@ -40,6 +41,7 @@ pub struct Workspace {
     intervals: Intervals,
     samples: Vec<u8>,
     words: Vec<u16>,
+    command: Result<Command, CommandRefusal>,
     ghost levels_room: { levels.capacity ≡ most_levels },
     ghost bits_room: { bits.capacity ≡ most_levels },
     ghost intervals_room: { intervals.capacity ≡ 20000 },
@@ -59,6 +61,7 @@ impl Workspace {
             intervals,
             samples,
             words,
+            command: Err(CommandRefusal::Short(0)),
         })
     }
 
@@ -208,8 +211,8 @@ impl Workspace {
         ensures { OnOk result (AddsAnswer (Request.Command bits.now) (string_bytes text.old) (string_bytes text.new)) }
     {
         bits.copy_to(&mut self.bits);
-        let outcome = decode_command(self.bits.as_slice());
-        push_commanded(text, &outcome)
+        decode_command_to(self.bits.as_slice(), &mut self.command);
+        push_commanded(text, &self.command)
     }
 
     /// Adds the trade item number that words carry, or why they carry none.

@@ -8,5 +8,5 @@ use Rattle.decode_lines.proofs.answer.Workspace.answer_command.Goals as goal
 pub returns : goal.returns
 returns c =
     let same = c.as_slice.ensures.value ∙ ap (λ (b : BitString). b.items) c.copy_to.ensures in
-    let right = commanded_right c.args.bits.now _ c.decode_command-outcome.result same c.decode_command-outcome.ensures.answer in
-    on_ok_weaker c.push_commanded.result (λ line. record { answer = commanded c.decode_command-outcome.result; right = right; line = line }) c.push_commanded.ensures
+    let right = commanded_right c.args.bits.now _ c.decode_command_to.new.answer same c.decode_command_to.ensures.answer in
+    on_ok_weaker c.push_commanded.result (λ line. record { answer = commanded c.decode_command_to.new.answer; right = right; line = line }) c.push_commanded.ensures
