@@ -3,7 +3,7 @@ use Rattle.std.proofs.Common.{◌≡◌, ◌≢◌, ℕ, ◌==◌, Bool, true, f
 use Rattle.command_grammar.specs.declared.commands.Command.TheVariants as commands
 use Rattle.q_round.specs.declared.frame.Outcome.{Outcome as SlotOutcome}
 use Rattle.q_round.specs.declared.frame.Outcome.TheVariants.{Silence, Whole}
-use Rattle.tag_machine.specs.Answers.{Outcome, plain}
+use Rattle.tag_machine.specs.Answers.{Outcome, plain_answer}
 use Rattle.tag_machine.specs.Draws.{back}
 use Rattle.tag_machine.specs.Inventory.{epc_reply, ack}
 use Rattle.tag_machine.specs.Step.{step}
@@ -39,7 +39,7 @@ record GoesBetween (session q : ℕ) (outcome : SlotOutcome) (frame : List SlotO
 -- the tag is in reply: the ACK carries its number or another one
 answers-ack : (session q own own_q rn : ℕ) (outcome : SlotOutcome) (frame : List SlotOutcome) (matched listed : Bool) (body : BodyValue) (own_rn : ℕ) (test : Bool) → outcome ≢ Silence
     → IsUnlisted session q matched listed own own_q
-    → GoesBetween session q outcome frame matched listed test body (if test then plain (AcknowledgedState own own_q own_rn) body (epc_reply body) 0 else back own own_q body)
+    → GoesBetween session q outcome frame matched listed test body (if test then plain_answer (AcknowledgedState own own_q own_rn) body (epc_reply body) 0 else back own own_q body)
 answers-ack session q own own_q rn outcome frame matched listed body own_rn true heard is =
     record { state = record { unlisted = is; now = refl; heard = heard }; body = refl; answer = refl }
 answers-ack session q own own_q rn outcome frame matched listed body own_rn false heard is =

@@ -27,10 +27,10 @@ use Rattle.tag_machine.specs.declared.states.Password.TheVariants as passwords
 use Rattle.tag_machine.specs.declared.access.rules.Follows.{Follows}
 use Rattle.tag_machine.specs.declared.access.rules.Follows.TheVariants.{AnyHalf, HalfOf, NoHalf}
 use Rattle.tag_machine.specs.TagValue.{StateValue, ReadyState, ArbitrateState, ReplyState, AcknowledgedState, OpenState, SecuredState, KilledState, UnpoweredState, BodyValue}
-use Rattle.tag_machine.specs.Answers.{Sent, Outcome, silent, plain, extended}
+use Rattle.tag_machine.specs.Answers.{Sent, Outcome, silent, plain_answer, extended_answer}
 use Rattle.tag_machine.specs.Draws.{draw_of, body_after_draw, slot_of_draw, begin_reply, enter, body_after_inversion, close, back}
 use Rattle.tag_machine.specs.Inventory.{take_part, body_after_close, query, unless_half, end_turn, slot_below, count_down, query_rep, q_after_adjust, query_adjust, epc_reply, ack, nak, selected_body, select}
-use Rattle.tag_machine.specs.Access.{held_state, in_access, heeded, unless_ended, first_level, new_held, req_rn_held, req_rn, is_password, unless_other_half, uncover, refuse, read_answer, read_outcome, memory_outcome, write_outcome, block_write_outcome, block_erase_outcome, has_user, locks_outcome, lock_outcome, whole_of, keep_half, whole_outcome, half_outcome, password_outcome}
+use Rattle.tag_machine.specs.Access.{held_state, in_access, outcome_where_heeded, unless_ended, first_level, new_held, req_rn_held, req_rn, is_password, unless_other_half, uncover, refuse, read_answer, read_outcome, memory_outcome, write_outcome, block_write_outcome, block_erase_outcome, has_user, locks_outcome, lock_outcome, whole_of, keep_half, whole_outcome, half_outcome, password_outcome}
 use Rattle.tag_machine.specs.Extended.{has_half, is_extended}
 use Rattle.tag_machine.specs.Step.{step}
 use Rattle.tag_machine.specs.declared.any_tag.Answered.{Answered}
@@ -52,32 +52,32 @@ reply_of (Some sent) = sent.reply
 silent_is : (delayed : Bool) (before : BodyValue) (state : StateValue) (body : BodyValue) → AnswersAs delayed before (silent state body)
 silent_is delayed before state body = record { marked = λ sent is. cc; refused = λ sent code is error. cc }
 
-number_is : (before : BodyValue) (state : StateValue) (after : BodyValue) (rn handle : ℕ) → AnswersAs false before (plain state after (Handle rn) handle)
+number_is : (before : BodyValue) (state : StateValue) (after : BodyValue) (rn handle : ℕ) → AnswersAs false before (plain_answer state after (Handle rn) handle)
 unfolding extended_of reply_of
 number_is before state after rn handle = record {
   marked = λ sent is. sym (ap extended_of is);
   refused = λ sent code is error. let clash : Handle rn ≡ Error code = ap reply_of is ∙ error in cc;
 }
 
-slot_is : (before : BodyValue) (state : StateValue) (after : BodyValue) (rn handle : ℕ) → AnswersAs false before (plain state after (Rn16 rn) handle)
+slot_is : (before : BodyValue) (state : StateValue) (after : BodyValue) (rn handle : ℕ) → AnswersAs false before (plain_answer state after (Rn16 rn) handle)
 unfolding extended_of reply_of
 slot_is before state after rn handle = record {
   marked = λ sent is. sym (ap extended_of is);
   refused = λ sent code is error. let clash : Rn16 rn ≡ Error code = ap reply_of is ∙ error in cc;
 }
 
-plain_same_is : (state : StateValue) (body : BodyValue) (reply : Reply) (handle : ℕ) → AnswersAs false body (plain state body reply handle)
+plain_same_is : (state : StateValue) (body : BodyValue) (reply : Reply) (handle : ℕ) → AnswersAs false body (plain_answer state body reply handle)
 unfolding extended_of
 plain_same_is state body reply handle = record { marked = λ sent is. sym (ap extended_of is); refused = λ sent code is error. refl }
 
-header_is : (before : BodyValue) (state : StateValue) (after : BodyValue) (handle : ℕ) → AnswersAs true before (extended state after Header handle)
+header_is : (before : BodyValue) (state : StateValue) (after : BodyValue) (handle : ℕ) → AnswersAs true before (extended_answer state after Header handle)
 unfolding extended_of reply_of
 header_is before state after handle = record {
   marked = λ sent is. sym (ap extended_of is);
   refused = λ sent code is error. let clash : Header ≡ Error code = ap reply_of is ∙ error in cc;
 }
 
-delayed_same_is : (state : StateValue) (body : BodyValue) (reply : Reply) (handle : ℕ) → AnswersAs true body (extended state body reply handle)
+delayed_same_is : (state : StateValue) (body : BodyValue) (reply : Reply) (handle : ℕ) → AnswersAs true body (extended_answer state body reply handle)
 unfolding extended_of
 delayed_same_is state body reply handle = record { marked = λ sent is. sym (ap extended_of is); refused = λ sent code is error. refl }
 
@@ -100,7 +100,7 @@ unless_ended_is delayed (HalfOf password) held body outcome given =
 unless_ended_is delayed NoHalf held body outcome given =
     unless_half_is delayed body held.half (back held.session held.q body) outcome (silent_is delayed body (ArbitrateState held.session held.q 0) body) given
 
-heeded_is : (delayed : Bool) (rn : ℕ) (follows : Follows) (level : Level) (held : Held) (body : BodyValue) (outcome : Outcome) → AnswersAs delayed body outcome → AnswersAs delayed body (heeded rn follows level held body outcome)
+heeded_is : (delayed : Bool) (rn : ℕ) (follows : Follows) (level : Level) (held : Held) (body : BodyValue) (outcome : Outcome) → AnswersAs delayed body outcome → AnswersAs delayed body (outcome_where_heeded rn follows level held body outcome)
 heeded_is delayed rn follows level held body outcome given =
     either delayed body (held.handle == rn) (unless_ended follows held body outcome) (silent (held_state level held) body)
     (unless_ended_is delayed follows held body outcome given) (silent_is delayed body (held_state level held) body)
@@ -131,7 +131,7 @@ locks_changed_is held body (Err code) = delayed_same_is (SecuredState held) body
 -- Req_RN
 give_cover_is : (level : Level) (rn : ℕ) (held : Held) (body : BodyValue) → AnswersAs false body (req_rn_held level rn held body)
 give_cover_is level rn held body =
-    either false body (held.handle == rn) (plain (held_state level (record held { cover = Some (draw_of body) })) (body_after_draw body) (Handle (draw_of body)) 0) (silent (held_state level held) body)
+    either false body (held.handle == rn) (plain_answer (held_state level (record held { cover = Some (draw_of body) })) (body_after_draw body) (Handle (draw_of body)) 0) (silent (held_state level held) body)
     (number_is body (held_state level (record held { cover = Some (draw_of body) })) (body_after_draw body) (draw_of body) 0)
     (silent_is false body (held_state level held) body)
 
@@ -140,7 +140,7 @@ req_rn_is rn ReadyState body = silent_is false body ReadyState body
 req_rn_is rn (ArbitrateState session q slot) body = silent_is false body (ArbitrateState session q slot) body
 req_rn_is rn (ReplyState session q own) body = silent_is false body (ArbitrateState session q 0) body
 req_rn_is rn (AcknowledgedState session q own) body =
-    either false body (own == rn) (plain (held_state (first_level body) (new_held session q (draw_of body))) (body_after_draw body) (Handle (draw_of body)) 0) (silent (AcknowledgedState session q own) body)
+    either false body (own == rn) (plain_answer (held_state (first_level body) (new_held session q (draw_of body))) (body_after_draw body) (Handle (draw_of body)) 0) (silent (AcknowledgedState session q own) body)
     (number_is body (held_state (first_level body) (new_held session q (draw_of body))) (body_after_draw body) (draw_of body) 0)
     (silent_is false body (AcknowledgedState session q own) body)
 req_rn_is rn (OpenState held) body = give_cover_is levels.Opened rn held body
@@ -172,11 +172,11 @@ whole_is : (password : Password) (half : Half) (level : Level) (value : ℕ) (he
 whole_is passwords.Kill half level value held body =
     either true body (kill_word_of body.memory == 0) (refuse level (record held { half = None }) body errors.Other) _
     (delayed_same_is (held_state level (record held { half = None })) body (Error (code_of errors.Other)) held.handle)
-    (either true body (kill_word_of body.memory == value) (extended KilledState body Header held.handle) (back held.session held.q body)
+    (either true body (kill_word_of body.memory == value) (extended_answer KilledState body Header held.handle) (back held.session held.q body)
     (header_is body KilledState body held.handle)
     (silent_is true body (ArbitrateState held.session held.q 0) body))
 whole_is passwords.Access half level value held body =
-    either false body (access_word_of body.memory == value) (plain (SecuredState (record held { half = None })) body (Handle held.handle) held.handle) (back held.session held.q body)
+    either false body (access_word_of body.memory == value) (plain_answer (SecuredState (record held { half = None })) body (Handle held.handle) held.handle) (back held.session held.q body)
     (number_is body (SecuredState (record held { half = None })) body held.handle held.handle)
     (silent_is false body (ArbitrateState held.session held.q 0) body)
 
@@ -256,9 +256,9 @@ query_adjust_is session updn KilledState body = silent_is false body KilledState
 query_adjust_is session updn UnpoweredState body = silent_is false body UnpoweredState body
 
 -- ACK, NAK and Select
-acked_is : (test : Bool) (state : StateValue) (session q : ℕ) (body : BodyValue) → AnswersAs false body (if test then plain state body (epc_reply body) 0 else back session q body)
+acked_is : (test : Bool) (state : StateValue) (session q : ℕ) (body : BodyValue) → AnswersAs false body (if test then plain_answer state body (epc_reply body) 0 else back session q body)
 acked_is test state session q body =
-    either false body test (plain state body (epc_reply body) 0) (back session q body) (plain_same_is state body (epc_reply body) 0) (silent_is false body (ArbitrateState session q 0) body)
+    either false body test (plain_answer state body (epc_reply body) 0) (back session q body) (plain_same_is state body (epc_reply body) 0) (silent_is false body (ArbitrateState session q 0) body)
 
 ack_is : (rn : ℕ) (state : StateValue) (body : BodyValue) → AnswersAs false body (ack rn state body)
 ack_is rn ReadyState body = silent_is false body ReadyState body

@@ -25,10 +25,10 @@ use Rattle.tag_machine.specs.declared.states.Held.{Held}
 use Rattle.tag_machine.specs.declared.access.rules.Follows.{Follows}
 use Rattle.tag_machine.specs.declared.access.rules.Follows.TheVariants.{AnyHalf, HalfOf, NoHalf}
 use Rattle.tag_machine.specs.TagValue.{StateValue, ReadyState, ArbitrateState, ReplyState, AcknowledgedState, OpenState, SecuredState, KilledState, UnpoweredState, BodyValue}
-use Rattle.tag_machine.specs.Answers.{Outcome, silent, plain, extended}
+use Rattle.tag_machine.specs.Answers.{Outcome, silent, plain_answer, extended_answer}
 use Rattle.tag_machine.specs.Draws.{enter, begin_reply, slot_of_draw, body_after_draw, body_after_inversion, close, back}
 use Rattle.tag_machine.specs.Inventory.{take_part, body_after_close, query, unless_half, end_turn, slot_below, count_down, query_rep, q_after_adjust, query_adjust, epc_reply, ack, nak, selected_body, selected_ready, select}
-use Rattle.tag_machine.specs.Access.{held_state, in_access, heeded, unless_ended, give_handle, give_cover, req_rn_held, req_rn, is_password, unless_other_half, uncover, refuse, read_outcome, read, memory_outcome, write_outcome, write, block_write_outcome, block_write, block_erase_outcome, block_erase, has_user, locks_outcome, lock_outcome, lock, whole_of, whole_outcome, half_outcome, password_outcome}
+use Rattle.tag_machine.specs.Access.{held_state, in_access, outcome_where_heeded, unless_ended, give_handle, give_cover, req_rn_held, req_rn, is_password, unless_other_half, uncover, refuse, read_outcome, read, memory_outcome, write_outcome, write, block_write_outcome, block_write, block_erase_outcome, block_erase, has_user, locks_outcome, lock_outcome, lock, whole_of, whole_outcome, half_outcome, password_outcome}
 
 -- what is said of the flags after an outcome
 abbrev Holds : (Flags → Type 0) → Outcome → Type 0
@@ -114,15 +114,15 @@ pub after_ack : (P : Flags → Type 0) (rn : ℕ) (state : StateValue) (body : B
 after_ack P rn ReadyState body p = p
 after_ack P rn (ArbitrateState session q slot) body p = p
 after_ack P rn (ReplyState session q own) body p =
-    either P (own == rn) (plain (AcknowledgedState session q own) body (epc_reply body) 0) (back session q body) p p
+    either P (own == rn) (plain_answer (AcknowledgedState session q own) body (epc_reply body) 0) (back session q body) p p
 after_ack P rn (AcknowledgedState session q own) body p =
-    either P (own == rn) (plain (AcknowledgedState session q own) body (epc_reply body) 0) (back session q body) p p
+    either P (own == rn) (plain_answer (AcknowledgedState session q own) body (epc_reply body) 0) (back session q body) p p
 after_ack P rn (OpenState held) body p =
-    half_or P held.half (back held.session held.q body) (if held.handle == rn then plain (OpenState held) body (epc_reply body) 0 else back held.session held.q body) p
-    (either P (held.handle == rn) (plain (OpenState held) body (epc_reply body) 0) (back held.session held.q body) p p)
+    half_or P held.half (back held.session held.q body) (if held.handle == rn then plain_answer (OpenState held) body (epc_reply body) 0 else back held.session held.q body) p
+    (either P (held.handle == rn) (plain_answer (OpenState held) body (epc_reply body) 0) (back held.session held.q body) p p)
 after_ack P rn (SecuredState held) body p =
-    half_or P held.half (back held.session held.q body) (if held.handle == rn then plain (SecuredState held) body (epc_reply body) 0 else back held.session held.q body) p
-    (either P (held.handle == rn) (plain (SecuredState held) body (epc_reply body) 0) (back held.session held.q body) p p)
+    half_or P held.half (back held.session held.q body) (if held.handle == rn then plain_answer (SecuredState held) body (epc_reply body) 0 else back held.session held.q body) p
+    (either P (held.handle == rn) (plain_answer (SecuredState held) body (epc_reply body) 0) (back held.session held.q body) p p)
 after_ack P rn KilledState body p = p
 after_ack P rn UnpoweredState body p = p
 
@@ -159,7 +159,7 @@ unless_ended_or P AnyHalf held body outcome p q = q
 unless_ended_or P (HalfOf password) held body outcome p q = other_half_or P password held.half (back held.session held.q body) outcome p q
 unless_ended_or P NoHalf held body outcome p q = half_or P held.half (back held.session held.q body) outcome p q
 
-heeded_or : (P : Flags → Type 0) (rn : ℕ) (follows : Follows) (level : Level) (held : Held) (body : BodyValue) (outcome : Outcome) → P body.flags → Holds P outcome → Holds P (heeded rn follows level held body outcome)
+heeded_or : (P : Flags → Type 0) (rn : ℕ) (follows : Follows) (level : Level) (held : Held) (body : BodyValue) (outcome : Outcome) → P body.flags → Holds P outcome → Holds P (outcome_where_heeded rn follows level held body outcome)
 heeded_or P rn follows level held body outcome p q =
     either P (held.handle == rn) (unless_ended follows held body outcome) (silent (held_state level held) body) (unless_ended_or P follows held body outcome p q) p
 
@@ -231,13 +231,13 @@ after_lock P payload rn state body p = accessed P rn NoHalf (lock_outcome payloa
 -- Kill and Access
 whole_taken : (P : Flags → Type 0) (password : Password) (level : Level) (value : ℕ) (held : Held) (body : BodyValue) → P body.flags → Holds P (whole_outcome password level value held body)
 whole_taken P passwords.Kill level value held body p =
-    let killed = extended KilledState body Header held.handle in
+    let killed = extended_answer KilledState body Header held.handle in
     let gone = back held.session held.q body in
     let refused = refuse level (record held { half = None }) body errors.Other in
     either P (kill_word_of body.memory == 0) refused (if kill_word_of body.memory == value then killed else gone) p
     (either P (kill_word_of body.memory == value) killed gone p p)
 whole_taken P passwords.Access level value held body p =
-    either P (access_word_of body.memory == value) (plain (SecuredState (record held { half = None })) body (Handle held.handle) held.handle) (back held.session held.q body) p p
+    either P (access_word_of body.memory == value) (plain_answer (SecuredState (record held { half = None })) body (Handle held.handle) held.handle) (back held.session held.q body) p p
 
 half_taken : (P : Flags → Type 0) (password : Password) (level : Level) (half : Option Half) (value : ℕ) (held : Held) (body : BodyValue) → P body.flags → Holds P (half_outcome password level half value held body)
 half_taken P password level None value held body p = p

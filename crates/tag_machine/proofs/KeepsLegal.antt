@@ -35,10 +35,10 @@ use Rattle.tag_machine.specs.declared.states.Password.TheVariants as passwords
 use Rattle.tag_machine.specs.declared.access.rules.Follows.{Follows}
 use Rattle.tag_machine.specs.declared.access.rules.Follows.TheVariants.{AnyHalf, HalfOf, NoHalf}
 use Rattle.tag_machine.specs.TagValue.{StateValue, ReadyState, ArbitrateState, ReplyState, AcknowledgedState, OpenState, SecuredState, KilledState, UnpoweredState, BodyValue, IsWordOrNone, IsHalfOrNone, IsLegalHeld, IsLegalState, IsLegalBody, IsLegalTag}
-use Rattle.tag_machine.specs.Answers.{Outcome, silent, plain, extended}
+use Rattle.tag_machine.specs.Answers.{Outcome, silent, plain_answer, extended_answer}
 use Rattle.tag_machine.specs.Draws.{draw_of, place_behind, body_after_draw, slot_of_draw, begin_reply, enter, body_after_inversion, close, back}
 use Rattle.tag_machine.specs.Inventory.{take_part, body_after_close, query, unless_half, end_turn, slot_below, count_down, query_rep, q_after_adjust, query_adjust, epc_reply, ack, nak, selected_body, selected_ready, select}
-use Rattle.tag_machine.specs.Access.{held_state, in_access, heeded, unless_ended, first_level, new_held, give_handle, give_cover, req_rn_held, req_rn, is_password, unless_other_half, uncover, refuse, read_outcome, memory_outcome, write_outcome, block_write_outcome, block_erase_outcome, has_user, locks_outcome, lock_outcome, whole_of, keep_half, whole_outcome, half_outcome, password_outcome}
+use Rattle.tag_machine.specs.Access.{held_state, in_access, outcome_where_heeded, unless_ended, first_level, new_held, give_handle, give_cover, req_rn_held, req_rn, is_password, unless_other_half, uncover, refuse, read_outcome, memory_outcome, write_outcome, block_write_outcome, block_erase_outcome, has_user, locks_outcome, lock_outcome, whole_of, keep_half, whole_outcome, half_outcome, password_outcome}
 use Rattle.tag_machine.specs.Events.{after_timeout, tag_without_power, after_off, after_on, body_after_expiry, after_expiry, tag_after_event}
 use Rattle.tag_machine.specs.Step.{step}
 use Rattle.tag_memory.specs.Memory.{AreSound}
@@ -212,13 +212,13 @@ after_query_adjust session updn KilledState body of_session before = before
 after_query_adjust session updn UnpoweredState body of_session before = before
 
 -- ACK, NAK and Select
-acked : (test : Bool) (state : StateValue) (session q : ℕ) (body : BodyValue) → session ≤ 3 → q ≤ 15 → IsLegalAt state body → Leaves (if test then plain state body (epc_reply body) 0 else back session q body)
+acked : (test : Bool) (state : StateValue) (session q : ℕ) (body : BodyValue) → session ≤ 3 → q ≤ 15 → IsLegalAt state body → Leaves (if test then plain_answer state body (epc_reply body) 0 else back session q body)
 acked test state session q body of_session of_q before =
-    either test (plain state body (epc_reply body) 0) (back session q body) before (gone_back session q body of_session of_q before.body)
+    either test (plain_answer state body (epc_reply body) 0) (back session q body) before (gone_back session q body of_session of_q before.body)
 
-acked_held : (state : StateValue) (rn : ℕ) (held : Held) (body : BodyValue) → IsLegalHeld held → IsLegalAt state body → Leaves (unless_half held.half (back held.session held.q body) (if held.handle == rn then plain state body (epc_reply body) 0 else back held.session held.q body))
+acked_held : (state : StateValue) (rn : ℕ) (held : Held) (body : BodyValue) → IsLegalHeld held → IsLegalAt state body → Leaves (unless_half held.half (back held.session held.q body) (if held.handle == rn then plain_answer state body (epc_reply body) 0 else back held.session held.q body))
 acked_held state rn held body of_held before =
-    half_or held.half (back held.session held.q body) (if held.handle == rn then plain state body (epc_reply body) 0 else back held.session held.q body)
+    half_or held.half (back held.session held.q body) (if held.handle == rn then plain_answer state body (epc_reply body) 0 else back held.session held.q body)
     (gone_back held.session held.q body of_held.session of_held.q before.body)
     (acked (held.handle == rn) state held.session held.q body of_held.session of_held.q before)
 
@@ -285,7 +285,7 @@ unless_ended_or AnyHalf held body outcome of_held of_body given = given
 unless_ended_or (HalfOf password) held body outcome of_held of_body given = other_half_or password held.half (back held.session held.q body) outcome (held_back held body of_held of_body) given
 unless_ended_or NoHalf held body outcome of_held of_body given = half_or held.half (back held.session held.q body) outcome (held_back held body of_held of_body) given
 
-heeded_or : (rn : ℕ) (follows : Follows) (level : Level) (held : Held) (body : BodyValue) (outcome : Outcome) → IsLegalHeld held → IsLegalBody body → Leaves outcome → Leaves (heeded rn follows level held body outcome)
+heeded_or : (rn : ℕ) (follows : Follows) (level : Level) (held : Held) (body : BodyValue) (outcome : Outcome) → IsLegalHeld held → IsLegalBody body → Leaves outcome → Leaves (outcome_where_heeded rn follows level held body outcome)
 heeded_or rn follows level held body outcome of_held of_body given =
     either (held.handle == rn) (unless_ended follows held body outcome) (silent (held_state level held) body)
     (unless_ended_or follows held body outcome of_held of_body given) (held_tag level held body of_held of_body)
@@ -371,14 +371,14 @@ half_kept level password value held body small of_held of_body =
 whole_taken : (password : Password) (level : Level) (value : ℕ) (held : Held) (body : BodyValue) → IsLegalHeld held → IsLegalBody body → Leaves (whole_outcome password level value held body)
 whole_taken passwords.Kill level value held body of_held of_body =
     let bare = record held { half = None } in
-    let killed = extended KilledState body Header held.handle in
+    let killed = extended_answer KilledState body Header held.handle in
     let gone = back held.session held.q body in
     either (kill_word_of body.memory == 0) (refuse level bare body errors.Other) (if kill_word_of body.memory == value then killed else gone)
     (held_tag level bare body (with_half held None of_held tt) of_body)
     (either (kill_word_of body.memory == value) killed gone (tag_is KilledState body tt of_body) (held_back held body of_held of_body))
 whole_taken passwords.Access level value held body of_held of_body =
     let bare = record held { half = None } in
-    either (access_word_of body.memory == value) (plain (SecuredState bare) body (Handle held.handle) held.handle) (back held.session held.q body)
+    either (access_word_of body.memory == value) (plain_answer (SecuredState bare) body (Handle held.handle) held.handle) (back held.session held.q body)
     (tag_is (SecuredState bare) body (with_half held None of_held tt) of_body) (held_back held body of_held of_body)
 
 half_taken : (password : Password) (level : Level) (half : Option Half) (value : ℕ) (held : Held) (body : BodyValue) → value < 2 ^ 16 → IsLegalHeld held → IsLegalBody body → Leaves (half_outcome password level half value held body)

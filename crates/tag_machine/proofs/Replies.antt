@@ -32,10 +32,10 @@ use Rattle.tag_machine.specs.declared.states.Password.TheVariants as passwords
 use Rattle.tag_machine.specs.declared.access.rules.Follows.{Follows}
 use Rattle.tag_machine.specs.declared.access.rules.Follows.TheVariants.{AnyHalf, HalfOf, NoHalf}
 use Rattle.tag_machine.specs.TagValue.{StateValue, ReadyState, ArbitrateState, ReplyState, AcknowledgedState, OpenState, SecuredState, KilledState, UnpoweredState, BodyValue, TagValue, IsLegalHeld, IsLegalBody, IsLegalTag}
-use Rattle.tag_machine.specs.Answers.{Sent, Outcome, silent, plain, extended, IsSent}
+use Rattle.tag_machine.specs.Answers.{Sent, Outcome, silent, plain_answer, extended_answer, IsSent}
 use Rattle.tag_machine.specs.Draws.{draw_of, body_after_draw, slot_of_draw, begin_reply, enter, body_after_inversion, close, back}
 use Rattle.tag_machine.specs.Inventory.{take_part, query, unless_half, end_turn, slot_below, count_down, query_rep, q_after_adjust, query_adjust, epc_reply, ack, nak, selected_body, selected_ready, select}
-use Rattle.tag_machine.specs.Access.{held_state, in_access, heeded, unless_ended, first_level, new_held, req_rn, is_password, unless_other_half, uncover, refuse, read_answer, read_outcome, memory_outcome, write_outcome, block_write_outcome, block_erase_outcome, has_user, locks_outcome, lock_outcome, whole_of, keep_half, whole_outcome, half_outcome, password_outcome}
+use Rattle.tag_machine.specs.Access.{held_state, in_access, outcome_where_heeded, unless_ended, first_level, new_held, req_rn, is_password, unless_other_half, uncover, refuse, read_answer, read_outcome, memory_outcome, write_outcome, block_write_outcome, block_erase_outcome, has_user, locks_outcome, lock_outcome, whole_of, keep_half, whole_outcome, half_outcome, password_outcome}
 use Rattle.tag_machine.specs.Extended.{has_half}
 use Rattle.tag_machine.specs.Replies.{number_of, IsRn16Answer, IsEpcAnswer, IsNewNumberAnswer, IsHandleAnswer, IsReadReply, IsReadAnswer, IsDelayedAnswer, IsKillAnswer, IsAnswerTo}
 use Rattle.tag_machine.specs.Step.{step}
@@ -178,10 +178,10 @@ epc_fits rn state body number legal =
     let counted : length (epc_of banks) ≡ length_in (pc_of banks) = length-take-le (length_in (pc_of banks)) (drop 2 banks.epc) enough in
     (record { number = number; reply = refl; plain = refl }, ((pc_small, epc_small, counted), omega arith, tt))
 
-acked : (rn own session q : ℕ) (before after : StateValue) (body : BodyValue) → number_of before ≡ Some own → IsLegalBody body → Sends (IsEpc rn before body) (if own == rn then plain after body (epc_reply body) 0 else back session q body)
+acked : (rn own session q : ℕ) (before after : StateValue) (body : BodyValue) → number_of before ≡ Some own → IsLegalBody body → Sends (IsEpc rn before body) (if own == rn then plain_answer after body (epc_reply body) 0 else back session q body)
 acked rn own session q before after body number legal =
     let P = IsEpc rn before body in
-    chosen P (own == rn) (plain after body (epc_reply body) 0) (back session q body)
+    chosen P (own == rn) (plain_answer after body (epc_reply body) 0) (back session q body)
     (λ is. one P (record { state = after; body = body }) (record { reply = epc_reply body; handle = 0; extended = false }) (epc_fits rn before body (number ∙ ap (λ n. Some n) (same_number own rn is)) legal))
     (went_back P session q body)
 
@@ -228,10 +228,10 @@ to_select P target action bank pointer mask UnpoweredState body = nothing P Unpo
 abbrev IsNewNumber : ℕ → StateValue → BodyValue → Sent → Type 0
 IsNewNumber rn state body sent = IsNewNumberAnswer rn state body sent × IsSent (Some sent)
 
-new_number : (rn own : ℕ) (before after : StateValue) (body : BodyValue) → number_of before ≡ Some own → IsLegalBody body → Sends (IsNewNumber rn before body) (if own == rn then plain after (body_after_draw body) (Handle (draw_of body)) 0 else silent before body)
+new_number : (rn own : ℕ) (before after : StateValue) (body : BodyValue) → number_of before ≡ Some own → IsLegalBody body → Sends (IsNewNumber rn before body) (if own == rn then plain_answer after (body_after_draw body) (Handle (draw_of body)) 0 else silent before body)
 new_number rn own before after body number legal =
     let P = IsNewNumber rn before body in
-    chosen P (own == rn) (plain after (body_after_draw body) (Handle (draw_of body)) 0) (silent before body)
+    chosen P (own == rn) (plain_answer after (body_after_draw body) (Handle (draw_of body)) 0) (silent before body)
     (λ is. one P (record { state = after; body = body_after_draw body }) (record { reply = Handle (draw_of body); handle = 0; extended = false })
     (record { number = number ∙ ap (λ n. Some n) (same_number own rn is); reply = refl; plain = refl }, (word_drawn body legal, omega arith, tt)))
     (nothing P before body)
@@ -261,7 +261,7 @@ past_ended P AnyHalf held body outcome given = given
 past_ended P (HalfOf password) held body outcome given = past_other_half P password held.half (back held.session held.q body) outcome (went_back P held.session held.q body) given
 past_ended P NoHalf held body outcome given = past_half P held.half (back held.session held.q body) outcome (went_back P held.session held.q body) given
 
-past_rules : (P : Sent → Type 0) (rn : ℕ) (follows : Follows) (level : Level) (held : Held) (body : BodyValue) (outcome : Outcome) → (held.handle ≡ rn → Sends P outcome) → Sends P (heeded rn follows level held body outcome)
+past_rules : (P : Sent → Type 0) (rn : ℕ) (follows : Follows) (level : Level) (held : Held) (body : BodyValue) (outcome : Outcome) → (held.handle ≡ rn → Sends P outcome) → Sends P (outcome_where_heeded rn follows level held body outcome)
 past_rules P rn follows level held body outcome given =
     chosen P (held.handle == rn) (unless_ended follows held body outcome) (silent (held_state level held) body)
     (λ is. past_ended P follows held body outcome (given (same_number held.handle rn is))) (nothing P (held_state level held) body)
@@ -428,15 +428,15 @@ whole_answered : (password : Password) (half : Half) (rn : ℕ) (before : StateV
 whole_answered passwords.Kill half rn before level value held body number same small =
     let P = IsDelayed rn before in
     let bare = record held { half = None } in
-    chosen P (kill_word_of body.memory == 0) (refuse level bare body errors.Other) (if kill_word_of body.memory == value then extended KilledState body Header held.handle else back held.session held.q body)
+    chosen P (kill_word_of body.memory == 0) (refuse level bare body errors.Other) (if kill_word_of body.memory == value then extended_answer KilledState body Header held.handle else back held.session held.q body)
     (λ is. error_sent rn held.handle errors.Other before (record { state = held_state level bare; body = body }) number same small)
-    (chosen P (kill_word_of body.memory == value) (extended KilledState body Header held.handle) (back held.session held.q body)
+    (chosen P (kill_word_of body.memory == value) (extended_answer KilledState body Header held.handle) (back held.session held.q body)
     (λ is. header_sent rn held.handle before (record { state = KilledState; body = body }) number same small)
     (went_back P held.session held.q body))
 whole_answered passwords.Access half rn before level value held body number same small =
     let P = IsOwnHandle rn before in
     let bare = record held { half = None } in
-    chosen P (access_word_of body.memory == value) (plain (SecuredState bare) body (Handle held.handle) held.handle) (back held.session held.q body)
+    chosen P (access_word_of body.memory == value) (plain_answer (SecuredState bare) body (Handle held.handle) held.handle) (back held.session held.q body)
     (λ is. handle_sent rn held.handle before (record { state = SecuredState bare; body = body }) number same small)
     (went_back P held.session held.q body)
 

@@ -25,11 +25,11 @@ use Rattle.tag_machine.specs.declared.states.Password.TheVariants as passwords
 use Rattle.tag_machine.specs.declared.access.rules.Follows.{Follows}
 use Rattle.tag_machine.specs.declared.access.rules.Follows.TheVariants.{AnyHalf, HalfOf, NoHalf}
 use Rattle.tag_machine.specs.TagValue.{StateValue, ReadyState, ArbitrateState, ReplyState, AcknowledgedState, OpenState, SecuredState, KilledState, UnpoweredState, BodyValue}
-use Rattle.tag_machine.specs.Answers.{Outcome, silent, plain, extended}
+use Rattle.tag_machine.specs.Answers.{Outcome, silent, plain_answer, extended_answer}
 use Rattle.tag_machine.specs.Draws.{draw_of, place_behind, body_after_draw, body_after_draws, slot_of_draw, begin_reply, enter, body_after_inversion, close, back}
 use Rattle.tag_machine.specs.DrawCounts.{draws_to_enter, draws_to_take_part, query_draws, query_rep_draws, query_adjust_draws, req_rn_draws, draws_in}
 use Rattle.tag_machine.specs.Inventory.{take_part, body_after_close, query, unless_half, end_turn, slot_below, count_down, query_rep, q_after_adjust, query_adjust, epc_reply, ack, nak, selected_ready, select}
-use Rattle.tag_machine.specs.Access.{held_state, in_access, heeded, unless_ended, first_level, new_held, req_rn, is_password, unless_other_half, uncover, refuse, read_outcome, memory_outcome, write_outcome, block_write_outcome, block_erase_outcome, has_user, locks_outcome, lock_outcome, whole_of, whole_outcome, half_outcome, password_outcome}
+use Rattle.tag_machine.specs.Access.{held_state, in_access, outcome_where_heeded, unless_ended, first_level, new_held, req_rn, is_password, unless_other_half, uncover, refuse, read_outcome, memory_outcome, write_outcome, block_write_outcome, block_erase_outcome, has_user, locks_outcome, lock_outcome, whole_of, whole_outcome, half_outcome, password_outcome}
 use Rattle.tag_machine.specs.Step.{step}
 
 -- an outcome is so many draws behind a body, whose words it keeps
@@ -129,11 +129,11 @@ after_query_adjust session updn KilledState body = stays KilledState body
 after_query_adjust session updn UnpoweredState body = stays UnpoweredState body
 
 -- ACK, NAK and Select
-acked : (test : Bool) (state : StateValue) (session q : ℕ) (body : BodyValue) → IsBehind body 0 (if test then plain state body (epc_reply body) 0 else back session q body)
+acked : (test : Bool) (state : StateValue) (session q : ℕ) (body : BodyValue) → IsBehind body 0 (if test then plain_answer state body (epc_reply body) 0 else back session q body)
 acked test state session q body =
-    neither body test (plain state body (epc_reply body) 0) (back session q body) (record { place = refl; words = refl }) (stays (ArbitrateState session q 0) body)
+    neither body test (plain_answer state body (epc_reply body) 0) (back session q body) (record { place = refl; words = refl }) (stays (ArbitrateState session q 0) body)
 
-acked_held : (state : StateValue) (rn : ℕ) (held : Held) (body : BodyValue) → IsBehind body 0 (unless_half held.half (back held.session held.q body) (if held.handle == rn then plain state body (epc_reply body) 0 else back held.session held.q body))
+acked_held : (state : StateValue) (rn : ℕ) (held : Held) (body : BodyValue) → IsBehind body 0 (unless_half held.half (back held.session held.q body) (if held.handle == rn then plain_answer state body (epc_reply body) 0 else back held.session held.q body))
 acked_held state rn held body =
     past_half body held.half (back held.session held.q body) _ (stays (ArbitrateState held.session held.q 0) body) (acked (held.handle == rn) state held.session held.q body)
 
@@ -170,9 +170,9 @@ after_select target action bank pointer mask KilledState body = stays KilledStat
 after_select target action bank pointer mask UnpoweredState body = stays UnpoweredState body
 
 -- Req_RN
-numbered : (test : Bool) (before after : StateValue) (body : BodyValue) → IsBehind body (if test then 1 else 0) (if test then plain after (body_after_draw body) (Handle (draw_of body)) 0 else silent before body)
+numbered : (test : Bool) (before after : StateValue) (body : BodyValue) → IsBehind body (if test then 1 else 0) (if test then plain_answer after (body_after_draw body) (Handle (draw_of body)) 0 else silent before body)
 numbered test before after body =
-    either body test 1 0 (plain after (body_after_draw body) (Handle (draw_of body)) 0) (silent before body) (record { place = refl; words = refl }) (stays before body)
+    either body test 1 0 (plain_answer after (body_after_draw body) (Handle (draw_of body)) 0) (silent before body) (record { place = refl; words = refl }) (stays before body)
 
 after_req_rn : (rn : ℕ) (state : StateValue) (body : BodyValue) → IsBehind body (req_rn_draws rn state) (req_rn rn state body)
 after_req_rn rn ReadyState body = stays ReadyState body
@@ -197,7 +197,7 @@ past_ended (HalfOf password) held body outcome given =
 past_ended NoHalf held body outcome given =
     past_half body held.half (back held.session held.q body) outcome (stays (ArbitrateState held.session held.q 0) body) given
 
-past_rules : (rn : ℕ) (follows : Follows) (level : Level) (held : Held) (body : BodyValue) (outcome : Outcome) → IsBehind body 0 outcome → IsBehind body 0 (heeded rn follows level held body outcome)
+past_rules : (rn : ℕ) (follows : Follows) (level : Level) (held : Held) (body : BodyValue) (outcome : Outcome) → IsBehind body 0 outcome → IsBehind body 0 (outcome_where_heeded rn follows level held body outcome)
 past_rules rn follows level held body outcome given =
     neither body (held.handle == rn) (unless_ended follows held body outcome) (silent (held_state level held) body) (past_ended follows held body outcome given) (stays (held_state level held) body)
 
@@ -236,10 +236,10 @@ locked payload levels.Secured held body = locks_done held body (locks_after body
 whole_taken : (password : Password) (level : Level) (value : ℕ) (held : Held) (body : BodyValue) → IsBehind body 0 (whole_outcome password level value held body)
 whole_taken passwords.Kill level value held body =
     neither body (kill_word_of body.memory == 0) (refuse level (record held { half = None }) body errors.Other) _ (record { place = refl; words = refl })
-    (neither body (kill_word_of body.memory == value) (extended KilledState body Header held.handle) (back held.session held.q body)
+    (neither body (kill_word_of body.memory == value) (extended_answer KilledState body Header held.handle) (back held.session held.q body)
     (record { place = refl; words = refl }) (stays (ArbitrateState held.session held.q 0) body))
 whole_taken passwords.Access level value held body =
-    neither body (access_word_of body.memory == value) (plain (SecuredState (record held { half = None })) body (Handle held.handle) held.handle) (back held.session held.q body)
+    neither body (access_word_of body.memory == value) (plain_answer (SecuredState (record held { half = None })) body (Handle held.handle) held.handle) (back held.session held.q body)
     (record { place = refl; words = refl }) (stays (ArbitrateState held.session held.q 0) body)
 
 half_taken : (password : Password) (level : Level) (half : Option Half) (value : ℕ) (held : Held) (body : BodyValue) → IsBehind body 0 (half_outcome password level half value held body)

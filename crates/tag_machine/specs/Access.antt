@@ -22,7 +22,7 @@ use Rattle.tag_machine.specs.declared.states.Held.{Held}
 use Rattle.tag_machine.specs.declared.access.rules.Follows.{Follows}
 use Rattle.tag_machine.specs.declared.access.rules.Follows.TheVariants.{AnyHalf, HalfOf, NoHalf}
 use Rattle.tag_machine.specs.TagValue.{StateValue, ReadyState, ArbitrateState, ReplyState, AcknowledgedState, OpenState, SecuredState, KilledState, UnpoweredState, BodyValue}
-use Rattle.tag_machine.specs.Answers.{Outcome, silent, plain, extended}
+use Rattle.tag_machine.specs.Answers.{Outcome, silent, plain_answer, extended_answer}
 use Rattle.tag_machine.specs.Draws.{draw_of, body_after_draw, back}
 use Rattle.tag_machine.specs.Inventory.{unless_half}
 
@@ -68,11 +68,11 @@ unless_ended AnyHalf held body outcome = outcome
 unless_ended (HalfOf password) held body outcome = unless_other_half password held.half (back held.session held.q body) outcome
 unless_ended NoHalf held body outcome = unless_any_half held body outcome
 
-abbrev pub heeded : ℕ → Follows → Level → Held → BodyValue → Outcome → Outcome
-heeded rn follows level held body outcome = with_handle level rn held body (unless_ended follows held body outcome)
+abbrev pub outcome_where_heeded : ℕ → Follows → Level → Held → BodyValue → Outcome → Outcome
+outcome_where_heeded rn follows level held body outcome = with_handle level rn held body (unless_ended follows held body outcome)
 
 abbrev pub in_access : ℕ → Follows → (Level → Held → BodyValue → Outcome) → StateValue → BodyValue → Outcome
-in_access rn follows acts state body = with_level (λ level held rest. heeded rn follows level held rest (acts level held rest)) state body
+in_access rn follows acts state body = with_level (λ level held rest. outcome_where_heeded rn follows level held rest (acts level held rest)) state body
 
 -- 4. A Write, Kill or Access has a cover; without one nothing changes, and there is no reply. With one, the cover is used up,
 -- whatever follows, and the value is the covered number XOR the cover.
@@ -82,7 +82,7 @@ uncover level held body covered (Some cover) follows = follows (record held { co
 
 -- the error that a tag answers in place of a delayed reply, and nothing else changes
 abbrev pub refuse : Level → Held → BodyValue → ErrorCode → Outcome
-refuse level held body code = extended (held_state level held) body (Error (code_of code)) held.handle
+refuse level held body code = extended_answer (held_state level held) body (Error (code_of code)) held.handle
 
 -- 6.3.2.11.3.1 Req_RN in acknowledged: what is drawn is the handle; secured where the access password is 0, else open
 abbrev pub new_held : ℕ → ℕ → ℕ → Held
@@ -93,15 +93,15 @@ first_level body = (if access_word_of body.memory == 0 then levels.Secured else 
 
 abbrev pub give_handle : ℕ → ℕ → BodyValue → Outcome
 give_handle session q body =
-    plain (held_state (first_level body) (new_held session q (draw_of body))) (body_after_draw body) (Handle (draw_of body)) 0
+    plain_answer (held_state (first_level body) (new_held session q (draw_of body))) (body_after_draw body) (Handle (draw_of body)) 0
 
 -- ... in open and secured: what is drawn covers the next Write, Kill or Access; a first half stays
 abbrev pub give_cover : Level → Held → BodyValue → Outcome
 give_cover level held body =
-    plain (held_state level (record held { cover = Some (draw_of body) })) (body_after_draw body) (Handle (draw_of body)) 0
+    plain_answer (held_state level (record held { cover = Some (draw_of body) })) (body_after_draw body) (Handle (draw_of body)) 0
 
 abbrev pub req_rn_held : Level → ℕ → Held → BodyValue → Outcome
-req_rn_held level rn held body = heeded rn AnyHalf level held body (give_cover level held body)
+req_rn_held level rn held body = outcome_where_heeded rn AnyHalf level held body (give_cover level held body)
 
 abbrev pub req_rn : ℕ → StateValue → BodyValue → Outcome
 req_rn rn ReadyState body = silent ReadyState body
@@ -121,7 +121,7 @@ read_answer (Err code) = Error (code_of code)
 
 abbrev pub read_outcome : Bank → ℕ → ℕ → Level → Held → BodyValue → Outcome
 read_outcome bank pointer count level held body =
-    plain (held_state level held) body (read_answer (words_read body.memory body.locks level bank pointer count)) held.handle
+    plain_answer (held_state level held) body (read_answer (words_read body.memory body.locks level bank pointer count)) held.handle
 
 abbrev pub read : Bank → ℕ → ℕ → ℕ → StateValue → BodyValue → Outcome
 read bank pointer count rn state body = in_access rn NoHalf (read_outcome bank pointer count) state body
@@ -138,7 +138,7 @@ changed_or old (Err code) = old
 -- what a change of the memory gives: the new memory and the header, or an error and the memory as it was
 abbrev pub memory_outcome : Level → Held → BodyValue → Result Banks ErrorCode → Outcome
 memory_outcome level held body change =
-    extended (held_state level held) (record body { memory = changed_or body.memory change }) (change_answer change) held.handle
+    extended_answer (held_state level held) (record body { memory = changed_or body.memory change }) (change_answer change) held.handle
 
 -- 6.3.2.11.3.3 Write
 abbrev pub write_outcome : Bank → ℕ → ℕ → Level → Held → BodyValue → Outcome
@@ -172,7 +172,7 @@ whole_of upper lower = upper * 2 ^ 16 + lower
 -- the first half is kept, and the handle answered
 abbrev pub keep_half : Level → Password → ℕ → Held → BodyValue → Outcome
 keep_half level password value held body =
-    plain (held_state level (record held { half = Some (record { password = password; value = value }) })) body (Handle held.handle) held.handle
+    plain_answer (held_state level (record held { half = Some (record { password = password; value = value }) })) body (Handle held.handle) held.handle
 
 -- 6.3.2.11.3.4 Kill: what both halves give. With the kill password 0 the answer is an error (its code is profile), the
 -- first half is forgotten, and the state stays. With the kill password the tag is killed. With another value it goes
@@ -180,7 +180,7 @@ keep_half level password value held body =
 abbrev pub kill_whole : Level → ℕ → Held → BodyValue → Outcome
 kill_whole level value held body =
     (if kill_word_of body.memory == 0 then refuse level (record held { half = None }) body errors.Other
-    else (if kill_word_of body.memory == value then extended KilledState body Header held.handle
+    else (if kill_word_of body.memory == value then extended_answer KilledState body Header held.handle
     else back held.session held.q body))
 
 -- 6.3.2.11.3.5 Lock: in open nothing changes, and there is no reply. In secured: the new pairs and the header, or an error.
@@ -189,7 +189,7 @@ has_user body = nat_lt 0 (length body.memory.user)
 
 abbrev pub locks_outcome : Held → BodyValue → Result Locks ErrorCode → Outcome
 locks_outcome held body change =
-    extended (SecuredState held) (record body { locks = changed_or body.locks change }) (change_answer change) held.handle
+    extended_answer (SecuredState held) (record body { locks = changed_or body.locks change }) (change_answer change) held.handle
 
 abbrev pub lock_outcome : ℕ → Level → Held → BodyValue → Outcome
 lock_outcome payload levels.Opened held body = silent (OpenState held) body
@@ -203,7 +203,7 @@ lock payload rn state body = in_access rn NoHalf (lock_outcome payload) state bo
 abbrev pub access_whole : ℕ → Held → BodyValue → Outcome
 access_whole value held body =
     (if access_word_of body.memory == value
-    then plain (SecuredState (record held { half = None })) body (Handle held.handle) held.handle
+    then plain_answer (SecuredState (record held { half = None })) body (Handle held.handle) held.handle
     else back held.session held.q body)
 
 -- Kill and Access: a first half is kept, and with a second one the password is whole.

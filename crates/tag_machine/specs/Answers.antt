@@ -21,15 +21,15 @@ abbrev pub silent : StateValue → BodyValue → Outcome
 silent state body = record { tag = record { state = state; body = body }; answer = None }
 
 -- an answer with the Query's TRext
-abbrev pub plain : StateValue → BodyValue → Reply → ℕ → Outcome
-plain state body reply handle = record {
+abbrev pub plain_answer : StateValue → BodyValue → Reply → ℕ → Outcome
+plain_answer state body reply handle = record {
   tag = record { state = state; body = body };
   answer = Some (record { reply = reply; handle = handle; extended = false });
 }
 
 -- an answer with the extended preamble
-abbrev pub extended : StateValue → BodyValue → Reply → ℕ → Outcome
-extended state body reply handle = record {
+abbrev pub extended_answer : StateValue → BodyValue → Reply → ℕ → Outcome
+extended_answer state body reply handle = record {
   tag = record { state = state; body = body };
   answer = Some (record { reply = reply; handle = handle; extended = true });
 }

@@ -4,7 +4,7 @@ use Rattle.std.specs.Prelude.{ℕ, zero, suc, ◌+◌, ◌%◌, ◌^◌, ◌==�
 use Rattle.reply_grammar.specs.declared.expected.Reply.TheVariants.{Rn16}
 use Rattle.session_flags.specs.Flags.{flags_after_inversion}
 use Rattle.tag_machine.specs.TagValue.{StateValue, ReadyState, ArbitrateState, ReplyState, AcknowledgedState, OpenState, SecuredState, KilledState, UnpoweredState, BodyValue, TagValue}
-use Rattle.tag_machine.specs.Answers.{Outcome, silent, plain}
+use Rattle.tag_machine.specs.Answers.{Outcome, silent, plain_answer}
 
 -- a draw is the word at the tag's place
 abbrev pub draw_of : BodyValue → ℕ
@@ -27,7 +27,7 @@ body_after_draws (suc draws) body = body_after_draw (body_after_draws draws body
 
 -- an RN16 is drawn and answered, and the tag is in reply
 abbrev pub begin_reply : ℕ → ℕ → BodyValue → Outcome
-begin_reply session q body = plain (ReplyState session q (draw_of body)) (body_after_draw body) (Rn16 (draw_of body)) 0
+begin_reply session q body = plain_answer (ReplyState session q (draw_of body)) (body_after_draw body) (Rn16 (draw_of body)) 0
 
 -- ENTER: a slot is drawn, the last Q bits of the draw. With slot 0 the tag replies at once, with a further draw.
 abbrev pub slot_of_draw : ℕ → BodyValue → ℕ

@@ -16,7 +16,7 @@ use Rattle.tag_memory.specs.Memory.{bank_of, bank_named, pc_of, epc_of}
 use Rattle.tag_machine.specs.declared.states.Half.{Half}
 use Rattle.tag_machine.specs.declared.states.Held.{Held}
 use Rattle.tag_machine.specs.TagValue.{StateValue, ReadyState, ArbitrateState, ReplyState, AcknowledgedState, OpenState, SecuredState, KilledState, UnpoweredState, BodyValue}
-use Rattle.tag_machine.specs.Answers.{Outcome, silent, plain}
+use Rattle.tag_machine.specs.Answers.{Outcome, silent, plain_answer}
 use Rattle.tag_machine.specs.Draws.{enter, begin_reply, body_after_inversion, close, back}
 
 -- 6.3.2.11.2.1 Query: a tag that matches takes the session and Q and draws its slot, another is ready
@@ -103,15 +103,15 @@ abbrev pub ack : ℕ → StateValue → BodyValue → Outcome
 ack rn ReadyState body = silent ReadyState body
 ack rn (ArbitrateState session q slot) body = silent (ArbitrateState session q slot) body
 ack rn (ReplyState session q own) body =
-    (if own == rn then plain (AcknowledgedState session q own) body (epc_reply body) 0 else back session q body)
+    (if own == rn then plain_answer (AcknowledgedState session q own) body (epc_reply body) 0 else back session q body)
 ack rn (AcknowledgedState session q own) body =
-    (if own == rn then plain (AcknowledgedState session q own) body (epc_reply body) 0 else back session q body)
+    (if own == rn then plain_answer (AcknowledgedState session q own) body (epc_reply body) 0 else back session q body)
 ack rn (OpenState held) body =
     unless_half held.half (back held.session held.q body)
-    (if held.handle == rn then plain (OpenState held) body (epc_reply body) 0 else back held.session held.q body)
+    (if held.handle == rn then plain_answer (OpenState held) body (epc_reply body) 0 else back held.session held.q body)
 ack rn (SecuredState held) body =
     unless_half held.half (back held.session held.q body)
-    (if held.handle == rn then plain (SecuredState held) body (epc_reply body) 0 else back held.session held.q body)
+    (if held.handle == rn then plain_answer (SecuredState held) body (epc_reply body) 0 else back held.session held.q body)
 ack rn KilledState body = silent KilledState body
 ack rn UnpoweredState body = silent UnpoweredState body
 

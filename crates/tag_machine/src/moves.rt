@@ -2,7 +2,7 @@
 ghost use Rattle.std.specs.Prelude.{◌≡◌, ◌≤◌, Some, None, true, false};
 ghost use Rattle.reply_grammar.specs.Table.{CanBeSent, reply_room};
 ghost use Rattle.tag_machine.specs.TagValue.{ReadyState, ArbitrateState};
-ghost use Rattle.tag_machine.specs.Answers.{silent, plain, extended, HasFewWords};
+ghost use Rattle.tag_machine.specs.Answers.{silent, plain_answer, extended_answer, HasFewWords};
 ghost use Rattle.tag_machine.specs.Draws.{begin_reply, enter, close, back, tag_back};
 ghost use Rattle.tag_machine.specs.Hearing.{GivesOutcome, tag_value_of};
 
@@ -29,7 +29,7 @@ pub fn answer(tag: AnyTag, reply: &Reply, handle: u16, out: &mut Bits) -> Heard
     requires room { reply_room ≤ out.old.capacity }
     requires sendable { CanBeSent reply.now }
     requires few { HasFewWords reply.now }
-    ensures { GivesOutcome (plain (tag_value_of tag).state (tag_value_of tag).body reply.now handle) result out.old out.new }
+    ensures { GivesOutcome (plain_answer (tag_value_of tag).state (tag_value_of tag).body reply.now handle) result out.old out.new }
 {
     encode_reply(reply, handle, out);
     Heard {
@@ -43,7 +43,7 @@ pub fn answer_extended(tag: AnyTag, reply: &Reply, handle: u16, out: &mut Bits) 
     requires room { reply_room ≤ out.old.capacity }
     requires sendable { CanBeSent reply.now }
     requires few { HasFewWords reply.now }
-    ensures { GivesOutcome (extended (tag_value_of tag).state (tag_value_of tag).body reply.now handle) result out.old out.new }
+    ensures { GivesOutcome (extended_answer (tag_value_of tag).state (tag_value_of tag).body reply.now handle) result out.old out.new }
 {
     encode_reply(reply, handle, out);
     Heard {

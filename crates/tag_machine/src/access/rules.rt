@@ -5,8 +5,8 @@ ghost use Rattle.lock_rules.specs.declared.terms.Level.{Level};
 ghost use Rattle.tag_machine.specs.declared.states.Held.{Held};
 ghost use Rattle.tag_machine.specs.TagValue.{BodyValue};
 ghost use Rattle.reply_grammar.specs.Table.{CanBeSent, reply_room};
-ghost use Rattle.tag_machine.specs.Answers.{Outcome, plain, extended, HasFewWords};
-ghost use Rattle.tag_machine.specs.Access.{held_state, heeded, in_access, uncover, unless_ended};
+ghost use Rattle.tag_machine.specs.Answers.{Outcome, plain_answer, extended_answer, HasFewWords};
+ghost use Rattle.tag_machine.specs.Access.{held_state, outcome_where_heeded, in_access, uncover, unless_ended};
 ghost use Rattle.tag_machine.specs.Draws.{back};
 ghost use Rattle.tag_machine.specs.Hearing.{GivesOutcome, tag_value_of};
 
@@ -72,7 +72,7 @@ impl TagWithHandle {
         requires room { reply_room ≤ out.old.capacity }
         requires sendable { CanBeSent reply.now }
         requires few { HasFewWords reply.now }
-        ensures { GivesOutcome (plain (held_state self.level self.held) self.body reply.now self.held.handle) result out.old out.new }
+        ensures { GivesOutcome (plain_answer (held_state self.level self.held) self.body reply.now self.held.handle) result out.old out.new }
     {
         let handle = self.held.handle;
         answer(self.tag(), reply, handle, out)
@@ -83,7 +83,7 @@ impl TagWithHandle {
         requires room { reply_room ≤ out.old.capacity }
         requires sendable { CanBeSent reply.now }
         requires few { HasFewWords reply.now }
-        ensures { GivesOutcome (extended (held_state self.level self.held) self.body reply.now self.held.handle) result out.old out.new }
+        ensures { GivesOutcome (extended_answer (held_state self.level self.held) self.body reply.now self.held.handle) result out.old out.new }
     {
         let handle = self.held.handle;
         answer_extended(self.tag(), reply, handle, out)
@@ -92,8 +92,8 @@ impl TagWithHandle {
     /// The tag where it heeds a command with this number, else what comes of the command: with another number than the handle
     /// nothing changes, and after a first half that the command may not follow the tag goes back.
     pub fn heeding(self, rn: u16, follows: Follows, out: &mut Bits) -> Result<TagWithHandle, Heard>
-        ensures ok { IfOk result (λ tag. (tag ≡ self) × ((outcome : Outcome) → heeded rn follows self.level self.held self.body outcome ≡ outcome)) }
-        ensures err { IfErr result (λ heard. (outcome : Outcome) → GivesOutcome (heeded rn follows self.level self.held self.body outcome) heard out.old out.new) }
+        ensures ok { IfOk result (λ tag. (tag ≡ self) × ((outcome : Outcome) → outcome_where_heeded rn follows self.level self.held self.body outcome ≡ outcome)) }
+        ensures err { IfErr result (λ heard. (outcome : Outcome) → GivesOutcome (outcome_where_heeded rn follows self.level self.held self.body outcome) heard out.old out.new) }
         ensures untouched { OnOk result (out.new ≡ out.old) }
     {
         if self.held.handle != rn {
