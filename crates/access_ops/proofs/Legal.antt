@@ -20,7 +20,7 @@ use Rattle.access_ops.specs.declared.op_next.Answer.TheVariants.{Silence, Got}
 use Rattle.access_ops.specs.declared.op_next.OpNext.TheVariants.{Send}
 use Rattle.access_ops.specs.Operations.{reception_in, Dialogue, sends, tells, done, behind_reception, behind_last, last_command, behind_number, with_number, words_expected, upper_half, lower_half, send_halves, operation, operations, denials, operations_from_rn16, is_for, dialogue_of, first_of, Move, answered, told, dialogue_behind, dialogue_after, next_operation, IsAnswerFor, Follows, AreMoves}
 use Rattle.access_ops.specs.OperationLaws.{IsLegalOp}
-use Rattle.access_ops.proofs.Moving.{opened-is, denials-are}
+use Rattle.access_ops.proofs.Moving.{operations_from_rn16-is, denials-are}
 
 -- each command of the dialogue is legal, where the answers are in their ranges
 abbrev pub IsLegalDialogue : Dialogue → Type 0
@@ -87,12 +87,12 @@ legal-denials : (ops : List Op) → IsLegalDialogue (denials ops)
 legal-denials [] = tt
 legal-denials (op ∷ ops) = legal-denials ops
 
-legal-opened : (ops : List Op) (rn : ℕ) → AllByRecursion IsLegalOp ops → IsWord rn → IsLegalDialogue (operations_from_rn16 ops rn)
-legal-opened [] rn legal word = tt
-legal-opened (op ∷ ops) rn legal word = legal-asking rn (λ handle. operations (op ∷ ops) handle) word (λ handle is. legal-operations (op ∷ ops) handle legal is)
+legal-operations_from_rn16 : (ops : List Op) (rn : ℕ) → AllByRecursion IsLegalOp ops → IsWord rn → IsLegalDialogue (operations_from_rn16 ops rn)
+legal-operations_from_rn16 [] rn legal word = tt
+legal-operations_from_rn16 (op ∷ ops) rn legal word = legal-asking rn (λ handle. operations (op ∷ ops) handle) word (λ handle is. legal-operations (op ∷ ops) handle legal is)
 
 legal-dialogue : (list : OpList) (epc : List ℕ) (rn : ℕ) (for : Bool) → is_for list.only epc ≡ for → AllByRecursion IsLegalOp list.ops → IsWord rn → IsLegalDialogue (dialogue_of list epc rn)
-legal-dialogue list epc rn true for legal word = subst IsLegalDialogue (sym (opened-is list epc rn for)) (legal-opened list.ops rn legal word)
+legal-dialogue list epc rn true for legal word = subst IsLegalDialogue (sym (operations_from_rn16-is list epc rn for)) (legal-operations_from_rn16 list.ops rn legal word)
 legal-dialogue list epc rn false other legal word = subst IsLegalDialogue (sym (denials-are list epc rn other)) (legal-denials list.ops)
 
 legal-behind : (dialogue : Dialogue) (move : Move) → IsLegalDialogue dialogue → Follows (first_of dialogue) move → IsLegalDialogue (dialogue_behind move dialogue)

@@ -7,7 +7,7 @@ use Rattle.access_ops.specs.declared.op_next.OpNext.TheVariants.{Send, Result, E
 use Rattle.access_ops.specs.declared.op_next.OpResult.TheVariants as results
 use Rattle.access_ops.specs.Operations.{Dialogue, sends, tells, done, denials, operations_from_rn16, is_for, dialogue_of, first_of, Move, answered, told, reception_in, dialogue_behind, dialogue_after, next_operation, Follows, AreMoves}
 use Rattle.access_ops.specs.OperationLaws.{commands_in, results_in, commands_sent, results_told}
-use Rattle.access_ops.specs.Running.{Runs, commands_of, opened-runs}
+use Rattle.access_ops.specs.Running.{Runs, commands_of, operations_from_rn16-runs}
 
 -- the operations of the list up to one have their results
 pub record IsSplit (list : OpList) (epc : List ℕ) (rn : ℕ) (moves : List Move) (rest : List Op) : Type 0 where
@@ -102,8 +102,8 @@ over-more list epc rn moves move o =
       count = omega (arith, o.count, ap results_in next);
     }
 
-pub opened-is : (list : OpList) (epc : List ℕ) (rn : ℕ) → is_for list.only epc ≡ true → dialogue_of list epc rn ≡ operations_from_rn16 list.ops rn
-opened-is list epc rn for = rw for refl
+pub operations_from_rn16-is : (list : OpList) (epc : List ℕ) (rn : ℕ) → is_for list.only epc ≡ true → dialogue_of list epc rn ≡ operations_from_rn16 list.ops rn
+operations_from_rn16-is list epc rn for = rw for refl
 
 pub denials-are : (list : OpList) (epc : List ℕ) (rn : ℕ) → is_for list.only epc ≡ false → dialogue_of list epc rn ≡ denials list.ops
 denials-are list epc rn other = rw other refl
@@ -116,7 +116,7 @@ running list epc rn [] for are = inl (record {
   split = record { before = []; whole = refl; count = refl };
   left = suc (commands_of list.ops);
   few = omega arith;
-  runs = subst (λ (d : Dialogue). Runs (suc (commands_of list.ops)) list.ops d) (sym (opened-is list epc rn for)) (opened-runs list.ops rn);
+  runs = subst (λ (d : Dialogue). Runs (suc (commands_of list.ops)) list.ops d) (sym (operations_from_rn16-is list epc rn for)) (operations_from_rn16-runs list.ops rn);
 })
 running list epc rn (move ∷ moves) for are =
     elim (running list epc rn moves for are.1) [

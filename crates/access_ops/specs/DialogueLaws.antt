@@ -6,7 +6,7 @@ use Rattle.access_ops.specs.declared.op_next.OpNext.TheVariants.{Send, Result, E
 use Rattle.access_ops.specs.declared.op_next.OpResult.{OpResult}
 use Rattle.access_ops.specs.OperationLaws.{Expects}
 use Rattle.access_ops.specs.Operations.{Dialogue, sends, tells, done, denials, operations_from_rn16, is_for, dialogue_of, first_of}
-use Rattle.access_ops.specs.Running.{Runs, commands_of, commands-are, opened-runs}
+use Rattle.access_ops.specs.Running.{Runs, commands_of, commands-are, operations_from_rn16-runs}
 use Rattle.command_grammar.specs.declared.commands.Command.{Command}
 use Rattle.reply_grammar.specs.Reception.{Reception}
 use Rattle.reply_grammar.specs.declared.expected.Expect.{Expect}
@@ -68,11 +68,11 @@ denials-are-few most [] = tt
 denials-are-few most (op ∷ ops) = denials-are-few most ops
 
 await-where : (it_is : Bool) (ops : List Op) (rn : ℕ) → AwaitsReplies (if it_is then operations_from_rn16 ops rn else denials ops)
-await-where true ops rn = runs-await (suc (commands_of ops)) ops (operations_from_rn16 ops rn) (opened-runs ops rn)
+await-where true ops rn = runs-await (suc (commands_of ops)) ops (operations_from_rn16 ops rn) (operations_from_rn16-runs ops rn)
 await-where false ops rn = denials-await ops
 
 few-where : (it_is : Bool) (ops : List Op) (rn : ℕ) → SendsAtMost (4 * length ops + 1) (if it_is then operations_from_rn16 ops rn else denials ops)
-few-where true ops rn = runs-few (suc (commands_of ops)) (4 * length ops + 1) ops (operations_from_rn16 ops rn) (omega (arith, commands-are ops)) (opened-runs ops rn)
+few-where true ops rn = runs-few (suc (commands_of ops)) (4 * length ops + 1) ops (operations_from_rn16 ops rn) (omega (arith, commands-are ops)) (operations_from_rn16-runs ops rn)
 few-where false ops rn = denials-are-few (4 * length ops + 1) ops
 
 -- each command of the operations of a list expects a reply of its kind

@@ -109,6 +109,6 @@ operations-run [] handle = tt
 operations-run (op ∷ ops) handle = operation-runs (commands_of ops) op ops handle (operations ops handle) (operations-run ops handle)
 
 -- ... and one for the handle
-pub opened-runs : (ops : List Op) (rn : ℕ) → Runs (suc (commands_of ops)) ops (operations_from_rn16 ops rn)
-opened-runs [] rn = tt
-opened-runs (op ∷ ops) rn = asks _ op ops rn (λ handle. operations (op ∷ ops) handle) (operations-run (op ∷ ops))
+pub operations_from_rn16-runs : (ops : List Op) (rn : ℕ) → Runs (suc (commands_of ops)) ops (operations_from_rn16 ops rn)
+operations_from_rn16-runs [] rn = tt
+operations_from_rn16-runs (op ∷ ops) rn = asks _ op ops rn (λ handle. operations (op ∷ ops) handle) (operations-run (op ∷ ops))

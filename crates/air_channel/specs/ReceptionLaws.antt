@@ -30,6 +30,7 @@ use Rattle.air_channel.specs.Exchange.{Replied}
 use Rattle.air_channel.specs.Received.{IsReceived}
 use Rattle.air_channel.specs.ReceivedLaws.{same_received}
 use Rattle.air_channel.specs.Reception.{has_handle, is_expected, reception_of, HoldsOfSent, IsGiven, IsReplyFor, IsGivenFor}
+use Rattle.air_channel.specs.Rooms.{longest_stream}
 use Rattle.reply_grammar.specs.Reception.{no_stream, whole_reply, no_such_reply, reception_from}
 
 both_true : (a b : Bool) → (a && b) ≡ true → (a ≡ true) × (b ≡ true)
@@ -123,7 +124,7 @@ few_words Header few = tt
 few_words (Error code) few = tt
 
 -- 8,225 bits with the longest lead and 16 levels for each bit and for the dummy
-levels_most : (link : LinkValue) (sent : Sent) → IsSent (Some sent) → length (levels_of link sent) ≤ 131968
+levels_most : (link : LinkValue) (sent : Sent) → IsSent (Some sent) → length (levels_of link sent) ≤ longest_stream
 levels_most link sent is =
     let most = stream_most link.code (sent.extended || link.trext) (spelling sent.reply sent.handle) in
     let bits = spelling-within sent.reply sent.handle is.0 (few_words sent.reply is.2) in
@@ -142,7 +143,7 @@ given_in_range expect (whole replied) meets = meets.in_range
 given_in_range expect (broken replied place) meets = meets.in_range
 
 -- the channel gives no more levels than the longest stream has
-pub heard_most : (link : LinkValue) (given : Given) → IsGiven given → length (heard_levels link given) ≤ 131968
+pub heard_most : (link : LinkValue) (given : Given) → IsGiven given → length (heard_levels link given) ≤ longest_stream
 heard_most link silence is = omega arith
 heard_most link (whole replied) is = levels_most link replied.sent is
 heard_most link (broken replied place) is = rw (length-broken link replied place) (levels_most link replied.sent is)

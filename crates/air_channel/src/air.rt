@@ -24,7 +24,7 @@ use tag_machine::{AnyTag, Entry, Event, Several, Steps};
 
 /// How many bits of a command there is room for, and how many intervals of its frame: more than the 4,162 and
 /// the 8,331 of the longest command.
-const COMMAND_ROOM: u32 = 8400;
+const FRAME_ROOM: u32 = 8400;
 
 /// How many levels there is room for: more than the 131,968 of the longest reply's stream.
 const STREAM_ROOM: u32 = 132_208;
@@ -76,8 +76,8 @@ impl Air {
     ) -> Result<Air, OutOfMemory>
         ensures { IfOk result (λ air. air ≡ record { link = link; several = several; tags = population; frame = []; stream = []; replies = 0; exchanges = 0 }) }
     {
-        let bits = Bits::new(alloc, COMMAND_ROOM)?;
-        let frame = Intervals::new(alloc, COMMAND_ROOM)?;
+        let bits = Bits::new(alloc, FRAME_ROOM)?;
+        let frame = Intervals::new(alloc, FRAME_ROOM)?;
         let replies = Replies::new(alloc)?;
         let stream = Levels::new(alloc, STREAM_ROOM)?;
         Ok(Air {

@@ -4,7 +4,7 @@ use Rattle.std.proofs.Common.{◌≡◌, ◌+◌, ◌<◌, ◌⊎◌, inl, inr, 
 use Rattle.air_channel.specs.Past.{Start, Item, befell, exchanged, operated, ended}
 use Rattle.air_world.proofs.Growth.{Grows, grows-more}
 use Rattle.air_world.proofs.HeadlineNext.{compared, equal, below, above, same-growth}
-use Rattle.air_world.specs.Happened.{events_and_exchanges_of, IsConcluded}
+use Rattle.air_world.specs.EventsAndRecords.{events_and_records_of, IsConcluded}
 use Rattle.air_world.specs.HistoryLaws.{GrowsByNext}
 use Rattle.scenario.specs.declared.values.Step.{Step}
 
@@ -19,12 +19,12 @@ longer-grows start all first (item ∷ second) left right less =
       | above is ↦ absurd (omega (arith, is, less))
     ]
 
-happened-append : (own past : List Item) → events_and_exchanges_of (own ++ past) ≡ events_and_exchanges_of own ++ events_and_exchanges_of past
-happened-append [] past = refl
-happened-append (befell event number ∷ own) past = ap (λ (items : List Item). befell event number ∷ items) (happened-append own past)
-happened-append (exchanged sent ∷ own) past = ap (λ (items : List Item). exchanged sent ∷ items) (happened-append own past)
-happened-append (operated round slot index result ∷ own) past = happened-append own past
-happened-append (ended round end slots ∷ own) past = happened-append own past
+events_and_records_of-append : (own past : List Item) → events_and_records_of (own ++ past) ≡ events_and_records_of own ++ events_and_records_of past
+events_and_records_of-append [] past = refl
+events_and_records_of-append (befell event number ∷ own) past = ap (λ (items : List Item). befell event number ∷ items) (events_and_records_of-append own past)
+events_and_records_of-append (exchanged sent ∷ own) past = ap (λ (items : List Item). exchanged sent ∷ items) (events_and_records_of-append own past)
+events_and_records_of-append (operated round slot index result ∷ own) past = events_and_records_of-append own past
+events_and_records_of-append (ended round end slots ∷ own) past = events_and_records_of-append own past
 
 none-added : (own past : List Item) → own ++ past ≡ past → own ≡ []
 none-added [] past is = refl
@@ -32,14 +32,14 @@ none-added (item ∷ own) past is =
     let count : length (item ∷ own) + length past ≡ length past = sym (length-append (item ∷ own) past) ∙ ap length is in
     absurd (omega (arith, count))
 
-concluded : (past behind : List Item) → Grows past behind → events_and_exchanges_of past ≡ events_and_exchanges_of behind → IsConcluded past behind
+concluded : (past behind : List Item) → Grows past behind → events_and_records_of past ≡ events_and_records_of behind → IsConcluded past behind
 concluded past behind grown same = record {
   own = grown.own;
-  none = none-added (events_and_exchanges_of grown.own) (events_and_exchanges_of past) (sym (happened-append grown.own past) ∙ ap events_and_exchanges_of (sym grown.is) ∙ sym same);
+  none = none-added (events_and_records_of grown.own) (events_and_records_of past) (sym (events_and_records_of-append grown.own past) ∙ ap events_and_records_of (sym grown.is) ∙ sym same);
   is = grown.is;
 }
 
-pub one-past : (start : Start) (all : List Step) (one other : List Item) → GrowsByNext start all one → GrowsByNext start all other → events_and_exchanges_of one ≡ events_and_exchanges_of other
+pub one-past : (start : Start) (all : List Step) (one other : List Item) → GrowsByNext start all one → GrowsByNext start all other → events_and_records_of one ≡ events_and_records_of other
     → IsConcluded one other ⊎ IsConcluded other one
 one-past start all one other left right same =
     elim (compared (length one) (length other)) [

@@ -3,7 +3,7 @@ pub mod History
 pub mod Listing
 pub mod Playing
 pub mod Report
-pub mod Happened
+pub mod EventsAndRecords
 pub mod Headline
 pub mod HistoryLaws
 pub mod ScenarioStart

@@ -7,7 +7,7 @@ ghost use Rattle.air_channel.specs.Past.{Start, Record, Item, exchanges_in, next
 ghost use Rattle.air_channel.specs.Received.{IsReceived};
 ghost use Rattle.air_channel.specs.Reception.{reception_of, reception_with};
 ghost use Rattle.air_channel.specs.declared.air.Got.TheVariants.{Stream};
-ghost use Rattle.air_world.specs.Happened.{events_and_exchanges_of, IsConcluded};
+ghost use Rattle.air_world.specs.EventsAndRecords.{events_and_records_of, IsConcluded};
 ghost use Rattle.air_world.specs.Headline.{AreLegalSteps, Headline, IsRecordOf, is_op_line, op_lines, most_exchanges};
 ghost use Rattle.air_world.specs.History.{history_of};
 ghost use Rattle.air_world.specs.HistoryLaws.{GrowsByNext, next_item};
@@ -121,5 +121,5 @@ pub fn histories_hear_what_is_received()
 /// behind further results and ends.
 pub fn events_and_records_determine_a_past()
     ensures { (start : Start) (steps : List Step) (one other : List Item) → GrowsByNext start steps one → GrowsByNext start steps other →
-        events_and_exchanges_of one ≡ events_and_exchanges_of other → IsConcluded one other ⊎ IsConcluded other one }
+        events_and_records_of one ≡ events_and_records_of other → IsConcluded one other ⊎ IsConcluded other one }
 {}

@@ -35,10 +35,10 @@ use std::sync::ledger::Ledger;
 use tag_machine::{Steps, answers_are_replies, steps_keep_tags_legal};
 
 /// Room for the bits of a reply: as many as the longest stream has levels.
-const BITS: u32 = 131968;
+const BIT_ROOM: u32 = 131_968;
 
 /// Room for the longest line, which tells of the levels of the longest stream.
-const LINE: usize = 132100;
+const LINE_ROOM: usize = 132_100;
 
 /// What is kept of a run beside the air.
 ///
@@ -81,8 +81,8 @@ impl<'a, L: Ledger> Run<'a, L> {
     ) -> Result<Run<'a, L>, OutOfMemory>
         ensures { IfOk result (λ run. run ≡ record { mode = mode; entries = entries.entry; seen = []; rounds = 0; slots = 0; quiet = true }) }
     {
-        let bits = Bits::new(alloc, BITS)?;
-        let line = String::with_capacity(alloc, LINE)?;
+        let bits = Bits::new(alloc, BIT_ROOM)?;
+        let line = String::with_capacity(alloc, LINE_ROOM)?;
         Ok(Run {
             mode,
             entries,

@@ -17,7 +17,7 @@ use Rattle.hex.proofs.OnLiterals.{hex_on_literals}
 use Rattle.std.specs.Fmt.{decimal}
 use Rattle.text_fields.specs.FieldTextLaws.{IsFieldText-decimal, IsFieldText-binary, IsFieldText-hex_words}
 use Rattle.text_fields.specs.Hexadecimal.{hex_words}
-use Rattle.decode_lines.specs.Request.{request_word, HasShape, request_kind, AreSpelled, IsWithinLimits, AsksBehind, AsksForRequest, AreFaulty, IsFaultyRequest}
+use Rattle.decode_lines.specs.Request.{most_intervals, request_word, HasShape, request_kind, AreSpelled, IsWithinLimits, AsksBehind, AsksForRequest, AreFaulty, IsFaultyRequest}
 use Rattle.decode_lines.specs.DecodeLines.{IsGrammatical, IsFaultyBefore, IsFirstFault}
 use Rattle.decode_lines.specs.declared.request.RequestKind.{RequestKind}
 use Rattle.decode_lines.specs.declared.request.RequestKind.TheVariants.{Stream as StreamKind, Samples as SamplesKind, Reply as ReplyKind, Heard as HeardKind, Pie as PieKind, Command as CommandKind, Sgtin as SgtinKind, Uri as UriKind}
@@ -113,7 +113,7 @@ request_shape (Heard code trext expect levels) others spelling limits =
     )
 request_shape (Pie intervals) others spelling limits =
     let some : 1 ≤ length (map decimal intervals) = rw length-map limits.0 in
-    let room : length (map decimal intervals) ≤ 20000 = rw length-map limits.1 in
+    let room : length (map decimal intervals) ≤ most_intervals = rw length-map limits.1 in
     rw spelling ((some, room), numbers_filled intervals limits.2)
 request_shape (Command bits) others spelling limits =
     rw spelling (refl, All-cons Filled (binary bits) [] (IsFieldText-binary bits).filled (All-nil Filled))

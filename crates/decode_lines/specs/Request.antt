@@ -21,6 +21,10 @@ use Rattle.sample_slicer.specs.Samples.{most_samples}
 abbrev pub most_bits : ℕ
 most_bits = 8240
 
+-- the most intervals of a frame
+abbrev pub most_intervals : ℕ
+most_intervals = 20000
+
 -- the most levels of a stream
 abbrev pub most_levels : ℕ
 most_levels = 132000
@@ -47,7 +51,7 @@ MayHave (StreamKind code) count = count ≡ 2
 MayHave SamplesKind count = count ≡ 3
 MayHave ReplyKind count = count ≡ 2
 MayHave HeardKind count = count ≡ 4
-MayHave PieKind count = (1 ≤ count) × (count ≤ 20000)
+MayHave PieKind count = (1 ≤ count) × (count ≤ most_intervals)
 MayHave CommandKind count = count ≡ 1
 MayHave SgtinKind count = count ≡ 1
 MayHave UriKind count = count ≡ 1
@@ -87,7 +91,7 @@ IsWithinLimits (Samples threshold per_level samples) =
     (threshold ≤ 255) × (1 ≤ per_level) × (per_level ≤ 64) × (1 ≤ length samples) × (length samples ≤ most_samples)
 IsWithinLimits (Reply expect bits) = IsExpect expect × (length bits ≤ most_bits)
 IsWithinLimits (Heard code trext expect levels) = IsExpect expect × (length levels ≤ most_levels)
-IsWithinLimits (Pie intervals) = (1 ≤ length intervals) × (length intervals ≤ 20000) × All (λ interval. interval ≤ longest_interval) intervals
+IsWithinLimits (Pie intervals) = (1 ≤ length intervals) × (length intervals ≤ most_intervals) × All (λ interval. interval ≤ longest_interval) intervals
 IsWithinLimits (Command bits) = length bits ≤ most_bits
 IsWithinLimits (Sgtin words) = (1 ≤ length words) × (length words ≤ 31) × All (λ word. word < 2 ^ 16) words
 IsWithinLimits (Uri text) = text ≢ []

@@ -3,7 +3,7 @@ ghost use Rattle.std.specs.Prelude.{◌≡◌, ◌≢◌, ◌≤◌, ◌++◌, l
 ghost use Rattle.std.specs.String.{string_bytes};
 ghost use Rattle.decode_lines.specs.Answer.{AddsAnswer, AnswersLine, answer_line, streamed, sliced, replied, heard, framed, commanded, named, worded, with_left};
 ghost use Rattle.text_fields.specs.Lines.{fields_of};
-ghost use Rattle.decode_lines.specs.Request.{AsksForRequest, IsFaultyRequest, IsWithinLimits, most_levels, request_kind};
+ghost use Rattle.decode_lines.specs.Request.{AsksForRequest, IsFaultyRequest, IsWithinLimits, most_intervals, most_levels, request_kind};
 ghost use Rattle.decode_lines.specs.declared.request.Request.{Request};
 ghost use Rattle.decode_lines.specs.declared.request.RequestKind.{RequestKind};
 ghost use Rattle.epc_sgtin.specs.SgtinValue.{SgtinValue};
@@ -44,7 +44,7 @@ pub struct Workspace {
     command: Result<Command, CommandRefusal>,
     ghost levels_room: { levels.capacity ≡ most_levels },
     ghost bits_room: { bits.capacity ≡ most_levels },
-    ghost intervals_room: { intervals.capacity ≡ 20000 },
+    ghost intervals_room: { intervals.capacity ≡ most_intervals },
 }
 
 impl Workspace {
@@ -61,6 +61,7 @@ impl Workspace {
             intervals,
             samples,
             words,
+            // What no bits are.
             command: Err(CommandRefusal::Short(0)),
         })
     }
@@ -110,7 +111,7 @@ impl Workspace {
                 expect,
                 levels,
             } => self.answer_heard(*code, *trext, expect, levels, text),
-            // The intervals of such a line are read straight into their list.
+            // `answer_pie` has answered each line that asks for a frame.
             Request::Pie { .. } => unreachable!(),
             Request::Command { bits } => self.answer_command(bits, text),
             Request::Sgtin { words } => self.answer_sgtin(words, text),

@@ -1,5 +1,5 @@
 //! A list of numbers that the fields of a line spell.
-ghost use Rattle.std.specs.Prelude.{◌≡◌, ◌≢◌, ◌≤◌, ◌↔◌, ℕ, List, [], length, map, All, IfOk, IfErr, OnOk, IsOk, IsOkAnd, IsTrue};
+ghost use Rattle.std.specs.Prelude.{◌≡◌, ◌≢◌, ◌≤◌, ◌↔◌, ℕ, List, [], length, map, All, IfOk, IfErr, IsOkAnd, IsTrue};
 ghost use Rattle.text_fields.specs.Lines.{fields_of};
 ghost use Rattle.pie_text.specs.Numbers.{HasShape, RefusesNumbers, SpellsNumbers};
 ghost use Rattle.pie_text.specs.Spelling.{IsNumber, number_of};

@@ -19,7 +19,7 @@ use Rattle.scenario.specs.declared.fault.Fault.{Fault}
 use Rattle.scenario.specs.declared.fault.Fault.TheVariants as faults
 use Rattle.scenario.specs.declared.values.Step.{Step}
 use Rattle.scenario.specs.Limits.{most_tags, most_air_lines, most_ops, most_steps}
-use Rattle.scenario.specs.Standing.{DraftValue, Standing, start, begun, within, ended, new_draft, after, draft_behind, draft_at_exchange, with_said, with_happening, with_last, steps_of, Follows, Leads, HasRoom, NamesTag, MayFollow, KeepsOrder, ChoosesOnce}
+use Rattle.scenario.specs.Standing.{DraftValue, Standing, start, begun, within, ended, new_draft, after, draft_after, draft_at_exchange, with_said, with_happening, with_last, steps_of, Follows, Leads, HasRoom, NamesTag, MayFollow, KeepsOrder, ChoosesOnce}
 use Rattle.scenario.specs.Faults.{DisagreesBy}
 use Rattle.scenario.specs.LinesBefore.{is_tag, is_air, is_step, tags_in, airs_in, steps_in, ops_behind, IsFullBefore, turn_of, ComesBefore, ChoosesOther, KeepsOrderBehind, ChoosesFirst, DisagreesWith}
 
@@ -248,15 +248,15 @@ above-not (suc last) zero above differs = absurd (omega (arith, above))
 above-not (suc last) (suc next) above differs =
     let less = above-not last next (omega (arith, above)) (λ same. differs (ap suc same)) in omega (arith, less)
 
-air-grown : (before : List Line) (draft : DraftValue) (exchange : ℕ) (said : Happening) (same : Bool) → (exchange == draft.exchange) ≡ same → draft.exchange ≤ exchange → Tells before draft
+air-draft_after : (before : List Line) (draft : DraftValue) (exchange : ℕ) (said : Happening) (same : Bool) → (exchange == draft.exchange) ≡ same → draft.exchange ≤ exchange → Tells before draft
     → let counted = record draft { airs = draft.airs + 1 } in
     Tells (before ++ lines.Air exchange said ∷ []) (if same then with_said counted said else with_said (draft_at_exchange counted exchange) said)
-air-grown before draft exchange said true is above told =
+air-draft_after before draft exchange said true is above told =
     let counted = record draft { airs = draft.airs + 1 } in
     tells-air before draft exchange said (with_said counted said) told refl refl refl refl
     (subst (λ (n : ℕ). TellsAirs (before ++ lines.Air n said ∷ []) draft.exchange (with_happening draft.latest said)) (sym (eqb-true exchange draft.exchange is))
     (airs-same before draft.exchange draft.latest said told.exchanges))
-air-grown before draft exchange said false is above told =
+air-draft_after before draft exchange said false is above told =
     let counted = record draft { airs = draft.airs + 1 } in
     let differs : exchange ≢ draft.exchange = eqb-false exchange draft.exchange is in
     tells-air before draft exchange said (with_said (draft_at_exchange counted exchange) said) told refl refl refl refl
@@ -299,24 +299,24 @@ tells-one before draft lines.Version follows told = absurd follows.stands
 tells-one before draft (lines.Link link) follows told = absurd follows.stands
 tells-one before draft (lines.Tag tag) follows told =
     let line = lines.Tag tag in
-    tells-tag before draft line (draft_behind draft line) told refl refl refl refl (length-push draft.tags tag) refl refl refl
+    tells-tag before draft line (draft_after draft line) told refl refl refl refl (length-push draft.tags tag) refl refl refl
     (airs-kept before draft.exchange draft.latest line (λ exchange happening. tt) (λ exchange. tt) told.exchanges)
-tells-one before draft (lines.Air exchange said) follows told = air-grown before draft exchange said (exchange == draft.exchange) refl follows.agrees.order.0 told
+tells-one before draft (lines.Air exchange said) follows told = air-draft_after before draft exchange said (exchange == draft.exchange) refl follows.agrees.order.0 told
 tells-one before draft (lines.Select selection) follows told =
     let line = lines.Select selection in
-    tells-step before draft line (draft_behind draft line) told refl refl refl refl refl refl (length-push (steps_of draft) _) refl
+    tells-step before draft line (draft_after draft line) told refl refl refl refl refl refl (length-push (steps_of draft) _) refl
     (airs-kept before draft.exchange draft.latest line (λ exchange happening. tt) (λ exchange. tt) told.exchanges)
 tells-one before draft lines.Nak follows told =
     let line = lines.Nak in
-    tells-step before draft line (draft_behind draft line) told refl refl refl refl refl refl (length-push (steps_of draft) _) refl
+    tells-step before draft line (draft_after draft line) told refl refl refl refl refl refl (length-push (steps_of draft) _) refl
     (airs-kept before draft.exchange draft.latest line (λ exchange happening. tt) (λ exchange. tt) told.exchanges)
 tells-one before draft (lines.Event event tag) follows told =
     let line = lines.Event event tag in
-    tells-step before draft line (draft_behind draft line) told refl refl refl refl refl refl (length-push (steps_of draft) _) refl
+    tells-step before draft line (draft_after draft line) told refl refl refl refl refl refl (length-push (steps_of draft) _) refl
     (airs-kept before draft.exchange draft.latest line (λ exchange happening. tt) (λ exchange. tt) told.exchanges)
 tells-one before draft (lines.Round spec) follows told =
     let line = lines.Round spec in
-    tells-step before draft line (draft_behind draft line) told refl refl refl refl refl refl (length-push (steps_of draft) _) refl
+    tells-step before draft line (draft_after draft line) told refl refl refl refl refl refl (length-push (steps_of draft) _) refl
     (airs-kept before draft.exchange draft.latest line (λ exchange happening. tt) (λ exchange. tt) told.exchanges)
 tells-one before draft (lines.Only epc) follows told =
     let line = lines.Only epc in

@@ -16,7 +16,7 @@ use Rattle.scenario_lines.specs.LineFaults.{SpellsLine}
 use Rattle.scenario.specs.declared.fault.Fault.{Fault}
 use Rattle.scenario.specs.declared.fault.Fault.TheVariants.{Extra, End}
 use Rattle.scenario.specs.ScenarioText.{operation_lines, step_lines}
-use Rattle.scenario.specs.Standing.{DraftValue, Follows, IsBareRound, Leads, Standing, after, ended, draft_behind, new_draft, scenario_of, size, steps_of, with_air, with_last, with_only, with_op, with_round, with_step, within}
+use Rattle.scenario.specs.Standing.{DraftValue, Follows, IsBareRound, Leads, Standing, after, ended, draft_after, new_draft, scenario_of, size, steps_of, with_air, with_last, with_only, with_op, with_round, with_step, within}
 use Rattle.scenario.specs.Faults.{IsFaultyAt, IsFaultyBefore}
 use Rattle.scenario.specs.Limits.{no_operations}
 use Rattle.scenario.specs.LineLaws.{LineLaws}
@@ -94,14 +94,14 @@ leads_size from to [] leads = let same : from ≡ to = cc in rw same (omega arit
 leads_size from to (lines.Version ∷ said) leads = absurd leads.0.stands
 leads_size from to (lines.Link link ∷ said) leads = absurd leads.0.stands
 leads_size from to (lines.Tag tag ∷ said) leads =
-    omega (arith, leads_size (draft_behind from (lines.Tag tag)) to said leads.1, length-append from.tags (tag ∷ []))
+    omega (arith, leads_size (draft_after from (lines.Tag tag)) to said leads.1, length-append from.tags (tag ∷ []))
 leads_size from to (lines.Air number happening ∷ said) leads =
     omega (arith, leads_size (with_air from number happening) to said leads.1, size_air from number happening)
 leads_size from to (lines.Select selection ∷ said) leads =
-    omega (arith, leads_size (draft_behind from (lines.Select selection)) to said leads.1, size_step from (steps.Select (commands.Select selection.target selection.action selection.bank selection.pointer selection.mask)) refl)
-leads_size from to (lines.Nak ∷ said) leads = omega (arith, leads_size (draft_behind from lines.Nak) to said leads.1, size_step from steps.Nak refl)
+    omega (arith, leads_size (draft_after from (lines.Select selection)) to said leads.1, size_step from (steps.Select (commands.Select selection.target selection.action selection.bank selection.pointer selection.mask)) refl)
+leads_size from to (lines.Nak ∷ said) leads = omega (arith, leads_size (draft_after from lines.Nak) to said leads.1, size_step from steps.Nak refl)
 leads_size from to (lines.Event event tag ∷ said) leads =
-    omega (arith, leads_size (draft_behind from (lines.Event event tag)) to said leads.1, size_step from (steps.Event event tag) refl)
+    omega (arith, leads_size (draft_after from (lines.Event event tag)) to said leads.1, size_step from (steps.Event event tag) refl)
 leads_size from to (lines.Round spec ∷ said) leads =
     omega (arith, leads_size (with_round from spec) to said leads.1, size_round from spec)
 leads_size from to (lines.Only epc ∷ said) leads = omega (arith, leads_size (with_only from epc) to said leads.1, size_only from epc leads.0.stands)

@@ -10,7 +10,7 @@ use Rattle.scenario_lines.specs.declared.fault.LineFault.{LineFault}
 use Rattle.scenario_lines.specs.declared.fault.LineFault.TheVariants as line_faults
 use Rattle.scenario.specs.declared.fault.Fault.{Fault}
 use Rattle.scenario.specs.declared.fault.Fault.TheVariants.{Extra, End, Version, Word as WordFault, Limit, Shape, Number, Tari, RtCal, TrCal, Pw, Pc, Tag, Order, Twice}
-use Rattle.scenario.specs.Standing.{Agrees, DraftValue, HasRoom, MayStand, Standing, after, ended, draft_behind, within}
+use Rattle.scenario.specs.Standing.{Agrees, DraftValue, HasRoom, MayStand, Standing, after, ended, draft_after, within}
 use Rattle.scenario.specs.Faults.{DisagreesBy, HasPlace, IsFaultyAt, fault_of_line}
 
 -- a line that has its place, and says nothing
@@ -88,18 +88,18 @@ after_end draft (lines.Op op) is = cc
 after_end draft lines.End is = refl
 
 -- each other line lets it grow
-pub after_grown : (draft : DraftValue) (said : Line) → word_of_line said ≢ words.End → after (within draft) said ≡ within (draft_behind draft said)
-after_grown draft lines.Version other = refl
-after_grown draft (lines.Link link) other = refl
-after_grown draft (lines.Tag tag) other = refl
-after_grown draft (lines.Air exchange happening) other = refl
-after_grown draft (lines.Select selection) other = refl
-after_grown draft lines.Nak other = refl
-after_grown draft (lines.Event event tag) other = refl
-after_grown draft (lines.Round spec) other = refl
-after_grown draft (lines.Only epc) other = refl
-after_grown draft (lines.Op op) other = refl
-after_grown draft lines.End other = absurd (other refl)
+pub after_is_draft_after : (draft : DraftValue) (said : Line) → word_of_line said ≢ words.End → after (within draft) said ≡ within (draft_after draft said)
+after_is_draft_after draft lines.Version other = refl
+after_is_draft_after draft (lines.Link link) other = refl
+after_is_draft_after draft (lines.Tag tag) other = refl
+after_is_draft_after draft (lines.Air exchange happening) other = refl
+after_is_draft_after draft (lines.Select selection) other = refl
+after_is_draft_after draft lines.Nak other = refl
+after_is_draft_after draft (lines.Event event tag) other = refl
+after_is_draft_after draft (lines.Round spec) other = refl
+after_is_draft_after draft (lines.Only epc) other = refl
+after_is_draft_after draft (lines.Op op) other = refl
+after_is_draft_after draft lines.End other = absurd (other refl)
 
 -- a line that agrees with the lines before it doesn't disagree with them
 pub no_disagreement : (draft : DraftValue) (said : Line) (fault : Fault) → Agrees draft said → DisagreesBy draft said fault → ⊥

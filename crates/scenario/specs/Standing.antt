@@ -231,24 +231,24 @@ with_op draft op =
     record draft { operations = record { only = draft.operations.only; ops = draft.operations.ops ++ op ∷ [] } }
 
 -- the draft after a line that may follow
-abbrev pub draft_behind : DraftValue → Line → DraftValue
-draft_behind draft (lines.Tag tag) = record draft { tags = draft.tags ++ tag ∷ [] }
-draft_behind draft (lines.Air exchange happening) = with_air draft exchange happening
-draft_behind draft (lines.Select selection) =
+abbrev pub draft_after : DraftValue → Line → DraftValue
+draft_after draft (lines.Tag tag) = record draft { tags = draft.tags ++ tag ∷ [] }
+draft_after draft (lines.Air exchange happening) = with_air draft exchange happening
+draft_after draft (lines.Select selection) =
     with_step draft (steps.Select (commands.Select selection.target selection.action selection.bank selection.pointer selection.mask))
-draft_behind draft lines.Nak = with_step draft steps.Nak
-draft_behind draft (lines.Event event tag) = with_step draft (steps.Event event tag)
-draft_behind draft (lines.Round spec) = with_round draft spec
-draft_behind draft (lines.Only epc) = with_only draft epc
-draft_behind draft (lines.Op op) = with_op draft op
-draft_behind draft line = draft
+draft_after draft lines.Nak = with_step draft steps.Nak
+draft_after draft (lines.Event event tag) = with_step draft (steps.Event event tag)
+draft_after draft (lines.Round spec) = with_round draft spec
+draft_after draft (lines.Only epc) = with_only draft epc
+draft_after draft (lines.Op op) = with_op draft op
+draft_after draft line = draft
 
 -- where the scenario stands after a line that may follow
 abbrev pub after : Standing → Line → Standing
 after start line = begun
 after begun (lines.Link link) = within (new_draft link)
 after (within draft) lines.End = ended draft
-after (within draft) line = within (draft_behind draft line)
+after (within draft) line = within (draft_after draft line)
 after standing line = standing
 
 -- the lines follow one another from here on, and lead there

@@ -3,7 +3,7 @@ ghost use Rattle.std.specs.Prelude.{◌≡◌, ◌<◌, ◌≤◌, ◌+◌, ◌^
 ghost use Rattle.std.specs.List.{flat_map};
 ghost use Rattle.text_fields.specs.Lines.{fields_of};
 ghost use Rattle.scenario.specs.ScenarioText.{step_lines};
-ghost use Rattle.scenario.specs.Standing.{Agrees, ChoosesOnce, Follows, HasRoom, IsBareRound, KeepsOrder, MayFollow, MayStand, NamesTag, after, entries_of, draft_behind, last_entry, new_draft, scenario_of, size, steps_of, draft_at_exchange, with_air, with_happening, with_last, with_only, with_op, with_round, with_step, within};
+ghost use Rattle.scenario.specs.Standing.{Agrees, ChoosesOnce, Follows, HasRoom, IsBareRound, KeepsOrder, MayFollow, MayStand, NamesTag, after, entries_of, draft_after, last_entry, new_draft, scenario_of, size, steps_of, draft_at_exchange, with_air, with_happening, with_last, with_only, with_op, with_round, with_step, within};
 ghost use Rattle.scenario.specs.Faults.{DisagreesBy, IsFaultyAt};
 ghost use Rattle.scenario_lines.specs.declared.line.Line.{Line};
 ghost use Rattle.scenario_lines.specs.LineFaults.{SpellsLine};
@@ -361,7 +361,7 @@ impl Draft {
     /// Adds what a line says that may follow. The version, the link and the end add nothing.
     fn add(&mut self, alloc: Global, line: Line) -> Result<(), OutOfMemory>
         requires { HasRoom (within self.old) (word_of_line line) }
-        ensures { OnOk result (self.new ≡ draft_behind self.old line.entry) }
+        ensures { OnOk result (self.new ≡ draft_after self.old line.entry) }
     {
         match line {
             Line::Tag(tag) => self.add_tag(alloc, &tag),

@@ -55,7 +55,7 @@ fn vectors_are_spelled_and_read(rt: HostRuntime) {
 }
 
 /// The bits of a block, and how many of those behind its first are taken at once.
-const RUNS: [(&str, usize); 3] = [("10000001", 6), ("000", 2), ("1", 0)];
+const RUNS: &[(&str, usize)] = &[("10000001", 6), ("000", 2), ("1", 0)];
 
 /// How many bits behind the first one are taken at once.
 fn run_of(alloc: Global, text: &str) -> Option<usize> {
@@ -69,7 +69,7 @@ fn run_of(alloc: Global, text: &str) -> Option<usize> {
 
 #[test]
 fn digits_are_taken_in_runs(rt: HostRuntime) {
-    for (text, count) in RUNS {
+    for &(text, count) in RUNS {
         assert!(rt; run_of(rt.alloc(), text) == Some(count), "{text}");
     }
 }

@@ -122,7 +122,7 @@ fn whole_symbol(high: u32, low: u32) -> (Option<bool>, Option<bool>) {
 }
 
 /// A high and a low, and the bit of the symbol that they make behind the first one.
-const WHOLE_SYMBOLS: [(u32, u32, Option<bool>); 7] = [
+const WHOLE_SYMBOLS: &[(u32, u32, Option<bool>)] = &[
     (6_250, 6_250, Some(false)),
     (9_374, 6_250, Some(false)),
     (9_375, 6_250, Some(true)),
@@ -135,7 +135,7 @@ const WHOLE_SYMBOLS: [(u32, u32, Option<bool>); 7] = [
 // The first symbol might be a TRcal, so that its intervals are taken one by one.
 #[test]
 fn symbols_are_taken_whole(rt: HostRuntime) {
-    for (high, low, bit) in WHOLE_SYMBOLS {
+    for &(high, low, bit) in WHOLE_SYMBOLS {
         assert!(rt; whole_symbol(high, low) == (None, bit), "{high} {low}");
     }
 }

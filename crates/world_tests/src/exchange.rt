@@ -101,7 +101,7 @@ fn exchange(air: &mut Air, command: &Command, entry: &Entry) -> Got
 }
 
 /// The exchange of the command; none where the entry names a tag that is not there.
-fn exchanged(air: &mut Air, command: &Command, entry: &Entry) -> Option<Got> {
+fn exchange_if_named(air: &mut Air, command: &Command, entry: &Entry) -> Option<Got> {
     if !names_tags(entry, air.len()) {
         return None;
     }
@@ -115,12 +115,13 @@ fn list_of(alloc: Global, text: &[u8]) -> Option<Bits> {
     Some(list)
 }
 
-/// Sends a Query with Q 0, with what the scenario says first of an exchange; none where that names no tag.
+/// Sends a Query with Q 0 as the first exchange, with the first that the scenario says of one; none where that names a tag that
+/// isn't there.
 fn send_query(alloc: Global, scenario: &Scenario, air: &mut Air) -> Option<Got> {
     let query = query(0, 0)?;
     match scenario.entries.as_slice().first() {
-        Some((_, entry)) => exchanged(air, &query, entry),
-        None => exchanged(air, &query, &empty_entry(alloc)),
+        Some((_, entry)) => exchange_if_named(air, &query, entry),
+        None => exchange_if_named(air, &query, &empty_entry(alloc)),
     }
 }
 
@@ -181,7 +182,7 @@ const FRAMES: [&[u32]; 2] = [
 
 /// Sends the command, with nothing said of the exchange, and compares the frame and the number of exchanges.
 fn sends(air: &mut Air, command: &Command, empty: &Entry, frame: &[u32], exchanges: u64) -> bool {
-    exchanged(air, command, empty).is_some()
+    exchange_if_named(air, command, empty).is_some()
         && air.intervals().as_slice() == frame
         && air.exchanges() == exchanges
 }
