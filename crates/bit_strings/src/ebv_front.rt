@@ -85,8 +85,8 @@ impl EbvFront {
         EbvStep::More(self.with(bit))
     }
 
-    /// Takes the bits with which these begin inside a digit, as most bits do: gives how many. Neither an
-    /// extension bit nor the last bit of a digit is taken.
+    /// Takes the bits with which these begin inside a digit, as most bits do: gives how many. It stops
+    /// before an extension bit or the last bit of a digit.
     #[inline]
     pub fn take_run(&mut self, bits: &[bool]) -> usize
         ensures within { result ≤ length bits.now }

@@ -14,8 +14,8 @@ use std::marker::Model;
 /// Finds the end of a command in bits that come one at a time, and what the command is.
 ///
 /// A contract says which list of bits it stands for. It keeps the field that it is in with the bits
-/// read of it, the check number of the bits so far (both of them in the command code, which says which
-/// one counts), and the values of the fields before; no bits but those of a mask and of words. A bit is looked at once.
+/// read of it, behind the command code the check number of the bits so far, and the values of the
+/// fields before; no bits but those of a mask and of words. A bit is looked at once.
 #[derive(Drop)]
 pub struct Framer {
     state: State,

@@ -123,6 +123,8 @@ impl Edges {
         requires count { self.old.count + 2 ≤ most_counted }
         ensures bit { IfSome result (λ bit. (bits : List Bool) (intervals : List ℕ) → EdgesStandFor self.old bits intervals →
             EdgesStandFor self.new (bits ++ bit ∷ []) (intervals ++ high ∷ low ∷ [])) }
+        ensures some { IfSome result (λ _. IsBeforeSymbol self.old high low) }
+        ensures stays { IfSome result (λ _. self.new.standing ≡ self.old.standing) }
         ensures none { IfNone result (¬ IsBeforeSymbol self.old high low) }
         ensures same { IfNone result (self.new ≡ self.old) }
         ensures count { self.new.count ≤ self.old.count + 2 }
