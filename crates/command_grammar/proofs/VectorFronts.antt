@@ -11,7 +11,7 @@ use Rattle.bit_strings.specs.declared.ebv_front.EbvStep.{EbvStep}
 use Rattle.bit_strings.specs.declared.ebv_front.EbvStep.TheVariants as steps
 use Rattle.command_grammar.specs.declared.refusal.Reason.{Reason}
 use Rattle.command_grammar.specs.declared.refusal.Reason.TheVariants as reasons
-use Rattle.command_grammar.specs.Reading.{Stop, Short, Bad, Reading, block_at, telling_block_at, blocks_at, ebv_at}
+use Rattle.command_grammar.specs.Reading.{Stop, Short, Bad, Reading, block_at, block_within_at, blocks_at, ebv_at}
 use Rattle.command_grammar.specs.Framing.{vector_from}
 use Rattle.command_grammar.proofs.Readers.{Reads}
 use Rattle.command_grammar.proofs.Vectors.{IsPlace, reads_ebv}
@@ -128,7 +128,7 @@ cut_short : (bits : List Bool) → IsCutEbv bits → ebv_at bits ≡ Err Short
 cut_short bits cut = read_short IsPlace reasons.Ebv ebv_at reads_ebv bits cut.number cut.more cut.some_more (place_of cut.number (bits ++ cut.more) cut.whole)
 
 pub vector_none : (bits : List Bool) → vector_from [] bits ≡ ebv_at bits
-unfolding ebv_at blocks_at telling_block_at block_at
+unfolding ebv_at blocks_at block_within_at block_at
 vector_none [] = refl
 vector_none (bit ∷ bits) = refl
 

@@ -8,7 +8,7 @@ use Rattle.bit_strings.specs.Numbers.{value_of, field_of}
 use Rattle.bit_strings.specs.NumberLaws.{length-field_of, value_of-within, value_of-field, field_of-value_of}
 use Rattle.bit_strings.specs.Ebv.{IsEbv, number_of, blocks_of, IsShortest, ebv_of}
 use Rattle.bit_strings.specs.EbvLaws.{AreSevens, seven-head, seven-tail, IsEbv-ebv_of, same-ebv, below-ebv}
-use Rattle.command_grammar.specs.Reading.{Block, ◌>>=◌, bit_at, field_at, block_at, telling_block_at, last_digit_at, blocks_at, ebv_at, exactly_at}
+use Rattle.command_grammar.specs.Reading.{Block, ◌>>=◌, bit_at, field_at, block_at, block_within_at, last_digit_at, blocks_at, ebv_at, exactly_at}
 use Rattle.command_grammar.specs.declared.refusal.Reason.{Reason}
 use Rattle.command_grammar.specs.declared.refusal.Reason.TheVariants as reasons
 use Rattle.command_grammar.proofs.Exact.{reads_exactly}
@@ -69,9 +69,9 @@ nothing_bits value block bits h e =
     let digit : h.0 ≡ 0 = omega (arith, h.2, n.1) in
     h.3 ∙ ap (λ (b : Bool). b ∷ field_of h.0 7) n.0 ∙ ap (λ d. true ∷ field_of d 7) digit
 
-reads_telling_block : (value : ℕ) → Reads (IsTelling value) (Some reasons.Ebv) (telling_block_at value)
-unfolding telling_block_at field_of
-reads_telling_block value =
+reads_block_within : (value : ℕ) → Reads (IsTelling value) (Some reasons.Ebv) (block_within_at value)
+unfolding block_within_at field_of
+reads_block_within value =
     reads_but (IsBlock value) reasons.Ebv (block_at value) says_nothing (true ∷ field_of 0 6) false (block_of true (value * 128 + 1)) true []
     (λ bits left other e. no_name ((reads_block value None).bad bits left other e).0)
     (nothing_bits value)
@@ -122,7 +122,7 @@ reads_blocks zero value =
     reads_map IsLast (Blocks zero value) (Some reasons.Ebv) last_digit_at (blocks_at zero value) (λ digit. value * 128 + digit) (λ bits. refl)
     (λ digit bits h. (digit, refl, h)) (λ number bits h. (h.0, h.2, sym h.1)) reads_last_digit
 reads_blocks (suc others) value =
-    reads_then (IsTelling value) (λ block. Behind (Blocks others) block.more block.number) (Some reasons.Ebv) (telling_block_at value) (λ block bits. cond block.more (blocks_at others block.number bits) (Ok (block.number, bits))) (reads_telling_block value)
+    reads_then (IsTelling value) (λ block. Behind (Blocks others) block.more block.number) (Some reasons.Ebv) (block_within_at value) (λ block bits. cond block.more (blocks_at others block.number bits) (Ok (block.number, bits))) (reads_block_within value)
     (λ block front h. reads_behind others block.more block.number (reads_blocks others block.number)) (λ block front h. some_behind others block.more block.number)
 
 -- ---- they are the shortest spellings

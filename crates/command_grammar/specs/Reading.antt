@@ -139,9 +139,9 @@ block_at value bits = do
   digit ← field_at 7 more.1
   Ok (record { more = more.0; number = value * 128 + digit.0 }, digit.1)
 
--- no vector begins with a block that says only that another follows
-unfoldable pub telling_block_at : ℕ → List Bool → Reading Block
-telling_block_at value bits = block_at value bits >>= λ block.
+-- a block of a vector before its fourth; no vector begins with one that says only that another follows
+unfoldable pub block_within_at : ℕ → List Bool → Reading Block
+block_within_at value bits = block_at value bits >>= λ block.
     (if block.0.more && (block.0.number == 0) then Err (Bad (length block.1 + 1) reasons.Ebv) else Ok block)
 
 -- the fourth block, which no other follows
@@ -153,7 +153,7 @@ last_digit_at bits = do
 -- the blocks of a vector from one on, behind which at most so many may follow
 unfoldable pub blocks_at : ℕ → ℕ → List Bool → Reading ℕ
 blocks_at zero value bits = last_digit_at bits >>= λ digit. Ok (value * 128 + digit.0, digit.1)
-blocks_at (suc others) value bits = telling_block_at value bits >>= λ block.
+blocks_at (suc others) value bits = block_within_at value bits >>= λ block.
     (if block.0.more then blocks_at others block.0.number block.1 else Ok (block.0.number, block.1))
 
 unfoldable pub ebv_at : List Bool → Reading ℕ
