@@ -29,6 +29,7 @@ use Rattle.command_grammar.proofs.Parts.{is_fork, fork-at, number-short, mask-sh
 use Rattle.command_grammar.proofs.SpellingLaws.{begun}
 use Rattle.command_grammar.proofs.Verdict.{all_whole, all_short, all_bad}
 use Rattle.command_grammar.proofs.Lengths.{length-begins}
+use Rattle.command_grammar.proofs.Runs.{few_more}
 
 -- ---- a command is its fields, one behind the other
 
@@ -145,6 +146,10 @@ few_bits kind (places.Code front) behind v bits resumes = length-begins bits (al
 few_bits kind (places.Within stage) behind v bits resumes = length-begins bits (all_short bits (within_short kind stage behind v bits resumes)).begins
 few_bits kind places.Whole behind v bits resumes =
     length-begins bits (begun Spellings bits (command_of kind v, all_whole (command_of kind v) bits (whole_here kind behind v bits resumes)))
+
+-- ... also with the front of a run behind them
+pub few_behind : (s : State) (place : Place) (v : Fields) (count : ℕ) (front bits : List Bool) → Stands s front → count ≤ length bits → Resumes s.kind place s.behind.now v (front ++ take count bits) → s.pushed + count ≤ 4162
+few_behind s place v count front bits stands within resumes = few_more s.pushed count front bits stands.count within (few_bits s.kind place s.behind.now v (front ++ take count bits) resumes)
 
 -- a bit that no command goes on with is the place of refusal
 pub refused_last : (bits : List Bool) (bit : Bool) (place : ℕ) (reason : Reason) → place ≡ length bits → all_of (bits ++ bit ∷ []) ≡ Err (Bad (length {A = Bool} [] + 1) reason) → IsCommandRefusedAt (bits ++ bit ∷ []) place reason
