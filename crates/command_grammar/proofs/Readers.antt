@@ -47,10 +47,6 @@ pub record Reads {A : Type 0} (R : A → List Bool → Type 0) (name : Option Re
   pub short : (bits : List Bool) → read bits ≡ Err Short → (value : A) × (more : List Bool) × R value (bits ++ more)
   pub bad : (bits : List Bool) (left : ℕ) (reason : Reason) → read bits ≡ Err (Bad left reason) → (name ≡ Some reason) × Stuck R read bits left reason
 
--- a value's bits are those of a function
-abbrev pub As : {A : Type 0} → (A → Type 0) → (A → List Bool) → A → List Bool → Type 0
-As L s value bits = L value × (bits ≡ s value)
-
 -- the second field's relation behind the first's
 pub record Pair {A B : Type 0} (R : A → List Bool → Type 0) (S : A → B → List Bool → Type 0) (value : B) (bits : List Bool) : Type 0 where
   pub first : A

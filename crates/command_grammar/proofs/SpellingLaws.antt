@@ -155,6 +155,3 @@ stands_refused state refused bit place reason is bits stands =
 pub judges_refused : (state : State) (refused : Option (ℕ × Reason)) (bit : Bool) (place : ℕ) (reason : Reason) → refused ≡ Some (place, reason) → (bits : List Bool) → Keeps state refused bits → IsCommandRefusedAt (bits ++ bit ∷ []) place reason
 judges_refused state refused bit place reason is bits stands =
     still_refused bits bit place reason (subst (λ (r : Option (ℕ × Reason)). Keeps state r bits) is stands)
-
-pub finishes_refused : (state : State) (refused : Option (ℕ × Reason)) (place : ℕ) (reason : Reason) → refused ≡ Some (place, reason) → (bits : List Bool) → Keeps state refused bits → IsCommandRefusedAt bits place reason
-finishes_refused state refused place reason is bits stands = subst (λ (r : Option (ℕ × Reason)). Keeps state r bits) is stands
