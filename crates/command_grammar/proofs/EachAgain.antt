@@ -11,14 +11,14 @@ use Rattle.command_grammar.specs.declared.choices.CommandKind.{CommandKind}
 use Rattle.command_grammar.specs.declared.choices.CommandKind.TheVariants as kinds
 use Rattle.command_grammar.specs.declared.refusal.Reason.{Reason}
 use Rattle.command_grammar.specs.declared.refusal.Reason.TheVariants as reasons
-use Rattle.command_grammar.specs.Commands.{Part, parts_of, IsLegalCommand, bits_of_code, bits_of_sel, bits_of_side, bits_of_updn, bits_of_target, bits_of_mask_bank, bits_of_bank}
+use Rattle.command_grammar.specs.Commands.{Part, code_of, parts_of, IsLegalCommand, bits_of_code, bits_of_sel, bits_of_side, bits_of_updn, bits_of_target, bits_of_mask_bank, bits_of_bank}
 use Rattle.command_grammar.specs.Reading.{Reading, ◌>>=◌, bit_at, bits_at, field_at, choice_at, count_at, words_at, ebv_at, exactly_at, lines, chosen_of, sides, changes, targets, masked_banks, all_banks, all_kinds, query_rep_at, ack_at, query_at, query_adjust_at, select_at, req_rn_at, read_at, write_at, kill_at, lock_at, access_at, block_write_at, block_erase_at, fields_at}
 use Rattle.command_grammar.proofs.Readers.{Reads}
 use Rattle.command_grammar.proofs.Exact.{reads_exactly}
 use Rattle.command_grammar.proofs.Elements.{IsNumber, reads_bit, reads_bits, reads_field, reads_count}
 use Rattle.command_grammar.proofs.WordLaws.{AreWords, reads_words}
 use Rattle.command_grammar.proofs.Vectors.{IsPlace, reads_ebv}
-use Rattle.command_grammar.proofs.NamedFields.{bits_of_kind, reads_kind, reads_line, reads_sel, reads_side, reads_updn, reads_target, reads_mask_bank, reads_bank}
+use Rattle.command_grammar.proofs.NamedFields.{reads_kind, reads_line, reads_sel, reads_side, reads_updn, reads_target, reads_mask_bank, reads_bank}
 use Rattle.command_grammar.proofs.Behind.{part, Goes, goes_whole, goes_then, goes_crc5, goes_crc16}
 use Rattle.command_grammar.proofs.EachCommand.{reading}
 
@@ -44,9 +44,9 @@ goes_count pre more k command value some few goes =
 
 -- ---- each command
 
-with_code : (kind : CommandKind) (command : Command) (more : List Part) → Goes (part (Some reasons.Code) (bits_of_kind kind) ∷ []) more (λ whole bits. fields_at kind whole bits) command
-    → Goes [] (part (Some reasons.Code) (bits_of_kind kind) ∷ more) reading command
-with_code kind command more goes = goes_same [] more (Some reasons.Code) bits_of_kind (choice_at all_kinds reasons.Code) (λ kind whole. fields_at kind.0 whole kind.1) command kind reads_kind goes
+with_code : (kind : CommandKind) (command : Command) (more : List Part) → Goes (part (Some reasons.Code) (code_of kind) ∷ []) more (λ whole bits. fields_at kind whole bits) command
+    → Goes [] (part (Some reasons.Code) (code_of kind) ∷ more) reading command
+with_code kind command more goes = goes_same [] more (Some reasons.Code) code_of (choice_at all_kinds reasons.Code) (λ kind whole. fields_at kind.0 whole kind.1) command kind reads_kind goes
 
 pub goes_command : (command : Command) → IsLegalCommand command → Goes [] (parts_of command) reading command
 unfolding query_rep_at ack_at query_at query_adjust_at select_at req_rn_at read_at write_at kill_at lock_at access_at block_write_at block_erase_at

@@ -1,6 +1,6 @@
 -- The commands one by one: the fields of each are read in order, and each is read again.
 use Rattle.std.proofs.Common.{◌≡◌, ℕ, zero, suc, ◌^◌, ◌<◌, ◌≤◌, Bool, false, List, [], ◌∷◌, ◌++◌, length, Ok, refl, sym, ap, subst, arith}
-use Rattle.std.specs.Prelude.{Option, Some, None, codes, ◌==◌}
+use Rattle.std.specs.Prelude.{Option, Some, None, ◌==◌}
 use Rattle.std.specs.List.{AllByRecursion}
 use Rattle.std.proofs.lemmas.Bool.Decides.{nat_tests}
 use Rattle.bit_strings.specs.Numbers.{field_of}
@@ -20,14 +20,14 @@ use Rattle.command_grammar.specs.declared.field_values.Bank.TheVariants as banks
 use Rattle.command_grammar.specs.declared.field_values.MaskBank.TheVariants as mask_banks
 use Rattle.command_grammar.specs.declared.field_values.FlagName.TheVariants as flags
 use Rattle.bit_strings.specs.declared.code.Code.TheVariants as lines_of
-use Rattle.command_grammar.specs.Commands.{Part, code, plain_field, named_field, with_crc16, IsWord, bits_of_code, bits_of_sel, bits_of_side, bits_of_updn, bits_of_target, bits_of_mask_bank, bits_of_bank}
+use Rattle.command_grammar.specs.Commands.{Part, code, code_of, plain_field, named_field, with_crc16, IsWord, bits_of_code, bits_of_sel, bits_of_side, bits_of_updn, bits_of_target, bits_of_mask_bank, bits_of_bank}
 use Rattle.command_grammar.specs.Reading.{Reading, ◌>>=◌, bit_at, bits_at, field_at, choice_at, count_at, words_at, ebv_at, exactly_at, lines, chosen_of, sides, changes, targets, masked_banks, all_banks, all_kinds, query_rep_at, ack_at, query_at, query_adjust_at, select_at, req_rn_at, read_at, write_at, kill_at, lock_at, access_at, block_write_at, block_erase_at, fields_at}
 use Rattle.command_grammar.proofs.Readers.{Reads}
 use Rattle.command_grammar.proofs.Exact.{reads_exactly}
 use Rattle.command_grammar.proofs.Elements.{IsNumber, reads_bit, reads_bits, reads_field, reads_count}
 use Rattle.command_grammar.proofs.WordLaws.{AreWords, reads_words, some_words}
 use Rattle.command_grammar.proofs.Vectors.{IsPlace, reads_ebv}
-use Rattle.command_grammar.proofs.NamedFields.{bits_of_kind, reads_kind, reads_line, reads_sel, reads_side, reads_updn, reads_target, reads_mask_bank, reads_bank}
+use Rattle.command_grammar.proofs.NamedFields.{reads_kind, reads_line, reads_sel, reads_side, reads_updn, reads_target, reads_mask_bank, reads_bank}
 use Rattle.command_grammar.proofs.Behind.{part, ReadsOn, reads_whole, reads_field_then, reads_crc5_then, reads_crc16_then}
 
 positive : (width : ℕ) → 0 < 2 ^ width
@@ -75,19 +75,19 @@ words_then count pre k second =
 
 -- ---- the fields of each command
 
-query_rep_reads : ReadsOn (code (codes "00")) (λ whole bits. query_rep_at bits)
+query_rep_reads : ReadsOn (code kinds.QueryRep) (λ whole bits. query_rep_at bits)
 unfolding query_rep_at
 query_rep_reads = number_then 2 _ _ (λ session small. reads_whole _ (commands.QueryRep session) (omega arith) refl)
 
-ack_reads : ReadsOn (code (codes "01")) (λ whole bits. ack_at bits)
+ack_reads : ReadsOn (code kinds.Ack) (λ whole bits. ack_at bits)
 unfolding ack_at
 ack_reads = number_then 16 _ _ (λ rn small. reads_whole _ (commands.Ack rn) small refl)
 
-req_rn_reads : ReadsOn (code (codes "11000001")) (λ whole bits. req_rn_at whole bits)
+req_rn_reads : ReadsOn (code kinds.ReqRn) (λ whole bits. req_rn_at whole bits)
 unfolding req_rn_at
 req_rn_reads = number_then 16 _ _ (λ rn small. reads_crc16_then _ _ (reads_whole _ (commands.ReqRn rn) small refl))
 
-query_reads : ReadsOn (code (codes "1000")) (λ whole bits. query_at whole bits)
+query_reads : ReadsOn (code kinds.Query) (λ whole bits. query_at whole bits)
 unfolding query_at
 query_reads =
     same_then _ None (λ bit. bit ∷ []) bit_at _ false (reads_bit None) (λ dr.
@@ -99,14 +99,14 @@ query_reads =
     number_then 4 _ _ (λ q small_q.
     reads_crc5_then _ _ (reads_whole _ (commands.Query dr line_code trext sel session target q) (omega arith, omega arith) refl))))))))
 
-query_adjust_reads : ReadsOn (code (codes "1001")) (λ whole bits. query_adjust_at bits)
+query_adjust_reads : ReadsOn (code kinds.QueryAdjust) (λ whole bits. query_adjust_at bits)
 unfolding query_adjust_at
 query_adjust_reads =
     number_then 2 _ _ (λ session small.
     same_then _ (Some reasons.UpDn) bits_of_updn (choice_at changes reasons.UpDn) _ updns.Up reads_updn (λ updn.
     reads_whole _ (commands.QueryAdjust session updn) (omega arith) refl))
 
-select_reads : ReadsOn (code (codes "1010")) (λ whole bits. select_at whole bits)
+select_reads : ReadsOn (code kinds.Select) (λ whole bits. select_at whole bits)
 unfolding select_at
 select_reads =
     same_then _ (Some reasons.Target) bits_of_target (choice_at targets reasons.Target) _ flags.Sl reads_target (λ target.
@@ -117,14 +117,14 @@ select_reads =
     mask_then width _ _ (λ mask wide.
     same_then {A = Unit {0}} _ (Some reasons.Truncate) (λ value. false ∷ []) (exactly_at (false ∷ []) reasons.Truncate) _ tt (reads_exactly reasons.Truncate (false ∷ [])) (λ truncate.
     reads_crc16_then _ _ (reads_whole _ (commands.Select target action bank pointer mask) (omega arith, small_pointer, omega arith)
-    (ap (λ n. with_crc16 (code (codes "1010") ++ named_field reasons.Target (bits_of_target target) ++ plain_field (field_of action 3) ++ named_field reasons.Bank (bits_of_mask_bank bank)
+    (ap (λ n. with_crc16 (code kinds.Select ++ named_field reasons.Target (bits_of_target target) ++ plain_field (field_of action 3) ++ named_field reasons.Bank (bits_of_mask_bank bank)
     ++ named_field reasons.Ebv (ebv_of pointer) ++ plain_field (field_of n 8) ++ plain_field mask ++ named_field reasons.Truncate (false ∷ []))) wide))))
     (field_of 0 width) (length-field_of 0 width))))))
 
-nak_reads : ReadsOn (code (codes "11000000")) (λ whole bits. Ok (commands.Nak, bits))
+nak_reads : ReadsOn (code kinds.Nak) (λ whole bits. Ok (commands.Nak, bits))
 nak_reads = reads_whole _ commands.Nak tt refl
 
-read_reads : ReadsOn (code (codes "11000010")) (λ whole bits. read_at whole bits)
+read_reads : ReadsOn (code kinds.Read) (λ whole bits. read_at whole bits)
 unfolding read_at
 read_reads =
     same_then _ None bits_of_bank (choice_at all_banks reasons.Code) _ banks.Epc reads_bank (λ bank.
@@ -133,7 +133,7 @@ read_reads =
     number_then 16 _ _ (λ rn small_rn.
     reads_crc16_then _ _ (reads_whole _ (commands.Read bank pointer count rn) (small_pointer, omega arith, small_rn) refl)))))
 
-write_reads : ReadsOn (code (codes "11000011")) (λ whole bits. write_at whole bits)
+write_reads : ReadsOn (code kinds.Write) (λ whole bits. write_at whole bits)
 unfolding write_at
 write_reads =
     same_then _ None bits_of_bank (choice_at all_banks reasons.Code) _ banks.Epc reads_bank (λ bank.
@@ -142,7 +142,7 @@ write_reads =
     number_then 16 _ _ (λ rn small_rn.
     reads_crc16_then _ _ (reads_whole _ (commands.Write bank pointer covered rn) (small_pointer, small, small_rn) refl)))))
 
-kill_reads : ReadsOn (code (codes "11000100")) (λ whole bits. kill_at whole bits)
+kill_reads : ReadsOn (code kinds.Kill) (λ whole bits. kill_at whole bits)
 unfolding kill_at
 kill_reads =
     number_then 16 _ _ (λ covered small.
@@ -150,14 +150,14 @@ kill_reads =
     number_then 16 _ _ (λ rn small_rn.
     reads_crc16_then _ _ (reads_whole _ (commands.Kill covered rn) (small, small_rn) refl))))
 
-lock_reads : ReadsOn (code (codes "11000101")) (λ whole bits. lock_at whole bits)
+lock_reads : ReadsOn (code kinds.Lock) (λ whole bits. lock_at whole bits)
 unfolding lock_at
 lock_reads =
     number_then 20 _ _ (λ payload small.
     number_then 16 _ _ (λ rn small_rn.
     reads_crc16_then _ _ (reads_whole _ (commands.Lock payload rn) (small, small_rn) refl)))
 
-access_reads : ReadsOn (code (codes "11000110")) (λ whole bits. access_at whole bits)
+access_reads : ReadsOn (code kinds.Access) (λ whole bits. access_at whole bits)
 unfolding access_at
 access_reads =
     number_then 16 _ _ (λ covered small.
@@ -167,7 +167,7 @@ access_reads =
 some_of : (n : ℕ) → (n == 0) ≡ false → 1 ≤ n
 some_of n e = grind (arith, nat_tests)
 
-block_write_reads : ReadsOn (code (codes "11000111")) (λ whole bits. block_write_at whole bits)
+block_write_reads : ReadsOn (code kinds.BlockWrite) (λ whole bits. block_write_at whole bits)
 unfolding block_write_at
 block_write_reads =
     same_then _ None bits_of_bank (choice_at all_banks reasons.Code) _ banks.Epc reads_bank (λ bank.
@@ -177,10 +177,10 @@ block_write_reads =
     number_then 16 _ _ (λ rn small_rn.
     let low : 1 ≤ count = some_of count some in
     reads_crc16_then _ _ (reads_whole _ (commands.BlockWrite bank pointer words rn) (small_pointer, omega arith, omega arith, all, small_rn)
-    (ap (λ n. with_crc16 (code (codes "11000111") ++ plain_field (bits_of_bank bank) ++ named_field reasons.Ebv (ebv_of pointer) ++ named_field reasons.Count (field_of n 8)
+    (ap (λ n. with_crc16 (code kinds.BlockWrite ++ plain_field (bits_of_bank bank) ++ named_field reasons.Ebv (ebv_of pointer) ++ named_field reasons.Count (field_of n 8)
     ++ plain_field (bits_of_words words) ++ plain_field (field_of rn 16))) many)))))))
 
-block_erase_reads : ReadsOn (code (codes "11001000")) (λ whole bits. block_erase_at whole bits)
+block_erase_reads : ReadsOn (code kinds.BlockErase) (λ whole bits. block_erase_at whole bits)
 unfolding block_erase_at
 block_erase_reads =
     same_then _ None bits_of_bank (choice_at all_banks reasons.Code) _ banks.Epc reads_bank (λ bank.
@@ -190,7 +190,7 @@ block_erase_reads =
     let low : 1 ≤ count = some_of count some in
     reads_crc16_then _ _ (reads_whole _ (commands.BlockErase bank pointer count rn) (small_pointer, low, omega arith, small_rn) refl)))))
 
-each_reads : (kind : CommandKind) → ReadsOn (named_field reasons.Code (bits_of_kind kind)) (λ whole bits. fields_at kind whole bits)
+each_reads : (kind : CommandKind) → ReadsOn (named_field reasons.Code (code_of kind)) (λ whole bits. fields_at kind whole bits)
 each_reads kinds.QueryRep = query_rep_reads
 each_reads kinds.Ack = ack_reads
 each_reads kinds.Query = query_reads
@@ -211,4 +211,4 @@ abbrev pub reading : List Bool → List Bool → Reading Command
 reading whole bits = choice_at all_kinds reasons.Code bits >>= λ kind. fields_at kind.0 whole kind.1
 
 pub reads_command : ReadsOn [] reading
-reads_command = same_then [] (Some reasons.Code) bits_of_kind (choice_at all_kinds reasons.Code) (λ kind whole. fields_at kind.0 whole kind.1) kinds.Nak reads_kind each_reads
+reads_command = same_then [] (Some reasons.Code) code_of (choice_at all_kinds reasons.Code) (λ kind whole. fields_at kind.0 whole kind.1) kinds.Nak reads_kind each_reads

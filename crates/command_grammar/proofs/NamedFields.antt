@@ -1,6 +1,6 @@
 -- The fields of a few bits, and the codes, are read as their tables say.
 use Rattle.std.proofs.Common.{◌≡◌, Bool, List, ◌++◌, Ok, refl}
-use Rattle.std.specs.Prelude.{codes, Some, None}
+use Rattle.std.specs.Prelude.{Some, None}
 use Rattle.bit_strings.specs.declared.code.Code.{Code}
 use Rattle.bit_strings.specs.declared.code.Code.TheVariants as lines_of
 use Rattle.command_grammar.specs.declared.choices.CommandKind.{CommandKind}
@@ -18,29 +18,12 @@ use Rattle.command_grammar.specs.declared.field_values.MaskBank.TheVariants as m
 use Rattle.command_grammar.specs.declared.field_values.FlagName.{FlagName}
 use Rattle.command_grammar.specs.declared.field_values.FlagName.TheVariants as flags
 use Rattle.command_grammar.specs.declared.refusal.Reason.TheVariants as reasons
-use Rattle.command_grammar.specs.Commands.{binary, bits_of_code, bits_of_sel, bits_of_side, bits_of_updn, bits_of_target, bits_of_mask_bank, bits_of_bank}
+use Rattle.command_grammar.specs.Commands.{code_of, bits_of_code, bits_of_sel, bits_of_side, bits_of_updn, bits_of_target, bits_of_mask_bank, bits_of_bank}
 use Rattle.command_grammar.specs.Reading.{choice_at, lines, chosen_of, sides, changes, targets, masked_banks, all_banks, all_kinds}
 use Rattle.command_grammar.proofs.Readers.{Reads}
 use Rattle.command_grammar.proofs.ChoiceLaws.{reads_choice, reads_full}
 
--- the code of each command
-abbrev pub bits_of_kind : CommandKind → List Bool
-bits_of_kind kinds.QueryRep = binary (codes "00")
-bits_of_kind kinds.Ack = binary (codes "01")
-bits_of_kind kinds.Query = binary (codes "1000")
-bits_of_kind kinds.QueryAdjust = binary (codes "1001")
-bits_of_kind kinds.Select = binary (codes "1010")
-bits_of_kind kinds.Nak = binary (codes "11000000")
-bits_of_kind kinds.ReqRn = binary (codes "11000001")
-bits_of_kind kinds.Read = binary (codes "11000010")
-bits_of_kind kinds.Write = binary (codes "11000011")
-bits_of_kind kinds.Kill = binary (codes "11000100")
-bits_of_kind kinds.Lock = binary (codes "11000101")
-bits_of_kind kinds.Access = binary (codes "11000110")
-bits_of_kind kinds.BlockWrite = binary (codes "11000111")
-bits_of_kind kinds.BlockErase = binary (codes "11001000")
-
-kind_again : (kind : CommandKind) (rest : List Bool) → choice_at all_kinds reasons.Code (bits_of_kind kind ++ rest) ≡ Ok (kind, rest)
+kind_again : (kind : CommandKind) (rest : List Bool) → choice_at all_kinds reasons.Code (code_of kind ++ rest) ≡ Ok (kind, rest)
 kind_again kinds.QueryRep rest = refl
 kind_again kinds.Ack rest = refl
 kind_again kinds.Query rest = refl
@@ -56,8 +39,8 @@ kind_again kinds.Access rest = refl
 kind_again kinds.BlockWrite rest = refl
 kind_again kinds.BlockErase rest = refl
 
-pub reads_kind : Reads (λ kind bits. bits ≡ bits_of_kind kind) (Some reasons.Code) (choice_at all_kinds reasons.Code)
-reads_kind = reads_choice bits_of_kind reasons.Code all_kinds
+pub reads_kind : Reads (λ kind bits. bits ≡ code_of kind) (Some reasons.Code) (choice_at all_kinds reasons.Code)
+reads_kind = reads_choice code_of reasons.Code all_kinds
     ((refl, refl), (((refl, refl), (refl, tt)), ((((((refl, refl), (refl, refl)), ((refl, refl), (refl, refl))), (((refl, tt), tt), tt)), tt), tt))) refl refl kind_again
 
 line_again : (code : Code) (rest : List Bool) → choice_at lines reasons.Code (bits_of_code code ++ rest) ≡ Ok (code, rest)

@@ -8,6 +8,8 @@ use Rattle.bit_strings.specs.Family.{IsBadAt, IsShortAt}
 use Rattle.bit_strings.specs.declared.code.Code.{Code}
 use Rattle.bit_strings.specs.declared.code.Code.TheVariants.{Fm0, M2, M4, M8}
 use Rattle.gen2_crc.specs.Crc.{crc5_of, crc16_of}
+use Rattle.command_grammar.specs.declared.choices.CommandKind.{CommandKind}
+use Rattle.command_grammar.specs.declared.choices.CommandKind.TheVariants as kinds
 use Rattle.command_grammar.specs.declared.field_values.Sel.{Sel}
 use Rattle.command_grammar.specs.declared.field_values.Sel.TheVariants as sels
 use Rattle.command_grammar.specs.declared.field_values.Side.{Side}
@@ -111,37 +113,53 @@ with_crc5 parts = parts ++ named_field reasons.Crc5 (crc5_of (bits_of parts))
 abbrev pub with_crc16 : List Part → List Part
 with_crc16 parts = parts ++ named_field reasons.Crc16 (crc16_of (bits_of parts))
 
--- 6.3.2.11 Table 6.18: the code of a command, written as its digits
-abbrev pub code : List ℕ → List Part
-code digits = named_field reasons.Code (binary digits)
+-- 6.3.2.11 Table 6.18: the code of each command, written as its digits
+abbrev pub code_of : CommandKind → List Bool
+code_of kinds.QueryRep = binary (codes "00")
+code_of kinds.Ack = binary (codes "01")
+code_of kinds.Query = binary (codes "1000")
+code_of kinds.QueryAdjust = binary (codes "1001")
+code_of kinds.Select = binary (codes "1010")
+code_of kinds.Nak = binary (codes "11000000")
+code_of kinds.ReqRn = binary (codes "11000001")
+code_of kinds.Read = binary (codes "11000010")
+code_of kinds.Write = binary (codes "11000011")
+code_of kinds.Kill = binary (codes "11000100")
+code_of kinds.Lock = binary (codes "11000101")
+code_of kinds.Access = binary (codes "11000110")
+code_of kinds.BlockWrite = binary (codes "11000111")
+code_of kinds.BlockErase = binary (codes "11001000")
+
+abbrev pub code : CommandKind → List Part
+code kind = named_field reasons.Code (code_of kind)
 
 -- 6.3.2.11 Table 6.18 and the table of each command: its fields in order. Profile: Truncate is 0, and the three bits
 -- of a Kill behind the half are 000.
 abbrev pub parts_of : Command → List Part
-parts_of (QueryRep session) = code (codes "00") ++ plain_field (field_of session 2)
-parts_of (Ack rn) = code (codes "01") ++ plain_field (field_of rn 16)
+parts_of (QueryRep session) = code kinds.QueryRep ++ plain_field (field_of session 2)
+parts_of (Ack rn) = code kinds.Ack ++ plain_field (field_of rn 16)
 parts_of (Query dr line_code trext sel session target q) =
-    with_crc5 (code (codes "1000") ++ plain_field (digit dr) ++ plain_field (bits_of_code line_code) ++ plain_field (digit trext) ++ plain_field (bits_of_sel sel)
+    with_crc5 (code kinds.Query ++ plain_field (digit dr) ++ plain_field (bits_of_code line_code) ++ plain_field (digit trext) ++ plain_field (bits_of_sel sel)
     ++ plain_field (field_of session 2) ++ plain_field (bits_of_side target) ++ plain_field (field_of q 4))
-parts_of (QueryAdjust session updn) = code (codes "1001") ++ plain_field (field_of session 2) ++ named_field reasons.UpDn (bits_of_updn updn)
+parts_of (QueryAdjust session updn) = code kinds.QueryAdjust ++ plain_field (field_of session 2) ++ named_field reasons.UpDn (bits_of_updn updn)
 parts_of (Select target action bank pointer mask) =
-    with_crc16 (code (codes "1010") ++ named_field reasons.Target (bits_of_target target) ++ plain_field (field_of action 3) ++ named_field reasons.Bank (bits_of_mask_bank bank)
+    with_crc16 (code kinds.Select ++ named_field reasons.Target (bits_of_target target) ++ plain_field (field_of action 3) ++ named_field reasons.Bank (bits_of_mask_bank bank)
     ++ named_field reasons.Ebv (ebv_of pointer) ++ plain_field (field_of (length mask) 8) ++ plain_field mask ++ named_field reasons.Truncate (false ∷ []))
-parts_of Nak = code (codes "11000000")
-parts_of (ReqRn rn) = with_crc16 (code (codes "11000001") ++ plain_field (field_of rn 16))
+parts_of Nak = code kinds.Nak
+parts_of (ReqRn rn) = with_crc16 (code kinds.ReqRn ++ plain_field (field_of rn 16))
 parts_of (Read bank pointer count rn) =
-    with_crc16 (code (codes "11000010") ++ plain_field (bits_of_bank bank) ++ named_field reasons.Ebv (ebv_of pointer) ++ plain_field (field_of count 8) ++ plain_field (field_of rn 16))
+    with_crc16 (code kinds.Read ++ plain_field (bits_of_bank bank) ++ named_field reasons.Ebv (ebv_of pointer) ++ plain_field (field_of count 8) ++ plain_field (field_of rn 16))
 parts_of (Write bank pointer covered rn) =
-    with_crc16 (code (codes "11000011") ++ plain_field (bits_of_bank bank) ++ named_field reasons.Ebv (ebv_of pointer) ++ plain_field (field_of covered 16) ++ plain_field (field_of rn 16))
+    with_crc16 (code kinds.Write ++ plain_field (bits_of_bank bank) ++ named_field reasons.Ebv (ebv_of pointer) ++ plain_field (field_of covered 16) ++ plain_field (field_of rn 16))
 parts_of (Kill covered rn) =
-    with_crc16 (code (codes "11000100") ++ plain_field (field_of covered 16) ++ named_field reasons.KillBits (false ∷ false ∷ false ∷ []) ++ plain_field (field_of rn 16))
-parts_of (Lock payload rn) = with_crc16 (code (codes "11000101") ++ plain_field (field_of payload 20) ++ plain_field (field_of rn 16))
-parts_of (Access covered rn) = with_crc16 (code (codes "11000110") ++ plain_field (field_of covered 16) ++ plain_field (field_of rn 16))
+    with_crc16 (code kinds.Kill ++ plain_field (field_of covered 16) ++ named_field reasons.KillBits (false ∷ false ∷ false ∷ []) ++ plain_field (field_of rn 16))
+parts_of (Lock payload rn) = with_crc16 (code kinds.Lock ++ plain_field (field_of payload 20) ++ plain_field (field_of rn 16))
+parts_of (Access covered rn) = with_crc16 (code kinds.Access ++ plain_field (field_of covered 16) ++ plain_field (field_of rn 16))
 parts_of (BlockWrite bank pointer words rn) =
-    with_crc16 (code (codes "11000111") ++ plain_field (bits_of_bank bank) ++ named_field reasons.Ebv (ebv_of pointer) ++ named_field reasons.Count (field_of (length words) 8)
+    with_crc16 (code kinds.BlockWrite ++ plain_field (bits_of_bank bank) ++ named_field reasons.Ebv (ebv_of pointer) ++ named_field reasons.Count (field_of (length words) 8)
     ++ plain_field (bits_of_words words) ++ plain_field (field_of rn 16))
 parts_of (BlockErase bank pointer count rn) =
-    with_crc16 (code (codes "11001000") ++ plain_field (bits_of_bank bank) ++ named_field reasons.Ebv (ebv_of pointer) ++ named_field reasons.Count (field_of count 8) ++ plain_field (field_of rn 16))
+    with_crc16 (code kinds.BlockErase ++ plain_field (bits_of_bank bank) ++ named_field reasons.Ebv (ebv_of pointer) ++ named_field reasons.Count (field_of count 8) ++ plain_field (field_of rn 16))
 
 -- the one spelling of a command
 abbrev pub spelling_of : Command → List Bool

@@ -3,7 +3,7 @@
 use Rattle.std.specs.Prelude.{◌≡◌, ℕ, zero, suc, ◌+◌, ◌*◌, ◌/◌, ◌%◌, ◌^◌, ◌<◌, ◌≤◌, Bool, true, false, List, [], ◌∷◌, ◌++◌, length, Option, Some, None, Result, Ok, Err, ◌==◌, if◌then◌else◌}
 use Rattle.bit_strings.specs.Numbers.{digit_of, value_of, field_of}
 use Rattle.gen2_crc.specs.Crc.{crc5_of, RegisterStandsFor}
-use Rattle.command_grammar.specs.Commands.{IsCommandRefusedAt}
+use Rattle.command_grammar.specs.Commands.{code_of, IsCommandRefusedAt}
 use Rattle.command_grammar.specs.Reading.{Stop, Bad, Reading, ◌>>=◌, Choice, pick, none, child, bit_at, bits_at, field_at, choice_at, exactly_at, count_at, words_at, ebv_at, crc5_at, crc16_at, lines, chosen_of, sides, changes, targets, masked_banks, all_banks, kinds_10, kinds_11, kinds_11000, kinds_11001, all_kinds, all_of}
 use Rattle.command_grammar.specs.declared.commands.Command.{Command}
 use Rattle.command_grammar.specs.declared.commands.Command.TheVariants as commands
@@ -148,23 +148,6 @@ bits_of_front (fronts.Seventh sixth seventh) = true ∷ true ∷ false ∷ false
 bits_of_front fronts.Bits11001 = true ∷ true ∷ false ∷ false ∷ true ∷ []
 bits_of_front fronts.Bits110010 = true ∷ true ∷ false ∷ false ∷ true ∷ false ∷ []
 bits_of_front fronts.Bits1100100 = true ∷ true ∷ false ∷ false ∷ true ∷ false ∷ false ∷ []
-
--- Table 6.18: the code of each command
-abbrev pub code_of : CommandKind → List Bool
-code_of kinds.QueryRep = false ∷ false ∷ []
-code_of kinds.Ack = false ∷ true ∷ []
-code_of kinds.Query = true ∷ false ∷ false ∷ false ∷ []
-code_of kinds.QueryAdjust = true ∷ false ∷ false ∷ true ∷ []
-code_of kinds.Select = true ∷ false ∷ true ∷ false ∷ []
-code_of kinds.Nak = true ∷ true ∷ false ∷ false ∷ false ∷ false ∷ false ∷ false ∷ []
-code_of kinds.ReqRn = true ∷ true ∷ false ∷ false ∷ false ∷ false ∷ false ∷ true ∷ []
-code_of kinds.Read = true ∷ true ∷ false ∷ false ∷ false ∷ false ∷ true ∷ false ∷ []
-code_of kinds.Write = true ∷ true ∷ false ∷ false ∷ false ∷ false ∷ true ∷ true ∷ []
-code_of kinds.Kill = true ∷ true ∷ false ∷ false ∷ false ∷ true ∷ false ∷ false ∷ []
-code_of kinds.Lock = true ∷ true ∷ false ∷ false ∷ false ∷ true ∷ false ∷ true ∷ []
-code_of kinds.Access = true ∷ true ∷ false ∷ false ∷ false ∷ true ∷ true ∷ false ∷ []
-code_of kinds.BlockWrite = true ∷ true ∷ false ∷ false ∷ false ∷ true ∷ true ∷ true ∷ []
-code_of kinds.BlockErase = true ∷ true ∷ false ∷ false ∷ true ∷ false ∷ false ∷ false ∷ []
 
 -- the code's bits are those read and the next one
 abbrev pub KeepsCode : CodeStep → CodeFront → Bool → Type 0

@@ -2,7 +2,8 @@
 ghost use Rattle.std.specs.Prelude.{◌≡◌, List, Bool, [], ◌∷◌, ◌++◌};
 ghost use Rattle.bit_strings.specs.Numbers.{value_of};
 ghost use Rattle.gen2_crc.specs.Crc.{crc5_of, RegisterStandsFor};
-ghost use Rattle.command_grammar.specs.Framing.{Counts, code_of, fields_of, check_kept, kept_behind, AreServed};
+ghost use Rattle.command_grammar.specs.Commands.{code_of};
+ghost use Rattle.command_grammar.specs.Framing.{Counts, fields_of, check_kept, kept_behind, AreServed};
 
 use crate::choices::CommandKind;
 use crate::fields::Field;
@@ -53,7 +54,7 @@ impl Check {
 
     /// These bits more.
     #[inline]
-    pub(crate) fn push(&mut self, bits: &[bool])
+    pub(crate) fn push_all(&mut self, bits: &[bool])
         ensures counts { (front : List Bool) → Counts self.old front → Counts self.new (front ++ bits.now) }
         ensures kept { check_kept self.new ≡ check_kept self.old }
     {

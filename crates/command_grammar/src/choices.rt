@@ -1,12 +1,18 @@
-//! The command codes; and, each in a file of its own, the fields of a few bits whose values have names, read and
-//! written.
+//! The command codes with the fields behind each (6.3.2.11); and, each in a file of its own, the fields of a few bits
+//! whose values have names, read and written.
 ghost use Rattle.std.specs.Prelude.{◌≡◌, ◌≤◌, ◌++◌, List, Bool, length, take};
-ghost use Rattle.command_grammar.specs.Framing.{IsCodeStep, KeepsCode, behind_code, bits_of_front, code_of, next_at};
+ghost use Rattle.command_grammar.specs.Commands.{code_of};
+ghost use Rattle.command_grammar.specs.Framing.{IsCodeStep, KeepsCode, behind_code, bits_of_front, fields_of, next_at};
 ghost use Rattle.command_grammar.specs.declared.refusal.Reason.TheVariants as Reason;
 
 use crate::commands::{
     access, ack, block_erase, block_write, kill, lock, nak, query, query_adjust, query_rep, read,
     req_rn, select, write,
+};
+use crate::fields::Field;
+use crate::fields::Field::{
+    Action, Bank, Count, Covered, Crc5, Crc16, Dr, KillBits, LineCode, Mask, MaskBank, Payload,
+    Pilot, Pointer, Q, Rn, Sel, Session, Side, Target, Truncate, UpDn, WordCount, Words,
 };
 
 mod banks;
@@ -17,10 +23,10 @@ mod sides;
 mod targets;
 mod updns;
 
-pub(crate) use banks::{bank, bank_bits};
-pub(crate) use line_codes::{code_bits, line_code};
+pub(crate) use banks::{BANKS, bank_bits};
+pub(crate) use line_codes::{LINE_CODES, code_bits};
 pub(crate) use mask_banks::{mask_bank, mask_bank_bits};
-pub(crate) use sels::{sel, sel_bits};
+pub(crate) use sels::{SELS, sel_bits};
 pub(crate) use sides::{side, side_bits};
 pub(crate) use targets::{target, target_bits};
 pub(crate) use updns::{updn, updn_bits};
@@ -94,6 +100,28 @@ impl CommandKind {
             CommandKind::Access => access::CODE,
             CommandKind::BlockWrite => block_write::CODE,
             CommandKind::BlockErase => block_erase::CODE,
+        }
+    }
+
+    /// The fields behind the code, in their order.
+    pub(crate) fn fields(self) -> &'static [Field]
+        ensures { result.now ≡ fields_of self }
+    {
+        match self {
+            CommandKind::QueryRep => &[Session],
+            CommandKind::Ack => &[Rn],
+            CommandKind::Query => &[Dr, LineCode, Pilot, Sel, Session, Side, Q, Crc5],
+            CommandKind::QueryAdjust => &[Session, UpDn],
+            CommandKind::Select => &[Target, Action, MaskBank, Pointer, Mask, Truncate, Crc16],
+            CommandKind::Nak => &[],
+            CommandKind::ReqRn => &[Rn, Crc16],
+            CommandKind::Read => &[Bank, Pointer, Count, Rn, Crc16],
+            CommandKind::Write => &[Bank, Pointer, Covered, Rn, Crc16],
+            CommandKind::Kill => &[Covered, KillBits, Rn, Crc16],
+            CommandKind::Lock => &[Payload, Rn, Crc16],
+            CommandKind::Access => &[Covered, Rn, Crc16],
+            CommandKind::BlockWrite => &[Bank, Pointer, Words, Rn, Crc16],
+            CommandKind::BlockErase => &[Bank, Pointer, WordCount, Rn, Crc16],
         }
     }
 }

@@ -42,6 +42,23 @@ impl Mask {
         }
     }
 
+    /// Adds a bit at the end. `Full` comes exactly at 255 bits, and changes nothing.
+    pub fn push(&mut self, bit: bool) -> Result<(), Full>
+        ensures full { IsErr result ↔ (length self.old ≡ 255) }
+        ensures room { length self.old < 255 → self.new ≡ self.old ++ bit ∷ [] }
+        ensures err { OnErr result (self.new ≡ self.old) }
+    {
+        self.bits.try_push(bit).or(Err(Full))
+    }
+
+    /// Adds a bit at the end of a mask that has room.
+    pub(crate) fn push_reserved(&mut self, bit: bool)
+        requires { length self.old < 255 }
+        ensures { self.new ≡ self.old ++ bit ∷ [] }
+    {
+        self.bits.push(bit);
+    }
+
     /// How many bits the mask has.
     pub fn len(&self) -> u32
         ensures count { result ≡ length self.now }
@@ -63,27 +80,6 @@ impl Mask {
         ensures none { IsNone result ↔ (length self.now ≤ at) }
     {
         self.bits.get(at as usize).copied()
-    }
-
-    /// Adds a bit at the end. `Full` comes exactly at 255 bits, and changes nothing.
-    pub fn push(&mut self, bit: bool) -> Result<(), Full>
-        ensures full { IsErr result ↔ (length self.old ≡ 255) }
-        ensures room { length self.old < 255 → self.new ≡ self.old ++ bit ∷ [] }
-        ensures err { OnErr result (self.new ≡ self.old) }
-    {
-        if self.bits.is_full() {
-            return Err(Full);
-        }
-        self.add(bit);
-        Ok(())
-    }
-
-    /// Adds a bit at the end of a mask that has room.
-    pub(crate) fn add(&mut self, bit: bool)
-        requires { length self.old < 255 }
-        ensures { self.new ≡ self.old ++ bit ∷ [] }
-    {
-        self.bits.push(bit);
     }
 
     /// The whole mask.
@@ -125,6 +121,23 @@ impl BlockWords {
         BlockWords { words: block }
     }
 
+    /// Adds a word at the end. `Full` comes exactly at 255 words, and changes nothing.
+    pub fn push(&mut self, word: u16) -> Result<(), Full>
+        ensures full { IsErr result ↔ (length self.old ≡ 255) }
+        ensures room { length self.old < 255 → self.new ≡ self.old ++ word ∷ [] }
+        ensures err { OnErr result (self.new ≡ self.old) }
+    {
+        self.words.try_push(word).or(Err(Full))
+    }
+
+    /// Adds a word at the end of a block that has room.
+    pub(crate) fn push_reserved(&mut self, word: u16)
+        requires { length self.old < 255 }
+        ensures { self.new ≡ self.old ++ word ∷ [] }
+    {
+        self.words.push(word);
+    }
+
     /// How many words the block has.
     pub fn len(&self) -> u32
         ensures count { result ≡ length self.now }
@@ -140,27 +153,6 @@ impl BlockWords {
         ensures none { IsNone result ↔ (length self.now ≤ at) }
     {
         self.words.get(at as usize).copied()
-    }
-
-    /// Adds a word at the end. `Full` comes exactly at 255 words, and changes nothing.
-    pub fn push(&mut self, word: u16) -> Result<(), Full>
-        ensures full { IsErr result ↔ (length self.old ≡ 255) }
-        ensures room { length self.old < 255 → self.new ≡ self.old ++ word ∷ [] }
-        ensures err { OnErr result (self.new ≡ self.old) }
-    {
-        if self.words.is_full() {
-            return Err(Full);
-        }
-        self.add(word);
-        Ok(())
-    }
-
-    /// Adds a word at the end of a block that has room.
-    pub(crate) fn add(&mut self, word: u16)
-        requires { length self.old < 255 }
-        ensures { self.new ≡ self.old ++ word ∷ [] }
-    {
-        self.words.push(word);
     }
 
     /// The whole block.

@@ -1,4 +1,4 @@
-//! The commands; and, each in a file of its own, its code, the fields behind it and how it is written.
+//! The commands; and, each in a file of its own, its code and how it is written.
 
 pub(crate) mod access;
 pub(crate) mod ack;

@@ -1,13 +1,10 @@
-//! The fields behind the code of each command, in their order (6.3.2.11), and what was read of them.
+//! The fields that stand behind the codes of commands (6.3.2.11), and what was read of them.
 ghost use Rattle.std.specs.Prelude.{◌≡◌, ◌≢◌, ◌^◌, ◌<◌, ◌≤◌, Ok};
-ghost use Rattle.command_grammar.specs.Framing.{fields_of, command_of};
+ghost use Rattle.command_grammar.specs.Framing.{command_of};
 
 use crate::choices::CommandKind;
 use crate::command_lists::{BlockWords, Mask};
-use crate::commands::{
-    Command, access, ack, block_erase, block_write, kill, lock, nak, query, query_adjust,
-    query_rep, read, req_rn, select, write,
-};
+use crate::commands::Command;
 use crate::field_values::{Bank, FlagName, MaskBank, Sel, Side, UpDn};
 use crate::refusal::CommandRefusal;
 use bit_strings::{Action, Code, Count1, Payload, Pointer, QValue, Session};
@@ -63,30 +60,6 @@ pub(crate) enum Field {
     Rn,
     /// CRC-16.
     Crc16,
-}
-
-impl CommandKind {
-    /// The fields of the command, in their order.
-    pub(crate) fn fields(self) -> &'static [Field]
-        ensures { result.now ≡ fields_of self }
-    {
-        match self {
-            CommandKind::QueryRep => query_rep::FIELDS,
-            CommandKind::Ack => ack::FIELDS,
-            CommandKind::Query => query::FIELDS,
-            CommandKind::QueryAdjust => query_adjust::FIELDS,
-            CommandKind::Select => select::FIELDS,
-            CommandKind::Nak => nak::FIELDS,
-            CommandKind::ReqRn => req_rn::FIELDS,
-            CommandKind::Read => read::FIELDS,
-            CommandKind::Write => write::FIELDS,
-            CommandKind::Kill => kill::FIELDS,
-            CommandKind::Lock => lock::FIELDS,
-            CommandKind::Access => access::FIELDS,
-            CommandKind::BlockWrite => block_write::FIELDS,
-            CommandKind::BlockErase => block_erase::FIELDS,
-        }
-    }
 }
 
 /// The values of the fields that were read; the others hold some value.

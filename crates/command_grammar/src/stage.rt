@@ -7,7 +7,7 @@ ghost use Rattle.command_grammar.specs.declared.stage.Stage.TheVariants as stage
 ghost use Rattle.command_grammar.specs.declared.refusal.Reason.{Reason};
 
 use crate::check::Check;
-use crate::choices::{bank, line_code, mask_bank, sel, side, target, updn};
+use crate::choices::{BANKS, LINE_CODES, SELS, mask_bank, side, target, updn};
 use crate::command_lists::{BlockWords, Mask};
 use crate::fields::{Field, Fields, action_of, count_of, payload_of, pointer_of, q_of, session_of};
 use crate::refusal::Reason;
@@ -252,7 +252,7 @@ impl Stage {
             Stage::Number(field, number) => take_number(field, number.with(bit), fields),
             Stage::Vector(front) => take_vector(front, bit, fields),
             Stage::Mask(_) => {
-                fields.mask.add(bit);
+                fields.mask.push_reserved(bit);
                 Next::Done
             }
             Stage::Known(reason, wanted) => take_known(reason, wanted, bit),
@@ -282,15 +282,23 @@ fn take_pair(field: PairField, first: Option<bool>, bit: bool, fields: &mut Fiel
         return Next::Stay(Stage::Pair(field, Some(bit)));
     };
     match field {
-        PairField::LineCode => fields.code = line_code(first, bit),
-        PairField::Sel => fields.sel = sel(first, bit),
-        PairField::Bank => fields.bank = bank(first, bit),
+        PairField::LineCode => fields.code = LINE_CODES[number_of(first, bit)],
+        PairField::Sel => fields.sel = SELS[number_of(first, bit)],
+        PairField::Bank => fields.bank = BANKS[number_of(first, bit)],
         PairField::MaskBank => match mask_bank(first, bit) {
             Some(bank) => fields.mask_bank = bank,
             None => return Next::Refused(Reason::Bank),
         },
     }
     Next::Done
+}
+
+/// The number of two bits.
+fn number_of(first: bool, second: bool) -> usize
+    ensures value { result ≡ 2 * digit_of first + digit_of second }
+    ensures small { result < 4 }
+{
+    2 * usize::from(first) + usize::from(second)
 }
 
 /// A bit of a field of three.
@@ -381,7 +389,7 @@ fn take_number(field: NumberField, value: u32, fields: &mut Fields) -> Next
             next_word(left)
         }
         NumberField::Word(left) => {
-            fields.words.add(value as u16);
+            fields.words.push_reserved(value as u16);
             next_word(left)
         }
     }
@@ -424,7 +432,7 @@ fn mask_run(behind: &mut u32, bits: &[bool], fields: &mut Fields) -> usize
 {
     let count = bits.len().min(*behind as usize);
     for bit in &bits[..count] {
-        fields.mask.add(*bit);
+        fields.mask.push_reserved(*bit);
     }
     *behind -= count as u32;
     count

@@ -80,7 +80,7 @@ impl State {
         match &mut self.place {
             Place::Within(stage) => {
                 let count = stage.take_run(bits, &mut self.fields);
-                self.check.push(&bits[..count]);
+                self.check.push_all(&bits[..count]);
                 self.pushed += count as u32;
                 count
             }
@@ -105,7 +105,7 @@ impl State {
         self.pushed += 1;
         match &mut self.place {
             Place::Within(stage) => {
-                self.check.push(&[bit]);
+                self.check.push_all(&[bit]);
                 match stage.take(bit, &mut self.fields) {
                     Next::Stay(next) => *stage = next,
                     Next::Done => self.begin(),

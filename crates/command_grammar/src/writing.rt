@@ -23,7 +23,7 @@ pub(crate) fn put(out: &mut Bits, value: u32, width: u32)
 }
 
 /// Writes the code of a command, in place of what stood in `out` (6.3.2.11, Table 6.18).
-pub(crate) fn put_code(out: &mut Bits, code: &[bool])
+pub(crate) fn begin_with_code(out: &mut Bits, code: &[bool])
     requires { length code.now ≤ out.old.capacity }
     ensures { out.new ≡ record out.old { items = code.now } }
 {

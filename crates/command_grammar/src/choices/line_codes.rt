@@ -1,21 +1,11 @@
 //! M of a Query (6.3.2.11.2.1).
 ghost use Rattle.std.specs.Prelude.{◌≡◌};
 ghost use Rattle.command_grammar.specs.Commands.{bits_of_code};
-ghost use Rattle.command_grammar.specs.Reading.{lines, pick, child};
 
 use bit_strings::Code;
 
-/// M of a Query.
-pub(crate) fn line_code(first: bool, second: bool) -> Code
-    ensures { child (child lines first) second ≡ pick result }
-{
-    match (first, second) {
-        (false, false) => Code::Fm0,
-        (false, true) => Code::M2,
-        (true, false) => Code::M4,
-        (true, true) => Code::M8,
-    }
-}
+/// The values of M, by the number of their two bits.
+pub(crate) const LINE_CODES: [Code; 4] = [Code::Fm0, Code::M2, Code::M4, Code::M8];
 
 /// The bits of M.
 pub(crate) fn code_bits(code: Code) -> [bool; 2]

@@ -1,21 +1,11 @@
 //! Sel of a Query (6.3.2.11.2.1).
 ghost use Rattle.std.specs.Prelude.{◌≡◌};
 ghost use Rattle.command_grammar.specs.Commands.{bits_of_sel};
-ghost use Rattle.command_grammar.specs.Reading.{chosen_of, pick, child};
 
 use crate::field_values::Sel;
 
-/// Sel of a Query.
-pub(crate) fn sel(first: bool, second: bool) -> Sel
-    ensures { child (child chosen_of first) second ≡ pick result }
-{
-    match (first, second) {
-        (false, false) => Sel::All00,
-        (false, true) => Sel::All01,
-        (true, false) => Sel::NotSl,
-        (true, true) => Sel::Sl,
-    }
-}
+/// The values of Sel, by the number of their two bits.
+pub(crate) const SELS: [Sel; 4] = [Sel::All00, Sel::All01, Sel::NotSl, Sel::Sl];
 
 /// The bits of Sel.
 pub(crate) fn sel_bits(sel: Sel) -> [bool; 2]

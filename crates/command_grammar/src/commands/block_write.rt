@@ -7,28 +7,18 @@ ghost use Rattle.command_grammar.specs.declared.commands.Command.TheVariants.{Bl
 use crate::choices::bank_bits;
 use crate::command_lists::BlockWords;
 use crate::field_values::Bank;
-use crate::fields::Field;
-use crate::writing::{put, put_code, put_handle, put_place, put_words};
+use crate::writing::{begin_with_code, put, put_handle, put_place, put_words};
 use bit_strings::{Bits, Pointer};
 
 /// Its code (6.3.2.11, Table 6.18).
 pub(crate) const CODE: &[bool] = &[true, true, false, false, false, true, true, true];
-
-/// The fields behind its code, in their order.
-pub(crate) const FIELDS: &[Field] = &[
-    Field::Bank,
-    Field::Pointer,
-    Field::Words,
-    Field::Rn,
-    Field::Crc16,
-];
 
 /// Writes a BlockWrite.
 pub(crate) fn spell(out: &mut Bits, bank: Bank, pointer: Pointer, words: &BlockWords, rn: u16)
     requires { command_room ≤ out.old.capacity }
     ensures { Writes (BlockWrite bank pointer words.now rn) out.old out.new }
 {
-    put_code(out, CODE);
+    begin_with_code(out, CODE);
     put_place(out, bank_bits(bank), pointer);
     put(out, words.len(), 8);
     put_words(out, words.as_slice());

@@ -4,22 +4,18 @@ ghost use Rattle.command_grammar.specs.Commands.{command_room};
 ghost use Rattle.command_grammar.specs.Writing.{Writes};
 ghost use Rattle.command_grammar.specs.declared.commands.Command.TheVariants.{Kill};
 
-use crate::fields::Field;
-use crate::writing::{put, put_bits, put_code, put_handle};
+use crate::writing::{begin_with_code, put, put_bits, put_handle};
 use bit_strings::Bits;
 
 /// Its code (6.3.2.11, Table 6.18).
 pub(crate) const CODE: &[bool] = &[true, true, false, false, false, true, false, false];
-
-/// The fields behind its code, in their order.
-pub(crate) const FIELDS: &[Field] = &[Field::Covered, Field::KillBits, Field::Rn, Field::Crc16];
 
 /// Writes a Kill.
 pub(crate) fn spell(out: &mut Bits, covered: u16, rn: u16)
     requires { command_room ≤ out.old.capacity }
     ensures { Writes (Kill covered rn) out.old out.new }
 {
-    put_code(out, CODE);
+    begin_with_code(out, CODE);
     put(out, u32::from(covered), 16);
     put_bits(out, &[false, false, false]);
     put_handle(out, rn);

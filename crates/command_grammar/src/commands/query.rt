@@ -6,24 +6,11 @@ ghost use Rattle.command_grammar.specs.declared.commands.Command.TheVariants.{Qu
 
 use crate::choices::{code_bits, sel_bits, side_bits};
 use crate::field_values::{Sel, Side};
-use crate::fields::Field;
-use crate::writing::{put, put_bits, put_code, put_crc5};
+use crate::writing::{begin_with_code, put, put_bits, put_crc5};
 use bit_strings::{Bits, Code, QValue, Session};
 
 /// Its code (6.3.2.11, Table 6.18).
 pub(crate) const CODE: &[bool] = &[true, false, false, false];
-
-/// The fields behind its code, in their order.
-pub(crate) const FIELDS: &[Field] = &[
-    Field::Dr,
-    Field::LineCode,
-    Field::Pilot,
-    Field::Sel,
-    Field::Session,
-    Field::Side,
-    Field::Q,
-    Field::Crc5,
-];
 
 /// Writes a Query.
 pub(crate) fn spell(
@@ -39,7 +26,7 @@ pub(crate) fn spell(
     requires { command_room ≤ out.old.capacity }
     ensures { Writes (Query dr code trext sel session target q) out.old out.new }
 {
-    put_code(out, CODE);
+    begin_with_code(out, CODE);
     put_bits(out, &[dr]);
     put_bits(out, &code_bits(code));
     put_bits(out, &[trext]);

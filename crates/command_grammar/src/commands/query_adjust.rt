@@ -6,22 +6,18 @@ ghost use Rattle.command_grammar.specs.declared.commands.Command.TheVariants.{Qu
 
 use crate::choices::updn_bits;
 use crate::field_values::UpDn;
-use crate::fields::Field;
-use crate::writing::{put, put_bits, put_code};
+use crate::writing::{begin_with_code, put, put_bits};
 use bit_strings::{Bits, Session};
 
 /// Its code (6.3.2.11, Table 6.18).
 pub(crate) const CODE: &[bool] = &[true, false, false, true];
-
-/// The fields behind its code, in their order.
-pub(crate) const FIELDS: &[Field] = &[Field::Session, Field::UpDn];
 
 /// Writes a QueryAdjust.
 pub(crate) fn spell(out: &mut Bits, session: Session, updn: UpDn)
     requires { command_room ≤ out.old.capacity }
     ensures { Writes (QueryAdjust session updn) out.old out.new }
 {
-    put_code(out, CODE);
+    begin_with_code(out, CODE);
     put(out, u32::from(session.get()), 2);
     put_bits(out, &updn_bits(updn));
 }

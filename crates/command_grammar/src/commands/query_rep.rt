@@ -4,21 +4,17 @@ ghost use Rattle.command_grammar.specs.Commands.{command_room};
 ghost use Rattle.command_grammar.specs.Writing.{Writes};
 ghost use Rattle.command_grammar.specs.declared.commands.Command.TheVariants.{QueryRep};
 
-use crate::fields::Field;
-use crate::writing::{put, put_code};
+use crate::writing::{begin_with_code, put};
 use bit_strings::{Bits, Session};
 
 /// Its code (6.3.2.11, Table 6.18).
 pub(crate) const CODE: &[bool] = &[false, false];
-
-/// The fields behind its code, in their order.
-pub(crate) const FIELDS: &[Field] = &[Field::Session];
 
 /// Writes a QueryRep.
 pub(crate) fn spell(out: &mut Bits, session: Session)
     requires { command_room ≤ out.old.capacity }
     ensures { Writes (QueryRep session) out.old out.new }
 {
-    put_code(out, CODE);
+    begin_with_code(out, CODE);
     put(out, u32::from(session.get()), 2);
 }

@@ -7,23 +7,11 @@ ghost use Rattle.command_grammar.specs.declared.commands.Command.TheVariants.{Se
 use crate::choices::{mask_bank_bits, target_bits};
 use crate::command_lists::Mask;
 use crate::field_values::{FlagName, MaskBank};
-use crate::fields::Field;
-use crate::writing::{put, put_bits, put_code, put_crc16, put_place};
+use crate::writing::{begin_with_code, put, put_bits, put_crc16, put_place};
 use bit_strings::{Action, Bits, Pointer};
 
 /// Its code (6.3.2.11, Table 6.18).
 pub(crate) const CODE: &[bool] = &[true, false, true, false];
-
-/// The fields behind its code, in their order.
-pub(crate) const FIELDS: &[Field] = &[
-    Field::Target,
-    Field::Action,
-    Field::MaskBank,
-    Field::Pointer,
-    Field::Mask,
-    Field::Truncate,
-    Field::Crc16,
-];
 
 /// Writes a Select.
 pub(crate) fn spell(
@@ -37,7 +25,7 @@ pub(crate) fn spell(
     requires { command_room ≤ out.old.capacity }
     ensures { Writes (Select target action bank pointer mask.now) out.old out.new }
 {
-    put_code(out, CODE);
+    begin_with_code(out, CODE);
     put_bits(out, &target_bits(target));
     put(out, u32::from(action.get()), 3);
     put_place(out, mask_bank_bits(bank), pointer);

@@ -6,28 +6,18 @@ ghost use Rattle.command_grammar.specs.declared.commands.Command.TheVariants.{Wr
 
 use crate::choices::bank_bits;
 use crate::field_values::Bank;
-use crate::fields::Field;
-use crate::writing::{put, put_code, put_handle, put_place};
+use crate::writing::{begin_with_code, put, put_handle, put_place};
 use bit_strings::{Bits, Pointer};
 
 /// Its code (6.3.2.11, Table 6.18).
 pub(crate) const CODE: &[bool] = &[true, true, false, false, false, false, true, true];
-
-/// The fields behind its code, in their order.
-pub(crate) const FIELDS: &[Field] = &[
-    Field::Bank,
-    Field::Pointer,
-    Field::Covered,
-    Field::Rn,
-    Field::Crc16,
-];
 
 /// Writes a Write.
 pub(crate) fn spell(out: &mut Bits, bank: Bank, pointer: Pointer, covered: u16, rn: u16)
     requires { command_room ≤ out.old.capacity }
     ensures { Writes (Write bank pointer covered rn) out.old out.new }
 {
-    put_code(out, CODE);
+    begin_with_code(out, CODE);
     put_place(out, bank_bits(bank), pointer);
     put(out, u32::from(covered), 16);
     put_handle(out, rn);

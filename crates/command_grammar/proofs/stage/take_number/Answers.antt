@@ -12,4 +12,4 @@ pub returns-in-FirstWord-clause-reads : goal.returns-in-FirstWord-clause-reads
 returns-in-FirstWord-clause-reads c = λ rest. rw c.in-FirstWord.is (first_word c.in-FirstWord.left c.args.value c.first-fields.result c.args.fields.now rest c.first-fields.ensures ∙ c.next_word.ensures.reads (record c.args.fields.now { words = c.first-fields.result }) rest)
 
 pub returns-in-Word-clause-reads : goal.returns-in-Word-clause-reads
-returns-in-Word-clause-reads c = λ rest. rw c.in-Word.is (next_words c.in-Word.left c.args.value c.add.new.self c.args.fields.now rest c.add.ensures ∙ c.next_word-in-Word.ensures.reads (record c.args.fields.now { words = c.add.new.self }) rest)
+returns-in-Word-clause-reads c = λ rest. rw c.in-Word.is (next_words c.in-Word.left c.args.value c.push_reserved.new.self c.args.fields.now rest c.push_reserved.ensures ∙ c.next_word-in-Word.ensures.reads (record c.args.fields.now { words = c.push_reserved.new.self }) rest)
