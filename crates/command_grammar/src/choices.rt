@@ -25,7 +25,7 @@ mod updns;
 
 pub(crate) use banks::{BANKS, bank_bits};
 pub(crate) use line_codes::{LINE_CODES, code_bits};
-pub(crate) use mask_banks::{mask_bank, mask_bank_bits};
+pub(crate) use mask_banks::{MASK_BANKS, mask_bank_bits};
 pub(crate) use sels::{SELS, sel_bits};
 pub(crate) use sides::{side, side_bits};
 pub(crate) use targets::{target, target_bits};

@@ -7,7 +7,7 @@ ghost use Rattle.command_grammar.specs.declared.stage.Stage.TheVariants as stage
 ghost use Rattle.command_grammar.specs.declared.refusal.Reason.{Reason};
 
 use crate::check::Check;
-use crate::choices::{BANKS, LINE_CODES, SELS, mask_bank, side, target, updn};
+use crate::choices::{BANKS, LINE_CODES, MASK_BANKS, SELS, side, target, updn};
 use crate::command_lists::{BlockWords, Mask};
 use crate::fields::{Field, Fields, action_of, count_of, payload_of, pointer_of, q_of, session_of};
 use crate::refusal::Reason;
@@ -281,11 +281,12 @@ fn take_pair(field: PairField, first: Option<bool>, bit: bool, fields: &mut Fiel
     let Some(first) = first else {
         return Next::Stay(Stage::Pair(field, Some(bit)));
     };
+    let number = number_of(first, bit);
     match field {
-        PairField::LineCode => fields.code = LINE_CODES[number_of(first, bit)],
-        PairField::Sel => fields.sel = SELS[number_of(first, bit)],
-        PairField::Bank => fields.bank = BANKS[number_of(first, bit)],
-        PairField::MaskBank => match mask_bank(first, bit) {
+        PairField::LineCode => fields.code = LINE_CODES[number],
+        PairField::Sel => fields.sel = SELS[number],
+        PairField::Bank => fields.bank = BANKS[number],
+        PairField::MaskBank => match MASK_BANKS[number] {
             Some(bank) => fields.mask_bank = bank,
             None => return Next::Refused(Reason::Bank),
         },
