@@ -4,7 +4,7 @@ use Rattle.std.specs.Prelude.{◌≡◌, ℕ, zero, suc, ◌+◌, ◌*◌, ◌/�
 use Rattle.bit_strings.specs.Numbers.{digit_of, value_of, field_of}
 use Rattle.gen2_crc.specs.Crc.{crc5_of, RegisterStandsFor}
 use Rattle.command_grammar.specs.Commands.{code_of, IsCommandRefusedAt}
-use Rattle.command_grammar.specs.Reading.{Stop, Bad, Reading, ◌>>=◌, Choice, pick, none, child, bit_at, bits_at, field_at, choice_at, exactly_at, count_at, words_at, ebv_at, crc5_at, crc16_at, lines, chosen_of, sides, changes, targets, masked_banks, all_banks, kinds_10, kinds_11, kinds_11000, kinds_11001, all_kinds, all_of}
+use Rattle.command_grammar.specs.Reading.{Stop, Bad, Reading, ◌>>=◌, Choice, pick, none, child, bit_at, bits_at, field_at, choice_at, exactly_at, count_at, words_at, ebv_at, crc5_at, crc16_at, lines, chosen_of, sides, changes, targets, masked_banks, all_banks, all_kinds, all_of}
 use Rattle.command_grammar.specs.declared.commands.Command.{Command}
 use Rattle.command_grammar.specs.declared.commands.Command.TheVariants as commands
 use Rattle.command_grammar.specs.declared.check.Check.{Check}
@@ -117,22 +117,6 @@ run (field ∷ behind) kind v whole bits = field_from field v whole bits >>= λ 
 abbrev pub next_at : {A : Type 0} → Choice A → Reason → List Bool → Reading A
 next_at t reason bits = bit_at bits >>= λ next. choice_at (child t next.0) reason next.1
 
--- the choices that the bits read leave
-abbrev pub behind_code : CodeFront → Choice CommandKind
-behind_code fronts.Nothing = all_kinds
-behind_code (fronts.First first) = child all_kinds first
-behind_code fronts.Bits10 = kinds_10
-behind_code (fronts.Third third) = child kinds_10 third
-behind_code fronts.Bits11 = kinds_11
-behind_code fronts.Bits110 = child kinds_11 false
-behind_code fronts.Bits1100 = child (child kinds_11 false) false
-behind_code fronts.Bits11000 = kinds_11000
-behind_code (fronts.Sixth sixth) = child kinds_11000 sixth
-behind_code (fronts.Seventh sixth seventh) = child (child kinds_11000 sixth) seventh
-behind_code fronts.Bits11001 = kinds_11001
-behind_code fronts.Bits110010 = child kinds_11001 false
-behind_code fronts.Bits1100100 = child (child kinds_11001 false) false
-
 -- the bits read
 abbrev pub bits_of_front : CodeFront → List Bool
 bits_of_front fronts.Nothing = []
@@ -148,6 +132,15 @@ bits_of_front (fronts.Seventh sixth seventh) = true ∷ true ∷ false ∷ false
 bits_of_front fronts.Bits11001 = true ∷ true ∷ false ∷ false ∷ true ∷ []
 bits_of_front fronts.Bits110010 = true ∷ true ∷ false ∷ false ∷ true ∷ false ∷ []
 bits_of_front fronts.Bits1100100 = true ∷ true ∷ false ∷ false ∷ true ∷ false ∷ false ∷ []
+
+-- what the bits leave of a choice
+abbrev pub left_by : {A : Type 0} → List Bool → Choice A → Choice A
+left_by [] t = t
+left_by (bit ∷ bits) t = left_by bits (child t bit)
+
+-- the commands whose codes begin with the bits read
+abbrev pub behind_code : CodeFront → Choice CommandKind
+behind_code front = left_by (bits_of_front front) all_kinds
 
 -- the code's bits are those read and the next one
 abbrev pub KeepsCode : CodeStep → CodeFront → Bool → Type 0
