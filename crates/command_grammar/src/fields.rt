@@ -8,6 +8,7 @@ use crate::commands::Command;
 use crate::field_values::{Bank, FlagName, MaskBank, Sel, Side, UpDn};
 use crate::refusal::CommandRefusal;
 use bit_strings::{Action, Code, Count1, Payload, Pointer, QValue, Session};
+use std::mem;
 
 /// A field behind the code of a command.
 #[derive(Clone, Copy)]
@@ -116,10 +117,11 @@ impl Fields {
     }
 
     /// Answers with the command whose fields were all read. Each command is written where the answer stands,
-    /// since a command has room for the longest mask and the longest list of words.
+    /// since a command has room for the longest mask and the longest list of words, and takes its list out of
+    /// the fields.
     #[inline(always)]
-    pub(crate) fn answer(self, kind: CommandKind, answer: &mut Result<Command, CommandRefusal>)
-        ensures { answer.new ≡ Ok (command_of kind self) }
+    pub(crate) fn answer(&mut self, kind: CommandKind, answer: &mut Result<Command, CommandRefusal>)
+        ensures { answer.new ≡ Ok (command_of kind self.old) }
     {
         match kind {
             CommandKind::QueryRep => {
@@ -153,7 +155,7 @@ impl Fields {
                     action: self.action,
                     bank: self.mask_bank,
                     pointer: self.pointer,
-                    mask: self.mask,
+                    mask: mem::replace(&mut self.mask, Mask::new()),
                 });
             }
             CommandKind::Nak => *answer = Ok(Command::Nak),
@@ -198,7 +200,7 @@ impl Fields {
                 *answer = Ok(Command::BlockWrite {
                     bank: self.bank,
                     pointer: self.pointer,
-                    words: self.words,
+                    words: mem::replace(&mut self.words, BlockWords::first(0)),
                     rn: self.rn,
                 });
             }

@@ -75,13 +75,24 @@ impl Framer {
     }
 
     /// The command that the bits are, the refusal, or `Short` where they only begin a command.
-    pub fn finish(self) -> Result<Command, CommandRefusal>
+    pub fn finish(mut self) -> Result<Command, CommandRefusal>
         ensures finishes { (bits : List Bool) → FramerStandsFor self bits → IsFinishAnswer result bits }
         ensures only { (bits : List Bool) (command : Command) → FramerStandsFor self bits → SpellsCommand command bits → result ≡ Ok command }
     {
-        let Framer { state, refused } = self;
         let mut answer = Err(CommandRefusal::Short(0));
-        state.finish(refused, &mut answer);
+        self.finish_to(&mut answer);
         answer
+    }
+
+    /// Writes what [`finish`](Framer::finish) answers in place of another answer, and stands for no bits
+    /// afterwards. Neither the answer nor the Framer is copied or made anew, as both have room for the longest mask
+    /// and the longest list of words.
+    pub fn finish_to(&mut self, answer: &mut Result<Command, CommandRefusal>)
+        ensures finishes { (bits : List Bool) → FramerStandsFor self.old bits → IsFinishAnswer answer.new bits }
+        ensures only { (bits : List Bool) (command : Command) → FramerStandsFor self.old bits → SpellsCommand command bits → answer.new ≡ Ok command }
+        ensures anew { FramerStandsFor self.new [] }
+    {
+        self.state.finish(self.refused, answer);
+        self.refused = None;
     }
 }

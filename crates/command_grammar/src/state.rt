@@ -157,23 +157,28 @@ impl State {
         }
     }
 
-    /// Answers with the command that the bits are, or with why they are none, where this was refused.
+    /// Answers with the command that the bits are, or with why they are none, where this was refused. It stands for
+    /// no bits afterwards.
     #[inline(always)]
     pub(crate) fn finish(
-        self,
+        &mut self,
         refused: Option<(u32, Reason)>,
         answer: &mut Result<Command, CommandRefusal>,
     )
-        ensures finishes { (bits : List Bool) → Keeps self refused bits → IsFinishAnswer answer.new bits }
-        ensures only { (bits : List Bool) (command : Command) → Keeps self refused bits → SpellsCommand command bits → answer.new ≡ Ok command }
+        ensures finishes { (bits : List Bool) → Keeps self.old refused bits → IsFinishAnswer answer.new bits }
+        ensures only { (bits : List Bool) (command : Command) → Keeps self.old refused bits → SpellsCommand command bits → answer.new ≡ Ok command }
+        ensures anew { Stands self.new [] }
+        ensures sound { IsSoundPlace self.new.place self.new.fields }
     {
+        let pushed = self.pushed;
+        let place = self.place;
+        self.pushed = 0;
+        self.place = Place::Code(CodeFront::Nothing);
         match refused {
             Some((place, reason)) => *answer = Err(CommandRefusal::At(place, reason)),
-            None => match self.place {
+            None => match place {
                 Place::Whole => self.fields.answer(self.kind, answer),
-                Place::Code(_) | Place::Within(_) => {
-                    *answer = Err(CommandRefusal::Short(self.pushed));
-                }
+                Place::Code(_) | Place::Within(_) => *answer = Err(CommandRefusal::Short(pushed)),
             },
         }
     }
