@@ -533,9 +533,6 @@ read_more items front from at bit d forward inside same read =
     ∙ sym (take_more (drop from items) (at - from) d (omega (arith, length-drop from items)))
     ∙ ap (λ n. part_of items from n) place
 
-pub read_all : (items front : List Bool) (from at : ℕ) → length items ≤ at → front ≡ part_of items from (at - from) → IsCutEbv front → IsCutEbv (drop from items)
-read_all items front from at end same cut = subst IsCutEbv (same ∙ take_all (at - from) (drop from items) (omega (arith, length-drop from items))) cut
-
 behind_part : (P : List Bool → Type 0) → ((bits more : List Bool) → P bits → P (bits ++ more)) → (items : List Bool) (from width : ℕ) → P (part_of items from width) → P (drop from items)
 behind_part P grows items from width holds = subst P (take-append-drop width (drop from items)) (grows (part_of items from width) (drop width (drop from items)) holds)
 

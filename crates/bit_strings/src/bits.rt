@@ -125,23 +125,22 @@ impl Bits {
     }
 
     /// Puts this many zeros in place of what the list holds.
-    pub fn fill_zeros(&mut self, count: u32)
+    pub fn fill_zeros(&mut self, count: usize)
         requires { count ≤ self.old.capacity }
         ensures { self.new ≡ record self.old { items = replicate count false } }
     {
         self.bits.clear();
         // There is room for each bit.
-        let _ = self.bits.resize(count as usize, false);
+        let _ = self.bits.resize(count, false);
     }
 
     /// Puts these bits in place of as many from the place `at` on.
     #[inline]
-    pub fn overwrite(&mut self, at: u32, bits: &[bool])
+    pub fn overwrite(&mut self, at: usize, bits: &[bool])
         requires { at + length bits.now ≤ length self.old.items }
         ensures { self.new ≡ record self.old { items = take at self.old.items ++ bits.now ++ drop (at + length bits.now) self.old.items } }
     {
-        let start = at as usize;
-        self.bits[start..start + bits.len()].copy_from_slice(bits);
+        self.bits[at..at + bits.len()].copy_from_slice(bits);
     }
 
     /// Puts one bit for each byte in place of what the list holds: 1 where the byte is `one`, else 0.

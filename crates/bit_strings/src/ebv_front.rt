@@ -1,5 +1,5 @@
 //! Extensible bit vectors, one bit at a time.
-ghost use Rattle.std.specs.Prelude.{◌≡◌, ◌%◌, ◌<◌, ◌≤◌, ◌⊎◌, ◌++◌, ◌∷◌, [], ℕ, List, Bool, length, take};
+ghost use Rattle.std.specs.Prelude.{◌≡◌, ◌+◌, ◌%◌, ◌<◌, ◌≤◌, ◌⊎◌, ◌++◌, ◌∷◌, [], ℕ, List, Bool, length, take};
 ghost use Rattle.bit_strings.specs.Numbers.{value_of};
 ghost use Rattle.bit_strings.specs.Ebv.{IsEbv, IsCutEbv};
 ghost use Rattle.bit_strings.specs.EbvAnswers.{IsEbvStep};
@@ -92,6 +92,8 @@ impl EbvFront {
         ensures within { result ≤ length bits.now }
         ensures taken { self.new ≡ self.old ++ take result bits.now }
         ensures begun { IsCutEbv self.new }
+        ensures none { length self.old % 8 ≡ 0 → result ≡ 0 }
+        ensures inside { length self.old % 8 + result ≤ 7 }
         ensures edge { result < length bits.now → (length self.new % 8 ≡ 0) ⊎ (length self.new % 8 ≡ 7) }
     {
         let place = self.count % 8;

@@ -1,9 +1,8 @@
 -- What the encoder has written, and how much room it takes.
-use Rattle.std.proofs.Common.{◌≡◌, ℕ, ◌+◌, ◌*◌, ◌<◌, ◌≤◌, Bool, true, false, List, [], ◌∷◌, ◌++◌, length, take, drop, get_or, Some, slice_get, sym, ap, ◌∙◌, arith, append_assoc, length-append}
-use Rattle.std.proofs.Math.Nat.{mul-add, mul-suc, mul-zero, mul-le-mul_left}
+use Rattle.std.proofs.Common.{◌≡◌, ℕ, ◌+◌, ◌*◌, ◌<◌, ◌≤◌, Bool, true, false, List, [], ◌∷◌, ◌++◌, length, take, drop, get_or, sym, ap, ◌∙◌, arith, append_assoc, length-append}
+use Rattle.std.proofs.Math.Nat.{mul-suc, mul-zero}
 use Rattle.std.proofs.lemmas.List.{append-nil, take_more, take_all, length-take-le, length-drop}
 use Rattle.std.proofs.Math.Seq.{take-append_seam}
-use Rattle.std.proofs.lemmas.Option.{get_or_from_slice_get, slice_get_within}
 use Rattle.bit_strings.specs.BitString.{BitString}
 use Rattle.line_code.specs.Table.{Context, Table}
 use Rattle.line_code.specs.Stream.{blocks}

@@ -9,6 +9,10 @@ pub record IsEven (t : Table) (chips : ℕ) : Type 0 where
   pub most : chips ≤ 16
   pub blocks_even : (c : Context) (bit : Bool) → length (t.block c bit) ≡ chips
 
+-- how many levels the longest lead has: that of Miller with M = 8 and TRext 1, 22 symbols of 16 levels
+abbrev pub longest_lead : ℕ
+longest_lead = 352
+
 -- something stands before the data
 abbrev pub HasLead : Table → Type 0
 HasLead t = (trext : Bool) → 1 ≤ length (t.lead trext)

@@ -1,7 +1,7 @@
 //! What a line code is.
 ghost use Rattle.std.specs.Prelude.{◌≡◌, ◌≢◌, ℕ, ◌<◌, ◌≤◌, length, Bool, Some, IfSome, IfNone, slice_get};
 ghost use Rattle.line_code.specs.Table.{Context, Table};
-ghost use Rattle.line_code.specs.Laws.{IsEven, HasLead, TellsBits, RefusesFlips, HidesLead};
+ghost use Rattle.line_code.specs.Laws.{IsEven, HasLead, TellsBits, RefusesFlips, HidesLead, longest_lead};
 
 /// A line code of the link from tag to interrogator (6.3.1.3.2 of the standard).
 ///
@@ -27,7 +27,7 @@ pub trait LineCode {
     /// The levels of the pilot and the preamble.
     fn lead_levels(trext: bool) -> &'static [bool]
         ensures value { result.now ≡ table.lead trext }
-        ensures few { length (table.lead trext) ≤ 352 };
+        ensures few { length (table.lead trext) ≤ longest_lead };
 
     /// How many levels the pilot and the preamble have.
     fn lead_len(trext: bool) -> u32

@@ -12,17 +12,16 @@ pub fn encode<C: LineCode>(trext: bool, bits: &Bits, out: &mut Levels)
     ensures stream { IsStream C.table trext bits.now.items out.new.items }
     ensures capacity { out.new.capacity ≡ out.old.capacity }
 {
-    // The sizes fit, since the room is counted in 32 bits.
-    let _room = out.capacity();
+    let chips = C::CHIPS as usize;
     let lead = C::lead_levels(trext);
-    let mut at = lead.len() as u32;
-    out.fill_zeros(at + C::CHIPS * (bits.len() + 1));
+    let mut at = lead.len();
+    out.fill_zeros(at + chips * (bits.len() as usize + 1));
     out.overwrite(0, lead);
     let mut mark = C::after_lead();
     for bit in bits.as_slice() {
         out.overwrite(at, C::block(mark, *bit));
         mark = C::after(mark, *bit);
-        at += C::CHIPS;
+        at += chips;
     }
     out.overwrite(at, C::block(mark, true));
 }

@@ -4,7 +4,7 @@ use Rattle.std.proofs.Math.Nat.{mul-suc}
 use Rattle.bit_strings.specs.declared.code.Code.{Code}
 use Rattle.bit_strings.specs.declared.code.Code.TheVariants.{Fm0, M2, M4, M8}
 use Rattle.line_code.specs.Table.{Context, Table}
-use Rattle.line_code.specs.Laws.{IsEven, HasLead, TellsBits, RefusesFlips, HidesLead}
+use Rattle.line_code.specs.Laws.{IsEven, HasLead, TellsBits, RefusesFlips, HidesLead, longest_lead}
 use Rattle.line_code.specs.Stream.{blocks, stream_of}
 use Rattle.fm0_line.specs.Fm0.{fm0}
 use Rattle.miller_line.specs.Miller.{miller}
@@ -43,7 +43,7 @@ code_hides_lead M4 = miller_hides_lead 4 four
 code_hides_lead M8 = miller_hides_lead 8 eight
 
 -- the longest lead is that of Miller 8 with the extended pilot
-pub lead_short : (code : Code) (trext : Bool) → length ((table_of code).lead trext) ≤ 352
+pub lead_short : (code : Code) (trext : Bool) → length ((table_of code).lead trext) ≤ longest_lead
 lead_short Fm0 false = let size : length (fm0.lead false) ≡ 12 = refl in omega arith
 lead_short Fm0 true = let size : length (fm0.lead true) ≡ 36 = refl in omega arith
 lead_short M2 false = let size : length ((miller 2).lead false) ≡ 40 = refl in omega arith
@@ -83,5 +83,5 @@ length-stream code trext bits =
 pub stream_least : (code : Code) (trext : Bool) (bits : List Bool) → 1 ≤ length (stream_of (table_of code) trext bits)
 stream_least code trext bits = omega (arith, length-stream code trext bits, code_has_lead code trext)
 
-pub stream_most : (code : Code) (trext : Bool) (bits : List Bool) → length (stream_of (table_of code) trext bits) ≤ 352 + 16 * (length bits + 1)
+pub stream_most : (code : Code) (trext : Bool) (bits : List Bool) → length (stream_of (table_of code) trext bits) ≤ longest_lead + 16 * (length bits + 1)
 stream_most code trext bits = omega (arith, length-stream code trext bits, lead_short code trext, blocks_short code (length bits))

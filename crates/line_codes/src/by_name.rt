@@ -1,6 +1,6 @@
 //! Encoding and decoding in the code that is named.
 ghost use Rattle.std.specs.Prelude.{◌≡◌, ℕ, ◌+◌, ◌*◌, ◌<◌, ◌≤◌, List, Bool, [], length, OnOk, OnErr, IfErr, IsOk, IsErr};
-ghost use Rattle.line_code.specs.Laws.{with_level_flipped};
+ghost use Rattle.line_code.specs.Laws.{longest_lead, with_level_flipped};
 ghost use Rattle.line_code.specs.Stream.{IsStream, Streams};
 ghost use Rattle.line_code.specs.Refusal.{RefusesStream};
 ghost use Rattle.line_code.specs.Table.{Table};
@@ -49,7 +49,7 @@ pub fn encode_bits(code: Code, trext: bool, bits: &Bits, out: &mut Levels)
     ensures stream { IsStream (table_of code) trext bits.now.items out.new.items }
     ensures least { 1 ≤ length out.new.items }
     ensures exact { length out.new.items ≡ length ((table_of code).lead trext) + chips_of code * (length bits.now.items + 1) }
-    ensures most { length out.new.items ≤ 352 + 16 * (length bits.now.items + 1) }
+    ensures most { length out.new.items ≤ longest_lead + 16 * (length bits.now.items + 1) }
     ensures capacity { out.new.capacity ≡ out.old.capacity }
 {
     match code {

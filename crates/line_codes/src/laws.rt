@@ -1,7 +1,7 @@
 //! What holds of the four codes, and of the lengths of their streams.
 ghost use Rattle.std.specs.Prelude.{◌≡◌, ℕ, ◌+◌, ◌*◌, ◌≤◌, Bool, List, length};
 ghost use Rattle.bit_strings.specs.declared.code.Code.{Code};
-ghost use Rattle.line_code.specs.Laws.{IsEven, HasLead, TellsBits, RefusesFlips, HidesLead};
+ghost use Rattle.line_code.specs.Laws.{IsEven, HasLead, TellsBits, RefusesFlips, HidesLead, longest_lead};
 ghost use Rattle.line_code.specs.Stream.{stream_of};
 ghost use Rattle.line_codes.specs.Codes.{table_of, chips_of};
 ghost use Rattle.line_codes.specs.Preambles.{PreamblesDiffer, HasOnePreamble, KeepsPreamble};
@@ -23,11 +23,11 @@ pub fn code_laws()
 {}
 
 /// How many levels a stream has: those of the lead, and a block for each bit and for the dummy. So there
-/// is one at least, and there are no more than the 352 of the longest lead and 16 a block.
+/// is one at least, and there are no more than the levels of the longest lead and 16 a block.
 pub fn stream_length()
     ensures exact { (code : Code) (trext : Bool) (bits : List Bool)
         → length (stream_of (table_of code) trext bits) ≡ length ((table_of code).lead trext) + chips_of code * (length bits + 1) }
-    ensures lead { (code : Code) (trext : Bool) → length ((table_of code).lead trext) ≤ 352 }
+    ensures lead { (code : Code) (trext : Bool) → length ((table_of code).lead trext) ≤ longest_lead }
     ensures least { (code : Code) (trext : Bool) (bits : List Bool) → 1 ≤ length (stream_of (table_of code) trext bits) }
-    ensures most { (code : Code) (trext : Bool) (bits : List Bool) → length (stream_of (table_of code) trext bits) ≤ 352 + 16 * (length bits + 1) }
+    ensures most { (code : Code) (trext : Bool) (bits : List Bool) → length (stream_of (table_of code) trext bits) ≤ longest_lead + 16 * (length bits + 1) }
 {}

@@ -31,9 +31,6 @@ length-carrier (suc n) phase = ap suc (length-carrier n (not phase))
 pub length-symbol : (m : ℕ) (start middle : Bool) → length (symbol m start middle) ≡ 2 * m
 length-symbol m start middle = length-append (carrier m start) (carrier m middle) ∙ omega (arith, length-carrier m start, length-carrier m middle)
 
-pub length-preamble : (m : ℕ) → length (miller_preamble m) ≡ 12 * m
-length-preamble m = simp (length-append, length-carrier) (omega arith)
-
 pub miller_even : (m : ℕ) → IsFactor m → IsEven (miller m) (2 * m)
 miller_even m f = record {
   least = omega arith;

@@ -1,6 +1,7 @@
 //! What the three codes share. The number `m` is M of the standard: a symbol has `2 * m` levels, two
 //! halves of `m` levels each, and the subcarrier inverts at each level.
 ghost use Rattle.std.specs.Prelude.{◌≡◌, ◌≢◌, ◌↔◌, ℕ, ◌*◌, ◌<◌, ◌≤◌, Bool, false, true, ◌++◌, Some, IfSome, IfNone, IsTrue, length, slice_get};
+ghost use Rattle.line_code.specs.Laws.{longest_lead};
 ghost use Rattle.miller_line.specs.Miller.{IsOneOfThree, carrier, symbol, start_phase, middle_phase, miller_preamble, miller_lead, miller_block, miller_next};
 ghost use Rattle.miller_line.specs.SymbolContext.{context};
 
@@ -146,7 +147,7 @@ fn long_lead(m: u32) -> &'static [bool]
 pub fn lead_levels(m: u32, trext: bool) -> &'static [bool]
     requires { IsOneOfThree m }
     ensures value { result.now ≡ miller_lead m trext }
-    ensures few { length (miller_lead m trext) ≤ 352 }
+    ensures few { length (miller_lead m trext) ≤ longest_lead }
 {
     let lead = long_lead(m);
     if trext {

@@ -10,7 +10,7 @@ use Rattle.reply_grammar.specs.declared.expected.Expect.{Expect}
 use Rattle.reply_grammar.specs.declared.expected.Expect.TheVariants.{Rn16 as OneRn16, Epc as OneEpc, Handle as OneHandle, Same, Words as SomeWords, AnyWords, Header as OneHeader}
 use Rattle.reply_grammar.specs.declared.expected.Reply.{Reply}
 use Rattle.reply_grammar.specs.declared.expected.Reply.TheVariants.{Rn16, Epc, Handle, Words, Header, Error}
-use Rattle.reply_grammar.specs.Table.{Suits, suits, IsReply, FitsBank, spelling, with_check}
+use Rattle.reply_grammar.specs.Table.{Suits, suits, IsReply, FitsBank, longest_reply, spelling, with_check}
 use Rattle.reply_grammar.specs.PassingLaws.{length-with_check}
 
 both-true : (a b : Bool) → (a && b) ≡ true → (a ≡ true) × (b ≡ true)
@@ -54,7 +54,7 @@ pub suits-decides : (reply : Reply) (expect : Expect) → (suits reply expect �
 suits-decides reply expect = (suits-true reply expect, suits-from reply expect)
 
 -- the bits of a reply are at least the 16 of an RN16, and at most those of 512 words
-pub spelling-within : (reply : Reply) (handle : ℕ) → IsReply reply → FitsBank reply → (16 ≤ length (spelling reply handle)) × (length (spelling reply handle) ≤ 8225)
+pub spelling-within : (reply : Reply) (handle : ℕ) → IsReply reply → FitsBank reply → (16 ≤ length (spelling reply handle)) × (length (spelling reply handle) ≤ longest_reply)
 unfolding spelling
 spelling-within (Rn16 rn) handle range fits = (omega (arith, length-field_of rn 16), omega (arith, length-field_of rn 16))
 spelling-within (Epc pc epc) handle range fits =

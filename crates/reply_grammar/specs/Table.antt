@@ -8,6 +8,10 @@ use Rattle.reply_grammar.specs.declared.expected.Expect.TheVariants.{Rn16 as One
 use Rattle.reply_grammar.specs.declared.expected.Reply.{Reply}
 use Rattle.reply_grammar.specs.declared.expected.Reply.TheVariants.{Rn16, Epc, Handle, Words, Header, Error}
 
+-- how many bits the longest reply has: 512 words with their header, the handle and the CRC-16
+abbrev pub longest_reply : ℕ
+longest_reply = 8225
+
 -- the room, in bits, in which each reply fits
 abbrev pub reply_room : ℕ
 reply_room = 8240

@@ -2,7 +2,7 @@
 ghost use Rattle.std.specs.Prelude.{◌≡◌, ◌+◌, ◌*◌, ◌^◌, ◌<◌, ◌≤◌, [], ◌∷◌, ◌++◌, length};
 ghost use Rattle.bit_strings.specs.Numbers.{field_of};
 ghost use Rattle.bit_strings.specs.Words.{bits_of_words};
-ghost use Rattle.reply_grammar.specs.Table.{AnswersExpected, CanBeSent, Carries, FitsBank, IsReply, Suits, spelling, with_check, reply_room};
+ghost use Rattle.reply_grammar.specs.Table.{AnswersExpected, CanBeSent, Carries, FitsBank, IsReply, Suits, longest_reply, spelling, with_check, reply_room};
 ghost use Rattle.reply_grammar.specs.declared.expected.Expect.{Expect};
 
 use crate::expected::Reply;
@@ -19,7 +19,7 @@ pub fn encode_reply(reply: &Reply, handle: u16, out: &mut Bits)
     ensures in_range { IsReply reply.now }
     ensures few_words { FitsBank reply.now }
     ensures least { 16 ≤ length out.new.items }
-    ensures most { length out.new.items ≤ 8225 }
+    ensures most { length out.new.items ≤ longest_reply }
     ensures answers { (expect : Expect) → Suits reply.now expect → Carries expect handle → AnswersExpected reply.now expect out.new.items }
 {
     write_reply(reply, handle, out);

@@ -1,6 +1,6 @@
 //! The law of replies.
 ghost use Rattle.std.specs.Prelude.{◌≡◌, ℕ, ◌≤◌, ◌⊎◌, ◌↔◌, List, Bool, true, length};
-ghost use Rattle.reply_grammar.specs.Table.{AnswersExpected, FitsBank, IsReply, Suits, spelling, suits};
+ghost use Rattle.reply_grammar.specs.Table.{AnswersExpected, FitsBank, IsReply, Suits, longest_reply, spelling, suits};
 ghost use Rattle.reply_grammar.specs.Refusals.{RefusesReply};
 ghost use Rattle.reply_grammar.specs.declared.expected.Expect.{Expect};
 ghost use Rattle.reply_grammar.specs.declared.expected.Reply.{Reply};
@@ -18,7 +18,7 @@ pub fn reply_laws()
 /// A reply has from 16 to 8,225 bits: those of an RN16, and those of a Read of 512 words.
 pub fn reply_length()
     ensures least { (reply : Reply) (handle : ℕ) → IsReply reply → FitsBank reply → 16 ≤ length (spelling reply handle) }
-    ensures most { (reply : Reply) (handle : ℕ) → IsReply reply → FitsBank reply → length (spelling reply handle) ≤ 8225 }
+    ensures most { (reply : Reply) (handle : ℕ) → IsReply reply → FitsBank reply → length (spelling reply handle) ≤ longest_reply }
 {}
 
 /// What decides whether a reply suits what is expected.

@@ -30,7 +30,7 @@ use Rattle.tag_machine.specs.TagValue.{StateValue, ReadyState, ArbitrateState, R
 use Rattle.tag_machine.specs.Answers.{Sent, Outcome, silent, plain_answer, extended_answer}
 use Rattle.tag_machine.specs.Draws.{draw_of, body_after_draw, slot_of_draw, begin_reply, enter, body_after_inversion, close, back}
 use Rattle.tag_machine.specs.Inventory.{take_part, body_after_close, query, unless_half, end_turn, slot_below, count_down, query_rep, q_after_adjust, query_adjust, epc_reply, ack, nak, selected_body, select}
-use Rattle.tag_machine.specs.Access.{held_state, in_access, outcome_where_heeded, unless_ended, first_level, new_held, req_rn_held, req_rn, is_password, unless_other_half, uncover, refuse, read_answer, read_outcome, memory_outcome, write_outcome, block_write_outcome, block_erase_outcome, has_user, locks_outcome, lock_outcome, whole_of, keep_half, whole_outcome, half_outcome, password_outcome}
+use Rattle.tag_machine.specs.Access.{held_state, in_access, outcome_where_heeded, unless_ended, first_level, new_held, req_rn_outcome, req_rn, is_password, unless_other_half, uncover, refuse, read_answer, read_outcome, memory_outcome, write_outcome, block_write_outcome, block_erase_outcome, has_user, locks_outcome, lock_outcome, whole_of, keep_half, whole_outcome, half_outcome, password_outcome}
 use Rattle.tag_machine.specs.Extended.{has_half, is_extended}
 use Rattle.tag_machine.specs.Step.{step}
 use Rattle.tag_machine.specs.declared.any_tag.Answered.{Answered}
@@ -129,7 +129,7 @@ locks_changed_is held body (Ok locks) = header_is body (SecuredState held) (reco
 locks_changed_is held body (Err code) = delayed_same_is (SecuredState held) body (Error (code_of code)) held.handle
 
 -- Req_RN
-give_cover_is : (level : Level) (rn : ℕ) (held : Held) (body : BodyValue) → AnswersAs false body (req_rn_held level rn held body)
+give_cover_is : (level : Level) (rn : ℕ) (held : Held) (body : BodyValue) → AnswersAs false body (req_rn_outcome level rn held body)
 give_cover_is level rn held body =
     either false body (held.handle == rn) (plain_answer (held_state level (record held { cover = Some (draw_of body) })) (body_after_draw body) (Handle (draw_of body)) 0) (silent (held_state level held) body)
     (number_is body (held_state level (record held { cover = Some (draw_of body) })) (body_after_draw body) (draw_of body) 0)

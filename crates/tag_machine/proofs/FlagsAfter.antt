@@ -28,7 +28,7 @@ use Rattle.tag_machine.specs.TagValue.{StateValue, ReadyState, ArbitrateState, R
 use Rattle.tag_machine.specs.Answers.{Outcome, silent, plain_answer, extended_answer}
 use Rattle.tag_machine.specs.Draws.{enter, begin_reply, slot_of_draw, body_after_draw, body_after_inversion, close, back}
 use Rattle.tag_machine.specs.Inventory.{take_part, body_after_close, query, unless_half, end_turn, slot_below, count_down, query_rep, q_after_adjust, query_adjust, epc_reply, ack, nak, selected_body, selected_ready, select}
-use Rattle.tag_machine.specs.Access.{held_state, in_access, outcome_where_heeded, unless_ended, give_handle, give_cover, req_rn_held, req_rn, is_password, unless_other_half, uncover, refuse, read_outcome, read, memory_outcome, write_outcome, write, block_write_outcome, block_write, block_erase_outcome, block_erase, has_user, locks_outcome, lock_outcome, lock, whole_of, whole_outcome, half_outcome, password_outcome}
+use Rattle.tag_machine.specs.Access.{held_state, in_access, outcome_where_heeded, unless_ended, give_handle, give_cover, req_rn_outcome, req_rn, is_password, unless_other_half, uncover, refuse, read_outcome, read, memory_outcome, write_outcome, write, block_write_outcome, block_write, block_erase_outcome, block_erase, has_user, locks_outcome, lock_outcome, lock, whole_of, whole_outcome, half_outcome, password_outcome}
 
 -- what is said of the flags after an outcome
 abbrev Holds : (Flags → Type 0) → Outcome → Type 0
@@ -186,7 +186,7 @@ locks_set : (P : Flags → Type 0) (held : Held) (body : BodyValue) (after : Res
 locks_set P held body (Ok locks) p = p
 locks_set P held body (Err code) p = p
 
-req_rn_at : (P : Flags → Type 0) (level : Level) (rn : ℕ) (held : Held) (body : BodyValue) → P body.flags → Holds P (req_rn_held level rn held body)
+req_rn_at : (P : Flags → Type 0) (level : Level) (rn : ℕ) (held : Held) (body : BodyValue) → P body.flags → Holds P (req_rn_outcome level rn held body)
 req_rn_at P level rn held body p = either P (held.handle == rn) (give_cover level held body) (silent (held_state level held) body) p p
 
 pub after_req_rn : (P : Flags → Type 0) (rn : ℕ) (state : StateValue) (body : BodyValue) → P body.flags → Holds P (req_rn rn state body)

@@ -38,7 +38,7 @@ use Rattle.tag_machine.specs.TagValue.{StateValue, ReadyState, ArbitrateState, R
 use Rattle.tag_machine.specs.Answers.{Outcome, silent, plain_answer, extended_answer}
 use Rattle.tag_machine.specs.Draws.{draw_of, place_behind, body_after_draw, slot_of_draw, begin_reply, enter, body_after_inversion, close, back}
 use Rattle.tag_machine.specs.Inventory.{take_part, body_after_close, query, unless_half, end_turn, slot_below, count_down, query_rep, q_after_adjust, query_adjust, epc_reply, ack, nak, selected_body, selected_ready, select}
-use Rattle.tag_machine.specs.Access.{held_state, in_access, outcome_where_heeded, unless_ended, first_level, new_held, give_handle, give_cover, req_rn_held, req_rn, is_password, unless_other_half, uncover, refuse, read_outcome, memory_outcome, write_outcome, block_write_outcome, block_erase_outcome, has_user, locks_outcome, lock_outcome, whole_of, keep_half, whole_outcome, half_outcome, password_outcome}
+use Rattle.tag_machine.specs.Access.{held_state, in_access, outcome_where_heeded, unless_ended, first_level, new_held, give_handle, give_cover, req_rn_outcome, req_rn, is_password, unless_other_half, uncover, refuse, read_outcome, memory_outcome, write_outcome, block_write_outcome, block_erase_outcome, has_user, locks_outcome, lock_outcome, whole_of, keep_half, whole_outcome, half_outcome, password_outcome}
 use Rattle.tag_machine.specs.Events.{after_timeout, tag_without_power, after_off, after_on, body_after_expiry, after_expiry, tag_after_event}
 use Rattle.tag_machine.specs.Step.{step}
 use Rattle.tag_memory.specs.Memory.{AreSound}
@@ -320,7 +320,7 @@ handle_given session q body of_session of_q of_body =
     held_tag (first_level body) (new_held session q (draw_of body)) (body_after_draw body)
     (record { session = of_session; q = of_q; handle = word_drawn body of_body; cover = tt; half = tt }) (behind_draw body of_body)
 
-req_rn_at : (level : Level) (rn : ℕ) (held : Held) (body : BodyValue) → IsLegalHeld held → IsLegalBody body → Leaves (req_rn_held level rn held body)
+req_rn_at : (level : Level) (rn : ℕ) (held : Held) (body : BodyValue) → IsLegalHeld held → IsLegalBody body → Leaves (req_rn_outcome level rn held body)
 req_rn_at level rn held body of_held of_body =
     either (held.handle == rn) (give_cover level held body) (silent (held_state level held) body)
     (held_tag level (record held { cover = Some (draw_of body) }) (body_after_draw body) (with_cover held (Some (draw_of body)) of_held (word_drawn body of_body)) (behind_draw body of_body))

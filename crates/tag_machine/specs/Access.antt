@@ -100,8 +100,8 @@ abbrev pub give_cover : Level → Held → BodyValue → Outcome
 give_cover level held body =
     plain_answer (held_state level (record held { cover = Some (draw_of body) })) (body_after_draw body) (Handle (draw_of body)) 0
 
-abbrev pub req_rn_held : Level → ℕ → Held → BodyValue → Outcome
-req_rn_held level rn held body = outcome_where_heeded rn AnyHalf level held body (give_cover level held body)
+abbrev pub req_rn_outcome : Level → ℕ → Held → BodyValue → Outcome
+req_rn_outcome level rn held body = outcome_where_heeded rn AnyHalf level held body (give_cover level held body)
 
 abbrev pub req_rn : ℕ → StateValue → BodyValue → Outcome
 req_rn rn ReadyState body = silent ReadyState body
@@ -109,8 +109,8 @@ req_rn rn (ArbitrateState session q slot) body = silent (ArbitrateState session 
 req_rn rn (ReplyState session q own) body = back session q body
 req_rn rn (AcknowledgedState session q own) body =
     (if own == rn then give_handle session q body else silent (AcknowledgedState session q own) body)
-req_rn rn (OpenState held) body = req_rn_held levels.Opened rn held body
-req_rn rn (SecuredState held) body = req_rn_held levels.Secured rn held body
+req_rn rn (OpenState held) body = req_rn_outcome levels.Opened rn held body
+req_rn rn (SecuredState held) body = req_rn_outcome levels.Secured rn held body
 req_rn rn KilledState body = silent KilledState body
 req_rn rn UnpoweredState body = silent UnpoweredState body
 

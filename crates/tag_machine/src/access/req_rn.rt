@@ -1,6 +1,6 @@
 //! Req_RN (6.3.2.11.3.1).
 ghost use Rattle.std.specs.Prelude.{◌≡◌, ◌+◌, ◌≤◌};
-ghost use Rattle.tag_machine.specs.Access.{give_handle, req_rn, req_rn_held};
+ghost use Rattle.tag_machine.specs.Access.{give_handle, req_rn, req_rn_outcome};
 ghost use Rattle.tag_machine.specs.Hearing.{GivesOutcome, tag_value_of};
 ghost use Rattle.reply_grammar.specs.Table.{reply_room};
 
@@ -46,7 +46,7 @@ impl TagWithHandle {
     /// Req_RN in open and secured, which may follow each first half: the tag draws a cover and answers it.
     fn req_rn(self, rn: u16, out: &mut Bits) -> Heard
         requires { reply_room ≤ out.old.capacity }
-        ensures { GivesOutcome (req_rn_held self.level rn self.held self.body) result out.old out.new }
+        ensures { GivesOutcome (req_rn_outcome self.level rn self.held self.body) result out.old out.new }
     {
         let TagWithHandle {
             level,

@@ -1,4 +1,4 @@
-use Rattle.std.proofs.Common.{◌≡◌, ◌∙◌, ◌+◌, ◌*◌, ap, arith, length}
+use Rattle.std.proofs.Common.{◌≡◌, ◌∙◌, ◌*◌, ap, arith, length}
 use Rattle.std.proofs.Math.Nat.{mul-add, mul-le-mul_left}
 use Rattle.line_code.proofs.Writing.{capacity_of, writes_more, marks_more, writes_dummy}
 use Rattle.line_code.proofs.encoder.encode.Goals as goal
@@ -9,7 +9,7 @@ loop-bit-preserved g c =
     let chips = g.C.LineCode.CHIPS in
     let n = c.loop-bit.bit-index in
     let now = c.loop-bit.invariant in
-    let step = c.CHIPS-at.ensures in
+    let step = c.CHIPS-chips.ensures in
     let few = mul-le-mul_left chips c.loop-bit-test.true in
     let all = mul-add chips (length c.as_slice-bit-items.result.now) 1 in
     let more = mul-add chips n 1 in

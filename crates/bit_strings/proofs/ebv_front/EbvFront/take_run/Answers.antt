@@ -32,3 +32,9 @@ returns-then-place-eq0-clause-begun c = subst IsCutEbv c.self.view_is c.self.inv
 
 pub returns-clause-begun : goal.returns-clause-begun
 returns-clause-begun c = c.front.invariant.1
+
+pub returns-clause-none : goal.returns-clause-none
+returns-clause-none c = λ begins. absurd (c.if-place-eq0.false (omega (arith, counted c.self.inside.bits c.self.inside.count c.args.self.now c.self.view_is, begins)))
+
+pub returns-clause-inside : goal.returns-clause-inside
+returns-clause-inside c = omega (arith, counted c.self.inside.bits c.self.inside.count c.args.self.now c.self.view_is, c.min-count.ensures, c.if-place-eq0.false)
