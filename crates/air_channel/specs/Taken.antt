@@ -1,5 +1,5 @@
 -- Profile: a tag's receiver, which is given the intervals of a frame one by one and reads a command from them bit by bit.
-use Rattle.std.specs.Prelude.{ℕ, Bool, List}
+use Rattle.std.specs.Prelude.{◌≡◌, ℕ, Bool, List, []}
 use Rattle.command_grammar.specs.Framing.{FramerValue, FramerStandsFor}
 use Rattle.pie_line.specs.Edges.{EdgesValue, EdgesStandFor}
 
@@ -12,3 +12,8 @@ pub record TakenBits (edges : EdgesValue) (framer : FramerValue) (intervals : Li
 -- the receiver was given these intervals
 unfoldable pub HasTaken : EdgesValue → FramerValue → List ℕ → Type 0
 HasTaken edges framer intervals = TakenBits edges framer intervals
+
+-- the receiver was given no interval
+pub record IsBegun (edges : EdgesValue) (framer : FramerValue) : Type 0 where
+  pub taken : HasTaken edges framer []
+  pub count : edges.count ≡ 0

@@ -12,6 +12,7 @@ ghost use Rattle.air_channel.specs.Lent.{KeepsAir};
 ghost use Rattle.air_channel.specs.Rooms.{longest_frame, longest_stream};
 
 use crate::population::Population;
+use crate::receiver::Receiver;
 use crate::replies::Replies;
 use crate::transmit::transmit;
 use bit_strings::{Bits, Levels, OutOfMemory};
@@ -49,6 +50,7 @@ pub struct Air {
     population: Population,
     bits: Bits,
     frame: Intervals,
+    receiver: Receiver,
     replies: Replies,
     stream: Levels,
     exchanges: u64,
@@ -57,12 +59,13 @@ pub struct Air {
 impl Model for Air {
     ghost use Rattle.air_channel.specs.Air.{AirValue};
     ghost use Rattle.air_channel.specs.Rooms.{HasRoom};
+    ghost use Rattle.air_channel.specs.Taken.{IsBegun};
 
     ghost Value = { AirValue };
 
     ghost view = { λ a. record { link = a.link; several = a.several; tags = a.population; frame = a.frame.items; stream = a.stream.items; replies = a.replies.count; exchanges = a.exchanges } };
 
-    ghost invariant = { λ a. HasRoom a.bits a.frame a.stream };
+    ghost invariant = { λ a. HasRoom a.bits a.frame a.stream × IsBegun a.receiver.edges a.receiver.framer };
 }
 
 impl Air {
@@ -86,6 +89,7 @@ impl Air {
             population,
             bits,
             frame,
+            receiver: Receiver::new(),
             replies,
             stream,
             exchanges: 0,
@@ -110,10 +114,16 @@ impl Air {
         ensures command { IsLegalCommand command.now }
     {
         self.population.befall_all(entry.events.as_slice(), steps);
-        let heard = transmit(&self.link, command, &mut self.bits, &mut self.frame);
+        transmit(
+            &self.link,
+            command,
+            &mut self.bits,
+            &mut self.frame,
+            &mut self.receiver,
+        );
         self.replies.begin(&entry.choice);
-        self.population
-            .hear(&heard, entry, &mut self.replies, steps);
+        let heard = self.receiver.command();
+        self.population.hear(heard, entry, &mut self.replies, steps);
         self.exchanges = next_exchange(self.exchanges);
         self.replies
             .give(&entry.choice, self.several, &self.link, &mut self.stream)

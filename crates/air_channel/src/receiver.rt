@@ -1,32 +1,34 @@
 //! What a tag makes of a frame: its intervals, one by one, to bits, and these to a command.
-ghost use Rattle.std.specs.Prelude.{◌≡◌, ◌+◌, ◌<◌, ◌≤◌, ◌++◌, ◌∷◌, ℕ, Bool, List, []};
+ghost use Rattle.std.specs.Prelude.{◌≡◌, ◌+◌, ◌<◌, ◌≤◌, ◌++◌, ◌∷◌, ℕ, Bool, List, [], IsOk, Ok};
 ghost use Rattle.bit_strings.specs.BitString.{most_counted};
 ghost use Rattle.command_grammar.specs.Commands.{SpellsCommand};
 ghost use Rattle.command_grammar.specs.declared.commands.Command.{Command};
 ghost use Rattle.pie_line.specs.Pie.{IsFrame, longest_interval};
 ghost use Rattle.pie_line.specs.declared.frame.FrameKind.{FrameKind};
-ghost use Rattle.air_channel.specs.Taken.{HasTaken};
+ghost use Rattle.air_channel.specs.Taken.{HasTaken, IsBegun};
 
-use command_grammar::{Command, Framer};
+use command_grammar::{Command, CommandRefusal, Framer};
 use pie_line::{Edge, Edges, one_answer};
+use std::mem;
 
-/// A tag's receiver. It keeps neither intervals nor bits.
+/// A tag's receiver. It keeps neither intervals nor bits, but the command that it read last.
 #[derive(Drop)]
 pub(crate) struct Receiver {
     edges: Edges,
     framer: Framer,
+    heard: Result<Command, CommandRefusal>,
 }
 
 impl Receiver {
     /// A receiver that was given no interval.
     #[tactic(auto, unfolding(crate::specs::Taken::HasTaken))]
     pub(crate) fn new() -> Receiver
-        ensures taken { HasTaken result.edges result.framer [] }
-        ensures count { result.edges.count ≡ 0 }
+        ensures { IsBegun result.edges result.framer }
     {
         Receiver {
             edges: Edges::new(),
             framer: Framer::new(),
+            heard: Err(CommandRefusal::Short(0)),
         }
     }
 
@@ -63,20 +65,29 @@ impl Receiver {
         self.take(low);
     }
 
-    /// The command of the frame that the receiver was given.
+    /// Reads the command of the frame that the receiver was given. It is as one that was given no interval afterwards.
     #[tactic(auto, unfolding(crate::specs::Taken::HasTaken))]
-    pub(crate) fn command(self) -> Command
-        requires { (intervals : List ℕ) × (kind : FrameKind) × (bits : List Bool) × (command : Command) × HasTaken self.edges self.framer intervals
+    pub(crate) fn read(&mut self)
+        requires { (intervals : List ℕ) × (kind : FrameKind) × (bits : List Bool) × (command : Command) × HasTaken self.old.edges self.old.framer intervals
             × IsFrame kind bits intervals × SpellsCommand command bits }
-        ensures { (intervals : List ℕ) (kind : FrameKind) (bits : List Bool) (command : Command) → HasTaken self.edges self.framer intervals
-            → IsFrame kind bits intervals → SpellsCommand command bits → result ≡ command }
+        ensures heard { (intervals : List ℕ) (kind : FrameKind) (bits : List Bool) (command : Command) → HasTaken self.old.edges self.old.framer intervals
+            → IsFrame kind bits intervals → SpellsCommand command bits → self.new.heard ≡ Ok command }
+        ensures begun { IsBegun self.new.edges self.new.framer }
     {
-        let Receiver { edges, framer } = self;
         one_answer();
+        let edges = mem::replace(&mut self.edges, Edges::new());
         let Ok(_) = edges.finish() else {
             unreachable!()
         };
-        match framer.finish() {
+        self.framer.finish_to(&mut self.heard);
+    }
+
+    /// The command that was read last.
+    pub(crate) fn command(&self) -> &Command
+        requires { IsOk self.now.heard }
+        ensures { self.now.heard ≡ Ok result.now }
+    {
+        match &self.heard {
             Ok(command) => command,
             Err(_) => unreachable!(),
         }

@@ -3,6 +3,7 @@ ghost use Rattle.std.specs.Prelude.{◌≡◌, ℕ, ◌+◌, ◌%◌, ◌<◌, �
 ghost use Rattle.line_code.specs.Laws.{with_level_flipped};
 ghost use Rattle.tag_machine.specs.Answers.{Sent};
 ghost use Rattle.tag_machine.specs.Hearing.{mark_of};
+ghost use Rattle.tag_machine.specs.Step.{step};
 ghost use Rattle.tag_machine.specs.TagValue.{IsLegalTag};
 ghost use Rattle.air_channel.specs.Exchange.{Replied, outcome_unless, reply_of};
 ghost use Rattle.air_channel.specs.Channel.{default_given, first_broken, given_of, got_of, heard_levels, whole_or_silence};
@@ -94,6 +95,7 @@ impl Replies {
     }
 
     /// Lets a tag hear a command, unless it misses it, and takes in its reply.
+    #[inline]
     pub(crate) fn hear<L: Ledger>(
         &mut self,
         seat: &mut Seat,
@@ -109,53 +111,59 @@ impl Replies {
         ensures legal { IsLegalTag seat.new }
         ensures counted { steps.new ≡ steps.old + (if misses then 0 else 1) }
     {
+        // Most tags only wait.
+        if seat.hear_in_place(command, misses, steps) {
+            return;
+        }
+        self.hear_moved(seat, command, steps);
+    }
+
+    /// Lets a tag hear a command by which its state may change its kind, and takes in its reply.
+    #[inline(never)]
+    fn hear_moved<L: Ledger>(&mut self, seat: &mut Seat, command: &Command, steps: &mut Steps<L>)
+        requires { self.old.count < 4294967295 }
+        ensures stands { (replies : List Replied) (number : ℕ) → RepliesStandFor replies self.old
+            → RepliesStandFor (replies ++ reply_of number (step command.now seat.old.state seat.old.body).answer) self.new }
+        ensures wanted { self.new.wanted ≡ self.old.wanted }
+        ensures tag { seat.new ≡ (step command.now seat.old.state seat.old.body).tag }
+        ensures legal { IsLegalTag seat.new }
+        ensures counted { steps.new ≡ steps.old + 1 }
+    {
         if self.count == self.wanted {
-            self.hear_wanted(seat, misses, command, steps);
+            self.hear_wanted(seat, command, steps);
         } else {
-            self.hear_other(seat, misses, command, steps);
+            self.hear_other(seat, command, steps);
         }
     }
 
     /// Lets a tag hear a command whose reply is kept.
-    fn hear_wanted<L: Ledger>(
-        &mut self,
-        seat: &mut Seat,
-        misses: bool,
-        command: &Command,
-        steps: &mut Steps<L>,
-    )
+    fn hear_wanted<L: Ledger>(&mut self, seat: &mut Seat, command: &Command, steps: &mut Steps<L>)
         requires few { self.old.count < 4294967295 }
         requires wanted { self.old.count ≡ self.old.wanted }
         ensures stands { (replies : List Replied) (number : ℕ) → RepliesStandFor replies self.old
-            → RepliesStandFor (replies ++ reply_of number (outcome_unless misses command.now seat.old).answer) self.new }
+            → RepliesStandFor (replies ++ reply_of number (step command.now seat.old.state seat.old.body).answer) self.new }
         ensures wanted { self.new.wanted ≡ self.old.wanted }
-        ensures tag { seat.new ≡ (outcome_unless misses command.now seat.old).tag }
+        ensures tag { seat.new ≡ (step command.now seat.old.state seat.old.body).tag }
         ensures legal { IsLegalTag seat.new }
-        ensures counted { steps.new ≡ steps.old + (if misses then 0 else 1) }
+        ensures counted { steps.new ≡ steps.old + 1 }
     {
-        let answered = seat.hear(command, misses, &mut self.kept, steps);
+        let answered = seat.hear(command, &mut self.kept, steps);
         self.extended = is_extended(answered);
         self.count += replies_in(answered);
     }
 
     /// Lets a tag hear a command whose reply is not kept.
-    fn hear_other<L: Ledger>(
-        &mut self,
-        seat: &mut Seat,
-        misses: bool,
-        command: &Command,
-        steps: &mut Steps<L>,
-    )
+    fn hear_other<L: Ledger>(&mut self, seat: &mut Seat, command: &Command, steps: &mut Steps<L>)
         requires few { self.old.count < 4294967295 }
         requires other { self.old.count ≡ self.old.wanted → ⊥ }
         ensures stands { (replies : List Replied) (number : ℕ) → RepliesStandFor replies self.old
-            → RepliesStandFor (replies ++ reply_of number (outcome_unless misses command.now seat.old).answer) self.new }
+            → RepliesStandFor (replies ++ reply_of number (step command.now seat.old.state seat.old.body).answer) self.new }
         ensures wanted { self.new.wanted ≡ self.old.wanted }
-        ensures tag { seat.new ≡ (outcome_unless misses command.now seat.old).tag }
+        ensures tag { seat.new ≡ (step command.now seat.old.state seat.old.body).tag }
         ensures legal { IsLegalTag seat.new }
-        ensures counted { steps.new ≡ steps.old + (if misses then 0 else 1) }
+        ensures counted { steps.new ≡ steps.old + 1 }
     {
-        let answered = seat.hear(command, misses, &mut self.passing, steps);
+        let answered = seat.hear(command, &mut self.passing, steps);
         self.count += replies_in(answered);
     }
 

@@ -97,51 +97,47 @@ impl Seat {
         self.tag = Some(tag.event(event));
     }
 
-    /// Lets the tag hear a command, unless it misses it. The bits of its answer stand in `out` afterwards, and
-    /// none where it sends nothing.
-    pub(crate) fn hear<L: Ledger>(
+    /// Lets the tag hear a command where it misses it or only waits, and answers whether it did. It sends nothing then.
+    #[inline]
+    pub(crate) fn hear_in_place<L: Ledger>(
         &mut self,
         command: &Command,
         misses: bool,
+        steps: &mut Steps<L>,
+    ) -> bool
+        ensures heard { result ≡ true → outcome_unless misses command.now self.old ≡ silent self.new.state self.new.body }
+        ensures left { result ≡ false → self.new ≡ self.old }
+        ensures hears { result ≡ false → misses ≡ false }
+        ensures counted { steps.new ≡ steps.old + (if result then (if misses then 0 else 1) else 0) }
+        ensures legal { IsLegalTag self.new }
+    {
+        match &mut self.tag {
+            Some(tag) => misses || tag.hear_in_place(command, steps),
+            None => unreachable!(),
+        }
+    }
+
+    /// Lets the tag hear a command. The bits of its answer stand in `out` afterwards, and none where it sends nothing.
+    pub(crate) fn hear<L: Ledger>(
+        &mut self,
+        command: &Command,
         out: &mut Bits,
         steps: &mut Steps<L>,
     ) -> Answered
         requires room { reply_room ≤ out.old.capacity }
-        ensures tag { self.new ≡ (outcome_unless misses command.now self.old).tag }
-        ensures answered { result ≡ mark_of (outcome_unless misses command.now self.old).answer }
-        ensures bits { out.new ≡ record out.old { items = bits_sent (outcome_unless misses command.now self.old).answer } }
-        ensures in_range { IsSent (outcome_unless misses command.now self.old).answer }
+        ensures tag { self.new ≡ (step command.now self.old.state self.old.body).tag }
+        ensures answered { result ≡ mark_of (step command.now self.old.state self.old.body).answer }
+        ensures bits { out.new ≡ record out.old { items = bits_sent (step command.now self.old.state self.old.body).answer } }
+        ensures in_range { IsSent (step command.now self.old.state self.old.body).answer }
         ensures legal { IsLegalTag self.new }
-        ensures counted { steps.new ≡ steps.old + (if misses then 0 else 1) }
+        ensures counted { steps.new ≡ steps.old + 1 }
     {
-        if misses {
-            out.clear();
-            let _tag = &self.tag;
-            return Answered::Silent;
-        }
-        if self.hear_in_place(command, steps) {
-            out.clear();
-            return Answered::Silent;
-        }
         let Some(tag) = self.tag.take() else {
             unreachable!()
         };
         let heard = tag.hear(command, out, steps);
         self.tag = Some(heard.tag);
         heard.answered
-    }
-
-    /// Lets the tag hear a command where it only waits, and answers whether it did.
-    fn hear_in_place<L: Ledger>(&mut self, command: &Command, steps: &mut Steps<L>) -> bool
-        ensures heard { result ≡ true → step command.now self.old.state self.old.body ≡ silent self.new.state self.new.body }
-        ensures left { result ≡ false → self.new ≡ self.old }
-        ensures counted { steps.new ≡ steps.old + (if result then 1 else 0) }
-        ensures legal { IsLegalTag self.new }
-    {
-        match &mut self.tag {
-            Some(tag) => tag.hear_in_place(command, steps),
-            None => unreachable!(),
-        }
     }
 }
 

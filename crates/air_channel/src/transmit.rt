@@ -1,11 +1,11 @@
 //! A command on its way from the interrogator to the tags.
-ghost use Rattle.std.specs.Prelude.{◌≡◌, ◌+◌, ◌<◌, ◌≤◌, ◌++◌, ◌∷◌, ℕ, List, [], All, length};
+ghost use Rattle.std.specs.Prelude.{◌≡◌, ◌+◌, ◌<◌, ◌≤◌, ◌++◌, ◌∷◌, ℕ, List, [], All, Ok, length};
 ghost use Rattle.bit_strings.specs.BitString.{most_counted};
 ghost use Rattle.command_grammar.specs.Commands.{IsLegalCommand};
 ghost use Rattle.pie_line.specs.Pie.{longest_interval};
 ghost use Rattle.air_channel.specs.Channel.{lead_of, wave_for};
 ghost use Rattle.air_channel.specs.Rooms.{longest_frame, room_for_frames};
-ghost use Rattle.air_channel.specs.Taken.{HasTaken};
+ghost use Rattle.air_channel.specs.Taken.{HasTaken, IsBegun};
 
 use crate::receiver::Receiver;
 use bit_strings::Bits;
@@ -14,17 +14,20 @@ use pie_line::{
     Intervals, LONGEST_HEADER, Lead, Link, header_interval, symbol_intervals, written_frame,
 };
 
-/// Sends a command as a frame, and gives what the tags read from that frame, which is the command again. `bits` is
-/// a buffer with room for 8,400 bits, and `frame` has the frame afterwards.
+/// Sends a command as a frame, from which the tags' receiver reads the command again. `bits` is a buffer with room
+/// for 8,400 bits, and `frame` has the frame afterwards.
 pub(crate) fn transmit(
     link: &Link,
     command: &Command,
     bits: &mut Bits,
     frame: &mut Intervals,
-) -> Command
+    receiver: &mut Receiver,
+)
     requires bits_room { room_for_frames ≤ bits.old.capacity }
     requires frame_room { room_for_frames ≤ frame.old.capacity }
-    ensures heard { result ≡ command.now }
+    requires begun { IsBegun receiver.old.edges receiver.old.framer }
+    ensures heard { receiver.new.heard ≡ Ok command.now }
+    ensures begun { IsBegun receiver.new.edges receiver.new.framer }
     ensures legal { IsLegalCommand command.now }
     ensures wave { frame.new.items ≡ wave_for link.now command.now }
     ensures each { All (λ interval. interval ≤ longest_interval) frame.new.items }
@@ -35,18 +38,17 @@ pub(crate) fn transmit(
     encode_command(command, bits);
     written_frame();
     let lead = lead_of(command);
-    let mut receiver = Receiver::new();
     frame.clear();
     for place in 0..LONGEST_HEADER {
         if let Some(interval) = header_interval(link, lead, place) {
-            send(interval, frame, &mut receiver);
+            send(interval, frame, receiver);
         }
     }
     for &bit in bits.as_slice() {
         let (high, low) = symbol_intervals(link, bit);
-        send_symbol(high, low, frame, &mut receiver);
+        send_symbol(high, low, frame, receiver);
     }
-    receiver.command()
+    receiver.read();
 }
 
 /// Sends one more interval of a frame, in nanoseconds. The receiver takes it as it is made.

@@ -1,11 +1,13 @@
 //! Replies to bits.
-ghost use Rattle.std.specs.Prelude.{◌≡◌, ◌+◌, ◌*◌, ◌^◌, ◌<◌, ◌≤◌, [], ◌∷◌, ◌++◌, length};
+ghost use Rattle.std.specs.Prelude.{◌≡◌, ◌+◌, ◌*◌, ◌/◌, ◌^◌, ◌<◌, ◌≤◌, [], ◌∷◌, ◌++◌, length};
 ghost use Rattle.bit_strings.specs.Numbers.{field_of};
 ghost use Rattle.bit_strings.specs.Words.{bits_of_words};
 ghost use Rattle.reply_grammar.specs.Table.{AnswersExpected, CanBeSent, Carries, FitsBank, IsReply, Suits, longest_reply, spelling, with_check, reply_room};
 ghost use Rattle.reply_grammar.specs.declared.expected.Expect.{Expect};
+ghost use Rattle.reply_grammar.specs.declared.expected.Reply.TheVariants.{Rn16, Epc};
 
 use crate::expected::Reply;
+use crate::reply_words::EpcWords;
 use bit_strings::Bits;
 use gen2_crc::crc16;
 
@@ -25,6 +27,30 @@ pub fn encode_reply(reply: &Reply, handle: u16, out: &mut Bits)
     write_reply(reply, handle, out);
 }
 
+/// Writes the bits of the reply that is an RN16. A `Reply` has room for the longest list of words, so it isn't made
+/// for so short a reply.
+pub fn encode_rn16(rn: u16, out: &mut Bits)
+    requires { reply_room ≤ out.old.capacity }
+    ensures { out.new ≡ record out.old { items = spelling (Rn16 rn) 0 } }
+{
+    out.clear();
+    out.put_u16_reserved(rn);
+}
+
+/// Writes the bits of the reply that is a PC and its EPC, for which no `Reply` is made either. The PC must count the
+/// words of the EPC in its first five bits.
+pub fn encode_epc(pc: u16, epc: &EpcWords, out: &mut Bits)
+    requires room { reply_room ≤ out.old.capacity }
+    requires counted { length epc.now ≡ pc / 2 ^ 11 }
+    ensures bits { out.new ≡ record out.old { items = spelling (Epc pc epc.now) 0 } }
+    ensures in_range { IsReply (Epc pc epc.now) }
+{
+    out.clear();
+    out.put_u16_reserved(pc);
+    put_words(out, epc.as_slice());
+    put_check(out);
+}
+
 /// Writes the bits of a reply.
 fn write_reply(reply: &Reply, handle: u16, out: &mut Bits)
     requires room { reply_room ≤ out.old.capacity }
@@ -35,12 +61,8 @@ fn write_reply(reply: &Reply, handle: u16, out: &mut Bits)
 {
     out.clear();
     match reply {
-        Reply::Rn16(rn) => out.put_u16_reserved(*rn),
-        Reply::Epc { pc, epc } => {
-            out.put_u16_reserved(*pc);
-            put_words(out, epc.as_slice());
-            put_check(out);
-        }
+        Reply::Rn16(rn) => encode_rn16(*rn, out),
+        Reply::Epc { pc, epc } => encode_epc(*pc, epc, out),
         Reply::Handle(rn) => {
             out.put_u16_reserved(*rn);
             put_check(out);

@@ -8,7 +8,7 @@ mod laws;
 mod reply_words;
 
 pub use decode::decode_reply;
-pub use encode::encode_reply;
+pub use encode::{encode_epc, encode_reply, encode_rn16};
 pub use expected::{Expect, Received, Reply, ReplyRefusal};
 pub use laws::{reply_laws, reply_length, suiting_law};
 pub use reply_words::{EpcWords, ReadWords};

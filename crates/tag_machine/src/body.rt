@@ -1,11 +1,10 @@
 //! What a tag holds in every state.
 ghost use Rattle.std.specs.Prelude.{◌≡◌, ◌+◌, ◌^◌, ◌==◌, ◌<◌, if◌then◌else◌};
-ghost use Rattle.reply_grammar.specs.Table.{CanBeSent};
 ghost use Rattle.session_flags.specs.Flags.{new_flags, matches, flags_after_power_loss};
 ghost use Rattle.tag_memory.specs.Memory.{with_stored_crc};
 ghost use Rattle.tag_machine.specs.TagValue.{IsLegalBody};
 ghost use Rattle.tag_machine.specs.Draws.{draw_of, place_behind, slot_of_draw, body_after_draw, body_after_inversion};
-ghost use Rattle.tag_machine.specs.Inventory.{epc_reply, selected_body};
+ghost use Rattle.tag_machine.specs.Inventory.{selected_body};
 ghost use Rattle.tag_machine.specs.Events.{body_after_expiry};
 
 mod access;
@@ -13,7 +12,6 @@ mod access;
 use bit_strings::{Action, Pointer, QValue, Session};
 use command_grammar::{FlagName, Mask, MaskBank, Sel, Side};
 use lock_rules::Locks;
-use reply_grammar::Reply;
 use session_flags::{DrawWords, Flags, mask_matches};
 use std::marker::Model;
 use tag_memory::Memory;
@@ -138,16 +136,5 @@ impl Body {
         ensures { self.new ≡ body_after_expiry flag powered takes_part self.old }
     {
         self.flags.expire(flag, powered, takes_part);
-    }
-
-    /// The answer to an ACK.
-    pub fn epc_reply(&self) -> Reply
-        ensures value { result ≡ epc_reply self.now }
-        ensures sendable { CanBeSent result }
-    {
-        Reply::Epc {
-            pc: self.memory.pc(),
-            epc: self.memory.epc(),
-        }
     }
 }

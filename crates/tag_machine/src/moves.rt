@@ -11,7 +11,7 @@ use crate::body::Body;
 use crate::states::{Arbitrate, InReply, Ready, Slot};
 use crate::tag::Tag;
 use bit_strings::{Bits, QValue, Session};
-use reply_grammar::{Reply, encode_reply};
+use reply_grammar::{Reply, encode_reply, encode_rn16};
 
 /// No answer.
 pub fn unanswered(tag: AnyTag, out: &mut Bits) -> Heard
@@ -94,7 +94,11 @@ impl Body {
             state: InReply { session, q, rn },
             body,
         };
-        answer(AnyTag::InReply(tag), &Reply::Rn16(rn), 0, out)
+        encode_rn16(rn, out);
+        Heard {
+            tag: AnyTag::InReply(tag),
+            answered: Answered::Plain,
+        }
     }
 
     /// ENTER: draws a slot, the last Q bits of a word, and replies at once where it is 0.

@@ -1,17 +1,32 @@
 //! ACK (6.3.2.11.2.4).
 ghost use Rattle.std.specs.Prelude.{◌≡◌, ◌+◌, ◌≤◌};
-ghost use Rattle.tag_machine.specs.Inventory.{ack};
+ghost use Rattle.tag_machine.specs.Answers.{plain_answer};
+ghost use Rattle.tag_machine.specs.Inventory.{ack, epc_reply};
 ghost use Rattle.tag_machine.specs.Hearing.{GivesOutcome, tag_value_of};
 ghost use Rattle.reply_grammar.specs.Table.{reply_room};
 
 use crate::abilities::{InTurn, Present};
-use crate::any_tag::{AnyTag, Heard};
-use crate::moves::{answer, unanswered};
+use crate::any_tag::{Answered, AnyTag, Heard};
+use crate::moves::unanswered;
 use crate::states::Acknowledged;
 use crate::steps::Steps;
 use crate::tag::Tag;
 use bit_strings::Bits;
+use reply_grammar::encode_epc;
 use std::sync::ledger::Ledger;
+
+/// The answer to an ACK: PC and the EPC.
+fn answer_epc(tag: AnyTag, out: &mut Bits) -> Heard
+    requires room { reply_room ≤ out.old.capacity }
+    ensures { GivesOutcome (plain_answer (tag_value_of tag).state (tag_value_of tag).body (epc_reply (tag_value_of tag).body) 0) result out.old out.new }
+{
+    let memory = tag.memory();
+    encode_epc(memory.pc(), &memory.epc(), out);
+    Heard {
+        tag,
+        answered: Answered::Plain,
+    }
+}
 
 impl AnyTag {
     /// ACK, in each state.
@@ -24,36 +39,32 @@ impl AnyTag {
                 if state.rn != rn {
                     return body.go_back(state.session, state.q, out);
                 }
-                let reply = body.epc_reply();
                 let state = Acknowledged {
                     session: state.session,
                     q: state.q,
                     rn,
                 };
-                answer(state.tag(body), &reply, 0, out)
+                answer_epc(state.tag(body), out)
             }
             AnyTag::Acknowledged(Tag { state, body }) => {
                 if state.rn != rn {
                     return body.go_back(state.session, state.q, out);
                 }
-                let reply = body.epc_reply();
-                answer(state.tag(body), &reply, 0, out)
+                answer_epc(state.tag(body), out)
             }
             AnyTag::Opened(Tag { state, body }) => {
                 let held = state.held;
                 if held.half.is_some() || held.handle != rn {
                     return body.go_back(held.session, held.q, out);
                 }
-                let reply = body.epc_reply();
-                answer(state.tag(body), &reply, 0, out)
+                answer_epc(state.tag(body), out)
             }
             AnyTag::Secured(Tag { state, body }) => {
                 let held = state.held;
                 if held.half.is_some() || held.handle != rn {
                     return body.go_back(held.session, held.q, out);
                 }
-                let reply = body.epc_reply();
-                answer(state.tag(body), &reply, 0, out)
+                answer_epc(state.tag(body), out)
             }
             AnyTag::Ready(tag) => unanswered(AnyTag::Ready(tag), out),
             AnyTag::Arbitrate(tag) => unanswered(AnyTag::Arbitrate(tag), out),

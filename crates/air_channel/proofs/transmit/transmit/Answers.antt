@@ -27,4 +27,4 @@ returns-clause-heard c =
     let frame : IsFrame (kind_of link lead) (spelling_of c.args.command.now) c.loop-bit.frame.items =
     subst (λ frame. IsFrame (kind_of link lead) (spelling_of c.args.command.now) frame) (sym (returns-clause-wave c))
     (c.written_frame.ensures.frame link lead (spelling_of c.args.command.now) legal) in
-    c.command.ensures c.loop-bit.frame.items (kind_of link lead) (spelling_of c.args.command.now) c.args.command.now c.loop-bit.invariant.3 frame (record { legal = c.encode_command.ensures.legal; spelled = refl })
+    c.read.ensures.heard c.loop-bit.frame.items (kind_of link lead) (spelling_of c.args.command.now) c.args.command.now c.loop-bit.invariant.3 frame (record { legal = c.encode_command.ensures.legal; spelled = refl })

@@ -18,34 +18,23 @@ spelled_as capacity handle reply found is = ap (λ (r : Reply). record { items =
 words_lent : (capacity : ℕ) (front : List Bool) (lent words : List ℕ) → lent ≡ words → ◌≡◌ {A = BitString} (record { items = front ++ bits_of_words lent; capacity = capacity }) (record { items = front ++ bits_of_words words; capacity = capacity })
 words_lent capacity front lent words same = ap (λ (ws : List ℕ). record { items = front ++ bits_of_words ws; capacity = capacity }) same
 
-pub put_words-requires : goal.put_words-requires
-put_words-requires c =
-    room_left c.put_u16_reserved-in-Epc.new.self _ _ _ (wrote c.clear.new.self c.put_u16_reserved-in-Epc.new.self [] _ _ c.clear.ensures c.put_u16_reserved-in-Epc.ensures)
-    (omega (arith, length-field_of c.in-Epc.pc 16, ap length c.as_slice.ensures.value, c.as_slice.ensures.most, c.requires.room))
-
 pub put_check-requires : goal.put_check-requires
 put_check-requires c =
-    let first = wrote c.clear.new.self c.put_u16_reserved-in-Epc.new.self [] _ _ c.clear.ensures c.put_u16_reserved-in-Epc.ensures in
-    room_left c.put_words.new.out _ _ 16 (wrote c.put_u16_reserved-in-Epc.new.self c.put_words.new.out _ _ _ first c.put_words.ensures)
-    (omega (arith, length-append (field_of c.in-Epc.pc 16) (bits_of_words c.as_slice.result.now), length-field_of c.in-Epc.pc 16, length-bits_of_words c.as_slice.result.now, ap length c.as_slice.ensures.value, c.as_slice.ensures.most, c.requires.room))
-
-pub put_check-requires-in-Handle : goal.put_check-requires-in-Handle
-put_check-requires-in-Handle c =
-    room_left c.put_u16_reserved-in-Handle.new.self _ _ 16 (wrote c.clear.new.self c.put_u16_reserved-in-Handle.new.self [] _ _ c.clear.ensures c.put_u16_reserved-in-Handle.ensures)
+    room_left c.put_u16_reserved.new.self _ _ 16 (wrote c.clear.new.self c.put_u16_reserved.new.self [] _ _ c.clear.ensures c.put_u16_reserved.ensures)
     (omega (arith, length-field_of c.in-Handle.rn 16, c.requires.room))
 
 pub put_u16_reserved-requires-in-Words : goal.put_u16_reserved-requires-in-Words
 put_u16_reserved-requires-in-Words c =
     let first = wrote c.clear.new.self c.push_reserved.new.self [] _ _ c.clear.ensures c.push_reserved.ensures in
-    room_left c.put_words-in-Words.new.out _ _ 16 (wrote c.push_reserved.new.self c.put_words-in-Words.new.out _ _ _ first c.put_words-in-Words.ensures)
-    (omega (arith, length-bits_of_words c.as_slice-in-Words.result.now, ap length c.as_slice-in-Words.ensures.value, c.as_slice-in-Words.ensures.most, c.requires.room))
+    room_left c.put_words.new.out _ _ 16 (wrote c.push_reserved.new.self c.put_words.new.out _ _ _ first c.put_words.ensures)
+    (omega (arith, length-bits_of_words c.as_slice.result.now, ap length c.as_slice.ensures.value, c.as_slice.ensures.most, c.requires.room))
 
 pub put_check-requires-in-Words : goal.put_check-requires-in-Words
 put_check-requires-in-Words c =
     let first = wrote c.clear.new.self c.push_reserved.new.self [] _ _ c.clear.ensures c.push_reserved.ensures in
-    let second = wrote c.push_reserved.new.self c.put_words-in-Words.new.out _ _ _ first c.put_words-in-Words.ensures in
-    room_left c.put_u16_reserved-in-Words.new.self _ _ 16 (wrote c.put_words-in-Words.new.out c.put_u16_reserved-in-Words.new.self _ _ _ second c.put_u16_reserved-in-Words.ensures)
-    (omega (arith, length-append (bits_of_words c.as_slice-in-Words.result.now) (field_of c.args.handle 16), length-field_of c.args.handle 16, length-bits_of_words c.as_slice-in-Words.result.now, ap length c.as_slice-in-Words.ensures.value, c.as_slice-in-Words.ensures.most, c.requires.room))
+    let second = wrote c.push_reserved.new.self c.put_words.new.out _ _ _ first c.put_words.ensures in
+    room_left c.put_u16_reserved-in-Words.new.self _ _ 16 (wrote c.put_words.new.out c.put_u16_reserved-in-Words.new.self _ _ _ second c.put_u16_reserved-in-Words.ensures)
+    (omega (arith, length-append (bits_of_words c.as_slice.result.now) (field_of c.args.handle 16), length-field_of c.args.handle 16, length-bits_of_words c.as_slice.result.now, ap length c.as_slice.ensures.value, c.as_slice.ensures.most, c.requires.room))
 
 pub put_check-requires-in-Header : goal.put_check-requires-in-Header
 put_check-requires-in-Header c =
@@ -69,31 +58,31 @@ put_check-requires-in-Error c =
 pub returns-in-Rn16-clause-bits : goal.returns-in-Rn16-clause-bits
 unfolding spelling
 returns-in-Rn16-clause-bits c =
-    wrote c.clear.new.self c.put_u16_reserved.new.self [] _ _ c.clear.ensures c.put_u16_reserved.ensures
+    c.encode_rn16.ensures
+    ∙ ap (λ (b : BitString). record { items = spelling (Rn16 c.in-Rn16.rn) c.args.handle; capacity = b.capacity }) c.clear.ensures
     ∙ spelled_as c.args.out.now.capacity c.args.handle c.args.reply.now (Rn16 c.in-Rn16.rn) c.in-Rn16.is
 
 pub returns-in-Epc-clause-bits : goal.returns-in-Epc-clause-bits
 unfolding spelling
 returns-in-Epc-clause-bits c =
-    let first = wrote c.clear.new.self c.put_u16_reserved-in-Epc.new.self [] _ _ c.clear.ensures c.put_u16_reserved-in-Epc.ensures in
-    let second = wrote c.put_u16_reserved-in-Epc.new.self c.put_words.new.out _ _ _ first c.put_words.ensures ∙ words_lent c.args.out.now.capacity (field_of c.in-Epc.pc 16) c.as_slice.result.now _ c.as_slice.ensures.value in
-    checked c.put_words.new.out c.put_check.new.out _ _ second c.put_check.ensures
+    c.encode_epc.ensures.bits
+    ∙ ap (λ (b : BitString). record { items = spelling (Epc c.in-Epc.pc c.in-Epc.epc) c.args.handle; capacity = b.capacity }) c.clear.ensures
     ∙ spelled_as c.args.out.now.capacity c.args.handle c.args.reply.now (Epc c.in-Epc.pc c.in-Epc.epc) c.in-Epc.is
 
 pub returns-in-Handle-clause-bits : goal.returns-in-Handle-clause-bits
 unfolding spelling
 returns-in-Handle-clause-bits c =
-    let first = wrote c.clear.new.self c.put_u16_reserved-in-Handle.new.self [] _ _ c.clear.ensures c.put_u16_reserved-in-Handle.ensures in
-    checked c.put_u16_reserved-in-Handle.new.self c.put_check-in-Handle.new.out _ _ first c.put_check-in-Handle.ensures
+    let first = wrote c.clear.new.self c.put_u16_reserved.new.self [] _ _ c.clear.ensures c.put_u16_reserved.ensures in
+    checked c.put_u16_reserved.new.self c.put_check.new.out _ _ first c.put_check.ensures
     ∙ spelled_as c.args.out.now.capacity c.args.handle c.args.reply.now (Handle c.in-Handle.rn) c.in-Handle.is
 
 pub returns-in-Words-clause-bits : goal.returns-in-Words-clause-bits
 unfolding spelling
 returns-in-Words-clause-bits c =
     let first = wrote c.clear.new.self c.push_reserved.new.self [] _ _ c.clear.ensures c.push_reserved.ensures in
-    let second = wrote c.push_reserved.new.self c.put_words-in-Words.new.out _ _ _ first c.put_words-in-Words.ensures
-    ∙ words_lent c.args.out.now.capacity (false ∷ []) c.as_slice-in-Words.result.now _ c.as_slice-in-Words.ensures.value in
-    let third = wrote c.put_words-in-Words.new.out c.put_u16_reserved-in-Words.new.self _ _ _ second c.put_u16_reserved-in-Words.ensures in
+    let second = wrote c.push_reserved.new.self c.put_words.new.out _ _ _ first c.put_words.ensures
+    ∙ words_lent c.args.out.now.capacity (false ∷ []) c.as_slice.result.now _ c.as_slice.ensures.value in
+    let third = wrote c.put_words.new.out c.put_u16_reserved-in-Words.new.self _ _ _ second c.put_u16_reserved-in-Words.ensures in
     checked c.put_u16_reserved-in-Words.new.self c.put_check-in-Words.new.out _ _ third c.put_check-in-Words.ensures
     ∙ spelled_as c.args.out.now.capacity c.args.handle c.args.reply.now (Words c.in-Words.words) c.in-Words.is
 
