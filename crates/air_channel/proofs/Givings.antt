@@ -8,7 +8,7 @@ use Rattle.line_code.specs.Laws.{with_level_flipped}
 use Rattle.pie_line.specs.Link.{LinkValue}
 use Rattle.reply_grammar.specs.declared.expected.Reply.{Reply}
 use Rattle.reply_grammar.specs.declared.expected.Reply.TheVariants.{Rn16, Epc, Handle, Words, Header, Error}
-use Rattle.reply_grammar.specs.Table.{FitsBank}
+use Rattle.reply_grammar.specs.Table.{FitsBank, longest_reply}
 use Rattle.reply_grammar.specs.SuitingLaws.{spelling-within}
 use Rattle.tag_machine.specs.Answers.{Sent, HasFewWords}
 use Rattle.air_channel.specs.Exchange.{Replied}
@@ -69,7 +69,7 @@ few_fit Header few = tt
 few_fit (Error code) few = tt
 
 -- the bits of the reply that is kept are no more than those of the longest reply
-pub kept_short : (sent : Sent) (kept : KeptReplies) → IsKept sent kept → length kept.bits ≤ 8225
+pub kept_short : (sent : Sent) (kept : KeptReplies) → IsKept sent kept → length kept.bits ≤ longest_reply
 kept_short sent kept is =
     let most = (spelling-within sent.reply sent.handle is.in_range.0 (few_fit sent.reply is.in_range.2)).1 in
     rw is.bits_are most
@@ -80,11 +80,11 @@ at_wanted : (replies : List Replied) (kept : KeptReplies) (wanted : ℕ) (replie
 at_wanted replies kept wanted replied stands same at = stands.wanted_is replied (rw same at)
 
 pub whole_short : (replies : List Replied) (kept : KeptReplies) (wanted : ℕ) (given : Given) → RepliesStandFor replies kept → kept.wanted ≡ wanted
-    → Means Whole replies wanted given → length kept.bits ≤ 8225
+    → Means Whole replies wanted given → length kept.bits ≤ longest_reply
 whole_short replies kept wanted given stands same means = kept_short means.0.sent kept (at_wanted replies kept wanted means.0 stands same means.1)
 
 pub broken_short : (replies : List Replied) (kept : KeptReplies) (wanted : ℕ) (given : Given) (place : ℕ) → RepliesStandFor replies kept → kept.wanted ≡ wanted
-    → Means (Broken place) replies wanted given → length kept.bits ≤ 8225
+    → Means (Broken place) replies wanted given → length kept.bits ≤ longest_reply
 broken_short replies kept wanted given place stands same means = kept_short means.0.sent kept (at_wanted replies kept wanted means.0 stands same means.1)
 
 -- the levels of the reply that is kept

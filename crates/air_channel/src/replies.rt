@@ -1,6 +1,7 @@
 //! The replies to one command, of which the channel gives one or none.
 ghost use Rattle.std.specs.Prelude.{◌≡◌, ℕ, ◌+◌, ◌%◌, ◌<◌, ◌≤◌, List, [], ◌++◌, Option, Some, length, slice_get, IfOk, if◌then◌else◌};
 ghost use Rattle.line_code.specs.Laws.{with_level_flipped};
+ghost use Rattle.reply_grammar.specs.Table.{longest_reply};
 ghost use Rattle.tag_machine.specs.Answers.{Sent};
 ghost use Rattle.tag_machine.specs.Hearing.{mark_of};
 ghost use Rattle.tag_machine.specs.Step.{step};
@@ -203,7 +204,7 @@ impl Replies {
 
     /// Writes the stream of the reply that is kept.
     fn encode(&self, link: &Link, stream: &mut Levels)
-        requires short { length self.now.bits ≤ 8225 }
+        requires short { length self.now.bits ≤ longest_reply }
         requires room { room_for_streams ≤ stream.old.capacity }
         ensures stream { stream.new ≡ record stream.old { items = kept_levels link.now self.now } }
         ensures least { 1 ≤ length stream.new.items }
