@@ -64,6 +64,12 @@ const PREAMBLE: FrameKind = FrameKind::Preamble {
     trcal: 17_188,
 };
 
+/// Frames with their bits, and their texts.
+const FRAMES: &[(FrameKind, &[u8], &str)] = &[
+    (SYNC, b"", "sync 12500 31250 -"),
+    (PREAMBLE, b"100", "preamble 6250 15625 17188 100"),
+];
+
 /// Whether the frame of these bits has this text.
 fn is_frame(alloc: Global, kind: &FrameKind, digits: &[u8], wanted: &str) -> Option<bool> {
     let mut bits = Bits::new(alloc, 3).ok()?;
@@ -75,10 +81,7 @@ fn is_frame(alloc: Global, kind: &FrameKind, digits: &[u8], wanted: &str) -> Opt
 
 #[test]
 fn frames_are_written(rt: HostRuntime) {
-    for &(kind, digits, wanted) in &[
-        (SYNC, b"".as_slice(), "sync 12500 31250 -"),
-        (PREAMBLE, b"100", "preamble 6250 15625 17188 100"),
-    ] {
+    for &(kind, digits, wanted) in FRAMES {
         assert!(rt;
             is_frame(rt.alloc(), &kind, digits, wanted) == Some(true),
             "{wanted}"

@@ -1,5 +1,5 @@
-//! Tests of the public calls of texts: frames, commands, replies and names as texts, and scenarios, their lines and their
-//! faults.
+//! Tests of the public calls of texts: frames, commands, replies and names as texts, and scenarios with their lines. Faulty
+//! scenarios stand as rows in rows/scenario.
 #![tactic(auto)]
 
 #[cfg(test)]
@@ -8,8 +8,6 @@ mod commands;
 mod entries;
 #[cfg(test)]
 mod fault_lines;
-#[cfg(test)]
-mod faults;
 #[cfg(test)]
 mod frames;
 #[cfg(test)]

@@ -50,6 +50,33 @@ op lock 00000
 end
 ";
 
+/// Lines of later tags, and others of each kind.
+const MANY_TAGS: &[u8] = b"gen2 1
+link 12500 31250 50000 6250 1 fm0 0
+tag AABBCCDD 01020304 1001001101 0000 E2000000FFFF 000AB000 00001111
+tag 00000000 00000000 0000000000 08000001 E2000001 - 0001
+tag 00000000 00000000 0000000000 08000002 E2000002 - 0002
+tag 00000000 00000000 0000000000 08000003 E2000003 - 0003
+tag 00000000 00000000 0000000000 08000004 E2000004 - 0004
+tag 00000000 00000000 0000000000 08000005 E2000005 - 0005
+tag 00000000 00000000 0000000000 08000006 E2000006 - 0006
+tag 00000000 00000000 0000000000 08000007 E2000007 - 0007
+tag 00000000 00000000 0000000000 08000008 E2000008 - 0008
+tag 00000000 00000000 0000000000 08000009 E2000009 - 0009
+tag 00000000 00000000 0000000000 0800000A E200000A - 000A
+tag 00000000 00000000 0000000000 0800000B E200000B - 000B
+tag 00000000 00000000 0000000000 0800000C E200000C - 000C
+air 1 off 12
+air 2 expire s1 0
+air 3 miss 7
+air 40 silent
+event expire sl 3
+event expire s2 0
+event expire s3 10
+event off 0
+end
+";
+
 /// Whether the scenario that is read from a text is written as it, and read and written again.
 fn comes_back(alloc: Global, text: &[u8]) -> Result<bool, ScenarioFault> {
     let scenario = read_scenario(alloc, text)?;
@@ -60,10 +87,18 @@ fn comes_back(alloc: Global, text: &[u8]) -> Result<bool, ScenarioFault> {
     Ok(once.as_slice() == text && twice.as_slice() == text && same.as_slice() == text)
 }
 
+const TEXTS: &[&[u8]] = &[ONE_TAG, EACH_LINE, MANY_TAGS];
+
 #[test]
 fn texts_come_back(rt: HostRuntime) -> Result<(), Fail> {
-    assert!(rt; comes_back(rt.alloc(), ONE_TAG)? && comes_back(rt.alloc(), EACH_LINE)?);
+    for &text in TEXTS {
+        assert!(rt; comes_back(rt.alloc(), text)?);
+    }
+    Ok(())
+}
+
+#[test]
+fn a_front_of_a_text_is_refused(rt: HostRuntime) {
     let refused = read_and_print(rt.alloc(), &ONE_TAG[..7]);
     assert!(rt; matches!(refused, Err(ScenarioFault::Line(2, Fault::End))));
-    Ok(())
 }

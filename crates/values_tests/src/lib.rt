@@ -9,3 +9,5 @@ mod bytes;
 mod check_numbers;
 #[cfg(test)]
 mod fields;
+#[cfg(test)]
+mod std_edge;
