@@ -3,7 +3,7 @@ ghost use Rattle.std.specs.Prelude.{◌≡◌, ◌≤◌};
 ghost use Rattle.reply_grammar.specs.Table.{reply_room};
 
 use crate::holds::{Given, Holds};
-use crate::rows::{Is, NOT_MADE, Row, Table};
+use crate::rows::{Is, Row, Table};
 use crate::says::Says;
 use crate::wants::Want;
 use bit_strings::{Bits, List};
@@ -13,10 +13,9 @@ use reply_grammar::decode_reply;
 use session_flags::DrawWords;
 use std::alloc::Global;
 use std::marker::Brand;
-use std::process::Abort;
 use std::sync::ledger::{Blank, Ledger};
 use tag_machine::{Answered, AnyTag, Heard, Steps};
-use tag_memory::{BankImage, Memory};
+use tag_memory::{BankImage, ImageRefusal, Memory};
 
 fn list(alloc: Global, words: &[u16]) -> Option<List<u16>> {
     let items = Vec::from_slice(alloc, words).ok()?;
@@ -26,28 +25,36 @@ fn list(alloc: Global, words: &[u16]) -> Option<List<u16>> {
     Some(List::new(items))
 }
 
-/// The memory of a tag, with PC 0800 and the EPC 1234.
-pub fn memory(alloc: Global, given: &Given) -> Option<Memory> {
-    let user: &[u16] = &[0x1111, 0x2222];
-    let image = BankImage {
+fn image(alloc: Global, given: &Given) -> Option<BankImage> {
+    Some(BankImage {
         kill: given.kill,
         access: given.access,
-        epc: list(alloc, &[0x0800, 0x1234])?,
-        tid: list(alloc, &[0xE200, 0x0001])?,
-        user: list(alloc, user.get(..given.user)?)?,
-    };
-    Memory::new(alloc, &image).ok()
+        epc: list(alloc, given.epc)?,
+        tid: list(alloc, given.tid)?,
+        user: list(alloc, given.user)?,
+    })
+}
+
+/// The memory of what is given, or why there is none of it.
+pub fn memory(alloc: Global, given: &Given) -> Result<Memory, ImageRefusal> {
+    match image(alloc, given) {
+        Some(image) => Memory::new(alloc, &image),
+        None => Err(ImageRefusal::OutOfMemory),
+    }
+}
+
+fn draw_words(alloc: Global, words: &[u16]) -> Option<DrawWords> {
+    if words.is_empty() || words.len() > 256 {
+        return None;
+    }
+    DrawWords::new(alloc, words).ok()
 }
 
 /// The tag that was just made of what is given.
 pub fn made(alloc: Global, given: &Given) -> Option<AnyTag> {
-    let draws = given.draws;
-    if draws.is_empty() || draws.len() > 256 {
-        return None;
-    }
-    let words = DrawWords::new(alloc, draws).ok()?;
     let locks = Locks::from_bits(given.locks)?;
-    Some(AnyTag::new(memory(alloc, given)?, locks, words))
+    let words = draw_words(alloc, given.draws)?;
+    Some(AnyTag::new(memory(alloc, given).ok()?, locks, words))
 }
 
 fn hear_counted<L: Ledger>(blank: Blank, tag: AnyTag, command: &Command, out: &mut Bits) -> Heard
@@ -60,15 +67,42 @@ fn hear_counted<L: Ledger>(blank: Blank, tag: AnyTag, command: &Command, out: &m
     tag.hear(command, out, &mut steps)
 }
 
-/// The tag after what it heard or what befell it, and what it sends.
-pub fn after(alloc: Global, tag: AnyTag, says: Says) -> Option<(AnyTag, Answered, Bits)> {
-    let mut out = Bits::new(alloc, 8240).ok()?;
-    if let Says::Befalls(event) = says {
-        return Some((tag.event(event), Answered::Silent, out));
+/// What comes of a command, with the bits of the answer in `out`.
+fn heard(tag: AnyTag, command: &Command, out: &mut Bits) -> Heard
+    requires { reply_room ≤ out.old.capacity }
+{
+    hear_counted::<Brand>(Blank::new(1), tag, command, out)
+}
+
+/// The tag after what befalls it; none where that is a command.
+fn befallen(tag: AnyTag, says: Says) -> Option<Heard> {
+    match says {
+        Says::Befalls(event) => Some(Heard {
+            tag: tag.event(event),
+            answered: Answered::Silent,
+        }),
+        _ => None,
     }
-    let command = says.command()?;
-    let Heard { tag, answered } = hear_counted::<Brand>(Blank::new(1), tag, &command, &mut out);
-    Some((tag, answered, out))
+}
+
+/// What comes of what a tag hears or of what befalls it, with the bits of the answer in `out`.
+fn answered(tag: AnyTag, says: Says, out: &mut Bits) -> Option<Heard>
+    requires { reply_room ≤ out.old.capacity }
+{
+    match says.command() {
+        Some(command) => Some(heard(tag, &command, out)),
+        None => befallen(tag, says),
+    }
+}
+
+/// What comes of what a tag hears or of what befalls it, with the bits of the answer.
+pub fn after(alloc: Global, tag: AnyTag, says: Says) -> Option<(Heard, Bits)> {
+    let mut out = Bits::new(alloc, 8240).ok()?;
+    if out.capacity() < 8240 {
+        return None;
+    }
+    let heard = answered(tag, says, &mut out)?;
+    Some((heard, out))
 }
 
 /// Whether the answer to a command with this handle is the one of the row.
@@ -117,71 +151,50 @@ impl Bench {
             handle,
         } = self;
         let (says, want, is, then) = *row;
-        let (tag, answered, out) = after(alloc, tag, says)?;
+        let (heard, out) = after(alloc, tag, says)?;
         holds.becomes(then);
-        if is_answer(want, handle, answered, &out) && is_tag(is, &tag, &holds) {
-            Some(Bench { tag, holds, handle })
+        if is_answer(want, handle, heard.answered, &out) && is_tag(is, &heard.tag, &holds) {
+            Some(Bench {
+                tag: heard.tag,
+                holds,
+                handle,
+            })
         } else {
             None
         }
     }
 
-    /// The bench after the rows, or the first row of which something else comes.
-    fn plays_all(self, alloc: Global, rows: &[Row]) -> Result<Bench, Row> {
+    /// The bench after the rows, or the number of the first of which something else comes.
+    fn plays_all(self, alloc: Global, rows: &[Row]) -> Result<Bench, usize> {
         let mut bench = self;
-        for row in rows {
-            bench = bench.plays(alloc, row).ok_or(*row)?;
+        for (number, row) in rows.iter().enumerate() {
+            bench = bench.plays(alloc, row).ok_or(number)?;
         }
         Ok(bench)
     }
 }
 
-/// The tag that is made of what is given, and went the ways.
-fn begun(alloc: Global, given: &Given, ways: &[&'static [Row]]) -> Result<Bench, Row> {
-    let mut bench = Bench::new(alloc, given).ok_or(NOT_MADE)?;
-    for way in ways {
-        bench = bench.plays_all(alloc, way)?;
+/// The tag of a table, in the state to which its ways lead.
+fn begun(alloc: Global, table: &Table) -> Option<Bench> {
+    let mut bench = Bench::new(alloc, &table.given)?;
+    for way in table.ways {
+        bench = bench.plays_all(alloc, way).ok()?;
     }
-    Ok(bench)
+    Some(bench)
 }
 
-/// The rows of each table one after another, at one tag.
-fn played(alloc: Global, tables: &[Table]) -> Result<(), Row> {
-    for (given, ways, rows) in tables {
-        begun(alloc, given, ways)?.plays_all(alloc, rows)?;
-    }
-    Ok(())
+/// How many rows of the table, one after another at one tag, come as it says; none where the ways to them don't.
+pub fn right_in_turn(alloc: Global, table: &Table) -> Option<usize> {
+    let wrong = begun(alloc, table)?.plays_all(alloc, table.rows).err();
+    Some(wrong.unwrap_or(table.rows.len()))
 }
 
-/// Each row of each table at a tag of its own.
-fn each_played(alloc: Global, tables: &[Table]) -> Result<(), Row> {
-    for (given, ways, rows) in tables {
-        for row in *rows {
-            begun(alloc, given, ways)?.plays(alloc, row).ok_or(*row)?;
+/// The same where each row comes to a tag of its own.
+pub fn right_alone(alloc: Global, table: &Table) -> Option<usize> {
+    for (number, row) in table.rows.iter().enumerate() {
+        if begun(alloc, table)?.plays(alloc, row).is_none() {
+            return Some(number);
         }
     }
-    Ok(())
-}
-
-/// Asserts that all comes as the tables say, with the rows of each at one tag.
-pub fn assert_played(rt: &(impl Abort + Alloc<A = Global>), tables: &[Table]) {
-    let played = played(rt.alloc(), tables);
-    assert!(rt; played.is_ok(), "{played:?}");
-}
-
-/// The same, with each row at a tag of its own.
-pub fn assert_each_played(rt: &(impl Abort + Alloc<A = Global>), tables: &[Table]) {
-    let played = each_played(rt.alloc(), tables);
-    assert!(rt; played.is_ok(), "{played:?}");
-}
-
-/// The same of rows that a test makes, at the tag that is made of what is given and went the way.
-pub fn rows_played(
-    alloc: Global,
-    given: &Given,
-    way: &'static [Row],
-    rows: &[Row],
-) -> Result<(), Row> {
-    begun(alloc, given, &[way])?.plays_all(alloc, rows)?;
-    Ok(())
+    Some(table.rows.len())
 }

@@ -2,7 +2,7 @@
 use bit_strings::{Action, Pointer, Session};
 use command_grammar::{FlagName, Mask, Sel, Side};
 use session_flags::{DrawWords, Flags, mask_matches};
-use std::test::Fail;
+use std::alloc::Global;
 
 /// What an action does, in the words of the standard's table.
 #[derive(Clone, Copy)]
@@ -85,25 +85,33 @@ fn selects(before: Flags, target: FlagName, number: u8, matching: bool, does: Do
     flags == after(before, target, does)
 }
 
+/// Whether the Selects of each action go by the table, at a tag that matches and at another.
+fn each_selects(before: Flags, target: FlagName) -> bool {
+    for (number, &(at_match, at_mismatch)) in (0..).zip(ACTIONS) {
+        if !selects(before, target, number, true, at_match)
+            || !selects(before, target, number, false, at_mismatch)
+        {
+            return false;
+        }
+    }
+    true
+}
+
+const TARGETS: &[FlagName] = &[
+    FlagName::S0,
+    FlagName::S1,
+    FlagName::S2,
+    FlagName::S3,
+    FlagName::Sl,
+];
+
 #[test]
 fn select_goes_by_the_table(rt: HostRuntime) {
-    assert!(rt; Flags::new() == ALL_A);
-    for before in [ALL_A, MIXED] {
-        for target in [
-            FlagName::S0,
-            FlagName::S1,
-            FlagName::S2,
-            FlagName::S3,
-            FlagName::Sl,
-        ] {
-            for (number, &(at_match, at_mismatch)) in (0..).zip(ACTIONS) {
-                assert!(rt;
-                    selects(before, target, number, true, at_match)
-                        && selects(before, target, number, false, at_mismatch),
-                    "{target:?} {number}"
-                );
-            }
-        }
+    for &target in TARGETS {
+        assert!(rt;
+            each_selects(ALL_A, target) && each_selects(MIXED, target),
+            "{target:?}"
+        );
     }
 }
 
@@ -127,18 +135,32 @@ const ALL_B: Flags = Flags {
     sl: true,
 };
 
-#[test]
-fn flags_of_one_tag(rt: HostRuntime) -> Result<(), Fail> {
+/// New flags after the one of each session is inverted and SL is set; none where one of them is not as it should be on the way.
+fn all_inverted() -> Option<Flags> {
     let mut flags = Flags::new();
+    if flags != ALL_A {
+        return None;
+    }
     for number in 0..4u8 {
-        let session = Session::new(number).ok_or("a session")?;
-        assert!(rt; is_inverted(&mut flags, session), "{number}");
+        if !is_inverted(&mut flags, Session::new(number)?) {
+            return None;
+        }
     }
     flags.sl = true;
-    assert!(rt; flags == ALL_B);
+    Some(flags)
+}
+
+/// All flags after the power is lost.
+fn without_power() -> Flags {
+    let mut flags = ALL_B;
     flags.lose_power();
-    assert!(rt; flags == after(ALL_B, FlagName::S0, Does::AssertOrA));
-    Ok(())
+    flags
+}
+
+#[test]
+fn flags_of_one_tag(rt: HostRuntime) {
+    assert!(rt; all_inverted() == Some(ALL_B));
+    assert!(rt; without_power() == after(ALL_B, FlagName::S0, Does::AssertOrA));
 }
 
 /// A flag, whether the tag has power, whether it takes part in a round, and whether the flag is lost.
@@ -224,9 +246,13 @@ fn masks_at_the_edges_of_a_bank(rt: HostRuntime) {
     }
 }
 
+/// Whether the words that are drawn are those that were given.
+fn are_drawn(alloc: Global) -> Option<bool> {
+    let words = DrawWords::new(alloc, &[0x0000, 0x1111]).ok()?;
+    Some(words.words() == [0x0000, 0x1111].as_slice())
+}
+
 #[test]
-fn draw_words_are_a_copy(rt: HostRuntime) -> Result<(), Fail> {
-    let words = DrawWords::new(rt.alloc(), &[0x0000, 0x1111])?;
-    assert!(rt; words.words() == [0x0000, 0x1111].as_slice());
-    Ok(())
+fn draw_words_are_a_copy(rt: HostRuntime) {
+    assert_eq!(rt; are_drawn(rt.alloc()), Some(true));
 }

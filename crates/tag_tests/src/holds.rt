@@ -1,5 +1,4 @@
 //! What a tag is made with, and what it holds besides its state.
-ghost use Rattle.std.specs.Prelude.{◌≤◌};
 
 use Then::{FlagsAre, LocksAre, PairIs, Same, WordIs};
 use command_grammar::{Bank, Side};
@@ -7,7 +6,7 @@ use session_flags::Flags;
 use tag_memory::Memory;
 
 /// What changes of what the tag holds besides its state.
-#[derive(Clone, Copy, Debug)]
+#[derive(Clone, Copy)]
 pub enum Then {
     Same,
     /// The letters of S0 to S3, and then 0 or 1 for SL.
@@ -17,39 +16,30 @@ pub enum Then {
     PairIs(Bank, usize, [u16; 2]),
 }
 
-/// What a tag is made with. Its EPC bank has PC 0800 and the EPC 1234.
+/// What a tag is made with.
 #[derive(Clone, Copy)]
 pub struct Given {
     pub kill: u32,
     pub access: u32,
     pub locks: u16,
-    /// How many of the User words 1111 and 2222 there are.
-    pub user: usize,
+    /// The EPC bank from PC on.
+    pub epc: &'static [u16],
+    pub tid: &'static [u16],
+    pub user: &'static [u16],
     /// The words that it draws in turn.
     pub draws: &'static [u16],
     /// The handle that it draws, where it draws one.
     pub handle: u16,
 }
 
-/// What a tag must hold besides its state: the words are those of the banks Reserved, EPC, TID and User.
+/// What a tag of PC 0800 and the EPC 1234, the TID E200 0001 and the User words 1111 2222 or none must hold besides its state:
+/// the words are those of the banks Reserved, EPC, TID and User.
 #[derive(Clone, Copy)]
 pub struct Holds {
     pub flags: Flags,
     pub locks: u16,
-    pub words: [u16; 11],
-    pub user: usize,
-}
-
-/// The place of a bank's word in the list of all words.
-fn place_of(bank: Bank, at: usize) -> usize
-    requires { at ≤ 100 }
-{
-    match bank {
-        Bank::Reserved => at,
-        Bank::Epc => 4 + at,
-        Bank::Tid => 7 + at,
-        Bank::User => 9 + at,
-    }
+    words: [u16; 11],
+    user: usize,
 }
 
 fn side(letter: Option<&u8>) -> Side {
@@ -91,16 +81,21 @@ impl Holds {
                 0x1111,
                 0x2222,
             ],
-            user: given.user,
+            user: given.user.len(),
         }
     }
 
-    fn put(&mut self, bank: Bank, at: usize, word: u16) {
-        if at <= 100 {
-            let place = place_of(bank, at);
-            if place < 11 {
-                self.words[place] = word;
-            }
+    /// Puts words in the place of those of a bank.
+    fn put(&mut self, bank: Bank, at: usize, words: &[u16]) {
+        let from = match bank {
+            Bank::Reserved => 0,
+            Bank::Epc => 4,
+            Bank::Tid => 7,
+            Bank::User => 9,
+        };
+        let places = self.words[from..].iter_mut().skip(at);
+        for (place, word) in places.zip(words) {
+            *place = *word;
         }
     }
 
@@ -109,33 +104,15 @@ impl Holds {
             Same => {}
             FlagsAre(text) => self.flags = flags(text),
             LocksAre(locks) => self.locks = locks,
-            WordIs(bank, at, word) => self.put(bank, at, word),
-            PairIs(bank, at, words) => {
-                self.put(bank, at, words[0]);
-                if at < 100 {
-                    self.put(bank, at + 1, words[1]);
-                }
-            }
+            WordIs(bank, at, word) => self.put(bank, at, &[word]),
+            PairIs(bank, at, words) => self.put(bank, at, &words),
         }
-    }
-
-    /// Whether a bank has just so many of the words, from a place on.
-    fn has_bank(&self, memory: &Memory, bank: Bank, from: usize, count: usize) -> bool {
-        if from > 11 || count > 11 - from || memory.size(bank) as usize != count {
-            return false;
-        }
-        for (at, word) in self.words[from..from + count].iter().enumerate() {
-            if memory.get(bank, at as u32) != Some(*word) {
-                return false;
-            }
-        }
-        true
     }
 
     pub fn is_memory(&self, memory: &Memory) -> bool {
-        self.has_bank(memory, Bank::Reserved, 0, 4)
-            && self.has_bank(memory, Bank::Epc, 4, 3)
-            && self.has_bank(memory, Bank::Tid, 7, 2)
-            && self.has_bank(memory, Bank::User, 9, self.user)
+        memory.bank(Bank::Reserved) == &self.words[..4]
+            && memory.bank(Bank::Epc) == &self.words[4..7]
+            && memory.bank(Bank::Tid) == &self.words[7..9]
+            && Some(memory.bank(Bank::User)) == self.words[9..].get(..self.user)
     }
 }

@@ -1,136 +1,134 @@
 //! Lists of commands of the inventory, with what the tag is and answers after each, worked out by hand from the tables of
-//! the standard; power-on, and the slot counter.
-ghost use Rattle.std.specs.Prelude.{◌≡◌, ◌<◌};
+//! the standard.
 
-use crate::bench::{after, assert_played, made, memory};
-use crate::inventory_tables::LISTS;
-use crate::rows::{GUARDED_RN, PLAIN};
-use crate::says::Says;
-use bit_strings::Pointer;
-use command_grammar::{Bank, Command, FlagName, MaskBank, Side, UpDn};
-use lock_rules::{Level, Locks};
-use session_flags::DrawWords;
-use std::alloc::Global;
-use std::marker::Brand;
-use std::sync::ledger::{Blank, Ledger};
-use std::test::Fail;
-use tag_machine::{AnyTag, Arbitrate, Event, Steps, Tag, reaches_waiting};
+use crate::bench::right_in_turn;
+use crate::holds::Given;
+use crate::holds::Then::{FlagsAre, Same};
+use crate::rows::Is::{Acknowledged, Arbitrate, InReply, Ready};
+use crate::rows::{PLAIN, Row, Table};
+use crate::says::Says::{Ack, Nak, Query, QueryAdjust, QueryRep, QuerySel, Select, SelectOthers};
+use crate::wants::Want::{Nothing, PcEpc, Rn16};
+use command_grammar::FlagName::Sl;
+use command_grammar::Sel::{All01, NotSl, Sl as OnlySl};
+use command_grammar::Side::{A, B};
+use command_grammar::UpDn::{Down, Same as Stays, Up};
 
-#[test]
-fn lists_of_inventory_commands(rt: HostRuntime) {
-    assert_played(&rt, &LISTS);
-}
+/// A tag that draws 0000 and 1111 in turn, so that it replies at once with Q 0 and with Q 1. In the middle a Query of
+/// the tag's own session, and one of another, come to a tag in acknowledged.
+const ROUND: &[Row] = &[
+    (Query(0, A, 1), Rn16(0x1111), InReply, Same),
+    (QueryRep(1), Nothing, InReply, Same),
+    (QueryRep(0), Nothing, Arbitrate(32767), Same),
+    (QueryRep(0), Nothing, Arbitrate(32766), Same),
+    (Nak, Nothing, Arbitrate(32766), Same),
+    (Query(0, A, 0), Rn16(0x1111), InReply, Same),
+    (Ack(0x1111), PcEpc, Acknowledged, Same),
+    (Ack(0x1111), PcEpc, Acknowledged, Same),
+    (QueryRep(1), Nothing, Acknowledged, Same),
+    (QueryAdjust(2, Up), Nothing, Acknowledged, Same),
+    (QueryRep(0), Nothing, Ready, FlagsAre("BAAA0")),
+    (QueryRep(0), Nothing, Ready, Same),
+    (QueryAdjust(0, Stays), Nothing, Ready, Same),
+    (Ack(0x1111), Nothing, Ready, Same),
+    (Nak, Nothing, Ready, Same),
+    (Query(0, A, 0), Nothing, Ready, Same),
+    (Query(0, B, 0), Rn16(0x1111), InReply, Same),
+    (Ack(0x1111), PcEpc, Acknowledged, Same),
+    (Query(0, A, 0), Rn16(0x1111), InReply, FlagsAre("AAAA0")),
+    (Ack(0x1111), PcEpc, Acknowledged, Same),
+    (Query(3, A, 0), Rn16(0x1111), InReply, Same),
+    (Ack(0x1111), PcEpc, Acknowledged, Same),
+    (Query(3, A, 0), Nothing, Ready, FlagsAre("AAAB0")),
+    (Query(3, B, 0), Rn16(0x1111), InReply, Same),
+    (Ack(0x1110), Nothing, Arbitrate(0), Same),
+    (Ack(0x1111), Nothing, Arbitrate(0), Same),
+    (QueryRep(3), Nothing, Arbitrate(32767), Same),
+    (QueryAdjust(3, Down), Rn16(0x1111), InReply, Same),
+    (QueryAdjust(3, Stays), Rn16(0x1111), InReply, Same),
+    (QueryAdjust(0, Stays), Nothing, InReply, Same),
+    (Nak, Nothing, Arbitrate(0), Same),
+    (QueryAdjust(3, Up), Rn16(0x1111), InReply, Same),
+    (Ack(0x1111), PcEpc, Acknowledged, Same),
+    (Ack(0x1112), Nothing, Arbitrate(0), Same),
+    (QueryAdjust(3, Stays), Rn16(0x1111), InReply, Same),
+    (Ack(0x1111), PcEpc, Acknowledged, Same),
+    (Nak, Nothing, Arbitrate(0), Same),
+    (QueryAdjust(3, Stays), Rn16(0x1111), InReply, Same),
+    (Ack(0x1111), PcEpc, Acknowledged, Same),
+    (QueryAdjust(3, Down), Nothing, Ready, FlagsAre("AAAA0")),
+];
 
-/// A tag whose EPC was changed from 1234 to 5678 before it was made, so that its StoredCRC is still that of 1234.
-fn changed_tag(alloc: Global) -> Option<AnyTag> {
-    let locks = Locks::from_bits(0x2A5)?;
-    let open = Locks::from_bits(0)?;
-    let mut memory = memory(alloc, &PLAIN)?;
-    let place = Pointer::new(2)?;
-    let words = DrawWords::new(alloc, &[0x0001]).ok()?;
-    match memory.write(Bank::Epc, place, 0x5678, Level::Opened, &open) {
-        Ok(()) => Some(AnyTag::new(memory, locks, words)),
-        Err(_) => None,
-    }
-}
+/// A tag that draws 0002, 5555, 9234, 8001, 4003, 0006, FFF8 and 0007. Q is 2; then 15, where it stays at an Up, 14 and
+/// 13; then 3 and 4.
+const SLOTS: &[Row] = &[
+    (Query(2, A, 2), Nothing, Arbitrate(2), Same),
+    (QueryRep(1), Nothing, Arbitrate(2), Same),
+    (QueryAdjust(3, Up), Nothing, Arbitrate(2), Same),
+    (Ack(0x5555), Nothing, Arbitrate(2), Same),
+    (QueryRep(2), Nothing, Arbitrate(1), Same),
+    (QueryRep(2), Rn16(0x5555), InReply, Same),
+    (Query(2, A, 15), Nothing, Arbitrate(0x1234), Same),
+    (QueryAdjust(2, Up), Nothing, Arbitrate(0x0001), Same),
+    (QueryAdjust(2, Down), Nothing, Arbitrate(0x0003), Same),
+    (QueryAdjust(2, Down), Nothing, Arbitrate(0x0006), Same),
+    (Query(2, A, 3), Rn16(0x0007), InReply, Same),
+    (QueryAdjust(2, Up), Nothing, Arbitrate(2), Same),
+    (QueryAdjust(2, Stays), Nothing, Arbitrate(5), Same),
+];
 
-/// Whether the tag has power or not, its locks, and an EPC bank with this StoredCRC.
-fn is_changed(tag: &AnyTag, present: bool, stored_crc: u16) -> bool {
-    tag.present() == present
-        && tag.locks().bits() == 0x2A5
-        && tag.memory().words(MaskBank::Epc) == [stored_crc, 0x0800, 0x5678].as_slice()
-}
+/// A tag that draws 0000 and 1111, and Queries that go by SL.
+const SELECTED: &[Row] = &[
+    (QuerySel(OnlySl), Nothing, Ready, Same),
+    (QuerySel(NotSl), Rn16(0x1111), InReply, Same),
+    (Select(Sl, 0), Nothing, Ready, FlagsAre("AAAA1")),
+    (QuerySel(NotSl), Nothing, Ready, Same),
+    (QuerySel(OnlySl), Rn16(0x1111), InReply, Same),
+    (QuerySel(All01), Rn16(0x1111), InReply, Same),
+    (SelectOthers(Sl, 4), Nothing, Ready, Same),
+    (SelectOthers(Sl, 0), Nothing, Ready, FlagsAre("AAAA0")),
+];
 
-#[test]
-fn power_on_computes_the_stored_crc(rt: HostRuntime) -> Result<(), Fail> {
-    let mut tag = changed_tag(rt.alloc()).ok_or("a tag")?;
-    assert!(rt; is_changed(&tag, true, 0xED3A));
-    // At On of a tag that has power nothing is computed.
-    for (event, present, stored_crc) in [
-        (Event::On, true, 0xED3A),
-        (Event::Off, false, 0xED3A),
-        (Event::On, true, 0xA57A),
-    ] {
-        tag = tag.event(event);
-        assert!(rt; is_changed(&tag, present, stored_crc), "{event:?}");
-    }
-    Ok(())
-}
+const TWO_DRAWS: Given = Given {
+    draws: &[0x0000, 0x1111],
+    ..PLAIN
+};
 
-/// A tag that waits in session 1 with slot 2.
-fn waiting_tag(alloc: Global) -> Option<AnyTag> {
-    let (tag, _, _) = after(alloc, made(alloc, &GUARDED_RN)?, Says::Query(1, Side::A, 3))?;
-    Some(tag)
-}
+const SLOT_DRAWS: Given = Given {
+    draws: &[
+        0x0002, 0x5555, 0x9234, 0x8001, 0x4003, 0x0006, 0xFFF8, 0x0007,
+    ],
+    ..PLAIN
+};
 
-/// The same as a tag in arbitrate.
-fn waiting(alloc: Global) -> Option<Tag<Arbitrate>> {
-    match waiting_tag(alloc)? {
-        AnyTag::Arbitrate(tag) => Some(tag),
-        _ => None,
-    }
-}
-
-fn set_counted<L: Ledger>(blank: Blank, tag: &mut Tag<Arbitrate>, slot: u16)
-    requires name { blank.name ≡ L.name }
-    requires parts { blank.parts ≡ L.parts }
-    requires one { blank.parts ≡ 1 }
-    requires small { slot < 32768 }
-{
-    let mut steps = Steps::<L>::new(blank);
-    tag.set_slot(slot, &mut steps);
-}
-
-#[test]
-fn the_slot_counter_can_be_set(rt: HostRuntime) -> Result<(), Fail> {
-    let mut tag = waiting(rt.alloc()).ok_or("a tag in arbitrate")?;
-    let before = (tag.session().get(), tag.slot());
-    set_counted::<Brand>(Blank::new(1), &mut tag, 32767);
-    let after = (tag.session().get(), tag.slot());
-    assert_eq!(rt; (before, after), ((1, 2), (1, 32767)));
-    Ok(())
-}
-
-fn heard_in_place<L: Ledger>(blank: Blank, tag: &mut AnyTag, command: &Command) -> bool
-    requires name { blank.name ≡ L.name }
-    requires parts { blank.parts ≡ L.parts }
-    requires one { blank.parts ≡ 1 }
-{
-    let mut steps = Steps::<L>::new(blank);
-    tag.hear_in_place(command, &mut steps)
-}
-
-/// The slot of a tag in arbitrate.
-fn slot_of(tag: &AnyTag) -> Option<u16> {
-    match tag {
-        AnyTag::Arbitrate(tag) => Some(tag.slot()),
-        _ => None,
-    }
-}
-
-/// Whether the command may change a waiting tag, whether the tag with slot 2 hears it in its place, and its slot then.
-fn waits(alloc: Global, says: Says) -> Option<(bool, bool, u16)> {
-    let command = says.command()?;
-    let mut tag = waiting_tag(alloc)?;
-    let heard = heard_in_place::<Brand>(Blank::new(1), &mut tag, &command);
-    Some((reaches_waiting(&command), heard, slot_of(&tag)?))
-}
-
-/// What a waiting tag hears in its place. Each draw is A1B2, so that with Q 1 the slot is 0.
-const WAITS: [(Says, (bool, bool, u16)); 7] = [
-    (Says::QueryRep(1), (true, true, 1)),
-    (Says::QueryRep(0), (true, true, 2)),
-    (Says::QueryAdjust(1, UpDn::Down), (true, true, 2)),
-    (Says::Query(1, Side::A, 1), (true, false, 2)),
-    (Says::Query(1, Side::B, 3), (true, false, 2)),
-    (Says::Select(FlagName::Sl, 0), (true, false, 2)),
-    (Says::Nak, (false, true, 2)),
+const LISTS: &[Table] = &[
+    Table {
+        name: "a round",
+        given: TWO_DRAWS,
+        ways: &[],
+        rows: ROUND,
+    },
+    Table {
+        name: "slots",
+        given: SLOT_DRAWS,
+        ways: &[],
+        rows: SLOTS,
+    },
+    Table {
+        name: "selected tags",
+        given: TWO_DRAWS,
+        ways: &[],
+        rows: SELECTED,
+    },
 ];
 
 #[test]
-fn waiting_tags_hear_in_place(rt: HostRuntime) -> Result<(), Fail> {
-    for (says, wanted) in WAITS {
-        assert!(rt; waits(rt.alloc(), says) == Some(wanted), "{says:?}");
+fn lists_of_inventory_commands(rt: HostRuntime) {
+    for table in LISTS {
+        assert_eq!(rt;
+            right_in_turn(rt.alloc(), table),
+            Some(table.rows.len()),
+            "{}",
+            table.name
+        );
     }
-    Ok(())
 }

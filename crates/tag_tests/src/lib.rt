@@ -4,8 +4,6 @@
 #[cfg(test)]
 mod access;
 #[cfg(test)]
-mod access_tables;
-#[cfg(test)]
 mod bench;
 #[cfg(test)]
 mod flags;
@@ -14,11 +12,11 @@ mod holds;
 #[cfg(test)]
 mod inventory;
 #[cfg(test)]
-mod inventory_tables;
-#[cfg(test)]
 mod locks;
 #[cfg(test)]
 mod memory;
+#[cfg(test)]
+mod power;
 #[cfg(test)]
 mod rows;
 #[cfg(test)]
@@ -26,8 +24,8 @@ mod says;
 #[cfg(test)]
 mod single_tag;
 #[cfg(test)]
-mod state_tables;
-#[cfg(test)]
 mod states;
+#[cfg(test)]
+mod waiting;
 #[cfg(test)]
 mod wants;

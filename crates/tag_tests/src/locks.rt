@@ -3,7 +3,6 @@ ghost use Rattle.std.specs.Prelude.{◌<◌};
 
 use bit_strings::Payload;
 use lock_rules::{ErrorCode, Field, Level, Locks};
-use std::test::Fail;
 
 /// The bit of a number at a place, counted from the last bit as 0.
 fn bit(number: u32, place: u32) -> bool
@@ -12,7 +11,7 @@ fn bit(number: u32, place: u32) -> bool
     (number >> place) & 1 == 1
 }
 
-const FIELDS: [Field; 5] = [
+const FIELDS: &[Field] = &[
     Field::KillWord,
     Field::AccessWord,
     Field::Epc,
@@ -52,42 +51,60 @@ fn allowed(locks: &Locks, field: Field) -> [bool; 4] {
     ]
 }
 
-#[test]
-fn pairs_allow_by_the_table(rt: HostRuntime) -> Result<(), Fail> {
-    for &(pair, opened, secured) in PAIRS {
-        for (place, field) in FIELDS.iter().enumerate() {
-            let locks = locks_with(pair, place).ok_or("ten bits")?;
-            // Only the passwords are guarded against a read.
-            let read = place >= 2;
-            let wanted = [opened, secured, opened || read, secured || read];
-            assert!(rt; allowed(&locks, *field) == wanted, "{field:?} {pair}");
+/// Whether a pair allows just this of each field: only the passwords are guarded against a read.
+fn allows(pair: u16, opened: bool, secured: bool) -> bool {
+    for (place, &field) in FIELDS.iter().enumerate() {
+        let read = place >= 2;
+        let wanted = [opened, secured, opened || read, secured || read];
+        match locks_with(pair, place) {
+            Some(locks) if allowed(&locks, field) == wanted => {}
+            _ => return false,
         }
     }
-    Ok(())
+    true
 }
 
-/// The locks of these bits after this payload, of a tag with a User bank.
+#[test]
+fn pairs_allow_by_the_table(rt: HostRuntime) {
+    for &(pair, opened, secured) in PAIRS {
+        assert!(rt; allows(pair, opened, secured), "{pair}");
+    }
+}
+
+/// The locks of these bits after this payload, of a tag with a User bank; none where they aren't ten bits.
 fn applied(bits: u16, payload: u32) -> Option<Result<u16, ErrorCode>> {
     let locks = Locks::from_bits(bits)?;
     let payload = Payload::new(payload)?;
     Some(locks.apply(payload, true).map(|after| after.bits()))
 }
 
+/// Lock bits, a payload, and the bits then.
+const APPLIED: &[(u16, u32, Option<Result<u16, ErrorCode>>)] = &[
+    // The EPC bank is locked for good. Then it is asked to be open again.
+    (0, 0x0C030, Some(Ok(0b00_00_11_00_00))),
+    (0b00_00_11_00_00, 0x0C000, Some(Err(ErrorCode::Locked))),
+    (1023, 0, Some(Ok(1023))),
+    (1024, 0, None),
+];
+
 #[test]
 fn locks_of_one_tag(rt: HostRuntime) {
-    // The EPC bank is locked for good. Then it is asked to be open again.
-    assert_eq!(rt; applied(0, 0x0C030), Some(Ok(0b00_00_11_00_00)));
-    assert_eq!(rt;
-        applied(0b00_00_11_00_00, 0x0C000),
-        Some(Err(ErrorCode::Locked))
-    );
-    let codes = [
-        ErrorCode::Locked.code(),
-        ErrorCode::Overrun.code(),
-        ErrorCode::Other.code(),
-    ];
-    assert_eq!(rt; codes, [4, 3, 0]);
-    assert!(rt; Locks::from_bits(1024).is_none() && Locks::from_bits(1023).is_some());
+    for &(bits, payload, wanted) in APPLIED {
+        assert!(rt; applied(bits, payload) == wanted, "{bits} {payload}");
+    }
+}
+
+const CODES: &[(ErrorCode, u8)] = &[
+    (ErrorCode::Locked, 4),
+    (ErrorCode::Overrun, 3),
+    (ErrorCode::Other, 0),
+];
+
+#[test]
+fn errors_have_codes(rt: HostRuntime) {
+    for &(error, code) in CODES {
+        assert!(rt; error.code() == code, "{code}");
+    }
 }
 
 /// What the mask and the action make of held lock bits, by hand, bit by bit: the even places are the permalocks.
@@ -141,21 +158,28 @@ fn goes_by_the_rules(held: u16, mask: u32, action: u32, has_user: bool) -> bool 
     got.map(|locks| u32::from(locks.bits())) == wanted
 }
 
-#[test]
-fn every_mask_goes_by_the_three_rules(rt: HostRuntime) {
-    for held in [
-        0b00_00_00_00_00,
-        0b10_10_10_10_10,
-        0b01_11_00_10_01,
-        0b11_11_11_11_11,
-    ] {
-        for mask in 0..1024 {
-            for &(action, has_user) in ACTIONS {
-                assert!(rt;
-                    goes_by_the_rules(held, mask, action, has_user),
-                    "{held} {mask} {action}"
-                );
+/// The first mask with which a Lock of these bits doesn't go by the three rules.
+fn first_wrong_mask(held: u16) -> Option<u32> {
+    for mask in 0..1024 {
+        for &(action, has_user) in ACTIONS {
+            if !goes_by_the_rules(held, mask, action, has_user) {
+                return Some(mask);
             }
         }
+    }
+    None
+}
+
+const HELD: &[u16] = &[
+    0b00_00_00_00_00,
+    0b10_10_10_10_10,
+    0b01_11_00_10_01,
+    0b11_11_11_11_11,
+];
+
+#[test]
+fn every_mask_goes_by_the_three_rules(rt: HostRuntime) {
+    for &held in HELD {
+        assert_eq!(rt; first_wrong_mask(held), None, "{held}");
     }
 }

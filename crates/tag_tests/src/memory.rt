@@ -1,149 +1,110 @@
 //! Memories of a few tags, and reads and writes at the edges of their banks.
-ghost use Rattle.std.specs.Prelude.{◌^◌, ◌<◌, length};
 
-use bit_strings::{Count1, List, Pointer};
+use crate::bench::memory;
+use crate::holds::Given;
+use crate::rows::{GUARDED, PLAIN};
+use bit_strings::{Count1, Pointer};
 use command_grammar::{Bank, BlockWords, MaskBank};
 use lock_rules::{ErrorCode, Level, Locks};
 use reply_grammar::ReadWords;
-use std::alloc::{AllocError, Global};
-use std::test::Fail;
-use tag_memory::{BankImage, ImageRefusal, Memory};
+use std::alloc::Global;
+use tag_memory::{ImageRefusal, Memory, epc_fits};
 
-fn list(alloc: Global, words: &[u16]) -> Result<List<u16>, AllocError>
-    requires { length words.now < 2 ^ 32 }
-{
-    Ok(List::new(Vec::from_slice(alloc, words)?))
-}
-
-fn image(alloc: Global, epc: &[u16], tid: &[u16], user: &[u16]) -> Result<BankImage, AllocError>
-    requires epc { length epc.now < 2 ^ 32 }
-    requires tid { length tid.now < 2 ^ 32 }
-    requires user { length user.now < 2 ^ 32 }
-{
-    Ok(BankImage {
-        kill: 0xAABB_CCDD,
-        access: 0x1234_5678,
-        epc: list(alloc, epc)?,
-        tid: list(alloc, tid)?,
-        user: list(alloc, user)?,
-    })
-}
-
-/// A memory with two words in each bank but Reserved, behind StoredCRC.
-fn two_words_each(alloc: Global) -> Option<Memory> {
-    let image = image(
-        alloc,
-        &[0x0800, 0x1234],
-        &[0xE200, 0x0003],
-        &[0x1111, 0x2222],
-    )
-    .ok()?;
-    Memory::new(alloc, &image).ok()
-}
-
-/// The first words of those, as many as there are of so many.
-fn first(alloc: Global, words: &[u16], count: u16) -> Result<List<u16>, AllocError> {
-    match words.get(..usize::from(count)) {
-        Some(front) => list(alloc, front),
-        None => list(alloc, &[]),
-    }
-}
-
-/// How many words there are from PC on, of TID and of User, what PC says, and how many words the EPC bank then has.
-type Image = (u16, u16, u16, u16, Result<u32, ImageRefusal>);
+/// The EPC bank from PC on, TID and User, and how many words the EPC bank then has. PC 0000 announces no word, 0800 one, 1000
+/// two and F800 31.
+type Image = (
+    &'static [u16],
+    &'static [u16],
+    &'static [u16],
+    Result<u32, ImageRefusal>,
+);
 
 const IMAGES: &[Image] = &[
-    (0, 2, 0, 0, Err(ImageRefusal::Size)),
-    (1, 2, 0, 0x0000, Ok(2)),
-    (32, 16, 512, 0xF800, Ok(33)),
-    (33, 2, 0, 0x0000, Err(ImageRefusal::Size)),
-    (1, 1, 0, 0x0000, Err(ImageRefusal::Size)),
-    (1, 17, 0, 0x0000, Err(ImageRefusal::Size)),
-    (1, 2, 513, 0x0000, Err(ImageRefusal::Size)),
-    (1, 1, 0, 0x0800, Err(ImageRefusal::Size)),
-    (1, 2, 0, 0x0800, Err(ImageRefusal::Pc)),
-    (2, 2, 0, 0x0800, Ok(3)),
-    (2, 2, 0, 0x1000, Err(ImageRefusal::Pc)),
-    (31, 2, 0, 0xF800, Err(ImageRefusal::Pc)),
+    (&[], &[0; 2], &[], Err(ImageRefusal::Size)),
+    (&[0x0000], &[0; 2], &[], Ok(2)),
+    (&[0xF800; 32], &[0; 16], &[0; 512], Ok(33)),
+    (&[0x0000; 33], &[0; 2], &[], Err(ImageRefusal::Size)),
+    (&[0x0000], &[0], &[], Err(ImageRefusal::Size)),
+    (&[0x0000], &[0; 17], &[], Err(ImageRefusal::Size)),
+    (&[0x0000], &[0; 2], &[0; 513], Err(ImageRefusal::Size)),
+    (&[0x0800], &[0], &[], Err(ImageRefusal::Size)),
+    (&[0x0800], &[0; 2], &[], Err(ImageRefusal::Pc)),
+    (&[0x0800; 2], &[0; 2], &[], Ok(3)),
+    (&[0x1000; 2], &[0; 2], &[], Err(ImageRefusal::Pc)),
+    (&[0xF800; 31], &[0; 2], &[], Err(ImageRefusal::Pc)),
 ];
 
 /// How many words the EPC bank of such a memory has.
-fn epc_words(
+fn epc_size(
     alloc: Global,
-    (epc, tid, user, pc): (u16, u16, u16, u16),
-) -> Result<Result<u32, ImageRefusal>, AllocError> {
-    let zeros = [0u16; 513];
-    let mut words = zeros;
-    words[0] = pc;
-    let image = BankImage {
-        kill: 0,
-        access: 0,
-        epc: first(alloc, &words, epc)?,
-        tid: first(alloc, &zeros, tid)?,
-        user: first(alloc, &zeros, user)?,
+    epc: &'static [u16],
+    tid: &'static [u16],
+    user: &'static [u16],
+) -> Result<u32, ImageRefusal> {
+    let given = Given {
+        epc,
+        tid,
+        user,
+        ..PLAIN
     };
-    Ok(Memory::new(alloc, &image).map(|memory| memory.size(Bank::Epc)))
+    memory(alloc, &given).map(|memory| memory.size(Bank::Epc))
 }
 
 #[test]
-fn images_are_refused_by_size_then_by_pc(rt: HostRuntime) -> Result<(), Fail> {
-    for &(epc, tid, user, pc, wanted) in IMAGES {
-        let size = epc_words(rt.alloc(), (epc, tid, user, pc))?;
-        assert!(rt; size == wanted, "{epc} {tid} {user} {pc}");
+fn images_are_refused_by_size_then_by_pc(rt: HostRuntime) {
+    for &(epc, tid, user, wanted) in IMAGES {
+        assert!(rt;
+            epc_size(rt.alloc(), epc, tid, user) == wanted,
+            "{epc:?} {tid:?}"
+        );
     }
-    Ok(())
-}
-
-/// A memory whose User bank has no words, with the EPC 1234.
-fn small(alloc: Global) -> Option<Memory> {
-    let image = image(alloc, &[0x0800, 0x1234], &[0xE200, 0x0001], &[]).ok()?;
-    Memory::new(alloc, &image).ok()
 }
 
 #[test]
-fn words_and_banks(rt: HostRuntime) -> Result<(), Fail> {
-    let memory = small(rt.alloc()).ok_or("a memory")?;
-    assert!(rt;
-        memory.words(MaskBank::Epc) == [0xED3A, 0x0800, 0x1234].as_slice()
-            && memory.words(MaskBank::Tid) == [0xE200, 0x0001].as_slice()
-            && memory.words(MaskBank::User).is_empty()
-    );
-    let passwords = [memory.kill_word(), memory.access_word()];
-    assert_eq!(rt; passwords, [0xAABB_CCDD, 0x1234_5678]);
-    let words = [memory.get(Bank::Reserved, 1), memory.get(Bank::Reserved, 4)];
-    assert_eq!(rt; words, [Some(0xCCDD), None]);
-    assert!(rt; memory.pc() == 0x0800 && memory.epc().as_slice() == [0x1234].as_slice());
-    Ok(())
+fn an_epc_fits_behind_its_pc(rt: HostRuntime) {
+    assert!(rt; epc_fits(0x0800, 3) && !epc_fits(0x1000, 3));
 }
 
-/// Writes the EPC 5678.
-fn write_epc(memory: &mut Memory) -> Option<Result<(), ErrorCode>> {
+/// A memory without User words, with the EPC 1234.
+const SMALL: Given = Given {
+    user: &[],
+    ..GUARDED
+};
+
+/// Whether this is what the calls of such a memory give.
+fn is_small(memory: &Memory) -> bool {
+    memory.words(MaskBank::Epc) == [0xED3A, 0x0800, 0x1234].as_slice()
+        && memory.words(MaskBank::Tid) == [0xE200, 0x0001].as_slice()
+        && memory.words(MaskBank::User).is_empty()
+        && memory.kill_word() == 0xAABB_CCDD
+        && memory.access_word() == 0x1234_5678
+        && memory.get(Bank::Reserved, 1) == Some(0xCCDD)
+        && memory.get(Bank::Reserved, 4) == None
+        && memory.pc() == 0x0800
+        && memory.epc().as_slice() == [0x1234].as_slice()
+}
+
+#[test]
+fn words_and_banks(rt: HostRuntime) {
+    let memory = memory(rt.alloc(), &SMALL);
+    assert!(rt; matches!(&memory, Ok(memory) if is_small(memory)));
+}
+
+/// Whether StoredCRC stays where the EPC 5678 is written, and becomes that of it at power-on.
+fn is_computed_at_power_on(alloc: Global) -> Option<bool> {
+    let mut memory = memory(alloc, &SMALL).ok()?;
     let open = Locks::from_bits(0)?;
-    let place = Pointer::new(2)?;
-    Some(memory.write(Bank::Epc, place, 0x5678, Level::Opened, &open))
+    memory
+        .write(Bank::Epc, Pointer::new(2)?, 0x5678, Level::Opened, &open)
+        .ok()?;
+    let is_kept = memory.words(MaskBank::Epc) == [0xED3A, 0x0800, 0x5678].as_slice();
+    memory.power_on();
+    Some(is_kept && memory.words(MaskBank::Epc) == [0xA57A, 0x0800, 0x5678].as_slice())
 }
 
 #[test]
-fn stored_crc_is_computed_at_power_on(rt: HostRuntime) -> Result<(), Fail> {
-    let mut memory = small(rt.alloc()).ok_or("a memory")?;
-    assert_eq!(rt; write_epc(&mut memory), Some(Ok(())));
-    assert!(rt; memory.words(MaskBank::Epc) == [0xED3A, 0x0800, 0x5678].as_slice());
-    memory.power_on();
-    assert!(rt; memory.words(MaskBank::Epc) == [0xA57A, 0x0800, 0x5678].as_slice());
-    Ok(())
-}
-
-/// Whether these are the words that a Read left.
-fn holds(words: &ReadWords, want: &[u16]) -> bool {
-    if words.len() as usize != want.len() {
-        return false;
-    }
-    for at in 0..words.len() {
-        if words.get(at) != want.get(at as usize).copied() {
-            return false;
-        }
-    }
-    true
+fn stored_crc_is_computed_at_power_on(rt: HostRuntime) {
+    assert_eq!(rt; is_computed_at_power_on(rt.alloc()), Some(true));
 }
 
 /// A bank, the pointer, the count and the level of a Read, and the words that come or the refusal.
@@ -155,7 +116,7 @@ const S: Level = Level::Secured;
 
 /// Reads of the banks 0800 1234 5678 9ABC behind StoredCRC, E200 0003, and 1111 2222. The kill password wants the secured state,
 /// the access password is never readable.
-const READS: [Read; 15] = [
+const READS: &[Read] = &[
     (Bank::Epc, 1, 0, O, Ok(&[0x0800, 0x1234])),
     (Bank::Epc, 2, 0, O, Ok(&[0x1234])),
     (Bank::Epc, 3, 0, O, Ok(&[0x5678, 0x9ABC])),
@@ -174,7 +135,7 @@ const READS: [Read; 15] = [
 ];
 
 /// Reads of the bank 0000 5678 behind StoredCRC, whose EPC has no word.
-const READS_OF_NO_EPC: [Read; 2] = [
+const READS_OF_NO_EPC: &[Read] = &[
     (Bank::Epc, 1, 0, O, Ok(&[0x0000])),
     (Bank::Epc, 2, 0, O, Ok(&[0x5678])),
 ];
@@ -185,46 +146,54 @@ fn is_read(memory: &Memory, locks: &Locks, read: &Read) -> Option<bool> {
     let mut out = ReadWords::new();
     out.push(0x1111).ok()?;
     let got = memory.read(bank, Pointer::new(place)?, count, level, locks, &mut out);
-    let (came, words) = match want {
-        Ok(words) => (Ok(()), words),
-        Err(code) => (Err(code), [].as_slice()),
-    };
-    Some(got == came && holds(&out, words))
+    let words = want.unwrap_or(&[]);
+    Some(got.is_ok() == want.is_ok() && got.err() == want.err() && out.as_slice() == words)
 }
 
-#[test]
-fn reads_at_the_edges(rt: HostRuntime) -> Result<(), Fail> {
-    let alloc = rt.alloc();
-    let locks = Locks::from_bits(0b10_11_00_00_00).ok_or("ten bits")?;
-    let image = image(
-        alloc,
-        &[0x0800, 0x1234, 0x5678, 0x9ABC],
-        &[0xE200, 0x0003],
-        &[0x1111, 0x2222],
-    )?;
-    let memory = Memory::new(alloc, &image)?;
-    for read in &READS {
-        assert!(rt; is_read(&memory, &locks, read) == Some(true), "{read:?}");
+/// How many of the reads come as they should, from the first on.
+fn right_reads(alloc: Global, given: &Given, reads: &[Read]) -> Option<usize> {
+    let memory = memory(alloc, given).ok()?;
+    let locks = Locks::from_bits(given.locks)?;
+    for (number, read) in reads.iter().enumerate() {
+        if is_read(&memory, &locks, read) != Some(true) {
+            return Some(number);
+        }
     }
-    Ok(())
+    Some(reads.len())
 }
 
+const FOUR_WORDS: Given = Given {
+    locks: 0b10_11_00_00_00,
+    epc: &[0x0800, 0x1234, 0x5678, 0x9ABC],
+    tid: &[0xE200, 0x0003],
+    ..GUARDED
+};
+
 #[test]
-fn an_epc_of_no_words_ends_with_pc(rt: HostRuntime) -> Result<(), Fail> {
-    let alloc = rt.alloc();
-    let open = Locks::from_bits(0).ok_or("ten bits")?;
-    let image = image(alloc, &[0x0000, 0x5678], &[0xE200, 0x0003], &[])?;
-    let memory = Memory::new(alloc, &image)?;
-    for read in &READS_OF_NO_EPC {
-        assert!(rt; is_read(&memory, &open, read) == Some(true), "{read:?}");
-    }
-    Ok(())
+fn reads_at_the_edges(rt: HostRuntime) {
+    assert_eq!(rt;
+        right_reads(rt.alloc(), &FOUR_WORDS, READS),
+        Some(READS.len())
+    );
+}
+
+const NO_EPC: Given = Given {
+    epc: &[0x0000, 0x5678],
+    ..GUARDED
+};
+
+#[test]
+fn an_epc_of_no_words_ends_with_pc(rt: HostRuntime) {
+    assert_eq!(rt;
+        right_reads(rt.alloc(), &NO_EPC, READS_OF_NO_EPC),
+        Some(READS_OF_NO_EPC.len())
+    );
 }
 
 /// A bank, the pointer, the word and the level of a Write, and what comes of it.
 type Write = (Bank, u32, u16, Level, Result<(), ErrorCode>);
 
-const WRITES: [Write; 10] = [
+const WRITES: &[Write] = &[
     (Bank::Epc, 0, 0, S, Err(ErrorCode::Locked)),
     (Bank::Epc, 3, 0, S, Err(ErrorCode::Overrun)),
     (Bank::Epc, 1, 0x1000, O, Err(ErrorCode::Overrun)),
@@ -246,18 +215,27 @@ fn is_written(memory: &mut Memory, locks: &Locks, write: &Write) -> Option<bool>
     Some(got == want && memory.get(bank, place) == after)
 }
 
-#[test]
-fn writes_at_the_edges(rt: HostRuntime) -> Result<(), Fail> {
-    let mut memory = two_words_each(rt.alloc()).ok_or("a memory")?;
-    // The EPC bank and the kill password want the secured state, the access password and TID are shut.
-    let locks = Locks::from_bits(0b10_11_10_11_00).ok_or("ten bits")?;
-    for write in &WRITES {
-        assert!(rt;
-            is_written(&mut memory, &locks, write) == Some(true),
-            "{write:?}"
-        );
+/// The EPC bank and the kill password want the secured state, the access password and TID are shut.
+const SHUT: Given = Given {
+    locks: 0b10_11_10_11_00,
+    ..GUARDED
+};
+
+/// How many of the writes come as they should, from the first on.
+fn right_writes(alloc: Global) -> Option<usize> {
+    let mut memory = memory(alloc, &SHUT).ok()?;
+    let locks = Locks::from_bits(SHUT.locks)?;
+    for (number, write) in WRITES.iter().enumerate() {
+        if is_written(&mut memory, &locks, write) != Some(true) {
+            return Some(number);
+        }
     }
-    Ok(())
+    Some(WRITES.len())
+}
+
+#[test]
+fn writes_at_the_edges(rt: HostRuntime) {
+    assert_eq!(rt; right_writes(rt.alloc()), Some(WRITES.len()));
 }
 
 /// A bank, the pointer, and what comes of the words AAAA BBBB and then of their erasure.
@@ -266,7 +244,7 @@ type Block = (Bank, u32, Result<(), ErrorCode>, Result<(), ErrorCode>);
 const OVERRUN: Result<(), ErrorCode> = Err(ErrorCode::Overrun);
 
 /// As PC, AAAAh and BBBBh announce more words than the bank has, and 0000h none.
-const BLOCKS: [Block; 5] = [
+const BLOCKS: &[Block] = &[
     (Bank::User, 1, OVERRUN, OVERRUN),
     (Bank::User, 0, Ok(()), Ok(())),
     (Bank::Epc, 0, OVERRUN, Err(ErrorCode::Locked)),
@@ -322,15 +300,27 @@ fn is_block(memory: &mut Memory, block: &Block) -> bool {
     got == Some(erased) && pair(memory, bank, place) == wanted
 }
 
-#[test]
-fn blocks_are_written_whole_or_not_at_all(rt: HostRuntime) -> Result<(), Fail> {
-    let mut memory = two_words_each(rt.alloc()).ok_or("a memory")?;
-    let got = block_write(&mut memory, Bank::User, 1);
-    assert!(rt;
-        got == Some(OVERRUN) && memory.words(MaskBank::User) == [0x1111, 0x2222].as_slice()
-    );
-    for block in &BLOCKS {
-        assert!(rt; is_block(&mut memory, block), "{block:?}");
+/// How many of the blocks come as they should, from the first on.
+fn right_blocks(alloc: Global) -> Option<usize> {
+    let mut memory = memory(alloc, &GUARDED).ok()?;
+    for (number, block) in BLOCKS.iter().enumerate() {
+        if !is_block(&mut memory, block) {
+            return Some(number);
+        }
     }
-    Ok(())
+    Some(BLOCKS.len())
+}
+
+/// Whether a block that passes the end of its bank leaves all of the bank as it was.
+fn is_left_whole(alloc: Global) -> Option<bool> {
+    let mut memory = memory(alloc, &GUARDED).ok()?;
+    let got = block_write(&mut memory, Bank::User, 1);
+    let user = memory.words(MaskBank::User);
+    Some(got == Some(OVERRUN) && user == [0x1111, 0x2222].as_slice())
+}
+
+#[test]
+fn blocks_are_written_whole_or_not_at_all(rt: HostRuntime) {
+    assert_eq!(rt; is_left_whole(rt.alloc()), Some(true));
+    assert_eq!(rt; right_blocks(rt.alloc()), Some(BLOCKS.len()));
 }

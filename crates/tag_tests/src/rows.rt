@@ -8,7 +8,7 @@ use command_grammar::{FlagName, Side};
 use tag_machine::{AnyTag, StateName};
 
 /// The state that a tag is in, with its slot in arbitrate.
-#[derive(Clone, Copy, Debug)]
+#[derive(Clone, Copy)]
 pub enum Is {
     Ready,
     Arbitrate(u16),
@@ -22,11 +22,13 @@ pub enum Is {
 
 pub type Row = (Says, Want, Is, Then);
 
-/// What a tag is made of, the rows that lead it to its state, and the rows of the table.
-pub type Table = (Given, [&'static [Row]; 2], &'static [Row]);
-
-/// Stands in a failed test for a tag that couldn't be made.
-pub const NOT_MADE: Row = (Says::Nak, Want::Nothing, Is::Killed, Then::Same);
+/// The name of a table, what its tag is made of, the rows that lead the tag to its state, and the rows of the table.
+pub struct Table {
+    pub name: &'static str,
+    pub given: Given,
+    pub ways: &'static [&'static [Row]],
+    pub rows: &'static [Row],
+}
 
 /// A Query of session 0, for all tags with the flag A, with Q 0.
 pub const QUERY: Says = Says::Query(0, Side::A, 0);
@@ -47,7 +49,9 @@ pub const GUARDED: Given = Given {
     kill: 0xAABB_CCDD,
     access: 0x1234_5678,
     locks: 0,
-    user: 2,
+    epc: &[0x0800, 0x1234],
+    tid: &[0xE200, 0x0001],
+    user: &[0x1111, 0x2222],
     draws: DRAWS,
     handle: H,
 };
@@ -73,7 +77,7 @@ pub const UNGUARDED_RN: Given = Given {
 /// Both passwords are 0, and there are no User words; each draw is A1B2.
 pub const PLAIN: Given = Given {
     kill: 0,
-    user: 0,
+    user: &[],
     ..UNGUARDED_RN
 };
 

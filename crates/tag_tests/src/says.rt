@@ -5,7 +5,7 @@ use bit_strings::{Action, Code, Count1, Payload, Pointer, QValue, Session};
 use command_grammar::{Bank, BlockWords, Command, FlagName, Mask, MaskBank, Sel, Side, UpDn};
 
 /// A command or an event in short. The last number of an access command is the tag's number.
-#[derive(Clone, Copy, Debug)]
+#[derive(Clone, Copy)]
 pub enum Says {
     /// To all tags: session, target and Q.
     Query(u8, Side, u8),

@@ -65,13 +65,6 @@ fn hear_counted<L: Ledger>(
     (heard.tag, heard.answered)
 }
 
-/// The tag after the command, whether it answered, and the bits of its answer.
-fn hear(alloc: Global, tag: AnyTag, command: &Command) -> Result<(AnyTag, Answered, Bits), Fail> {
-    let mut reply = Bits::new(alloc, 8240)?;
-    let (tag, answered) = hear_counted::<Brand>(Blank::new(1), tag, command, &mut reply);
-    Ok((tag, answered, reply))
-}
-
 /// The RN16 that the bits are, if they are one.
 fn rn16_of(reply: &Bits) -> Option<u16> {
     match decode_reply(reply, &Expect::Rn16) {
@@ -80,10 +73,21 @@ fn rn16_of(reply: &Bits) -> Option<u16> {
     }
 }
 
-/// How a new tag answers the Query, its state then, and the RN16 that it sends.
-fn answer_to_query(alloc: Global) -> Result<(Answered, StateName, Option<u16>), Fail> {
-    let (tag, answered, reply) = hear(alloc, new_tag(alloc)?, &query()?)?;
+/// How a tag answers a command, its state then, and the RN16 that it sends.
+fn hear(
+    alloc: Global,
+    tag: AnyTag,
+    command: &Command,
+) -> Result<(Answered, StateName, Option<u16>), Fail> {
+    let mut reply = Bits::new(alloc, 8240)?;
+    let (tag, answered) = hear_counted::<Brand>(Blank::new(1), tag, command, &mut reply);
     Ok((answered, tag.state(), rn16_of(&reply)))
+}
+
+/// The same of a new tag and the Query.
+fn answer_to_query(alloc: Global) -> Result<(Answered, StateName, Option<u16>), Fail> {
+    let query = query()?;
+    hear(alloc, new_tag(alloc)?, &query)
 }
 
 #[test]

@@ -5,7 +5,7 @@ use reply_grammar::{EpcWords, Expect, ReadWords, Reply};
 use tag_machine::Answered;
 
 /// The reply that must come.
-#[derive(Clone, Copy, Debug)]
+#[derive(Clone, Copy)]
 pub enum Want {
     Nothing,
     Rn16(u16),
@@ -21,17 +21,22 @@ pub enum Want {
     Error(u8),
 }
 
-fn read_words(words: &[u16]) -> ReadWords {
-    let mut read = ReadWords::new();
-    for word in words {
-        let _ = read.push(*word);
-    }
-    read
+fn one_word(word: u16) -> Reply {
+    let mut words = ReadWords::new();
+    words.push_reserved(word);
+    Reply::Words(words)
+}
+
+fn two_words(first: u16, second: u16) -> Reply {
+    let mut words = ReadWords::new();
+    words.push_reserved(first);
+    words.push_reserved(second);
+    Reply::Words(words)
 }
 
 fn epc_reply() -> Reply {
     let mut epc = EpcWords::new();
-    let _ = epc.push(0x1234);
+    epc.push_reserved(0x1234);
     Reply::Epc { pc: 0x0800, epc }
 }
 
@@ -45,12 +50,8 @@ impl Want {
             Rn16(rn) => Some((Answered::Plain, Expect::Rn16, Reply::Rn16(rn))),
             PcEpc => Some((Answered::Plain, Expect::Epc, epc_reply())),
             Handle(rn) => Some((Answered::Plain, Expect::Handle, Reply::Handle(rn))),
-            One(word) => Some((Answered::Plain, read, Reply::Words(read_words(&[word])))),
-            Two(first, second) => Some((
-                Answered::Plain,
-                read,
-                Reply::Words(read_words(&[first, second])),
-            )),
+            One(word) => Some((Answered::Plain, read, one_word(word))),
+            Two(first, second) => Some((Answered::Plain, read, two_words(first, second))),
             ReadError(code) => Some((Answered::Plain, read, Reply::Error(code))),
             Header => Some((Answered::Extended, delayed, Reply::Header)),
             Error(code) => Some((Answered::Extended, delayed, Reply::Error(code))),

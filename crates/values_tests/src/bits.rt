@@ -1,7 +1,6 @@
 //! Vectors from outside, and each call once.
 use bit_strings::{Bits, Count1, Ebv, EbvFront, EbvStep, Full, List, Session, xor16};
 use std::alloc::Global;
-use std::test::Fail;
 
 /// The list of bits that a text of the digits 0 and 1 shows, with some room to spare.
 fn bits_of(alloc: Global, text: &str) -> Option<Bits> {
@@ -114,21 +113,50 @@ fn other_spellings_are_refused(rt: HostRuntime) {
     }
 }
 
-/// A list of a field and a word.
-fn field_and_word(alloc: Global) -> Option<Bits> {
+/// Whether a field and a word are written one behind the other, and are read again, and no bit more fits than the list has room for.
+fn are_written(alloc: Global) -> Option<bool> {
     let mut bits = Bits::new(alloc, 24).ok()?;
     bits.put_field(0b1011, 4).ok()?;
     bits.put_u16(0xa1b2).ok()?;
-    Some(bits)
+    let wanted = bits_of(alloc, "10111010000110110010")?;
+    Some(
+        bits.as_slice() == wanted.as_slice()
+            && bits.word(4) == Some(0xa1b2)
+            && bits.put_field(0, 5) == Err(Full),
+    )
 }
 
 #[test]
-fn fields_are_written_and_read(rt: HostRuntime) -> Result<(), Fail> {
-    let mut bits = field_and_word(rt.alloc()).ok_or("room for 20 bits")?;
-    let text = bits_of(rt.alloc(), "10111010000110110010").ok_or("bits")?;
-    assert!(rt; bits.as_slice() == text.as_slice() && bits.word(4) == Some(0xa1b2));
-    assert!(rt; bits.put_field(0, 5) == Err(Full));
-    Ok(())
+fn fields_are_written_and_read(rt: HostRuntime) {
+    assert_eq!(rt; are_written(rt.alloc()), Some(true));
+}
+
+/// Four zeros, of which the two in the middle are written over, and a 1 behind them.
+fn written_over(alloc: Global) -> Option<Bits> {
+    let mut bits = Bits::new(alloc, 5).ok()?;
+    if bits.capacity() < 5 {
+        return None;
+    }
+    bits.fill_zeros(4);
+    if bits.len() != 4 {
+        return None;
+    }
+    bits.overwrite(1, &[true, true]);
+    if bits.len() < bits.capacity() {
+        bits.push_reserved(true);
+    }
+    Some(bits)
+}
+
+/// Whether these are the bits 01101.
+fn are_written_over(alloc: Global) -> Option<bool> {
+    let bits = written_over(alloc)?;
+    Some(bits.as_slice() == [false, true, true, false, true].as_slice())
+}
+
+#[test]
+fn bits_are_written_over(rt: HostRuntime) {
+    assert_eq!(rt; are_written_over(rt.alloc()), Some(true));
 }
 
 /// The bit that is taken off 100, the last bit of the rest after it was flipped, and whether none is left in the end.
@@ -150,22 +178,24 @@ fn bits_change(rt: HostRuntime) {
     assert_eq!(rt; xor16(0xa1b2, 0xffff), 0x5e4d);
 }
 
-#[test]
-fn bytes_are_copied(rt: HostRuntime) -> Result<(), Fail> {
-    let mut bits = Bits::new(rt.alloc(), 3)?;
-    bits.push(true)?;
+/// Whether bytes are copied in the place of a bit, and more of them than there is room for change nothing.
+fn are_copied(alloc: Global) -> Option<bool> {
+    let mut bits = Bits::new(alloc, 3).ok()?;
+    bits.push(true).ok()?;
     let is_full = bits.copy_bytes(b"1010", b'1') == Err(Full);
-    assert!(rt; is_full && bits.as_slice() == [true].as_slice());
-    let fits = bits.copy_bytes(b"101", b'1') == Ok(());
-    assert!(rt; fits && bits.as_slice() == [true, false, true].as_slice());
-    Ok(())
+    let is_same = bits.as_slice() == [true].as_slice();
+    bits.copy_bytes(b"101", b'1').ok()?;
+    Some(is_full && is_same && bits.as_slice() == [true, false, true].as_slice())
+}
+
+#[test]
+fn bytes_are_copied(rt: HostRuntime) {
+    assert_eq!(rt; are_copied(rt.alloc()), Some(true));
 }
 
 /// The second of two items, and how many there are.
 fn listed(alloc: Global) -> Option<(Option<u16>, usize)> {
-    let mut items = Vec::new(alloc);
-    items.push(7).ok()?;
-    items.push(9).ok()?;
+    let items = [7, 9].to_vec(alloc).ok()?;
     if items.len() != 2 {
         return None;
     }

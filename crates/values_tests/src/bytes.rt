@@ -46,31 +46,26 @@ fn a_source_is_read_up_to_the_limit(rt: HostRuntime) {
     }
 }
 
-/// The list of one number.
-fn one_number(alloc: Global, number: u64) -> Option<Vec<u64>> {
-    let mut numbers = Vec::new(alloc);
-    numbers.push(number).ok()?;
-    Some(numbers)
-}
-
 /// Whether the bytes 1, 2 and 3 are read, where the read of this number fails, or why not.
 fn reads(alloc: Global, failing: u64) -> Option<Result<bool, ReadEnd>> {
     let bytes = [1, 2, 3].to_vec(alloc).ok()?;
-    let mut source = MemSource::new(bytes, one_number(alloc, failing)?);
+    let mut source = MemSource::new(bytes, [failing].to_vec(alloc).ok()?);
     match read_to_end(alloc, &mut source, 9) {
         Ok(read) => Some(Ok(read.as_slice() == [1, 2, 3].as_slice())),
         Err(end) => Some(Err(end)),
     }
 }
 
+/// The number of the read that fails, and what comes of the reading: the second read meets the end, so there is no third.
+const READS: &[(u64, Result<bool, ReadEnd>)] = &[
+    (1, Err(ReadEnd::Fault)),
+    (2, Err(ReadEnd::Fault)),
+    (3, Ok(true)),
+];
+
 #[test]
 fn a_failed_read_ends_the_reading(rt: HostRuntime) {
-    // The second call meets the end, so there is no third.
-    for &(failing, wanted) in &[
-        (1, Err(ReadEnd::Fault)),
-        (2, Err(ReadEnd::Fault)),
-        (3, Ok(true)),
-    ] {
+    for &(failing, wanted) in READS {
         assert!(rt;
             reads(rt.alloc(), failing) == Some(wanted),
             "call {failing} fails"
@@ -89,7 +84,7 @@ const WRITES: &[(u32, u64, &[u8])] = &[
 
 /// Whether just these bytes are written.
 fn are_written(alloc: Global, room: u32, failing: u64, written: &[u8]) -> Option<bool> {
-    let mut sink = MemSink::new(alloc, room, one_number(alloc, failing)?).ok()?;
+    let mut sink = MemSink::new(alloc, room, [failing].to_vec(alloc).ok()?).ok()?;
     let is_whole = write_pieces(&mut sink).is_ok();
     Some(is_whole == (written.len() == 4) && sink.as_slice() == written)
 }
@@ -104,8 +99,6 @@ fn a_failed_write_ends_the_writing(rt: HostRuntime) {
 }
 
 fn write_pieces(out: &mut impl Sink) -> Result<(), WriteFailed> {
-    for piece in [[1, 2], [3, 4]] {
-        write_all(out, &piece)?;
-    }
-    Ok(())
+    write_all(out, &[1, 2])?;
+    write_all(out, &[3, 4])
 }

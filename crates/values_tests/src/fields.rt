@@ -1,7 +1,6 @@
 //! Fields and lines of texts, read and written, against texts written out by hand.
 use bit_strings::{Bits, Code};
 use std::alloc::Global;
-use std::test::Fail;
 use text_fields::*;
 
 const MOST: u32 = u32::MAX;
@@ -40,30 +39,34 @@ fn is_number_text(alloc: Global, number: u32, wanted: &str) -> bool {
     push_number(&mut text, number).is_ok() && text.as_str() == wanted
 }
 
+const NUMBER_TEXTS: &[(u32, &str)] = &[
+    (0, "0"),
+    (9, "9"),
+    (10, "10"),
+    (65535, "65535"),
+    (4294967295, "4294967295"),
+];
+
 #[test]
 fn numbers_are_written(rt: HostRuntime) {
-    for &(number, wanted) in &[
-        (0, "0"),
-        (9, "9"),
-        (10, "10"),
-        (65535, "65535"),
-        (4294967295, "4294967295"),
-    ] {
+    for &(number, wanted) in NUMBER_TEXTS {
         assert!(rt; is_number_text(rt.alloc(), number, wanted), "{wanted}");
     }
 }
 
+const DIGITS: &[(&[u8], Option<bool>)] = &[
+    (b"0", Some(false)),
+    (b"1", Some(true)),
+    (b"2", None),
+    (b"", None),
+    (b"01", None),
+    (b"-", None),
+];
+
 #[test]
 fn flags_are_one_digit(rt: HostRuntime) {
-    for &(field, wanted) in &[
-        (b"0".as_slice(), Some(false)),
-        (b"1", Some(true)),
-        (b"2", None),
-        (b"", None),
-        (b"01", None),
-        (b"-", None),
-    ] {
-        assert_eq!(rt; one_bit(field), wanted);
+    for &(field, wanted) in DIGITS {
+        assert!(rt; one_bit(field) == wanted, "{field:?}");
     }
 }
 
@@ -115,28 +118,24 @@ fn bits_are_read_and_written(rt: HostRuntime) {
     }
 }
 
-/// Fields of each kind, one behind another.
-fn next_fields(alloc: Global) -> Result<String, Fail> {
+/// Whether fields of each kind are written one behind another.
+fn are_next_fields(alloc: Global) -> bool {
     let mut text = String::new(alloc);
-    push_named_number(&mut text, "lock", 7)?;
-    push_next_name(&mut text, "epc")?;
-    push_next_number(&mut text, 4294967295)?;
-    push_next_word(&mut text, 0x0A9F)?;
-    push_next_words(&mut text, &[0x3000, 0x00EF])?;
-    push_next_words(&mut text, &[])?;
-    push_next_bits(&mut text, &[true, false])?;
-    push_next_bits(&mut text, &[])?;
-    push_named_word(&mut text, " ack", 0x001D)?;
-    Ok(text)
+    push_named_number(&mut text, "lock", 7).is_ok()
+        && push_next_name(&mut text, "epc").is_ok()
+        && push_next_number(&mut text, 4294967295).is_ok()
+        && push_next_word(&mut text, 0x0A9F).is_ok()
+        && push_next_words(&mut text, &[0x3000, 0x00EF]).is_ok()
+        && push_next_words(&mut text, &[]).is_ok()
+        && push_next_bits(&mut text, &[true, false]).is_ok()
+        && push_next_bits(&mut text, &[]).is_ok()
+        && push_named_word(&mut text, " ack", 0x001D).is_ok()
+        && text.as_str() == "lock 7 epc 4294967295 0A9F 300000EF - 10 - ack 001D"
 }
 
 #[test]
-fn next_fields_are_written(rt: HostRuntime) -> Result<(), Fail> {
-    assert_eq!(rt;
-        next_fields(rt.alloc())?.as_str(),
-        "lock 7 epc 4294967295 0A9F 300000EF - 10 - ack 001D"
-    );
-    Ok(())
+fn next_fields_are_written(rt: HostRuntime) {
+    assert!(rt; are_next_fields(rt.alloc()));
 }
 
 /// Texts, each with its first line and what stands behind it.
@@ -216,23 +215,19 @@ fn words_have_one_spelling(rt: HostRuntime) {
     }
 }
 
-/// A word, a byte, and lists of no word and of two.
-fn hexadecimals(alloc: Global) -> Result<String, Fail> {
+/// Whether a word, a byte, and lists of no word and of two are written.
+fn are_hexadecimals(alloc: Global) -> bool {
     let mut text = String::new(alloc);
-    push_word(&mut text, 0x0A9F)?;
-    text.push(' ')?;
-    push_byte_hex(&mut text, 0x0B)?;
-    text.push(' ')?;
-    push_words(&mut text, &[])?;
-    text.push(' ')?;
-    push_words(&mut text, &[0x3000, 0x00EF])?;
-    Ok(text)
+    push_word(&mut text, 0x0A9F).is_ok()
+        && push_byte_hex(&mut text, 0x0B).is_ok()
+        && push_words(&mut text, &[]).is_ok()
+        && push_words(&mut text, &[0x3000, 0x00EF]).is_ok()
+        && text.as_str() == "0A9F0B-300000EF"
 }
 
 #[test]
-fn words_are_written(rt: HostRuntime) -> Result<(), Fail> {
-    assert_eq!(rt; hexadecimals(rt.alloc())?.as_str(), "0A9F 0B - 300000EF");
-    Ok(())
+fn words_are_written(rt: HostRuntime) {
+    assert!(rt; are_hexadecimals(rt.alloc()));
 }
 
 /// A field, how many bytes it may have, and whether it has as many at most.
@@ -248,29 +243,46 @@ const BYTES: &[(&[u8], u32, bool)] = &[
     (b"00", 0, false),
 ];
 
-#[test]
-fn bytes_are_read_in_either_case(rt: HostRuntime) -> Result<(), Fail> {
-    let read = HexBytes::new(b"00fFa90E", 4).ok_or("no bytes")?;
-    assert!(rt; read.len() == 4);
+/// Four bytes, two of them in lower case.
+fn decoded() -> Option<[u8; 4]> {
+    let read = HexBytes::new(b"00fFa90E", 4)?;
+    if read.len() != 4 {
+        return None;
+    }
     let mut bytes = [0; 4];
     read.decode_to(&mut bytes);
-    assert_eq!(rt; bytes, [0x00, 0xFF, 0xA9, 0x0E]);
+    Some(bytes)
+}
+
+#[test]
+fn bytes_are_read_in_either_case(rt: HostRuntime) {
+    assert_eq!(rt; decoded(), Some([0x00, 0xFF, 0xA9, 0x0E]));
+}
+
+#[test]
+fn bytes_have_two_digits_each(rt: HostRuntime) {
     for &(field, most, wanted) in BYTES {
         assert!(rt; HexBytes::new(field, most).is_some() == wanted, "{field:?}");
     }
-    Ok(())
+}
+
+/// A name, and the code that it is of.
+const CODES: &[(&str, Option<Code>)] = &[
+    ("fm0", Some(Code::Fm0)),
+    ("m2", Some(Code::M2)),
+    ("m4", Some(Code::M4)),
+    ("m8", Some(Code::M8)),
+    ("m16", None),
+];
+
+/// Whether the code has this name, both ways.
+fn is_name(name: &str, code: Option<Code>) -> bool {
+    code_named(name.as_bytes()) == code && code.is_none_or(|code| name_of(code) == name)
 }
 
 #[test]
 fn codes_have_names(rt: HostRuntime) {
-    for &(name, code) in &[
-        ("fm0", Code::Fm0),
-        ("m2", Code::M2),
-        ("m4", Code::M4),
-        ("m8", Code::M8),
-    ] {
-        assert_eq!(rt; code_named(name.as_bytes()), Some(code));
-        assert_eq!(rt; name_of(code), name);
+    for &(name, code) in CODES {
+        assert!(rt; is_name(name, code), "{name}");
     }
-    assert_eq!(rt; code_named(b"m16"), None);
 }

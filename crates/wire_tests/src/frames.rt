@@ -1,4 +1,4 @@
-//! Frames in pulse-interval encoding, and links, against lists of intervals written out by hand.
+//! Frames in pulse-interval encoding, and links. Frames that are read, and each refusal, stand in rows/wire/frames.txt.
 ghost use Rattle.std.specs.Prelude.{◌≤◌};
 
 use crate::lists::bits_of;
@@ -8,37 +8,50 @@ use pie_line::{
     encode_frame,
 };
 use std::alloc::Global;
-use std::test::Fail;
 
-/// Delimiter, a Tari of 12,500 and an RTcal of 31,250.
-const HEADER: [u32; 5] = [12_500, 6_250, 6_250, 25_000, 6_250];
+/// The frame of a Query behind a preamble.
+const QUERY: &[u32] = &[
+    12_500, 6_250, 6_250, 25_000, 6_250, 43_750, 6_250, // delimiter, Tari, RTcal, TRcal
+    12_500, 6_250, 6_250, 6_250, 6_250, 6_250, 6_250, 6_250, // 1000
+    12_500, 6_250, 6_250, 6_250, 6_250, 6_250, 6_250, 6_250, // 1000
+    6_250, 6_250, 6_250, 6_250, 6_250, 6_250, 6_250, 6_250, // 0000
+    6_250, 6_250, 6_250, 6_250, 6_250, 6_250, 6_250, 6_250, // 0000
+    12_500, 6_250, 6_250, 6_250, 6_250, 6_250, 6_250, 6_250, // 1000
+    6_250, 6_250, 12_500, 6_250, // 01
+];
 
-const SYNC: FrameKind = FrameKind::FrameSync {
-    tari: 12_500,
-    rtcal: 31_250,
-};
-
-/// The list of the intervals of `front` and `rest`.
-fn intervals_of(alloc: Global, front: &[u32], rest: &[u32]) -> Option<Intervals> {
-    let mut intervals = Intervals::new(alloc, 100).ok()?;
-    for interval in front {
-        intervals.push(*interval).ok()?;
+/// The frame of a Query behind this lead.
+fn query_frame(alloc: Global, lead: Lead) -> Option<Intervals> {
+    let link = Link::new(12_500, 31_250, 50_000, 6_250, true, Code::Fm0, false).ok()?;
+    let bits = bits_of(alloc, "1000100000000000100001")?;
+    let mut out = Intervals::new(alloc, 100).ok()?;
+    if out.capacity() != 100 || bits.len() > 22 || link.blf() != (64, 150_000) {
+        return None;
     }
-    for interval in rest {
-        intervals.push(*interval).ok()?;
-    }
-    Some(intervals)
+    encode_frame(&link, lead, &bits, &mut out);
+    Some(out)
 }
 
-/// What the intervals of `front` and `rest` are read as, with the bits.
-fn read(
-    alloc: Global,
-    front: &[u32],
-    rest: &[u32],
-) -> Option<(Result<FrameKind, PieRefusal>, Bits)> {
-    let intervals = intervals_of(alloc, front, rest)?;
+/// Whether the Query has these frames: behind a frame-sync there is no TRcal.
+fn are_frames(alloc: Global) -> Option<bool> {
+    let preamble = query_frame(alloc, Lead::Preamble)?;
+    let sync = query_frame(alloc, Lead::FrameSync)?;
+    let (front, rest) = (QUERY.get(..5)?, QUERY.get(7..)?);
+    Some(
+        preamble.as_slice() == QUERY
+            && sync.as_slice().get(..5)? == front
+            && sync.as_slice().get(5..)? == rest,
+    )
+}
+
+#[test]
+fn a_query_is_written(rt: HostRuntime) {
+    assert_eq!(rt; are_frames(rt.alloc()), Some(true));
+}
+
+/// What the intervals are read as, and how many bits that are.
+fn read(alloc: Global, intervals: &Intervals) -> Option<(Result<FrameKind, PieRefusal>, u32)> {
     let mut out = Bits::new(alloc, 200).ok()?;
-    out.push(true).ok()?;
     let are_short = intervals
         .as_slice()
         .iter()
@@ -46,57 +59,30 @@ fn read(
     if intervals.len() > 100 || out.capacity() != 200 || !are_short {
         return None;
     }
-    let result = decode_frame(&intervals, &mut out);
-    Some((result, out))
+    let result = decode_frame(intervals, &mut out);
+    Some((result, out.len()))
 }
 
-const PREAMBLE: FrameKind = FrameKind::Preamble {
-    tari: 12_500,
-    rtcal: 31_250,
-    trcal: 34_375,
-};
-
-const LONGEST_PREAMBLE: FrameKind = FrameKind::Preamble {
-    tari: 12_500,
-    rtcal: 31_250,
-    trcal: 93_750,
-};
-
-/// What follows the header, and the kind and the bits of the frame.
-const FRAMES: &[(&[u32], FrameKind, &str)] = &[
-    (
-        &[6_250, 6_250, 6_250, 6_250, 6_250, 6_250, 6_250, 6_250],
-        SYNC,
-        "0000",
-    ),
-    // The pivot is 15,625, and a symbol lasts at most 125,000.
-    (&[9_375, 6_250, 118_750, 6_250], SYNC, "11"),
-    (&[9_374, 6_250, 1, 1], SYNC, "00"),
-    (&[25_000, 6_250], SYNC, "1"),
-    (&[], SYNC, ""),
-    (&[28_125, 6_250], PREAMBLE, ""),
-    (&[28_125, 6_250, 6_250, 6_250, 124_999, 1], PREAMBLE, "01"),
-    (&[93_749, 1], LONGEST_PREAMBLE, ""),
-];
-
-/// Whether the intervals behind the header are read as this frame.
-fn is_frame(alloc: Global, rest: &[u32], kind: FrameKind, text: &str) -> Option<bool> {
-    let (result, out) = read(alloc, &HEADER, rest)?;
-    let bits = bits_of(alloc, text)?;
-    Some(result == Ok(kind) && out.as_slice() == bits.as_slice())
+/// What the Query's frame is read as, and what no intervals are.
+fn frames_read(alloc: Global) -> Option<[(Result<FrameKind, PieRefusal>, u32); 2]> {
+    let query = query_frame(alloc, Lead::Preamble)?;
+    let none = Intervals::new(alloc, 0).ok()?;
+    Some([read(alloc, &query)?, read(alloc, &none)?])
 }
 
 #[test]
-fn frames_are_read(rt: HostRuntime) {
-    for &(rest, kind, bits) in FRAMES {
-        assert!(rt;
-            is_frame(rt.alloc(), rest, kind, bits) == Some(true),
-            "{rest:?}"
-        );
-    }
+fn a_query_is_read(rt: HostRuntime) {
+    let preamble = FrameKind::Preamble {
+        tari: 12_500,
+        rtcal: 31_250,
+        trcal: 50_000,
+    };
+    assert!(rt;
+        frames_read(rt.alloc()) == Some([(Ok(preamble), 22), (Err(PieRefusal::Unfinished(0)), 0)])
+    );
 }
 
-/// A decoder that was given the header.
+/// A decoder that was given the delimiter, a Tari of 12,500 and an RTcal of 31,250.
 fn edges_behind_header() -> Edges
     ensures { result.count ≤ 5 }
 {
@@ -138,120 +124,6 @@ fn symbols_are_taken_whole(rt: HostRuntime) {
     for &(high, low, bit) in WHOLE_SYMBOLS {
         assert!(rt; whole_symbol(high, low) == (None, bit), "{high} {low}");
     }
-}
-
-/// Intervals, and why they are refused.
-type Refused = (&'static [u32], PieRefusal);
-
-/// Behind the header.
-const SYMBOLS: &[Refused] = &[
-    // The first pair after RTcal.
-    (&[0], PieRefusal::Symbol(5)),
-    (&[93_749], PieRefusal::Unfinished(6)),
-    (&[93_750], PieRefusal::TrCal),
-    (&[6_250, 0], PieRefusal::Symbol(6)),
-    (&[25_000, 6_251], PieRefusal::TrCal),
-    (&[28_124, 6_250], PieRefusal::TrCal),
-    (&[93_749, 2], PieRefusal::TrCal),
-    // A later pair.
-    (&[9_375, 6_250, 118_751, 6_250], PieRefusal::Symbol(8)),
-    (&[9_375, 6_250, 118_750, 6_251], PieRefusal::Symbol(8)),
-    (&[9_375, 6_250, 124_999], PieRefusal::Unfinished(8)),
-    (&[9_375, 6_250, 125_000], PieRefusal::Symbol(7)),
-    (&[9_375, 6_250, 0], PieRefusal::Symbol(7)),
-    (&[28_125, 6_250, 6_250, 0], PieRefusal::Symbol(8)),
-];
-
-/// From the delimiter on.
-const HEADERS: &[Refused] = &[
-    (&[], PieRefusal::Unfinished(0)),
-    (&[11_874], PieRefusal::Delimiter),
-    (&[11_875], PieRefusal::Unfinished(1)),
-    (&[13_125], PieRefusal::Unfinished(1)),
-    (&[13_126], PieRefusal::Delimiter),
-    (&[0], PieRefusal::Delimiter),
-    (&[12_500, 6_250], PieRefusal::Unfinished(2)),
-    (&[12_500, 24_999], PieRefusal::Unfinished(2)),
-    (&[12_500, 25_000], PieRefusal::Tari),
-    (&[12_500, 0], PieRefusal::Tari),
-    (&[12_500, 6_249, 1], PieRefusal::Unfinished(3)),
-    (&[12_500, 6_248, 1], PieRefusal::Tari),
-    (&[12_500, 12_500, 12_500], PieRefusal::Unfinished(3)),
-    (&[12_500, 12_500, 12_501], PieRefusal::Tari),
-    (&[12_500, 6_250, 0], PieRefusal::Tari),
-];
-
-/// Behind the delimiter and Tari.
-const RTCALS: &[Refused] = &[
-    (&[37_499], PieRefusal::Unfinished(4)),
-    (&[37_500], PieRefusal::RtCal),
-    (&[0], PieRefusal::RtCal),
-    (&[25_000, 6_249], PieRefusal::RtCal),
-    (&[25_000, 12_501], PieRefusal::RtCal),
-    (&[31_250, 0], PieRefusal::RtCal),
-    // An RTcal of 37,500 is the longest for this Tari.
-    (&[25_000, 12_500, 112_499], PieRefusal::Unfinished(6)),
-    (&[25_000, 12_500, 112_500], PieRefusal::TrCal),
-];
-
-/// Why the intervals are refused, and how many bits are left then.
-fn refusal(alloc: Global, front: &[u32], rest: &[u32]) -> Option<(PieRefusal, u32)> {
-    match read(alloc, front, rest)? {
-        (Err(refusal), out) => Some((refusal, out.len())),
-        (Ok(_), _) => None,
-    }
-}
-
-#[test]
-fn parts_are_bounded(rt: HostRuntime) {
-    let tari: &[u32] = &[12_500, 6_250, 6_250];
-    for (front, rows) in [(HEADER.as_slice(), SYMBOLS), (&[], HEADERS), (tari, RTCALS)] {
-        for (rest, wanted) in rows {
-            assert!(rt;
-                refusal(rt.alloc(), front, rest) == Some((*wanted, 0)),
-                "{rest:?}"
-            );
-        }
-    }
-}
-
-/// The frame of a Query behind a preamble.
-const QUERY: [u32; 51] = [
-    12_500, 6_250, 6_250, 25_000, 6_250, 43_750, 6_250, // delimiter, Tari, RTcal, TRcal
-    12_500, 6_250, 6_250, 6_250, 6_250, 6_250, 6_250, 6_250, // 1000
-    12_500, 6_250, 6_250, 6_250, 6_250, 6_250, 6_250, 6_250, // 1000
-    6_250, 6_250, 6_250, 6_250, 6_250, 6_250, 6_250, 6_250, // 0000
-    6_250, 6_250, 6_250, 6_250, 6_250, 6_250, 6_250, 6_250, // 0000
-    12_500, 6_250, 6_250, 6_250, 6_250, 6_250, 6_250, 6_250, // 1000
-    6_250, 6_250, 12_500, 6_250, // 01
-];
-
-/// The frame of a Query behind this lead.
-fn query_frame(alloc: Global, link: &Link, lead: Lead) -> Option<Intervals> {
-    let bits = bits_of(alloc, "1000100000000000100001")?;
-    let mut out = Intervals::new(alloc, 100).ok()?;
-    if out.capacity() != 100 || bits.len() > 22 {
-        return None;
-    }
-    encode_frame(link, lead, &bits, &mut out);
-    Some(out)
-}
-
-#[test]
-fn a_query_is_written(rt: HostRuntime) -> Result<(), Fail> {
-    let link = Link::new(12_500, 31_250, 50_000, 6_250, true, Code::Fm0, false)
-        .ok()
-        .ok_or("a link")?;
-    let preamble = query_frame(rt.alloc(), &link, Lead::Preamble).ok_or("a frame")?;
-    let sync = query_frame(rt.alloc(), &link, Lead::FrameSync).ok_or("a frame")?;
-    assert_eq!(rt; link.blf(), (64, 150_000));
-    assert!(rt; preamble.as_slice() == QUERY.as_slice());
-    // A frame-sync has no TRcal.
-    let intervals = sync.as_slice();
-    assert!(rt; intervals.len() == 49);
-    let (front, rest) = intervals.split_at(5);
-    assert!(rt; front == &QUERY[..5] && rest == &QUERY[7..]);
-    Ok(())
 }
 
 /// Tari, RTcal, TRcal and PW.
@@ -304,13 +176,21 @@ fn links_are_bounded(rt: HostRuntime) {
     }
 }
 
-#[test]
-fn lists_have_a_capacity(rt: HostRuntime) -> Result<(), Fail> {
-    let mut list = Intervals::new(rt.alloc(), 1)?;
-    let pushed = [list.push(7), list.push(8)];
-    assert_eq!(rt; pushed, [Ok(()), Err(Full)]);
-    assert!(rt; list.as_slice() == [7].as_slice() && list.get(1) == None);
+/// Whether a list of two intervals ends there, and is empty once it is cleared.
+fn ends_at_two(alloc: Global) -> Option<bool> {
+    let mut list = Intervals::new(alloc, 2).ok()?;
+    list.push(7).ok()?;
+    if list.len() >= list.capacity() {
+        return None;
+    }
+    list.push_reserved(9);
+    let is_full = list.push(8) == Err(Full) && list.as_slice() == [7, 9].as_slice();
+    let ends = (list.get(1), list.get(2)) == (Some(9), None);
     list.clear();
-    assert!(rt; list.is_empty());
-    Ok(())
+    Some(is_full && ends && list.is_empty())
+}
+
+#[test]
+fn lists_have_a_capacity(rt: HostRuntime) {
+    assert_eq!(rt; ends_at_two(rt.alloc()), Some(true));
 }
