@@ -6,6 +6,7 @@ pub mod Taking
 pub mod Populations
 pub mod Exchanging
 pub mod Links
+pub mod NumberBits
 pub mod Slots
 pub mod Seating
 pub mod Heard

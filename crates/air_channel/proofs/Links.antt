@@ -1,11 +1,11 @@
 -- The links of tags that stand on places, where one is put on a place or taken from it.
-use Rattle.std.proofs.Common.{◌≡◌, ◌≢◌, ℕ, zero, suc, ◌+◌, ◌-◌, ◌<◌, ◌≤◌, ◌⊎◌, inl, inr, List, [], ◌∷◌, length, Option, Some, None, get_or, set, replicate, refl, sym, ap, ◌∙◌, subst, arith}
+use Rattle.std.proofs.Common.{◌≡◌, ◌≢◌, ℕ, zero, suc, ◌+◌, ◌<◌, ◌≤◌, ◌==◌, ◌⊎◌, inl, inr, List, [], ◌∷◌, length, Option, Some, None, get_or, set, replicate, refl, sym, ap, ◌∙◌, subst, arith, if◌then◌else◌, is_some, true, false}
 use Rattle.std.proofs.lemmas.Bool.{cases_lt}
 use Rattle.std.proofs.lemmas.Bool.Decides.{eqb_tells}
 use Rattle.std.proofs.lemmas.List.{get_or-set_same, get_or-set_other, get_or_past, get_or_default, get_or-replicate, length-replicate, length-set}
 use Rattle.std.proofs.lemmas.Option.{same_Some}
 use Rattle.std.proofs.lemmas.Grind.{get_or_default_zero}
-use Rattle.air_channel.specs.Wheel.{place_of, NoneBetween, IsNextTag, LeadNowhere, LeadsOn, IsLinkOf, IsLinked, IsLinkBefore}
+use Rattle.air_channel.specs.Wheel.{place_of, IsTagOn, LeadNowhere, IsLinkOf, IsLinked}
 
 none_some : (place : ℕ) → None ≡ Some place → ⊥
 none_some place e = cc
@@ -18,34 +18,62 @@ stands_inside places number place is =
       | inr past ↦ absurd (none_some place (sym (get_or_past places number None past) ∙ is))
     ]
 
--- of the links of a place, one alone leads past the numbers below one
-one_link : (places : List (Option ℕ)) (place number at from other origin : ℕ) → IsLinkOf places place at from → IsLinkOf places place other origin
-    → from ≤ number → origin ≤ number → NoneBetween places place from number → NoneBetween places place origin number → at ≡ other
-one_link places place number at from other origin (inl a) (inl b) before earlier none nothing = a.0 ∙ sym b.0
-one_link places place number at from other origin (inl a) (inr b) before earlier none nothing =
-    absurd (none b.0 (omega (arith, a.1)) (omega (arith, b.2, earlier)) b.3)
-one_link places place number at from other origin (inr a) (inl b) before earlier none nothing =
-    absurd (nothing a.0 (omega (arith, b.1)) (omega (arith, a.2, before)) a.3)
-one_link places place number at from other origin (inr a) (inr b) before earlier none nothing =
-    elim (cases_lt a.0 b.0) [
-      | inl less ↦ absurd (none b.0 (omega (arith, a.2, less)) (omega (arith, b.2, earlier)) b.3)
-      | inr more ↦
-          elim (cases_lt b.0 a.0) [
-            | inl less ↦ absurd (nothing a.0 (omega (arith, b.2, less)) (omega (arith, a.2, before)) a.3)
-            | inr same ↦ omega (arith, a.1, b.1, more, same)
-          ]
+-- a link that is looked at stands among the links
+pub link_inside : (places : List (Option ℕ)) (links backs : List ℕ) (place link : ℕ) → IsLinked places links backs → place < 131073 → IsLinkOf places place link → link < length links
+link_inside places links backs place link linked below (inl a) = omega (arith, a, linked.size)
+link_inside places links backs place link linked below (inr a) = omega (arith, a.1, linked.size, linked.few, stands_inside places a.0 place a.2)
+
+-- a link of a place is no link of another
+same_place : (places : List (Option ℕ)) (place other link : ℕ) → place < 131073 → other < 131073 → IsLinkOf places place link → IsLinkOf places other link → place ≡ other
+same_place places place other link below limited (inl a) (inl b) = sym a ∙ b
+same_place places place other link below limited (inl a) (inr b) = absurd (omega (arith, a, b.1, below))
+same_place places place other link below limited (inr a) (inl b) = absurd (omega (arith, a.1, b, limited))
+same_place places place other link below limited (inr a) (inr b) =
+    let same : a.0 ≡ b.0 = omega (arith, a.1, b.1) in
+    same_Some place other (sym a.2 ∙ ap (λ n. place_of places n) same ∙ b.2)
+
+-- the link behind a tag that stands nowhere is no link of a place
+not_own : (places : List (Option ℕ)) (number place link : ℕ) → place_of places number ≡ None → place < 131073 → IsLinkOf places place link → link ≢ 131073 + number
+not_own places number place link nowhere below (inl a) = λ same. omega (arith, same, a, below)
+not_own places number place link nowhere below (inr a) = λ same.
+    let one : a.0 ≡ number = omega (arith, same, a.1) in
+    none_some place (sym nowhere ∙ sym (ap (λ n. place_of places n) one) ∙ a.2)
+
+-- a link of a place where other tags stay as they are
+link_stays : (places after : List (Option ℕ)) (number place link : ℕ) → link ≢ 131073 + number → ((other : ℕ) → other ≢ number → place_of after other ≡ place_of places other)
+    → IsLinkOf places place link → IsLinkOf after place link
+link_stays places after number place link apart stays (inl a) = inl a
+link_stays places after number place link apart stays (inr a) = inr (a.0, a.1, stays a.0 (λ same. apart (a.1 ∙ ap (λ n. 131073 + n) same)) ∙ a.2)
+
+-- of a place to which no link leads, no tag is before another
+none_before : (places : List (Option ℕ)) (links backs : List ℕ) (place fuel number : ℕ) (linked : IsLinked places links backs) → length places ≤ get_or links place 0
+    → linked.now ≤ linked.came number + fuel → place_of places number ≢ Some place
+none_before places links backs place zero number linked past late = λ is. omega (arith, late, linked.past number)
+none_before places links backs place (suc fuel) number linked past late = λ is.
+    let back = linked.back number place is in
+    elim back.0 [
+      | inl first ↦
+          let leads : get_or links place 0 ≡ number = ap (λ n. get_or links n 0) (sym first) ∙ back.1 in
+          omega (arith, leads, past, stands_inside places number place is)
+      | inr other ↦
+          let later : linked.came number < linked.came other.0 = linked.earlier number other.0 place is other.1 in
+          none_before places links backs place fuel other.0 linked past (omega (arith, later, late)) other.2
     ]
 
--- a link that is looked at stands among the links
-pub link_inside : (places : List (Option ℕ)) (links : List ℕ) (place at from : ℕ) → IsLinked places links → place < 131073 → IsLinkOf places place at from → at < length links
-link_inside places links place at from linked below (inl a) = omega (arith, a.0, linked.size)
-link_inside places links place at from linked below (inr a) = omega (arith, a.1, linked.size, linked.few, stands_inside places a.0 place a.3)
+pub tag_on : (places : List (Option ℕ)) (links backs : List ℕ) (place first : ℕ) → IsLinked places links backs → place < 131073 → first ≡ get_or links place first
+    → first < length places → IsTagOn places place (Some first)
+tag_on places links backs place first linked below is within =
+    let first_is : get_or links place 0 ≡ first = sym (is ∙ get_or_default_zero links place first (omega (arith, linked.size, below))) in
+    ap (λ n. place_of places n) (sym first_is) ∙ (linked.onward place place below (inl refl) (rw first_is within)).0
 
--- behind the last tag of a place there is none
-pub no_next : (places : List (Option ℕ)) (place from link : ℕ) → LeadsOn places place from link → length places ≤ link → IsNextTag places place from None
-no_next places place from link leads past = λ number least is. leads.between number least (omega (arith, stands_inside places number place is, past)) is
+pub no_tag_on : (places : List (Option ℕ)) (links backs : List ℕ) (place first : ℕ) → IsLinked places links backs → place < 131073 → first ≡ get_or links place first
+    → length places ≤ first → IsTagOn places place None
+no_tag_on places links backs place first linked below is past = λ number.
+    let first_is : get_or links place 0 ≡ first = sym (is ∙ get_or_default_zero links place first (omega (arith, linked.size, below))) in
+    none_before places links backs place linked.now number linked (rw first_is past) (omega arith)
 
-stands_nowhere : (count number place : ℕ) → place_of (replicate count None) number ≢ Some place
+-- no tags
+pub stands_nowhere : (count number place : ℕ) → place_of (replicate count None) number ≢ Some place
 stands_nowhere count number place is =
     let inside : number < count = rw (← length-replicate {A = Option ℕ} count None) (stands_inside (replicate count None) number place is) in
     none_some place (sym (get_or-replicate count number None None inside) ∙ is)
@@ -56,28 +84,37 @@ lead_nowhere links size known is = record {
   each = λ at below. ap (λ (l : List ℕ). get_or l at 0) is ∙ get_or-replicate {A = ℕ} size at 256 0 (omega (arith, below, known));
 }
 
-none_leads : (count : ℕ) (links : List ℕ) (place at from : ℕ) → count ≤ 256 → LeadNowhere links → place < 131073 → IsLinkOf (replicate count None) place at from
-    → LeadsOn (replicate count None) place from (get_or links at 0)
-none_leads count links place at from few nowhere below (inl a) =
-    let link : get_or links at 0 ≡ 256 = nowhere.each at (omega (arith, a.0, below)) in
-    record {
-      onward = omega (arith, a.1);
-      between = λ number least past. stands_nowhere count number place;
-      there = λ within. absurd (omega (arith, within, link, length-replicate {A = Option ℕ} count None, few));
-    }
-none_leads count links place at from few nowhere below (inr a) = absurd (stands_nowhere count a.0 place a.3)
+nowhere_each : (links : List ℕ) (link : ℕ) → LeadNowhere links → get_or links link 0 ≤ 256
+nowhere_each links link nowhere =
+    elim (cases_lt link 131329) [
+      | inl within ↦ omega (arith, nowhere.each link within)
+      | inr past ↦ rw (get_or_past links link 0 (omega (arith, nowhere.size, past))) (omega arith)
+    ]
 
--- no tags, and no link leads to one
-none_linked : (count : ℕ) (links : List ℕ) → count ≤ 256 → LeadNowhere links → IsLinked (replicate count None) links
-none_linked count links few nowhere = record {
+nowhere_onward : (count : ℕ) (links : List ℕ) (place link : ℕ) → count ≤ 256 → LeadNowhere links → place < 131073 → IsLinkOf (replicate count None) place link
+    → get_or links link 0 < length (replicate {A = Option ℕ} count None) → ⊥
+nowhere_onward count links place link few nowhere below (inl a) within =
+    omega (arith, nowhere.each link (omega (arith, a, below)), within, length-replicate {A = Option ℕ} count None, few)
+nowhere_onward count links place link few nowhere below (inr a) within = stands_nowhere count a.0 place a.2
+
+none_linked : (count : ℕ) (links backs : List ℕ) → count ≤ 256 → LeadNowhere links → length backs ≡ 257 → IsLinked (replicate count None) links backs
+none_linked count links backs few nowhere room = record {
   few = rw (length-replicate {A = Option ℕ} count None) few;
   size = nowhere.size;
+  room = room;
   inside = λ number place stands. absurd (stands_nowhere count number place stands);
-  leads = λ place at from below link. none_leads count links place at from few nowhere below link;
+  each = λ link. nowhere_each links link nowhere;
+  onward = λ place link below of within. absurd (nowhere_onward count links place link few nowhere below of within);
+  back = λ number place stands. absurd (stands_nowhere count number place stands);
+  came = λ number. 0;
+  now = 1;
+  past = λ number. omega arith;
+  earlier = λ number other place stands. absurd (stands_nowhere count number place stands);
 }
 
-pub new_linked : (count : ℕ) (places : List (Option ℕ)) (links : List ℕ) → count ≤ 256 → places ≡ replicate count None → LeadNowhere links → IsLinked places links
-new_linked count places links few none nowhere = subst (λ (l : List (Option ℕ)). IsLinked l links) (sym none) (none_linked count links few nowhere)
+pub new_linked : (count : ℕ) (places : List (Option ℕ)) (links backs : List ℕ) → count ≤ 256 → places ≡ replicate count None → LeadNowhere links → length backs ≡ 257
+    → IsLinked places links backs
+new_linked count places links backs few none nowhere room = subst (λ (l : List (Option ℕ)). IsLinked l links backs) (sym none) (none_linked count links backs few nowhere room)
 
 -- a tag more or less on a place
 stays_same : (places : List (Option ℕ)) (number other : ℕ) (stand : Option ℕ) → other ≢ number → place_of (set places number stand) other ≡ place_of places other
@@ -86,7 +123,22 @@ stays_same places number other stand apart = get_or-set_other places number othe
 is_set : (places : List (Option ℕ)) (number : ℕ) (stand : Option ℕ) → number < length places → place_of (set places number stand) number ≡ stand
 is_set places number stand within = get_or-set_same places number stand None within
 
--- A tag is taken from its place: the link before it leads where its own led.
+-- a link that is set leads to a tag, or to none
+set_each : (links : List ℕ) (at value link : ℕ) → ((link : ℕ) → get_or links link 0 ≤ 256) → at < length links → value ≤ 256 → get_or (set links at value) link 0 ≤ 256
+set_each links at value link each room small =
+    elim (eqb_tells link at) [
+      | inl same ↦ rw (ap (λ n. get_or (set links at value) n 0) same.1 ∙ get_or-set_same links at value 0 room) small
+      | inr apart ↦ rw (get_or-set_other links at link value 0 apart.1) (each link)
+    ]
+
+-- what a list has where it is set, by an equation
+set_here : (list : List ℕ) (at value other : ℕ) → other ≡ at → at < length list → get_or (set list at value) other 0 ≡ value
+set_here list at value other same within = ap (λ n. get_or (set list at value) n 0) same ∙ get_or-set_same list at value 0 within
+
+set_there : (list : List ℕ) (at value other : ℕ) → other ≢ at → get_or (set list at value) other 0 ≡ get_or list other 0
+set_there list at value other apart = get_or-set_other list at other value 0 apart
+
+-- A tag is taken from its place: the link that leads to it leads to the next one.
 taken_stand : (places : List (Option ℕ)) (number other place : ℕ) → number < length places → place_of (set places number None) other ≡ Some place
     → (other ≢ number) × (place_of places other ≡ Some place)
 taken_stand places number other place within is =
@@ -95,95 +147,137 @@ taken_stand places number other place within is =
       | inr apart ↦ (apart.1, sym (stays_same places number other None apart.1) ∙ is)
     ]
 
-taken_link : (places : List (Option ℕ)) (number place at from : ℕ) → number < length places → IsLinkOf (set places number None) place at from → IsLinkOf places place at from
-taken_link places number place at from within (inl a) = inl a
-taken_link places number place at from within (inr a) = inr (a.0, a.1, a.2, (taken_stand places number a.0 place within a.3).1)
+taken_link : (places : List (Option ℕ)) (number place link : ℕ) → number < length places → IsLinkOf (set places number None) place link → IsLinkOf places place link
+taken_link places number place link within (inl a) = inl a
+taken_link places number place link within (inr a) = inr (a.0, a.1, (taken_stand places number a.0 place within a.2).1)
 
-taken_none : (places : List (Option ℕ)) (number place from below : ℕ) → number < length places → NoneBetween places place from below → NoneBetween (set places number None) place from below
-taken_none places number place from below within none = λ other least most is. none other least most (taken_stand places number other place within is).1
+-- what is known where a tag is taken from a place
+record Taking (places : List (Option ℕ)) (links backs : List ℕ) (number place next back : ℕ) : Type 0 where
+  linked : IsLinked places links backs
+  stands : place_of places number ≡ Some place
+  next_is : get_or links (131073 + number) 0 ≡ next
+  back_is : get_or backs number 0 ≡ back
 
--- a link of a place is no link of another, and looks from one number on
-same_link : (places : List (Option ℕ)) (place other at from origin : ℕ) → place < 131073 → other < 131073 → IsLinkOf places place at from → IsLinkOf places other at origin
-    → (place ≡ other) × (from ≡ origin)
-same_link places place other at from origin below limited (inl a) (inl b) = (sym a.0 ∙ b.0, a.1 ∙ sym b.1)
-same_link places place other at from origin below limited (inl a) (inr b) = absurd (omega (arith, a.0, b.1, below))
-same_link places place other at from origin below limited (inr a) (inl b) = absurd (omega (arith, a.1, b.0, limited))
-same_link places place other at from origin below limited (inr a) (inr b) =
-    let same : a.0 ≡ b.0 = omega (arith, a.1, b.1) in
-    (same_Some place other (sym a.3 ∙ ap (λ n. place_of places n) same ∙ b.3), omega (arith, a.2, b.2, same))
+-- ... and of its links
+record Links (places : List (Option ℕ)) (links backs : List ℕ) (number place next back : ℕ) : Type 0 where
+  within : number < length places
+  below : place < 131073
+  of : IsLinkOf places place back
+  room : back < length links
+  leads : get_or links back 0 ≡ number
+  not_own : back ≢ 131073 + number
+  small : next ≤ 256
+  behind : next < length places → (place_of places next ≡ Some place) × (get_or backs next 0 ≡ 131073 + number)
 
-taken_this : (places : List (Option ℕ)) (number place from next : ℕ) → number < length places → LeadsOn places place from number → LeadsOn places place (number + 1) next
-    → LeadsOn (set places number None) place from next
-taken_this places number place from next within before behind = record {
-  onward = omega (arith, before.onward, behind.onward);
-  between = λ other least most is.
-      let stands = taken_stand places number other place within is in
-      elim (cases_lt other number) [
-        | inl less ↦ before.between other least less stands.1
-        | inr more ↦ behind.between other (omega (arith, more, stands.0)) most stands.1
-      ];
-  there = λ inside. stays_same places number next None (λ same. omega (arith, same, behind.onward)) ∙ behind.there (rw (← length-set places number None) inside);
-}
-
-taken_other : (places : List (Option ℕ)) (number place from link : ℕ) → number < length places → link ≢ number → LeadsOn places place from link
-    → LeadsOn (set places number None) place from link
-taken_other places number place from link within apart leads = record {
-  onward = leads.onward;
-  between = taken_none places number place from link within leads.between;
-  there = λ inside. stays_same places number link None apart ∙ leads.there (rw (← length-set places number None) inside);
-}
-
--- the link before a tag leads to it
-leads_there : (places : List (Option ℕ)) (links : List ℕ) (number place at : ℕ) → IsLinked places links → place_of places number ≡ Some place
-    → (b : IsLinkBefore places links place number at) → get_or links at 0 ≡ number
-leads_there places links number place at linked is b =
-    let leads = linked.leads place at b.from (linked.inside number place is) b.link in
-    elim (cases_lt number (get_or links at 0)) [
-      | inl less ↦ absurd (leads.between number b.before less is)
-      | inr more ↦ omega (arith, b.past, more)
-    ]
-
-taken_leads : (places : List (Option ℕ)) (links : List ℕ) (number place at other next from : ℕ) → IsLinked places links → place_of places number ≡ Some place
-    → IsLinkBefore places links place number at → other < 131073 → IsLinkOf places other next from
-    → LeadsOn (set places number None) other from (get_or (set links at (get_or links (131073 + number) 0)) next 0)
-taken_leads places links number place at other next from linked is b below link =
-    let within = stands_inside places number place is in
-    let limited = linked.inside number place is in
-    let here = leads_there places links number place at linked is b in
-    let before : LeadsOn places place b.from number = subst (λ n. LeadsOn places place b.from n) here (linked.leads place at b.from limited b.link) in
-    elim (eqb_tells next at) [
-      | inl same ↦
-          let one = same_link places other place at from b.from below limited (subst (λ n. IsLinkOf places other n from) same.1 link) b.link in
-          let behind : LeadsOn places place (number + 1) (get_or links (131073 + number) 0) =
-          linked.leads place (131073 + number) (number + 1) limited (inr (number, refl, refl, is)) in
-          let value : get_or (set links at (get_or links (131073 + number) 0)) next 0 ≡ get_or links (131073 + number) 0 =
-          ap (λ n. get_or (set links at (get_or links (131073 + number) 0)) n 0) same.1
-          ∙ get_or-set_same links at (get_or links (131073 + number) 0) 0 (link_inside places links place at b.from linked limited b.link) in
-          rw (value, one.0, one.1) (taken_this places number place b.from (get_or links (131073 + number) 0) within before behind)
-      | inr apart ↦
-          let leads = linked.leads other next from below link in
-          let elsewhere : get_or links next 0 ≢ number = λ meets.
-          let leading : LeadsOn places other from number = subst (λ n. LeadsOn places other from n) meets leads in
-          let one : other ≡ place = same_Some other place (sym (leading.there within) ∙ is) in
-          let moved : IsLinkOf places place next from = subst (λ n. IsLinkOf places n next from) one link in
-          let clear : NoneBetween places place from number = subst (λ n. NoneBetween places n from number) one leading.between in
-          apart.1 (sym (one_link places place number at b.from next from b.link moved b.before leading.onward before.between clear)) in
-          rw (get_or-set_other links at next (get_or links (131073 + number) 0) 0 apart.1)
-          (taken_other places number other from (get_or links next 0) within elsewhere leads)
-    ]
-
-pub taken : (places : List (Option ℕ)) (links : List ℕ) (number place at : ℕ) → IsLinked places links → place_of places number ≡ Some place
-    → IsLinkBefore places links place number at → IsLinked (set places number None) (set links at (get_or links (131073 + number) 0))
-taken places links number place at linked is b =
-    let within = stands_inside places number place is in
+taking_links : (places : List (Option ℕ)) (links backs : List ℕ) (number place next back : ℕ) → Taking places links backs number place next back
+    → Links places links backs number place next back
+taking_links places links backs number place next back t =
+    let linked = t.linked in
+    let below = linked.inside number place t.stands in
+    let behind = linked.back number place t.stands in
+    let of : IsLinkOf places place back = subst (λ n. IsLinkOf places place n) t.back_is behind.0 in
     record {
-      few = rw (length-set places number None) linked.few;
-      size = length-set links at (get_or links (131073 + number) 0) ∙ linked.size;
-      inside = λ other on stands. linked.inside other on (taken_stand places number other on within stands).1;
-      leads = λ on next from below link. taken_leads places links number place at on next from linked is b below (taken_link places number on next from within link);
+      within = stands_inside places number place t.stands;
+      below = below;
+      of = of;
+      room = link_inside places links backs place back linked below of;
+      leads = ap (λ n. get_or links n 0) (sym t.back_is) ∙ behind.1;
+      not_own = λ same. let later : linked.came number < linked.came number = linked.earlier number number place t.stands (t.back_is ∙ same) in omega (arith, later);
+      small = rw (← t.next_is) (linked.each (131073 + number));
+      behind = λ there.
+          let onward = linked.onward place (131073 + number) below (inr (number, refl, t.stands)) (rw t.next_is there) in
+          (ap (λ n. place_of places n) (sym t.next_is) ∙ onward.0, ap (λ n. get_or backs n 0) (sym t.next_is) ∙ onward.1);
     }
 
--- A tag is put on a place: the link before it leads to it, and its own where that led.
+taken_onward : (places : List (Option ℕ)) (links backs : List ℕ) (number place next back on link : ℕ) → Taking places links backs number place next back
+    → on < 131073 → IsLinkOf (set places number None) on link → get_or (set links back next) link 0 < length (set places number None)
+    → (place_of (set places number None) (get_or (set links back next) link 0) ≡ Some on) × (get_or (set backs next back) (get_or (set links back next) link 0) 0 ≡ link)
+taken_onward places links backs number place next back on link t limited of_after there =
+    let l = taking_links places links backs number place next back t in
+    let linked = t.linked in
+    let of : IsLinkOf places on link = taken_link places number on link l.within of_after in
+    let apart_own : link ≢ 131073 + number = not_own (set places number None) number on link (is_set places number None l.within) limited of_after in
+    let room : next < length backs = omega (arith, linked.room, l.small) in
+    elim (eqb_tells link back) [
+      | inl same ↦
+          let value : get_or (set links back next) link 0 ≡ next = set_here links back next link same.1 l.room in
+          let inside : next < length places = rw (← value, ← length-set places number None) there in
+          let behind = l.behind inside in
+          let one : on ≡ place = same_place places on place back limited l.below (subst (λ n. IsLinkOf places on n) same.1 of) l.of in
+          let other : next ≢ number = λ meets. l.not_own (sym t.back_is ∙ ap (λ n. get_or backs n 0) (sym meets) ∙ behind.1) in
+          rw (value, set_here backs next back next refl room, stays_same places number next None other, one) (behind.0, sym same.1)
+      | inr apart ↦
+          let value : get_or (set links back next) link 0 ≡ get_or links link 0 = set_there links back next link apart.1 in
+          let inside : get_or links link 0 < length places = rw (← value, ← length-set places number None) there in
+          let onward = linked.onward on link limited of inside in
+          let other : get_or links link 0 ≢ number = λ meets. apart.1 (sym onward.1 ∙ ap (λ n. get_or backs n 0) meets ∙ t.back_is) in
+          let elsewhere : get_or links link 0 ≢ next = λ meets.
+          apart_own (sym onward.1 ∙ ap (λ n. get_or backs n 0) meets ∙ (l.behind (rw (← meets) inside)).1) in
+          rw (value, set_there backs next back (get_or links link 0) elsewhere, stays_same places number (get_or links link 0) None other) onward
+    ]
+
+taken_back : (places : List (Option ℕ)) (links backs : List ℕ) (number place next back tag on : ℕ) → Taking places links backs number place next back
+    → place_of (set places number None) tag ≡ Some on
+    → IsLinkOf (set places number None) on (get_or (set backs next back) tag 0) × (get_or (set links back next) (get_or (set backs next back) tag 0) 0 ≡ tag)
+taken_back places links backs number place next back tag on t stands_after =
+    let l = taking_links places links backs number place next back t in
+    let linked = t.linked in
+    let stands = taken_stand places number tag on l.within stands_after in
+    let stays : (other : ℕ) → other ≢ number → place_of (set places number None) other ≡ place_of places other = λ other apart. stays_same places number other None apart in
+    let room : next < length backs = omega (arith, linked.room, l.small) in
+    elim (eqb_tells tag next) [
+      | inl same ↦
+          let value : get_or (set backs next back) tag 0 ≡ back = set_here backs next back tag same.1 room in
+          let behind = l.behind (rw (← same.1) (stands_inside places tag on stands.1)) in
+          let one : place ≡ on = same_Some place on (sym behind.0 ∙ ap (λ n. place_of places n) (sym same.1) ∙ stands.1) in
+          rw (value, set_here links back next back refl l.room)
+          (subst (λ n. IsLinkOf (set places number None) n back) one (link_stays places (set places number None) number place back l.not_own stays l.of), sym same.1)
+      | inr apart ↦
+          let value : get_or (set backs next back) tag 0 ≡ get_or backs tag 0 = set_there backs next back tag apart.1 in
+          let before = linked.back tag on stands.1 in
+          let elsewhere : get_or backs tag 0 ≢ back = λ meets. stands.0 (sym before.1 ∙ ap (λ n. get_or links n 0) meets ∙ l.leads) in
+          let not_behind : get_or backs tag 0 ≢ 131073 + number = λ meets. apart.1 (sym before.1 ∙ ap (λ n. get_or links n 0) meets ∙ t.next_is) in
+          rw (value, set_there links back next (get_or backs tag 0) elsewhere)
+          (link_stays places (set places number None) number on (get_or backs tag 0) not_behind stays before.0, before.1)
+    ]
+
+taken_earlier : (places : List (Option ℕ)) (links backs : List ℕ) (number place next back tag other on : ℕ) (t : Taking places links backs number place next back)
+    → place_of (set places number None) tag ≡ Some on → get_or (set backs next back) tag 0 ≡ 131073 + other → t.linked.came tag < t.linked.came other
+taken_earlier places links backs number place next back tag other on t stands_after is =
+    let l = taking_links places links backs number place next back t in
+    let linked = t.linked in
+    let stands = taken_stand places number tag on l.within stands_after in
+    let room : next < length backs = omega (arith, linked.room, l.small) in
+    elim (eqb_tells tag next) [
+      | inl same ↦
+          let value : get_or (set backs next back) tag 0 ≡ back = set_here backs next back tag same.1 room in
+          let behind = l.behind (rw (← same.1) (stands_inside places tag on stands.1)) in
+          let first : linked.came number < linked.came other = linked.earlier number other place t.stands (t.back_is ∙ sym value ∙ is) in
+          let second : linked.came tag < linked.came number = linked.earlier tag number on stands.1 (ap (λ n. get_or backs n 0) same.1 ∙ behind.1) in
+          omega (arith, first, second)
+      | inr apart ↦ linked.earlier tag other on stands.1 (sym (set_there backs next back tag apart.1) ∙ is)
+    ]
+
+taken : (places : List (Option ℕ)) (links backs : List ℕ) (number place next back : ℕ) → Taking places links backs number place next back
+    → IsLinked (set places number None) (set links back next) (set backs next back)
+taken places links backs number place next back t =
+    let l = taking_links places links backs number place next back t in
+    let linked = t.linked in
+    record {
+      few = rw (length-set places number None) linked.few;
+      size = length-set links back next ∙ linked.size;
+      room = length-set backs next back ∙ linked.room;
+      inside = λ other on stands. linked.inside other on (taken_stand places number other on l.within stands).1;
+      each = λ link. set_each links back next link linked.each l.room l.small;
+      onward = λ on link below of there. taken_onward places links backs number place next back on link t below of there;
+      back = λ tag on stands. taken_back places links backs number place next back tag on t stands;
+      came = linked.came;
+      now = linked.now;
+      past = linked.past;
+      earlier = λ tag other on stands is. taken_earlier places links backs number place next back tag other on t stands is;
+    }
+
+-- A tag that stands nowhere is put on a place: the link to the first tag there leads to it, and its own where that led.
 put_stand : (places : List (Option ℕ)) (number place other on : ℕ) → number < length places → place_of (set places number (Some place)) other ≡ Some on
     → ((other ≡ number) × (on ≡ place)) ⊎ ((other ≢ number) × (place_of places other ≡ Some on))
 put_stand places number place other on within is =
@@ -193,197 +287,277 @@ put_stand places number place other on within is =
       | inr apart ↦ inr (apart.1, sym (stays_same places number other (Some place) apart.1) ∙ is)
     ]
 
-put_this : (places : List (Option ℕ)) (number place from link : ℕ) → number < length places → from ≤ number → number ≤ link → LeadsOn places place from link
-    → LeadsOn (set places number (Some place)) place from number
-put_this places number place from link within before past leads = record {
-  onward = before;
-  between = λ other least most is.
-      elim (put_stand places number place other place within is) [
-        | inl same ↦ omega (arith, same.0, most)
-        | inr apart ↦ leads.between other least (omega (arith, most, past)) apart.1
-      ];
-  there = λ inside. is_set places number (Some place) within;
-}
+-- what is known where a tag is put on a place
+record Putting (places : List (Option ℕ)) (links backs : List ℕ) (number place first : ℕ) : Type 0 where
+  linked : IsLinked places links backs
+  within : number < length places
+  nowhere : place_of places number ≡ None
+  below : place < 131073
+  first_is : get_or links place 0 ≡ first
 
-put_behind : (places : List (Option ℕ)) (number place from link : ℕ) → number < length places → from ≤ number → number < link → LeadsOn places place from link
-    → LeadsOn (set places number (Some place)) place (number + 1) link
-put_behind places number place from link within before past leads = record {
-  onward = omega (arith, past);
-  between = λ other least most is.
-      elim (put_stand places number place other place within is) [
-        | inl same ↦ omega (arith, same.0, least)
-        | inr apart ↦ leads.between other (omega (arith, least, before)) most apart.1
-      ];
-  there = λ inside. stays_same places number link (Some place) (λ same. omega (arith, same, past)) ∙ leads.there (rw (← length-set places number (Some place)) inside);
-}
+abbrev links_put : List ℕ → ℕ → ℕ → ℕ → List ℕ
+links_put links number place first = set (set links (131073 + number) first) place number
 
--- the link that leads past a tag which stands nowhere leads beyond it
-leads_beyond : (places : List (Option ℕ)) (links : List ℕ) (number place at : ℕ) → IsLinked places links → number < length places → place_of places number ≡ None → place < 131073
-    → (b : IsLinkBefore places links place number at) → number < get_or links at 0
-leads_beyond places links number place at linked within nowhere limited b =
-    elim (eqb_tells (get_or links at 0) number) [
-      | inl same ↦
-          let leads : LeadsOn places place b.from number = subst (λ n. LeadsOn places place b.from n) same.1 (linked.leads place at b.from limited b.link) in
-          absurd (none_some place (sym nowhere ∙ leads.there within))
-      | inr apart ↦ omega (arith, b.past, apart.1)
-    ]
+abbrev backs_put : List ℕ → ℕ → ℕ → ℕ → List ℕ
+backs_put backs number place first = set (set backs first (131073 + number)) number place
 
-put_other : (places : List (Option ℕ)) (links : List ℕ) (number place at other next from : ℕ) → IsLinked places links → number < length places → place_of places number ≡ None
-    → place < 131073 → IsLinkBefore places links place number at → other < 131073 → IsLinkOf places other next from → next ≢ at
-    → LeadsOn (set places number (Some place)) other from (get_or links next 0)
-put_other places links number place at other next from linked within nowhere limited b below link apart =
-    let before = linked.leads place at b.from limited b.link in
-    let leads = linked.leads other next from below link in
+-- ... and of the links behind it
+record Placed (places : List (Option ℕ)) (links backs : List ℕ) (number place first : ℕ) : Type 0 where
+  small : first ≤ 256
+  apart : place ≢ 131073 + number
+  own_room : 131073 + number < length links
+  there : first < length places → (place_of places first ≡ Some place) × (get_or backs first 0 ≡ place)
+  other : first < length places → first ≢ number
+  to_this : get_or (links_put links number place first) place 0 ≡ number
+  to_first : get_or (links_put links number place first) (131073 + number) 0 ≡ first
+  to_rest : (link : ℕ) → link ≢ place → link ≢ 131073 + number → get_or (links_put links number place first) link 0 ≡ get_or links link 0
+  from_this : get_or (backs_put backs number place first) number 0 ≡ place
+  from_first : first ≢ number → get_or (backs_put backs number place first) first 0 ≡ 131073 + number
+  from_rest : (tag : ℕ) → tag ≢ number → tag ≢ first → get_or (backs_put backs number place first) tag 0 ≡ get_or backs tag 0
+
+placed : (places : List (Option ℕ)) (links backs : List ℕ) (number place first : ℕ) → Putting places links backs number place first → Placed places links backs number place first
+placed places links backs number place first p =
+    let linked = p.linked in
+    let small : first ≤ 256 = rw (← p.first_is) (linked.each place) in
+    let apart : place ≢ 131073 + number = λ same. omega (arith, same, p.below) in
+    let own_room : 131073 + number < length links = omega (arith, linked.size, linked.few, p.within) in
+    let links' : List ℕ = set links (131073 + number) first in
+    let backs' : List ℕ = set backs first (131073 + number) in
+    let there : first < length places → (place_of places first ≡ Some place) × (get_or backs first 0 ≡ place) = λ inside.
+    let onward = linked.onward place place p.below (inl refl) (rw p.first_is inside) in
+    (ap (λ n. place_of places n) (sym p.first_is) ∙ onward.0, ap (λ n. get_or backs n 0) (sym p.first_is) ∙ onward.1) in
     record {
-      onward = leads.onward;
-      between = λ tag least most is.
-          elim (put_stand places number place tag other within is) [
-            | inl same ↦
-                let moved : IsLinkOf places place next from = subst (λ n. IsLinkOf places n next from) same.1 link in
-                let clear : NoneBetween places place from number = λ earlier first last.
-                subst (λ n. place_of places earlier ≢ Some n) same.1 (leads.between earlier first (omega (arith, last, most, same.0))) in
-                let one = one_link places place number at b.from next from b.link moved b.before (omega (arith, least, same.0))
-                (λ earlier first last. before.between earlier first (omega (arith, last, b.past))) clear in
-                apart (sym one)
-            | inr differs ↦ leads.between tag least most differs.1
-          ];
-      there = λ inside.
-          let led = leads.there (rw (← length-set places number (Some place)) inside) in
-          stays_same places number (get_or links next 0) (Some place) (λ same. none_some other (sym nowhere ∙ sym (ap (λ n. place_of places n) same) ∙ led)) ∙ led;
+      small = small;
+      apart = apart;
+      own_room = own_room;
+      there = there;
+      other = λ inside same. none_some place (sym p.nowhere ∙ sym (ap (λ n. place_of places n) same) ∙ (there inside).0);
+      to_this = set_here links' place number place refl (rw (length-set links (131073 + number) first) (omega (arith, linked.size, p.below)));
+      to_first = set_there links' place number (131073 + number) (λ same. apart (sym same)) ∙ set_here links (131073 + number) first (131073 + number) refl own_room;
+      to_rest = λ link elsewhere not_behind. set_there links' place number link elsewhere ∙ set_there links (131073 + number) first link not_behind;
+      from_this = set_here backs' number place number refl (rw (length-set backs first (131073 + number)) (omega (arith, linked.room, linked.few, p.within)));
+      from_first = λ differs. set_there backs' number place first differs ∙ set_here backs first (131073 + number) first refl (omega (arith, linked.room, small));
+      from_rest = λ tag differs elsewhere. set_there backs' number place tag differs ∙ set_there backs first (131073 + number) tag elsewhere;
     }
 
--- the link that leads past a tag isn't its own
-not_own : (places : List (Option ℕ)) (number place at from : ℕ) → place_of places number ≡ None → place < 131073 → IsLinkOf places place at from → at ≢ 131073 + number
-not_own places number place at from nowhere limited (inl a) = λ same. omega (arith, same, a.0, limited)
-not_own places number place at from nowhere limited (inr a) = λ same.
-    let one : a.0 ≡ number = omega (arith, same, a.1) in
-    none_some place (sym nowhere ∙ sym (ap (λ n. place_of places n) one) ∙ a.3)
+put_link : (places : List (Option ℕ)) (number place on link : ℕ) → number < length places → link ≢ 131073 + number → IsLinkOf (set places number (Some place)) on link → IsLinkOf places on link
+put_link places number place on link within apart (inl a) = inl a
+put_link places number place on link within apart (inr a) =
+    inr (a.0, a.1, sym (stays_same places number a.0 (Some place) (λ same. apart (a.1 ∙ ap (λ n. 131073 + n) same))) ∙ a.2)
 
-put_leads : (places : List (Option ℕ)) (links : List ℕ) (number place at other next from : ℕ) → IsLinked places links → number < length places → place_of places number ≡ None
-    → place < 131073 → IsLinkBefore places links place number at → other < 131073 → IsLinkOf places other next from
-    → LeadsOn (set places number (Some place)) other from (get_or (set (set links (131073 + number) (get_or links at 0)) at number) next 0)
-put_leads places links number place at other next from linked within nowhere limited b below link =
-    let own = not_own places number other next from nowhere below link in
-    let links' : List ℕ = set links (131073 + number) (get_or links at 0) in
-    elim (eqb_tells next at) [
+put_onward : (places : List (Option ℕ)) (links backs : List ℕ) (number place first on link : ℕ) → Putting places links backs number place first
+    → on < 131073 → IsLinkOf (set places number (Some place)) on link → get_or (links_put links number place first) link 0 < length (set places number (Some place))
+    → (place_of (set places number (Some place)) (get_or (links_put links number place first) link 0) ≡ Some on)
+    × (get_or (backs_put backs number place first) (get_or (links_put links number place first) link 0) 0 ≡ link)
+put_onward places links backs number place first on link p limited of_after there =
+    let d = placed places links backs number place first p in
+    let linked = p.linked in
+    elim (eqb_tells link place) [
       | inl same ↦
-          let one = same_link places other place at from b.from below limited (subst (λ n. IsLinkOf places other n from) same.1 link) b.link in
-          let room : at < length links' =
-          rw (length-set links (131073 + number) (get_or links at 0)) (link_inside places links place at b.from linked limited b.link) in
-          let value : get_or (set links' at number) next 0 ≡ number = ap (λ n. get_or (set links' at number) n 0) same.1 ∙ get_or-set_same links' at number 0 room in
-          rw (value, one.0, one.1) (put_this places number place b.from (get_or links at 0) within b.before b.past (linked.leads place at b.from limited b.link))
-      | inr apart ↦
-          let value : get_or (set links' at number) next 0 ≡ get_or links next 0 =
-          get_or-set_other links' at next number 0 apart.1 ∙ get_or-set_other links (131073 + number) next (get_or links at 0) 0 own in
-          rw value (put_other places links number place at other next from linked within nowhere limited b below link apart.1)
+          let value : get_or (links_put links number place first) link 0 ≡ number = ap (λ n. get_or (links_put links number place first) n 0) same.1 ∙ d.to_this in
+          let one : on ≡ place = same_place (set places number (Some place)) on place place limited p.below (subst (λ n. IsLinkOf (set places number (Some place)) on n) same.1 of_after) (inl refl) in
+          rw (value, d.from_this, is_set places number (Some place) p.within, one, same.1) (refl, refl)
+      | inr elsewhere ↦
+          elim (eqb_tells link (131073 + number)) [
+            | inl own ↦
+                let value : get_or (links_put links number place first) link 0 ≡ first = ap (λ n. get_or (links_put links number place first) n 0) own.1 ∙ d.to_first in
+                let inside : first < length places = rw (← value, ← length-set places number (Some place)) there in
+                let one : on ≡ place =
+                same_place (set places number (Some place)) on place (131073 + number) limited p.below (subst (λ n. IsLinkOf (set places number (Some place)) on n) own.1 of_after)
+                (inr (number, refl, is_set places number (Some place) p.within)) in
+                rw (value, d.from_first (d.other inside), stays_same places number first (Some place) (d.other inside), one) ((d.there inside).0, sym own.1)
+            | inr apart ↦
+                let of : IsLinkOf places on link = put_link places number place on link p.within apart.1 of_after in
+                let value : get_or (links_put links number place first) link 0 ≡ get_or links link 0 = d.to_rest link elsewhere.1 apart.1 in
+                let inside : get_or links link 0 < length places = rw (← value, ← length-set places number (Some place)) there in
+                let onward = linked.onward on link limited of inside in
+                let other : get_or links link 0 ≢ number = λ meets. none_some on (sym p.nowhere ∙ ap (λ n. place_of places n) (sym meets) ∙ onward.0) in
+                let not_first : get_or links link 0 ≢ first = λ meets.
+                elsewhere.1 (sym onward.1 ∙ ap (λ n. get_or backs n 0) meets ∙ (d.there (rw (← meets) inside)).1) in
+                rw (value, d.from_rest (get_or links link 0) other not_first, stays_same places number (get_or links link 0) (Some place) other) onward
+          ]
     ]
 
-put_own : (places : List (Option ℕ)) (links : List ℕ) (number place at : ℕ) → IsLinked places links → number < length places → place_of places number ≡ None
-    → place < 131073 → IsLinkBefore places links place number at
-    → LeadsOn (set places number (Some place)) place (number + 1) (get_or (set (set links (131073 + number) (get_or links at 0)) at number) (131073 + number) 0)
-put_own places links number place at linked within nowhere limited b =
-    let own = not_own places number place at b.from nowhere limited b.link in
-    let links' : List ℕ = set links (131073 + number) (get_or links at 0) in
-    let value : get_or (set links' at number) (131073 + number) 0 ≡ get_or links at 0 =
-    get_or-set_other links' at (131073 + number) number 0 (λ same. own (sym same))
-    ∙ get_or-set_same links (131073 + number) (get_or links at 0) 0 (omega (arith, linked.size, linked.few, within)) in
-    rw value
-    (put_behind places number place b.from (get_or links at 0) within b.before (leads_beyond places links number place at linked within nowhere limited b)
-    (linked.leads place at b.from limited b.link))
-
-put_linked : (places : List (Option ℕ)) (links : List ℕ) (number place at other next from : ℕ) → IsLinked places links → number < length places → place_of places number ≡ None
-    → place < 131073 → IsLinkBefore places links place number at → other < 131073 → IsLinkOf (set places number (Some place)) other next from
-    → LeadsOn (set places number (Some place)) other from (get_or (set (set links (131073 + number) (get_or links at 0)) at number) next 0)
-put_linked places links number place at other next from linked within nowhere limited b below (inl a) =
-    put_leads places links number place at other next from linked within nowhere limited b below (inl a)
-put_linked places links number place at other next from linked within nowhere limited b below (inr a) =
-    elim (put_stand places number place a.0 other within a.3) [
+put_back : (places : List (Option ℕ)) (links backs : List ℕ) (number place first tag on : ℕ) → Putting places links backs number place first
+    → place_of (set places number (Some place)) tag ≡ Some on
+    → IsLinkOf (set places number (Some place)) on (get_or (backs_put backs number place first) tag 0)
+    × (get_or (links_put links number place first) (get_or (backs_put backs number place first) tag 0) 0 ≡ tag)
+put_back places links backs number place first tag on p stands_after =
+    let d = placed places links backs number place first p in
+    let linked = p.linked in
+    elim (put_stand places number place tag on p.within stands_after) [
       | inl same ↦
-          let at_own : next ≡ 131073 + number = omega (arith, a.1, same.0) in
-          let from_own : from ≡ number + 1 = omega (arith, a.2, same.0) in
-          rw (at_own, from_own, same.1) (put_own places links number place at linked within nowhere limited b)
-      | inr apart ↦ put_leads places links number place at other next from linked within nowhere limited b below (inr (a.0, a.1, a.2, apart.1))
+          let value : get_or (backs_put backs number place first) tag 0 ≡ place = ap (λ n. get_or (backs_put backs number place first) n 0) same.0 ∙ d.from_this in
+          rw (value, d.to_this) (inl (sym same.1), sym same.0)
+      | inr other ↦
+          elim (eqb_tells tag first) [
+            | inl same ↦
+                let there = d.there (rw (← same.1) (stands_inside places tag on other.1)) in
+                let value : get_or (backs_put backs number place first) tag 0 ≡ 131073 + number =
+                ap (λ n. get_or (backs_put backs number place first) n 0) same.1 ∙ d.from_first (λ meets. other.0 (same.1 ∙ meets)) in
+                let one : place ≡ on = same_Some place on (sym there.0 ∙ ap (λ n. place_of places n) (sym same.1) ∙ other.1) in
+                rw (value, d.to_first) (inr (number, refl, is_set places number (Some place) p.within ∙ ap (λ n. Some n) one), sym same.1)
+            | inr differs ↦
+                let value : get_or (backs_put backs number place first) tag 0 ≡ get_or backs tag 0 = d.from_rest tag other.0 differs.1 in
+                let before = linked.back tag on other.1 in
+                let elsewhere : get_or backs tag 0 ≢ place = λ meets. differs.1 (sym before.1 ∙ ap (λ n. get_or links n 0) meets ∙ p.first_is) in
+                let apart : get_or backs tag 0 ≢ 131073 + number = not_own places number on (get_or backs tag 0) p.nowhere (linked.inside tag on other.1) before.0 in
+                rw (value, d.to_rest (get_or backs tag 0) elsewhere apart)
+                (link_stays places (set places number (Some place)) number on (get_or backs tag 0) apart (λ n apart_n. stays_same places number n (Some place) apart_n) before.0, before.1)
+          ]
     ]
 
-pub put_there : (places : List (Option ℕ)) (links : List ℕ) (number place at : ℕ) → IsLinked places links → number < length places → place_of places number ≡ None
-    → place < 131073 → IsLinkBefore places links place number at
-    → IsLinked (set places number (Some place)) (set (set links (131073 + number) (get_or links at 0)) at number)
-put_there places links number place at linked within nowhere limited b = record {
-  few = rw (length-set places number (Some place)) linked.few;
-  size = length-set (set links (131073 + number) (get_or links at 0)) at number ∙ length-set links (131073 + number) (get_or links at 0) ∙ linked.size;
-  inside = λ other on stands.
-      elim (put_stand places number place other on within stands) [
-        | inl same ↦ rw same.1 limited
-        | inr apart ↦ linked.inside other on apart.1
-      ];
-  leads = λ on next from below link. put_linked places links number place at on next from linked within nowhere limited b below link;
-}
+-- the tag that is put came last
+abbrev came_put : (ℕ → ℕ) → ℕ → ℕ → ℕ → ℕ
+came_put came now number tag = if tag == number then now else came tag
 
--- while one link after another is followed
-pub record Follows (places : List (Option ℕ)) (place number at : ℕ) : Type 0 where
-  pub from : ℕ
-  pub link : IsLinkOf places place at from
-  pub before : from ≤ number
+came_this : (came : ℕ → ℕ) (now number tag : ℕ) → tag ≡ number → came_put came now number tag ≡ now
+came_this came now number tag same =
+    elim (eqb_tells tag number) [
+      | inl w ↦ rw w.0 refl
+      | inr w ↦ absurd (w.1 same)
+    ]
 
-pub follows_first : (places : List (Option ℕ)) (place number : ℕ) → Follows places place number place
-follows_first places place number = record { from = 0; link = inl (refl, refl); before = omega arith }
+came_other : (came : ℕ → ℕ) (now number tag : ℕ) → tag ≢ number → came_put came now number tag ≡ came tag
+came_other came now number tag apart =
+    elim (eqb_tells tag number) [
+      | inl w ↦ absurd (apart w.1)
+      | inr w ↦ rw w.0 refl
+    ]
 
-pub follows_next : (places : List (Option ℕ)) (links : List ℕ) (place number at link next : ℕ) → IsLinked places links → place < 131073 → number < length places → Follows places place number at
-    → link ≡ get_or links at 0 → link < number → next ≡ 131073 + link → Follows places place number next
-follows_next places links place number at link next linked below within so_far is less then =
-    let leads : LeadsOn places place so_far.from link = subst (λ n. LeadsOn places place so_far.from n) (sym is) (linked.leads place at so_far.from below so_far.link) in
-    record { from = link + 1; link = inr (link, then, refl, leads.there (omega (arith, less, within))); before = omega (arith, less) }
+put_past : (came : ℕ → ℕ) (now number tag : ℕ) → ((tag : ℕ) → came tag < now) → came_put came now number tag < now + 1
+put_past came now number tag past =
+    elim (eqb_tells tag number) [
+      | inl w ↦ rw w.0 (omega arith)
+      | inr w ↦ rw w.0 (omega (arith, past tag))
+    ]
 
-pub follows_smaller : (places : List (Option ℕ)) (links : List ℕ) (place number at link : ℕ) → IsLinked places links → place < 131073 → number < length places → Follows places place number at
-    → link ≡ get_or links at 0 → link < number → number - get_or links (131073 + link) 0 < number - link
-follows_smaller places links place number at link linked below within so_far is less =
-    let leads : LeadsOn places place so_far.from link = subst (λ n. LeadsOn places place so_far.from n) (sym is) (linked.leads place at so_far.from below so_far.link) in
-    let behind = linked.leads place (131073 + link) (link + 1) below (inr (link, refl, refl, leads.there (omega (arith, less, within)))) in
-    omega (arith, behind.onward, less)
+put_earlier : (places : List (Option ℕ)) (links backs : List ℕ) (number place first tag other on : ℕ) (p : Putting places links backs number place first)
+    → place_of (set places number (Some place)) tag ≡ Some on → get_or (backs_put backs number place first) tag 0 ≡ 131073 + other
+    → came_put p.linked.came p.linked.now number tag < came_put p.linked.came p.linked.now number other
+put_earlier places links backs number place first tag other on p stands_after is =
+    let d = placed places links backs number place first p in
+    let linked = p.linked in
+    elim (put_stand places number place tag on p.within stands_after) [
+      | inl same ↦
+          let value : get_or (backs_put backs number place first) tag 0 ≡ place = ap (λ n. get_or (backs_put backs number place first) n 0) same.0 ∙ d.from_this in
+          absurd (omega (arith, value, is, p.below))
+      | inr differs ↦
+          let mine : came_put linked.came linked.now number tag ≡ linked.came tag = came_other linked.came linked.now number tag differs.0 in
+          elim (eqb_tells tag first) [
+            | inl same ↦
+                let value : get_or (backs_put backs number place first) tag 0 ≡ 131073 + number =
+                ap (λ n. get_or (backs_put backs number place first) n 0) same.1 ∙ d.from_first (λ meets. differs.0 (same.1 ∙ meets)) in
+                let this : other ≡ number = omega (arith, value, is) in
+                rw (mine, came_this linked.came linked.now number other this) (linked.past tag)
+            | inr elsewhere ↦
+                let value : get_or backs tag 0 ≡ 131073 + other = sym (d.from_rest tag differs.0 elsewhere.1) ∙ is in
+                let before = linked.back tag on differs.1 in
+                let apart : get_or backs tag 0 ≢ 131073 + number = not_own places number on (get_or backs tag 0) p.nowhere (linked.inside tag on differs.1) before.0 in
+                let not_this : other ≢ number = λ same. apart (value ∙ ap (λ n. 131073 + n) same) in
+                rw (mine, came_other linked.came linked.now number other not_this) (linked.earlier tag other on differs.1 value)
+          ]
+    ]
 
-pub follows_past : (places : List (Option ℕ)) (links : List ℕ) (place number at : ℕ) → Follows places place number at → number ≤ get_or links at 0 → IsLinkBefore places links place number at
-follows_past places links place number at so_far past = record { from = so_far.from; link = so_far.link; before = so_far.before; past = past }
+put_there : (places : List (Option ℕ)) (links backs : List ℕ) (number place first : ℕ) → Putting places links backs number place first
+    → IsLinked (set places number (Some place)) (links_put links number place first) (backs_put backs number place first)
+put_there places links backs number place first p =
+    let d = placed places links backs number place first p in
+    let linked = p.linked in
+    let links' : List ℕ = set links (131073 + number) first in
+    record {
+      few = rw (length-set places number (Some place)) linked.few;
+      size = length-set links' place number ∙ length-set links (131073 + number) first ∙ linked.size;
+      room = length-set (set backs first (131073 + number)) number place ∙ length-set backs first (131073 + number) ∙ linked.room;
+      inside = λ other on stands.
+          elim (put_stand places number place other on p.within stands) [
+            | inl same ↦ rw same.1 p.below
+            | inr apart ↦ linked.inside other on apart.1
+          ];
+      each = λ link.
+          set_each links' place number link (λ other. set_each links (131073 + number) first other linked.each d.own_room d.small)
+          (rw (length-set links (131073 + number) first) (omega (arith, linked.size, p.below))) (omega (arith, linked.few, p.within));
+      onward = λ on link below of there. put_onward places links backs number place first on link p below of there;
+      back = λ tag on stands. put_back places links backs number place first tag on p stands;
+      came = came_put linked.came linked.now number;
+      now = linked.now + 1;
+      past = λ tag. put_past linked.came linked.now number tag linked.past;
+      earlier = λ tag other on stands is. put_earlier places links backs number place first tag other on p stands is;
+    }
 
 -- what the calls of a wheel go by
-
--- a link that is read
-pub leads_read : (places now : List (Option ℕ)) (links : List ℕ) (place at from link : ℕ) → places ≡ now → IsLinked places links → place < 131073 → IsLinkOf now place at from
-    → link ≡ get_or links at link → LeadsOn now place from link
-leads_read places now links place at from link same linked below link_of is =
-    let here : IsLinked now links = subst (λ (l : List (Option ℕ)). IsLinked l links) same linked in
-    subst (λ n. LeadsOn now place from n) (sym (is ∙ get_or_default_zero links at link (link_inside now links place at from here below link_of))) (here.leads place at from below link_of)
 
 -- a place that is read
 pub place_read : (places : List (Option ℕ)) (number : ℕ) (stands : Option ℕ) → number < length places → stands ≡ get_or places number stands → stands ≡ place_of places number
 place_read places number stands within is = is ∙ get_or_default places number stands None within
 
-pub place_inside : (places : List (Option ℕ)) (links : List ℕ) (number place : ℕ) (stands : Option ℕ) → IsLinked places links → number < length places → stands ≡ get_or places number stands
-    → stands ≡ Some place → place < 131073
-place_inside places links number place stands linked within is some = linked.inside number place (sym (place_read places number stands within is) ∙ some)
+pub place_inside : (places : List (Option ℕ)) (links backs : List ℕ) (number place : ℕ) (stands : Option ℕ) → IsLinked places links backs → number < length places
+    → stands ≡ get_or places number stands → stands ≡ Some place → place < 131073
+place_inside places links backs number place stands linked within is some = linked.inside number place (sym (place_read places number stands within is) ∙ some)
 
-pub take_linked : (places : List (Option ℕ)) (links slice : List ℕ) (number place at value : ℕ) (stands : Option ℕ) → IsLinked places links → slice ≡ links → number < length places
-    → stands ≡ get_or places number stands → stands ≡ Some place
-    → ((those : List (Option ℕ)) → IsLinked those slice → number < length those → IsLinkBefore those slice place number at)
-    → value ≡ get_or links (131073 + number) value → IsLinked (set places number None) (set links at value)
-take_linked places links slice number place at value stands linked same within is some before read =
-    let b : IsLinkBefore places links place number at =
-    subst (λ (l : List ℕ). IsLinkBefore places l place number at) same (before places (subst (λ (l : List ℕ). IsLinked places l) (sym same) linked) within) in
-    let value_is : get_or links (131073 + number) 0 ≡ value =
-    sym (read ∙ get_or_default_zero links (131073 + number) value (omega (arith, linked.size, linked.few, within))) in
-    subst (λ n. IsLinked (set places number None) (set links at n)) value_is
-    (taken places links number place at linked (sym (place_read places number stands within is) ∙ some) b)
+-- a tag that stands somewhere has a place
+pub has_place : (stands : Option ℕ) → is_some stands ≡ true → (place : ℕ) × (stands ≡ Some place)
+has_place None some = absurd cc
+has_place (Some place) some = (place, refl)
 
-pub put_on : (old places : List (Option ℕ)) (links slice : List ℕ) (number place at value : ℕ) → places ≡ set old number None → number < length old → IsLinked places links → slice ≡ links
-    → place < 131073 → ((those : List (Option ℕ)) → IsLinked those slice → number < length those → IsLinkBefore those slice place number at)
-    → value ≡ get_or links at value → IsLinked (set places number (Some place)) (set (set links (131073 + number) value) at number)
-put_on old places links slice number place at value nowhere room linked same below before read =
-    let within : number < length places = rw (nowhere, length-set old number None) room in
-    let none : place_of places number ≡ None = ap (λ (l : List (Option ℕ)). place_of l number) nowhere ∙ is_set old number None room in
-    let b : IsLinkBefore places links place number at =
-    subst (λ (l : List ℕ). IsLinkBefore places l place number at) same (before places (subst (λ (l : List ℕ). IsLinked places l) (sym same) linked) within) in
-    let value_is : get_or links at 0 ≡ value = sym (read ∙ get_or_default_zero links at value (link_inside places links place at b.from linked below b.link)) in
-    subst (λ n. IsLinked (set places number (Some place)) (set (set links (131073 + number) n) at number)) value_is
-    (put_there places links number place at linked within none below b)
+no_place : (stands : Option ℕ) → is_some stands ≡ false → stands ≡ None
+no_place None none = refl
+no_place (Some place) none = absurd cc
+
+-- the links that are read where a tag is taken
+taking : (places : List (Option ℕ)) (links backs : List ℕ) (number next back : ℕ) (stands : Option ℕ) → IsLinked places links backs → number < length places
+    → stands ≡ get_or places number stands → is_some stands ≡ true → next ≡ get_or links (131073 + number) next → back ≡ get_or backs number back
+    → (place : ℕ) × Taking places links backs number place next back
+taking places links backs number next back stands linked within is some next_is back_is =
+    let there = has_place stands some in (
+      there.0,
+      record {
+        linked = linked;
+        stands = sym (place_read places number stands within is) ∙ there.1;
+        next_is = sym (next_is ∙ get_or_default_zero links (131073 + number) next (omega (arith, linked.size, linked.few, within)));
+        back_is = sym (back_is ∙ get_or_default_zero backs number back (omega (arith, linked.room, linked.few, within)));
+      },
+    )
+
+pub take_linked : (places : List (Option ℕ)) (links backs : List ℕ) (number next back : ℕ) (stands : Option ℕ) → IsLinked places links backs → number < length places
+    → stands ≡ get_or places number stands → is_some stands ≡ true → next ≡ get_or links (131073 + number) next → back ≡ get_or backs number back
+    → IsLinked (set places number None) (set links back next) (set backs next back)
+take_linked places links backs number next back stands linked within is some next_is back_is =
+    let t = taking places links backs number next back stands linked within is some next_is back_is in
+    taken places links backs number t.0 next back t.1
+
+pub take_back_inside : (places : List (Option ℕ)) (links backs : List ℕ) (number next back : ℕ) (stands : Option ℕ) → IsLinked places links backs → number < length places
+    → stands ≡ get_or places number stands → is_some stands ≡ true → next ≡ get_or links (131073 + number) next → back ≡ get_or backs number back → back < length links
+take_back_inside places links backs number next back stands linked within is some next_is back_is =
+    let t = taking places links backs number next back stands linked within is some next_is back_is in
+    (taking_links places links backs number t.0 next back t.1).room
+
+-- a link that is read leads to a tag or to none
+pub link_small : (places : List (Option ℕ)) (links backs : List ℕ) (link value : ℕ) → IsLinked places links backs → link < length links → value ≡ get_or links link value → value < length backs
+link_small places links backs link value linked within is =
+    omega (arith, linked.room, is ∙ get_or_default_zero links link value within, linked.each link)
+
+set_none : (places : List (Option ℕ)) (number : ℕ) → place_of places number ≡ None → set places number None ≡ places
+set_none [] number none = refl
+set_none (place ∷ places) zero none = ap (λ (p : Option ℕ). p ∷ places) (sym none)
+set_none (place ∷ places) (suc number) none = ap (λ (l : List (Option ℕ)). place ∷ l) (set_none places number none)
+
+-- a tag that stands nowhere is taken from no place
+pub take_none : (places : List (Option ℕ)) (number : ℕ) (stands : Option ℕ) → number < length places → stands ≡ get_or places number stands → is_some stands ≡ false
+    → places ≡ set places number None
+take_none places number stands within is none = sym (set_none places number (sym (place_read places number stands within is) ∙ no_place stands none))
+
+pub put_on : (old places : List (Option ℕ)) (links backs : List ℕ) (number place first : ℕ) → places ≡ set old number None → number < length old → IsLinked places links backs
+    → place < 131073 → first ≡ get_or links place first
+    → IsLinked (set places number (Some place)) (set (set links (131073 + number) first) place number) (set (set backs first (131073 + number)) number place)
+put_on old places links backs number place first nowhere room linked below read =
+    put_there places links backs number place first record {
+      linked = linked;
+      within = rw (nowhere, length-set old number None) room;
+      nowhere = ap (λ (l : List (Option ℕ)). place_of l number) nowhere ∙ is_set old number None room;
+      below = below;
+      first_is = sym (read ∙ get_or_default_zero links place first (omega (arith, linked.size, below)));
+    }
 
 set_twice : (places : List (Option ℕ)) (number : ℕ) (first second : Option ℕ) → set (set places number first) number second ≡ set places number second
 set_twice [] number first second = refl

@@ -2,13 +2,15 @@
 use Rattle.std.proofs.Common.{◌≡◌, ◌≢◌, ℕ, zero, suc, ◌+◌, ◌/◌, ◌%◌, ◌<◌, ◌≤◌, ◌⊎◌, inl, inr, Bool, List, [], ◌∷◌, length, map, Option, Some, None, get_or, set, replicate, refl, sym, ap, ◌∙◌, subst, arith, if◌then◌else◌}
 use Rattle.std.proofs.lemmas.Bool.Decides.{eqb_tells}
 use Rattle.std.proofs.lemmas.Bool.{ne_eqb}
-use Rattle.std.proofs.lemmas.List.{get_or-set_same, get_or-set_other, length-map, length-set}
+use Rattle.std.proofs.lemmas.List.{get_or-set_same, get_or-set_other, length-map, length-replicate, length-set}
 use Rattle.std.proofs.lemmas.Option.{same_Some}
 use Rattle.tag_machine.specs.Inventory.{slot_below}
 use Rattle.air_channel.specs.declared.waiting.Standing.{Standing}
 use Rattle.air_channel.specs.declared.waiting.Standing.TheVariants.{Waits, Called}
-use Rattle.air_channel.specs.Wheel.{place_of, IsNextTag}
-use Rattle.air_channel.specs.Waiting.{standing_at, IsLegalStanding, IsNextCalled, IsDue, counted_down, called_place, slot_place, slot_behind, slot_in, standing_there, standing_on, standings_on, AreBases, AreSlots}
+use Rattle.air_channel.specs.Numbers.{bit_of, IsIn, IsNextIn}
+use Rattle.air_channel.specs.Wheel.{place_of, IsTagOn}
+use Rattle.air_channel.proofs.Links.{stands_inside, stands_nowhere}
+use Rattle.air_channel.specs.Waiting.{standing_at, IsLegalStanding, IsNextCalled, IsDue, counted_down, called_place, slot_place, slot_behind, slot_in, standing_there, standing_on, standings_on, AreBases, AreCalled, AreSlots}
 
 -- the standing of the tag on a place
 pub standing_of_place : (bases : List ℕ) (places : List (Option ℕ)) (number : ℕ) → standing_at (standings_on bases places) number ≡ standing_on bases (place_of places number)
@@ -168,17 +170,17 @@ place_of_slot bases place session slot are is =
     ]
 
 not_due : (bases : List ℕ) (places : List (Option ℕ)) (session place number : ℕ) (stands : Option ℕ) → AreBases bases → place ≡ slot_place (get_or bases session 0) session 1
-    → IsNextTag places place 0 None → place_of places number ≡ stands → standing_on bases stands ≢ Some (Waits session 1)
+    → IsTagOn places place None → place_of places number ≡ stands → standing_on bases stands ≢ Some (Waits session 1)
 not_due bases places session place number None are there none is = λ same. cc
 not_due bases places session place number (Some own) are there none is = λ same.
-    none number (omega arith) (is ∙ ap (λ n. Some n) (place_of_slot bases own session 1 are same ∙ sym there))
+    none number (is ∙ ap (λ n. Some n) (place_of_slot bases own session 1 are same ∙ sym there))
 
 pub due_there : (bases : List ℕ) (places : List (Option ℕ)) (session place : ℕ) (found : Option ℕ) → AreBases bases → session ≤ 3
-    → place ≡ slot_place (get_or bases session 0) session 1 → IsNextTag places place 0 found → IsDue (standings_on bases places) session found
+    → place ≡ slot_place (get_or bases session 0) session 1 → IsTagOn places place found → IsDue (standings_on bases places) session found
 due_there bases places session place None are few there none = λ number waits.
     not_due bases places session place number (place_of places number) are there none refl (sym (standing_of_place bases places number) ∙ waits)
 due_there bases places session place (Some due) are few there next =
-    standing_of_place bases places due ∙ ap (λ p. standing_on bases p) (next.1 ∙ ap (λ n. Some n) there) ∙ waits_there bases (get_or bases session 0) session 1 are refl few (omega arith)
+    standing_of_place bases places due ∙ ap (λ p. standing_on bases p) (next ∙ ap (λ n. Some n) there) ∙ waits_there bases (get_or bases session 0) session 1 are refl few (omega arith)
 
 -- the called tags
 called_there : (bases : List ℕ) (places : List (Option ℕ)) (number : ℕ) → place_of places number ≡ Some called_place → standing_at (standings_on bases places) number ≡ Some Called
@@ -199,10 +201,22 @@ not_called_there : (bases : List ℕ) (places : List (Option ℕ)) (number : ℕ
 not_called_there bases places number apart = λ called.
     not_there bases places number (place_of places number) refl apart (sym (standing_of_place bases places number) ∙ called)
 
-pub next_called : (bases : List ℕ) (places : List (Option ℕ)) (from : ℕ) (found : Option ℕ) → IsNextTag places called_place from found → IsNextCalled (standings_on bases places) from found
-next_called bases places from None none = λ number least. not_called_there bases places number (none number least)
-next_called bases places from (Some next) is =
-    (is.0, called_there bases places next is.1, λ number least most. not_called_there bases places number (is.2 number least most))
+not_in : (bit : ℕ) → bit ≡ 0 → bit ≢ 1
+not_in bit out = λ one. omega (arith, out, one)
+
+not_called_in : (numbers : List ℕ) (places : List (Option ℕ)) (number : ℕ) → AreCalled numbers places → bit_of numbers number ≡ 0 → place_of places number ≢ Some called_place
+not_called_in numbers places number are out = λ is. not_in (bit_of numbers number) out (are.called number is)
+
+pub next_called : (bases numbers : List ℕ) (places : List (Option ℕ)) (from : ℕ) (found : Option ℕ) → AreCalled numbers places → IsNextIn numbers from found
+    → IsNextCalled (standings_on bases places) from found
+next_called bases numbers places from None are none = λ number least.
+    not_called_there bases places number
+    (λ is. not_called_in numbers places number are (none number least (omega (arith, are.few, stands_inside places number called_place is))) is)
+next_called bases numbers places from (Some next) are is = (
+  is.0,
+  called_there bases places next (are.only next is.1 is.2),
+  λ number least most. not_called_there bases places number (not_called_in numbers places number are (is.3 number least most)),
+)
 
 -- ... a called tag stands on the place for them
 option_tells : (stands : Option ℕ) → (stands ≡ Some called_place) ⊎ (stands ≢ Some called_place)
@@ -247,3 +261,58 @@ pub are_slots : (bases : List ℕ) (places : List (Option ℕ)) (now : List (Opt
 are_slots bases places now same = λ number slot is.
     slot_on bases (place_of places number) slot
     (ap (λ (s : Option Standing). slot_in s) (sym (standing_of_place bases places number) ∙ ap (λ (l : List (Option Standing)). standing_at l number) same) ∙ is)
+
+-- The set of the called tags: none at first, and where a tag is put on a place, its number is in it exactly where that is the place
+-- for called tags.
+pub none_called : (count : ℕ) (numbers : List ℕ) (places : List (Option ℕ)) → count ≤ 256 → ((number : ℕ) → number < 256 → bit_of numbers number ≡ 0) → places ≡ replicate count None
+    → AreCalled numbers places
+none_called count numbers places few none is = record {
+  few = rw (is, length-replicate {A = Option ℕ} count None) few;
+  called = λ number stands. absurd (stands_nowhere count number called_place (ap (λ (l : List (Option ℕ)). place_of l number) (sym is) ∙ stands));
+  only = λ number small one. absurd (not_in (bit_of numbers number) (none number small) one);
+}
+
+placed_inside : (places : List (Option ℕ)) (number other : ℕ) (stand : Option ℕ) → length places ≤ 256 → place_of (set places number stand) other ≡ Some called_place → other < 256
+placed_inside places number other stand few is =
+    omega (arith, few, stands_inside (set places number stand) other called_place is, length-set places number stand)
+
+pub called_placed : (numbers after : List ℕ) (places : List (Option ℕ)) (number : ℕ) → AreCalled numbers places → number < length places → IsIn after number
+    → ((other : ℕ) → other < 256 → other ≢ number → bit_of after other ≡ bit_of numbers other) → AreCalled after (set places number (Some called_place))
+called_placed numbers after places number are within there others = record {
+  few = rw (length-set places number (Some called_place)) are.few;
+  called = λ other stands.
+      elim (eqb_tells other number) [
+        | inl same ↦ ap (λ n. bit_of after n) same.1 ∙ there
+        | inr apart ↦
+            others other (placed_inside places number other (Some called_place) are.few stands) apart.1
+            ∙ are.called other (sym (get_or-set_other places number other (Some called_place) None apart.1) ∙ stands)
+      ];
+  only = λ other small one.
+      elim (eqb_tells other number) [
+        | inl same ↦ ap (λ n. place_of (set places number (Some called_place)) n) same.1 ∙ get_or-set_same places number (Some called_place) None within
+        | inr apart ↦ get_or-set_other places number other (Some called_place) None apart.1 ∙ are.only other small (sym (others other small apart.1) ∙ one)
+      ];
+}
+
+pub called_elsewhere : (numbers after : List ℕ) (places : List (Option ℕ)) (number : ℕ) (stand : Option ℕ) → AreCalled numbers places → number < length places → bit_of after number ≡ 0
+    → ((other : ℕ) → other < 256 → other ≢ number → bit_of after other ≡ bit_of numbers other) → stand ≢ Some called_place → AreCalled after (set places number stand)
+called_elsewhere numbers after places number stand are within there others elsewhere = record {
+  few = rw (length-set places number stand) are.few;
+  called = λ other stands.
+      elim (eqb_tells other number) [
+        | inl same ↦
+            absurd
+            (elsewhere (sym (get_or-set_same places number stand None within) ∙ sym (ap (λ n. place_of (set places number stand) n) same.1) ∙ stands))
+        | inr apart ↦
+            others other (placed_inside places number other stand are.few stands) apart.1
+            ∙ are.called other (sym (get_or-set_other places number other stand None apart.1) ∙ stands)
+      ];
+  only = λ other small one.
+      elim (eqb_tells other number) [
+        | inl same ↦ absurd (not_in (bit_of after number) there (ap (λ n. bit_of after n) (sym same.1) ∙ one))
+        | inr apart ↦ get_or-set_other places number other stand None apart.1 ∙ are.only other small (sym (others other small apart.1) ∙ one)
+      ];
+}
+
+pub slot_elsewhere : (base session slot place : ℕ) → session ≤ 3 → place ≡ slot_place base session slot → Some place ≢ Some called_place
+slot_elsewhere base session slot place few is = λ same. let there : place ≡ called_place = same_Some place called_place same in omega (arith, there, is, few)

@@ -4,6 +4,8 @@ use Rattle.std.proofs.Common.{◌≡◌, ◌≢◌, ℕ, ◌+◌, ◌-◌, ◌*�
 use Rattle.tag_machine.specs.Inventory.{slot_below}
 use Rattle.air_channel.specs.declared.waiting.Standing.{Standing}
 use Rattle.air_channel.specs.declared.waiting.Standing.TheVariants.{Waits, Called}
+use Rattle.air_channel.specs.Wheel.{place_of}
+use Rattle.air_channel.specs.Numbers.{IsIn}
 
 -- how the tag of a number takes part; it doesn't where there is no such tag
 abbrev pub standing_at : List (Option Standing) → ℕ → Option Standing
@@ -81,3 +83,9 @@ standings_on bases places = map (λ place. standing_on bases place) places
 pub record AreBases (bases : List ℕ) : Type 0 where
   pub count : length bases ≡ 4
   pub each : (session : ℕ) → get_or bases session 0 < 32768
+
+-- the set of the numbers of the tags that stand on the place for called ones
+pub record AreCalled (numbers : List ℕ) (places : List (Option ℕ)) : Type 0 where
+  pub few : length places ≤ 256
+  pub called : (number : ℕ) → place_of places number ≡ Some called_place → IsIn numbers number
+  pub only : (number : ℕ) → number < 256 → IsIn numbers number → place_of places number ≡ Some called_place

@@ -3,6 +3,7 @@
 
 mod air;
 mod laws;
+mod numbers;
 mod population;
 mod receive_reply;
 mod receiver;

@@ -2,6 +2,7 @@
 ghost use Rattle.std.specs.Prelude.{◌≡◌, ◌↔◌, ℕ, ◌+◌, ◌<◌, ◌≤◌, false, Some, None, length, map, replicate, slice_set, IfOk};
 ghost use Rattle.air_channel.specs.Waiting.{AreSlots, IsDue, IsLegalStanding, IsNextCalled, counted_down, slot_in, slot_place, standing_at, waits_in};
 
+use crate::numbers::Numbers;
 use crate::wheel::Wheel;
 use bit_strings::{OutOfMemory, Session};
 use std::alloc::Global;
@@ -24,25 +25,27 @@ pub(crate) enum Standing {
 
 /// Tags with numbers, of which some wait for their slots and some are called. All waiting tags of a session are
 /// counted down at once: each stands at the place that its slot counter has behind the base of the session, and
-/// the base moves.
+/// the base moves. Called tags stand at a place of their own, and are kept as a set too, since they hear in the order of
+/// their numbers.
 ///
 /// A contract sees for each tag how it takes part.
 #[derive(Drop)]
 pub(crate) struct Waiting {
     bases: [u16; 4],
     wheel: Wheel,
+    called: Numbers,
 }
 
 impl Model for Waiting {
     ghost use Rattle.std.specs.Prelude.{List, Option};
     ghost use Rattle.air_channel.specs.declared.waiting.Standing.{Standing};
-    ghost use Rattle.air_channel.specs.Waiting.{AreBases, standings_on};
+    ghost use Rattle.air_channel.specs.Waiting.{AreBases, AreCalled, standings_on};
 
     ghost Value = { List (Option Standing) };
 
     ghost view = { λ a. standings_on a.bases a.wheel };
 
-    ghost invariant = { λ a. AreBases a.bases };
+    ghost invariant = { λ a. AreBases a.bases × AreCalled a.called a.wheel };
 }
 
 impl Waiting {
@@ -55,6 +58,7 @@ impl Waiting {
         Ok(Waiting {
             bases: [0; 4],
             wheel,
+            called: Numbers::none(),
         })
     }
 
@@ -100,7 +104,10 @@ impl Waiting {
     {
         match standing {
             Some(standing) => self.place(number, standing),
-            None => self.wheel.take(number),
+            None => {
+                self.wheel.take(number);
+                self.called.remove(number);
+            }
         }
     }
 
@@ -115,26 +122,29 @@ impl Waiting {
             Standing::Waits(session, slot) => {
                 let place = slot_place(self.bases[session as usize], session, slot);
                 self.wheel.put(number, place);
+                self.called.remove(number);
             }
-            Standing::Called => self.wheel.put(number, CALLED),
+            Standing::Called => {
+                self.wheel.put(number, CALLED);
+                self.called.insert(number);
+            }
         }
     }
 
-    /// The first tag that is called.
+    /// The first tag that is called, in the order of their numbers.
     pub(crate) fn first_called(&self) -> Option<u16>
         ensures next { IsNextCalled self.now 0 result }
         ensures slots { AreSlots self.now }
     {
-        self.wheel.first(CALLED)
+        self.called.next(0)
     }
 
-    /// The next tag that is called behind one that is.
+    /// The next tag behind this one that is called.
     pub(crate) fn called_after(&self, number: u16) -> Option<u16>
-        requires number { number < length self.now }
-        requires called { standing_at self.now number ≡ Some Standing.Called }
+        requires { number < length self.now }
         ensures { IsNextCalled self.now (number + 1) result }
     {
-        self.wheel.after(number)
+        self.called.next(number + 1)
     }
 
     /// A tag whose slot comes next in a session; none exactly where there is no such tag.

@@ -1,6 +1,6 @@
 //! Places on which tags stand, and the links between the tags of one place.
-ghost use Rattle.std.specs.Prelude.{◌≡◌, ◌+◌, ◌<◌, ◌≤◌, ℕ, Option, Some, None, List, length, replicate, slice_set, IfOk};
-ghost use Rattle.air_channel.specs.Wheel.{IsLinked, IsLinkBefore, IsNextTag, LeadNowhere, LeadsOn, place_of};
+ghost use Rattle.std.specs.Prelude.{◌≡◌, ◌<◌, ◌≤◌, ℕ, Some, None, length, replicate, slice_set, IfOk};
+ghost use Rattle.air_channel.specs.Wheel.{IsTagOn, LeadNowhere, place_of};
 
 use bit_strings::OutOfMemory;
 use std::alloc::Global;
@@ -16,14 +16,15 @@ const TAGS: u32 = 256;
 /// The link behind the last tag of a place, which is the number of no tag.
 const NONE: u16 = 256;
 
-/// Tags with numbers, each of which stands on one place or on none. The tags of one place are linked in the order of
-/// their numbers.
+/// Tags with numbers, each of which stands on one place or on none. The tags of one place are linked in both directions.
 ///
 /// A contract sees for each tag the place where it stands, or none.
 #[derive(Drop)]
 pub(crate) struct Wheel {
     /// For each place the number of the first tag there, and then for each tag that of the next one on its place.
     links: Vec<u16>,
+    /// For each tag that stands on a place, which link leads to it. One more is written where a link leads to none.
+    backs: Vec<u32>,
     places: Vec<Option<u32>>,
 }
 
@@ -35,7 +36,7 @@ impl Model for Wheel {
 
     ghost view = { λ a. a.places.items };
 
-    ghost invariant = { λ a. IsLinked a.places.items a.links.items };
+    ghost invariant = { λ a. IsLinked a.places.items a.links.items a.backs.items };
 }
 
 impl Wheel {
@@ -45,8 +46,13 @@ impl Wheel {
         ensures { IfOk result (λ wheel. wheel ≡ replicate count None) }
     {
         let links = no_links(alloc)?;
+        let backs = vec![in alloc; 0; (TAGS + 1) as usize]?;
         let places = no_places(alloc, count)?;
-        Ok(Wheel { links, places })
+        Ok(Wheel {
+            links,
+            backs,
+            places,
+        })
     }
 
     /// The place where a tag stands, if there is one.
@@ -58,28 +64,14 @@ impl Wheel {
         self.places[number as usize]
     }
 
-    /// The first tag on a place; none exactly where no tag stands there.
+    /// A tag on a place; none exactly where no tag stands there.
     pub(crate) fn first(&self, place: u32) -> Option<u16>
         requires { place < 131073 }
-        ensures { IsNextTag self.now place 0 result }
+        ensures { IsTagOn self.now place result }
     {
-        self.tag_at(self.links[place as usize])
-    }
-
-    /// The next tag on the place of this one, in the order of their numbers.
-    pub(crate) fn after(&self, number: u16) -> Option<u16>
-        requires { number < length self.now }
-        ensures { (place : ℕ) → place_of self.now number ≡ Some place → IsNextTag self.now place (number + 1) result }
-    {
-        self.tag_at(self.links[(PLACES + number as u32) as usize])
-    }
-
-    /// The tag that a link leads to, if there is one.
-    fn tag_at(&self, link: u16) -> Option<u16>
-        ensures { (place from : ℕ) → LeadsOn self.now place from link → IsNextTag self.now place from result }
-    {
-        if (link as usize) < self.places.len() {
-            Some(link)
+        let first = self.links[place as usize];
+        if (first as usize) < self.places.len() {
+            Some(first)
         } else {
             None
         }
@@ -92,9 +84,12 @@ impl Wheel {
         ensures { self.new ≡ slice_set self.old number (Some place) }
     {
         self.take(number);
-        let at = link_before(self.links.as_slice(), place, number);
-        self.links[(PLACES + number as u32) as usize] = self.links[at];
-        self.links[at] = number;
+        let behind = PLACES + number as u32;
+        let first = self.links[place as usize];
+        self.links[behind as usize] = first;
+        self.backs[first as usize] = behind;
+        self.links[place as usize] = number;
+        self.backs[number as usize] = place;
         self.places[number as usize] = Some(place);
     }
 
@@ -103,12 +98,14 @@ impl Wheel {
         requires { number < length self.old }
         ensures { self.new ≡ slice_set self.old number None }
     {
-        let Some(place) = self.places[number as usize] else {
-            return;
-        };
-        let at = link_before(self.links.as_slice(), place, number);
-        self.links[at] = self.links[(PLACES + number as u32) as usize];
-        self.places[number as usize] = None;
+        if self.places[number as usize].is_some() {
+            let behind = PLACES + number as u32;
+            let next = self.links[behind as usize];
+            let back = self.backs[number as usize];
+            self.links[back as usize] = next;
+            self.backs[next as usize] = back;
+            self.places[number as usize] = None;
+        }
     }
 }
 
@@ -129,18 +126,4 @@ fn no_places(alloc: Global, count: usize) -> Result<Vec<Option<u32>>, OutOfMemor
         places.push_reserved(None);
     }
     Ok(places)
-}
-
-/// Where the link stands that leads past the numbers below this one, among the tags of a place.
-fn link_before(links: &[u16], place: u32, number: u16) -> usize
-    requires place { place < 131073 }
-    requires linked { (places : List (Option ℕ)) × IsLinked places links.now × (number < length places) }
-    ensures inside { result < length links.now }
-    ensures before { (places : List (Option ℕ)) → IsLinked places links.now → number < length places → IsLinkBefore places links.now place number result }
-{
-    let mut at = place as usize;
-    while links[at] < number {
-        at = (PLACES + links[at] as u32) as usize;
-    }
-    at
 }

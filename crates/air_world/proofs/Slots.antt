@@ -9,13 +9,13 @@ use Rattle.air_channel.specs.Channel.{Given, got_of, heard_levels}
 use Rattle.air_channel.specs.Past.{Start, Record, Item, befell, exchanged, operated, ended, next_record, past_behind_command, exchanges_in}
 use Rattle.air_channel.specs.Received.{IsReceived}
 use Rattle.air_channel.specs.Reception.{reception_of, IsGivenFor}
-use Rattle.reply_grammar.specs.Reception.{Reception, no_stream, whole_reply, no_such_reply}
+use Rattle.reply_grammar.specs.Reception.{Reception, reception_from, no_stream, whole_reply, no_such_reply}
 use Rattle.air_channel.specs.declared.air.Got.TheVariants as gots
 use Rattle.air_world.proofs.Growth.{answer-grows, listing-grows}
 use Rattle.air_world.proofs.Lines.{report_text-append}
 use Rattle.air_channel.specs.ReceptionLaws.{stream_reception}
 use Rattle.air_world.proofs.Writing.{cut-longer, cut-past}
-use Rattle.air_world.specs.Heard.{heard_reception, rn16_in, pair_in}
+use Rattle.air_world.specs.Heard.{pair_received}
 use Rattle.air_world.specs.History.{past_behind_dialogue, past_behind_listing, ack_reception, past_behind_ack, past_behind_answer, slot_reception, past_behind_slot}
 use Rattle.air_world.specs.Listing.{Listed, reception_of_ack, listed_from, listed_by, listing_of}
 use Rattle.air_world.specs.Playing.{Origin, RunValue, PlaysAt, StandsAt, IsWritten, IsCutOff, HasRoom, pair_of, past_text, expectation_of}
@@ -28,7 +28,6 @@ use Rattle.pie_line.specs.Link.{LinkValue}
 use Rattle.reply_grammar.specs.declared.expected.Expect.{Expect}
 use Rattle.reply_grammar.specs.declared.expected.Expect.TheVariants as expects
 use Rattle.reply_grammar.specs.declared.expected.Received.{Received}
-use Rattle.reply_grammar.specs.declared.expected.Reply.{Reply}
 use Rattle.reply_grammar.specs.declared.expected.Reply.TheVariants as replies
 use Rattle.report_lines.specs.ReportLine.{ReportLine, report_line_text, report_text}
 use Rattle.report_lines.specs.SeenCounts.{Seen, seen_in, count_of}
@@ -37,7 +36,7 @@ use Rattle.report_lines.specs.SeenLaws.{count_of-few}
 
 -- what is received of the stream of the last exchange
 pub heard-reception : (link : LinkValue) (given : Given) (air : AirValue) (expect : Expect) (answer : Received) → air.link ≡ link → air.stream ≡ heard_levels link given → got_of given ≡ gots.Stream
-    → IsGivenFor expect given → IsReceived (table_of air.link.code) air.link.trext expect air.stream answer → heard_reception (Some answer) ≡ reception_of expect given
+    → IsGivenFor expect given → IsReceived (table_of air.link.code) air.link.trext expect air.stream answer → reception_from answer ≡ reception_of expect given
 heard-reception link given air expect answer link_is stream came is received =
     let at_link : IsReceived (table_of link.code) link.trext expect air.stream answer = subst (λ l. IsReceived (table_of l.code) l.trext expect air.stream answer) link_is received in
     sym (stream_reception link expect given answer is came (subst (λ levels. IsReceived (table_of link.code) link.trext expect levels answer) stream at_link))
@@ -110,23 +109,28 @@ command-unlisted sent command asked = refl
 pub slot-unlisted : (sent : Record) → expectation_of sent.command ≡ Some expects.Rn16 → listed_by sent ≡ []
 slot-unlisted sent asked = ap (λ (r : Reception). listed_from sent r) (command-unlisted sent sent.command asked)
 
--- what a whole reply to an ACK lists
-pub whole-listed : (sent : Record) (reply : Reply) (pair : ℕ × List ℕ) → pair_in reply ≡ Some pair
-    → listed_from sent (whole_reply reply) ≡ record { round = sent.round; slot = sent.slot; pc = pair.0; epc = pair.1 } ∷ []
-whole-listed sent (replies.Epc pc epc) pair is = let same : (pc, epc) ≡ pair = cc in ap (λ (p : ℕ × List ℕ). record { round = sent.round; slot = sent.slot; pc = p.0; epc = p.1 } ∷ []) same
-whole-listed sent (replies.Rn16 rn) pair is = absurd (cc)
-whole-listed sent (replies.Handle rn) pair is = absurd (cc)
-whole-listed sent (replies.Words words) pair is = absurd (cc)
-whole-listed sent replies.Header pair is = absurd (cc)
-whole-listed sent (replies.Error code) pair is = absurd (cc)
+-- what the PC and the EPC that an ACK brings list
+pub whole-listed : (sent : Record) (reception : Reception) (pair : ℕ × List ℕ) → pair_received reception ≡ Some pair
+    → listed_from sent reception ≡ record { round = sent.round; slot = sent.slot; pc = pair.0; epc = pair.1 } ∷ []
+whole-listed sent (whole_reply (replies.Epc pc epc)) pair is =
+    let same : (pc, epc) ≡ pair = cc in ap (λ (p : ℕ × List ℕ). record { round = sent.round; slot = sent.slot; pc = p.0; epc = p.1 } ∷ []) same
+whole-listed sent (whole_reply (replies.Rn16 rn)) pair is = absurd (cc)
+whole-listed sent (whole_reply (replies.Handle rn)) pair is = absurd (cc)
+whole-listed sent (whole_reply (replies.Words words)) pair is = absurd (cc)
+whole-listed sent (whole_reply replies.Header) pair is = absurd (cc)
+whole-listed sent (whole_reply (replies.Error code)) pair is = absurd (cc)
+whole-listed sent no_stream pair is = absurd (cc)
+whole-listed sent no_such_reply pair is = absurd (cc)
 
-pub other-unlisted : (sent : Record) (reply : Reply) → pair_in reply ≡ None → listed_from sent (whole_reply reply) ≡ []
-other-unlisted sent (replies.Epc pc epc) is = absurd (cc)
-other-unlisted sent (replies.Rn16 rn) is = refl
-other-unlisted sent (replies.Handle rn) is = refl
-other-unlisted sent (replies.Words words) is = refl
-other-unlisted sent replies.Header is = refl
-other-unlisted sent (replies.Error code) is = refl
+pub other-unlisted : (sent : Record) (reception : Reception) → pair_received reception ≡ None → listed_from sent reception ≡ []
+other-unlisted sent (whole_reply (replies.Epc pc epc)) is = absurd (cc)
+other-unlisted sent (whole_reply (replies.Rn16 rn)) is = refl
+other-unlisted sent (whole_reply (replies.Handle rn)) is = refl
+other-unlisted sent (whole_reply (replies.Words words)) is = refl
+other-unlisted sent (whole_reply replies.Header) is = refl
+other-unlisted sent (whole_reply (replies.Error code)) is = refl
+other-unlisted sent no_stream is = refl
+other-unlisted sent no_such_reply is = refl
 
 length-map-pairs : (listed : List Listed) → length (map pair_of listed) ≡ length listed
 length-map-pairs [] = refl
@@ -160,24 +164,6 @@ count-fits origin past air run pair seen room =
     let few : count_of (seen_in (map pair_of (listing_of past))) pair ≤ length (map pair_of (listing_of past)) = count_of-few (map pair_of (listing_of past)) pair in
     let same : count_of run.seen pair ≡ count_of (seen_in (map pair_of (listing_of past))) pair = ap (λ s. count_of s pair) seen in
     omega (arith, few, same, few-listed past, room)
-
--- what follows a whole reply to a slot command
-pub whole-answer : (start : Start) (operations : OpList) (round slot : ℕ) (reply : Reply) (rn : ℕ) (past : List Item) → rn16_in reply ≡ Some rn
-    → past_behind_answer start operations round slot (whole_reply reply) past ≡ past_behind_ack start operations round slot rn past
-whole-answer start operations round slot (replies.Rn16 own) rn past is = let same : own ≡ rn = cc in ap (λ n. past_behind_ack start operations round slot n past) same
-whole-answer start operations round slot (replies.Epc pc epc) rn past is = absurd (cc)
-whole-answer start operations round slot (replies.Handle own) rn past is = absurd (cc)
-whole-answer start operations round slot (replies.Words words) rn past is = absurd (cc)
-whole-answer start operations round slot replies.Header rn past is = absurd (cc)
-whole-answer start operations round slot (replies.Error code) rn past is = absurd (cc)
-
-pub other-answer : (start : Start) (operations : OpList) (round slot : ℕ) (reply : Reply) (past : List Item) → rn16_in reply ≡ None → past_behind_answer start operations round slot (whole_reply reply) past ≡ past
-other-answer start operations round slot (replies.Rn16 own) past is = absurd (cc)
-other-answer start operations round slot (replies.Epc pc epc) past is = refl
-other-answer start operations round slot (replies.Handle own) past is = refl
-other-answer start operations round slot (replies.Words words) past is = refl
-other-answer start operations round slot replies.Header past is = refl
-other-answer start operations round slot (replies.Error code) past is = refl
 
 -- the first exchange of a slot, cut off
 pub cut-slot : (origin : Origin) (operations : OpList) (round slot : ℕ) (command : Command) (past : List Item) (written : Option (List ℕ)) (faults : ℕ) (fault : PlayFault)
@@ -232,46 +218,46 @@ slot-without start operations round slot command past reception is none =
     ap (λ (r : Reception). past_behind_answer start operations round slot r (past_behind_command start round slot command past)) (sym is) ∙ none
 
 -- ... and of a slot with one
-pub slot-with : (start : Start) (operations : OpList) (round slot : ℕ) (command : Command) (past : List Item) (reply : Reply) (rn : ℕ) → whole_reply reply ≡ slot_reception start round slot command past → rn16_in reply ≡ Some rn
+pub slot-with : (start : Start) (operations : OpList) (round slot : ℕ) (command : Command) (past : List Item) (rn : ℕ) → whole_reply (replies.Rn16 rn) ≡ slot_reception start round slot command past
     → past_behind_slot start operations round slot command past ≡ past_behind_ack start operations round slot rn (past_behind_command start round slot command past)
-slot-with start operations round slot command past reply rn is found =
+slot-with start operations round slot command past rn is =
     ap (λ (r : Reception). past_behind_answer start operations round slot r (past_behind_command start round slot command past)) (sym is)
-    ∙ whole-answer start operations round slot reply rn (past_behind_command start round slot command past) found
 
 -- the past behind an ACK that brought no EPC
-pub ack-without : (start : Start) (operations : OpList) (round slot rn : ℕ) (past : List Item) (reception : Reception) → reception ≡ ack_reception start round slot rn past
-    → past_behind_listing start operations round slot rn reception (past_behind_command start round slot (commands.Ack rn) past) ≡ past_behind_command start round slot (commands.Ack rn) past
+other-listing : (start : Start) (operations : OpList) (round slot rn : ℕ) (reception : Reception) (past : List Item) → pair_received reception ≡ None
+    → past_behind_listing start operations round slot rn reception past ≡ past
+other-listing start operations round slot rn (whole_reply (replies.Epc pc epc)) past is = absurd (cc)
+other-listing start operations round slot rn (whole_reply (replies.Rn16 own)) past is = refl
+other-listing start operations round slot rn (whole_reply (replies.Handle own)) past is = refl
+other-listing start operations round slot rn (whole_reply (replies.Words words)) past is = refl
+other-listing start operations round slot rn (whole_reply replies.Header) past is = refl
+other-listing start operations round slot rn (whole_reply (replies.Error code)) past is = refl
+other-listing start operations round slot rn no_stream past is = refl
+other-listing start operations round slot rn no_such_reply past is = refl
+
+pub ack-without : (start : Start) (operations : OpList) (round slot rn : ℕ) (past : List Item) → pair_received (ack_reception start round slot rn past) ≡ None
     → past_behind_ack start operations round slot rn past ≡ past_behind_command start round slot (commands.Ack rn) past
-ack-without start operations round slot rn past reception is none =
-    ap (λ (r : Reception). past_behind_listing start operations round slot rn r (past_behind_command start round slot (commands.Ack rn) past)) (sym is) ∙ none
-
-pub other-listing : (start : Start) (operations : OpList) (round slot rn : ℕ) (reply : Reply) (past : List Item) → pair_in reply ≡ None
-    → past_behind_listing start operations round slot rn (whole_reply reply) past ≡ past
-other-listing start operations round slot rn (replies.Rn16 own) past is = refl
-other-listing start operations round slot rn (replies.Epc pc epc) past is = absurd (cc)
-other-listing start operations round slot rn (replies.Handle own) past is = refl
-other-listing start operations round slot rn (replies.Words words) past is = refl
-other-listing start operations round slot rn replies.Header past is = refl
-other-listing start operations round slot rn (replies.Error code) past is = refl
-
-whole-listing : (start : Start) (operations : OpList) (round slot rn : ℕ) (reply : Reply) (pair : ℕ × List ℕ) (past : List Item) → pair_in reply ≡ Some pair
-    → past_behind_listing start operations round slot rn (whole_reply reply) past ≡ past_behind_dialogue start round slot 1 (dialogue_of operations pair.1 rn) past
-whole-listing start operations round slot rn (replies.Epc pc epc) pair past is =
-    let same : (pc, epc) ≡ pair = cc in ap (λ (p : ℕ × List ℕ). past_behind_dialogue start round slot 1 (dialogue_of operations p.1 rn) past) same
-whole-listing start operations round slot rn (replies.Rn16 own) pair past is = absurd (cc)
-whole-listing start operations round slot rn (replies.Handle own) pair past is = absurd (cc)
-whole-listing start operations round slot rn (replies.Words words) pair past is = absurd (cc)
-whole-listing start operations round slot rn replies.Header pair past is = absurd (cc)
-whole-listing start operations round slot rn (replies.Error code) pair past is = absurd (cc)
+ack-without start operations round slot rn past none =
+    other-listing start operations round slot rn (ack_reception start round slot rn past) (past_behind_command start round slot (commands.Ack rn) past) none
 
 -- ... and behind one that brought an EPC
-pub ack-with : (start : Start) (operations : OpList) (round slot rn : ℕ) (past : List Item) (reply : Reply) (pair : ℕ × List ℕ)
-    → whole_reply reply ≡ ack_reception start round slot rn past → pair_in reply ≡ Some pair
+whole-listing : (start : Start) (operations : OpList) (round slot rn : ℕ) (reception : Reception) (pair : ℕ × List ℕ) (past : List Item) → pair_received reception ≡ Some pair
+    → past_behind_listing start operations round slot rn reception past ≡ past_behind_dialogue start round slot 1 (dialogue_of operations pair.1 rn) past
+whole-listing start operations round slot rn (whole_reply (replies.Epc pc epc)) pair past is =
+    let same : (pc, epc) ≡ pair = cc in ap (λ (p : ℕ × List ℕ). past_behind_dialogue start round slot 1 (dialogue_of operations p.1 rn) past) same
+whole-listing start operations round slot rn (whole_reply (replies.Rn16 own)) pair past is = absurd (cc)
+whole-listing start operations round slot rn (whole_reply (replies.Handle own)) pair past is = absurd (cc)
+whole-listing start operations round slot rn (whole_reply (replies.Words words)) pair past is = absurd (cc)
+whole-listing start operations round slot rn (whole_reply replies.Header) pair past is = absurd (cc)
+whole-listing start operations round slot rn (whole_reply (replies.Error code)) pair past is = absurd (cc)
+whole-listing start operations round slot rn no_stream pair past is = absurd (cc)
+whole-listing start operations round slot rn no_such_reply pair past is = absurd (cc)
+
+pub ack-with : (start : Start) (operations : OpList) (round slot rn : ℕ) (past : List Item) (pair : ℕ × List ℕ) → pair_received (ack_reception start round slot rn past) ≡ Some pair
     → past_behind_ack start operations round slot rn past
     ≡ past_behind_dialogue start round slot 1 (dialogue_of operations pair.1 rn) (past_behind_command start round slot (commands.Ack rn) past)
-ack-with start operations round slot rn past reply pair is found =
-    ap (λ (r : Reception). past_behind_listing start operations round slot rn r (past_behind_command start round slot (commands.Ack rn) past)) (sym is)
-    ∙ whole-listing start operations round slot rn reply pair (past_behind_command start round slot (commands.Ack rn) past) found
+ack-with start operations round slot rn past pair found =
+    whole-listing start operations round slot rn (ack_reception start round slot rn past) pair (past_behind_command start round slot (commands.Ack rn) past) found
 
 -- what stands behind an ACK and what follows it
 pub ack-stands : (origin : Origin) (operations : OpList) (round slot rn : ℕ) (past longer : List Item) (air : AirValue) (run : RunValue) (written : Option (List ℕ)) (faults : ℕ)

@@ -1,4 +1,4 @@
-use Rattle.std.proofs.Common.{◌∙◌, ap, inl, refl, arith, suc}
+use Rattle.std.proofs.Common.{◌∙◌, ap, refl, arith, suc}
 use Rattle.air_channel.proofs.Heard.{heard_none, heard_on, heard_at, heard_next, heard_end, heard_tags, heard_replies, heard_rest, next_is_called, next_from_start, next_smaller, few_replies}
 use Rattle.air_channel.proofs.Seating.{standing_inside}
 use Rattle.air_channel.specs.Exchange.{is_missed}
@@ -16,16 +16,10 @@ loop-next-init g c = record {
   slots = c.first_called-next.ensures.slots;
 }
 
-pub called_after-next-requires-clause-number : goal.called_after-next-requires-clause-number
-called_after-next-requires-clause-number g c =
+pub called_after-next-requires : goal.called_after-next-requires
+called_after-next-requires g c =
     omega
     (arith, standing_inside c.args.waiting.now c.in-Some.number Called (c.loop-next.invariant.called c.in-Some.number c.in-Some.is), c.loop-next.invariant.heard.whole, c.requires.whole)
-
-pub called_after-next-requires-clause-called : goal.called_after-next-requires-clause-called
-called_after-next-requires-clause-called g c =
-    let so_far = (heard_at c.args.command.now c.args.entry.now c.args.waiting.now c.args.seats.now c.args.steps.now c.args.replies.now.wanted c.in-Some.number c.loop-next.next c.loop-next.waiting c.loop-next.seats
-    c.loop-next.replies c.loop-next.steps c.loop-next.invariant.heard c.in-Some.is) in
-    (so_far.left c.in-Some.number (inl (omega arith))).1 ∙ c.loop-next.invariant.called c.in-Some.number c.in-Some.is
 
 pub hear-requires : goal.hear-requires
 hear-requires g c =

@@ -1,11 +1,11 @@
 use Rattle.std.proofs.Common.{refl}
-use Rattle.air_channel.proofs.Slots.{put_waiting, put_calling, are_slots}
+use Rattle.air_channel.proofs.Slots.{put_waiting, put_calling, are_slots, called_placed, length-standings}
 use Rattle.air_channel.proofs.waiting.Waiting.place.Goals as goal
 
 pub returns-in-Waits-clause-standings : goal.returns-in-Waits-clause-standings
 returns-in-Waits-clause-standings c =
     put_waiting c.self.inside.bases c.self.inside.wheel c.put.new.self c.args.self.now c.args.number c.in-Waits.session c.in-Waits.slot c.slot_place-place.result c.args.standing
-    c.self.invariant c.self.view_is c.in-Waits.is c.requires.legal c.slot_place-place.ensures c.put.ensures
+    c.self.invariant.0 c.self.view_is c.in-Waits.is c.requires.legal c.slot_place-place.ensures c.put.ensures
 
 pub returns-in-Waits-clause-slots : goal.returns-in-Waits-clause-slots
 returns-in-Waits-clause-slots c = are_slots c.self.inside.bases c.put.new.self _ refl
@@ -16,3 +16,11 @@ returns-in-Called-clause-standings c =
 
 pub returns-in-Called-clause-slots : goal.returns-in-Called-clause-slots
 returns-in-Called-clause-slots c = are_slots c.self.inside.bases c.put-in-Called.new.self _ refl
+
+pub invariant_of-self-in-Called : goal.invariant_of-self-in-Called
+invariant_of-self-in-Called c = (
+  c.self.invariant.0,
+  rw c.put-in-Called.ensures
+      (called_placed c.self.inside.called c.insert.new.self c.self.inside.wheel c.args.number c.self.invariant.1
+      (rw (length-standings c.self.inside.bases c.self.inside.wheel c.args.self.now c.self.view_is) c.requires.number) c.insert.ensures.there c.insert.ensures.others),
+)

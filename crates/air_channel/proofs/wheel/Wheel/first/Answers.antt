@@ -1,9 +1,15 @@
-use Rattle.std.proofs.Common.{inl, refl}
-use Rattle.air_channel.proofs.Links.{leads_read}
+use Rattle.std.proofs.Common.{arith}
+use Rattle.air_channel.proofs.Links.{tag_on, no_tag_on}
 use Rattle.air_channel.proofs.wheel.Wheel.first.Goals as goal
 
-pub returns : goal.returns
-returns c =
-    c.tag_at.ensures c.args.place 0
-    (leads_read c.self.inside.places.items c.args.self.now c.self.inside.links.items c.args.place c.args.place 0 c.index.result.now c.self.view_is c.self.invariant c.requires (inl (refl, refl))
-    c.index.ensures)
+pub returns-then-first-len : goal.returns-then-first-len
+returns-then-first-len c =
+    rw (← c.self.view_is)
+    (tag_on c.self.inside.places.items c.self.inside.links.items c.self.inside.backs.items c.args.place c.index-first.result.now c.self.invariant c.requires c.index-first.ensures
+    (omega (arith, c.if-first-len.true, c.len.ensures)))
+
+pub returns-else-first-len : goal.returns-else-first-len
+returns-else-first-len c =
+    rw (← c.self.view_is)
+    (no_tag_on c.self.inside.places.items c.self.inside.links.items c.self.inside.backs.items c.args.place c.index-first.result.now c.self.invariant c.requires c.index-first.ensures
+    (omega (arith, c.if-first-len.false, c.len.ensures)))

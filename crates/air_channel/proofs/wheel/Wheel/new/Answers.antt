@@ -1,8 +1,8 @@
+use Rattle.std.proofs.Common.{arith}
 use Rattle.air_channel.proofs.Links.{new_linked}
 use Rattle.air_channel.proofs.wheel.Wheel.new.Goals as goal
 
 pub invariant_of-result : goal.invariant_of-result
-invariant_of-result c = new_linked c.args.count c.in_ok-places.places.items c.in_ok-links.links.items c.requires c.in_ok-places.ensures c.in_ok-links.ensures
-
-pub returns : goal.returns
-returns c = c.in_ok-places.ensures
+invariant_of-result c =
+    new_linked c.args.count c.in_ok-places.places.items c.in_ok-links.links.items c.in_ok-backs.backs.items c.requires c.in_ok-places.ensures c.in_ok-links.ensures
+    (omega (arith, c.in_ok-backs.ensures.len))

@@ -4,8 +4,8 @@ use Rattle.air_channel.proofs.wheel.Wheel.put.Goals as goal
 
 pub invariant_of-self : goal.invariant_of-self
 invariant_of-self c =
-    put_on c.args.self.now c.self.inside.places.items c.self.inside.links.items c.as_slice.result.now c.args.number c.args.place c.link_before-at.result c.index.result.now
-    (c.self.view_is ∙ c.take.ensures) c.requires.number c.self.invariant c.as_slice.ensures.value c.requires.place c.link_before-at.ensures.before c.index.ensures
+    put_on c.args.self.now c.self.inside.places.items c.self.inside.links.items c.self.inside.backs.items c.args.number c.args.place c.index-first.result.now (c.self.view_is ∙ c.take.ensures)
+    c.requires.number c.self.invariant c.requires.place c.index-first.ensures
 
 pub returns : goal.returns
 returns c = put_again c.args.self.now c.self.inside.places.items c.args.number (Some c.args.place) (c.self.view_is ∙ c.take.ensures)

@@ -1,11 +1,16 @@
-use Rattle.air_channel.proofs.Links.{place_inside, take_linked}
+use Rattle.std.proofs.Common.{arith, sym, ◌∙◌}
+use Rattle.air_channel.proofs.Links.{take_linked, take_back_inside}
 use Rattle.air_channel.proofs.wheel.Wheel.take.Goals as goal
 
-pub link_before-at-requires-clause-place : goal.link_before-at-requires-clause-place
-link_before-at-requires-clause-place c =
-    place_inside c.self.inside.places.items c.self.inside.links.items c.args.number c.in-Some.place c.index.result.now c.self.invariant (rw c.self.view_is c.requires) c.index.ensures c.in-Some.is
+pub index_mut-requires : goal.index_mut-requires
+index_mut-requires c =
+    omega (
+      arith,
+      take_back_inside c.self.inside.places.items c.self.inside.links.items c.self.inside.backs.items c.args.number c.index-next.result.now c.index-back.result.now c.index.result.now
+          c.self.invariant (rw c.self.view_is c.requires) c.index.ensures (sym c.is_some.ensures ∙ c.if-is_some.true) c.index-next.ensures c.index-back.ensures,
+    )
 
 pub invariant_of-self : goal.invariant_of-self
 invariant_of-self c =
-    take_linked c.self.inside.places.items c.self.inside.links.items c.as_slice.result.now c.args.number c.in-Some.place c.link_before-at.result c.index-2.result.now c.index.result.now
-    c.self.invariant c.as_slice.ensures.value (rw c.self.view_is c.requires) c.index.ensures c.in-Some.is c.link_before-at.ensures.before c.index-2.ensures
+    take_linked c.self.inside.places.items c.self.inside.links.items c.self.inside.backs.items c.args.number c.index-next.result.now c.index-back.result.now c.index.result.now c.self.invariant
+    (rw c.self.view_is c.requires) c.index.ensures (sym c.is_some.ensures ∙ c.if-is_some.true) c.index-next.ensures c.index-back.ensures
