@@ -4,13 +4,15 @@ use Rattle.std.proofs.lemmas.List.{append-nil, map-append}
 use Rattle.std.specs.Result.{IfErr, OnOk}
 use Rattle.access_ops.specs.Operations.{dialogue_of}
 use Rattle.access_ops.specs.declared.OpList.{OpList}
-use Rattle.air_channel.specs.Air.{AirValue}
+use Rattle.air_channel.specs.Air.{AirValue, AreLegalTags}
 use Rattle.air_channel.specs.Channel.{Given, got_of, heard_levels}
-use Rattle.air_channel.specs.Past.{Start, Record, Item, befell, exchanged, operated, ended, next_record, past_behind_command, exchanges_in}
+use Rattle.air_channel.specs.Past.{Start, Record, Item, befell, exchanged, operated, ended, next_entry, next_record, past_behind_command, tags_behind, exchanges_in}
 use Rattle.air_channel.specs.Received.{IsReceived}
 use Rattle.air_channel.specs.Reception.{reception_of, IsGivenFor}
 use Rattle.reply_grammar.specs.Reception.{Reception, reception_from, no_stream, whole_reply, no_such_reply}
+use Rattle.air_channel.specs.declared.air.Got.{Got}
 use Rattle.air_channel.specs.declared.air.Got.TheVariants as gots
+use Rattle.air_world.proofs.Answering.{AnswersByRow, SendsInRange, StaysLegal, given-in-expected}
 use Rattle.air_world.proofs.Growth.{answer-grows, listing-grows}
 use Rattle.air_world.proofs.Lines.{report_text-append}
 use Rattle.air_channel.specs.ReceptionLaws.{stream_reception}
@@ -35,11 +37,22 @@ use Rattle.scenario.specs.Cursor.{IsLeft}
 use Rattle.report_lines.specs.SeenLaws.{count_of-few}
 
 -- what is received of the stream of the last exchange
-pub heard-reception : (link : LinkValue) (given : Given) (air : AirValue) (expect : Expect) (answer : Received) → air.link ≡ link → air.stream ≡ heard_levels link given → got_of given ≡ gots.Stream
+heard-reception : (link : LinkValue) (given : Given) (air : AirValue) (expect : Expect) (answer : Received) → air.link ≡ link → air.stream ≡ heard_levels link given → got_of given ≡ gots.Stream
     → IsGivenFor expect given → IsReceived (table_of air.link.code) air.link.trext expect air.stream answer → reception_from answer ≡ reception_of expect given
 heard-reception link given air expect answer link_is stream came is received =
     let at_link : IsReceived (table_of link.code) link.trext expect air.stream answer = subst (λ l. IsReceived (table_of l.code) l.trext expect air.stream answer) link_is received in
     sym (stream_reception link expect given answer is came (subst (λ levels. IsReceived (table_of link.code) link.trext expect levels answer) stream at_link))
+
+-- ... where its command expects such a reply
+pub asked-reception : (origin : Origin) (past : List Item) (round slot : ℕ) (command : Command) (expect : Expect) (air after : AirValue) (run later : RunValue) (got : Got) (received : Received)
+    → expectation_of command ≡ Some expect → AnswersByRow → SendsInRange → StaysLegal → PlaysAt origin past air run
+    → PlaysAt origin (past_behind_command origin.start round slot command past) after later
+    → after.stream ≡ heard_levels origin.start.link (next_record origin.start round slot command past).given → got ≡ got_of (next_record origin.start round slot command past).given → got ≡ gots.Stream
+    → IsReceived (table_of after.link.code) after.link.trext expect after.stream received
+    → reception_from received ≡ reception_of expect (next_record origin.start round slot command past).given
+asked-reception origin past round slot command expect air after run later got received asked rows range stays plays behind stream is came heard =
+    heard-reception origin.start.link (next_record origin.start round slot command past).given after expect received behind.link stream (sym is ∙ came)
+    (given-in-expected origin.start.several command expect (next_entry origin.start past) (tags_behind origin.start past) asked rows range stays (subst AreLegalTags plays.tags plays.legal)) heard
 
 -- the text behind an exchange: what a trace tells of it, then what it lists
 pub text-exchanged : (origin : Origin) (sent : Record) (past : List Item)
