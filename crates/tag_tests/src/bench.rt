@@ -95,14 +95,19 @@ fn answered(tag: AnyTag, says: Says, out: &mut Bits) -> Option<Heard>
     }
 }
 
-/// What comes of what a tag hears or of what befalls it, with the bits of the answer.
-pub fn after(alloc: Global, tag: AnyTag, says: Says) -> Option<(Heard, Bits)> {
-    let mut out = Bits::new(alloc, 8240).ok()?;
+/// The same with a list of its own; none where it has too little room.
+fn answered_in(mut out: Bits, tag: AnyTag, says: Says) -> Option<(Heard, Bits)> {
     if out.capacity() < 8240 {
         return None;
     }
     let heard = answered(tag, says, &mut out)?;
     Some((heard, out))
+}
+
+/// What comes of what a tag hears or of what befalls it, with the bits of the answer.
+pub fn after(alloc: Global, tag: AnyTag, says: Says) -> Option<(Heard, Bits)> {
+    let out = Bits::new(alloc, 8240).ok()?;
+    answered_in(out, tag, says)
 }
 
 /// Whether the answer to a command with this handle is the one of the row.

@@ -10,7 +10,7 @@ use std::alloc::Global;
 use std::marker::Brand;
 use std::sync::ledger::{Blank, Ledger};
 use std::test::Fail;
-use tag_machine::{Answered, AnyTag, DrawWords, StateName, Steps};
+use tag_machine::{Answered, AnyTag, DrawWords, Heard, StateName, Steps};
 use tag_memory::{BankImage, Memory};
 
 /// The memory of a tag with the PC 0800, the EPC 1234 and passwords 0.
@@ -49,20 +49,14 @@ fn query() -> Result<Command, Fail> {
 }
 
 /// Lets a tag hear a command, with the ledger of the blank for the counter of steps: it takes no bytes, and contracts alone see it.
-fn hear_counted<L: Ledger>(
-    blank: Blank,
-    tag: AnyTag,
-    command: &Command,
-    reply: &mut Bits,
-) -> (AnyTag, Answered)
+fn hear_counted<L: Ledger>(blank: Blank, tag: AnyTag, command: &Command, reply: &mut Bits) -> Heard
     requires name { blank.name ≡ L.name }
     requires parts { blank.parts ≡ L.parts }
     requires one { blank.parts ≡ 1 }
     requires room { reply_room ≤ reply.old.capacity }
 {
     let mut steps = Steps::<L>::new(blank);
-    let heard = tag.hear(command, reply, &mut steps);
-    (heard.tag, heard.answered)
+    tag.hear(command, reply, &mut steps)
 }
 
 /// The RN16 that the bits are, if they are one.
@@ -80,8 +74,8 @@ fn hear(
     command: &Command,
 ) -> Result<(Answered, StateName, Option<u16>), Fail> {
     let mut reply = Bits::new(alloc, 8240)?;
-    let (tag, answered) = hear_counted::<Brand>(Blank::new(1), tag, command, &mut reply);
-    Ok((answered, tag.state(), rn16_of(&reply)))
+    let heard = hear_counted::<Brand>(Blank::new(1), tag, command, &mut reply);
+    Ok((heard.answered, heard.tag.state(), rn16_of(&reply)))
 }
 
 /// The same of a new tag and the Query.

@@ -32,21 +32,36 @@ fn query_frame(alloc: Global, lead: Lead) -> Option<Intervals> {
     Some(out)
 }
 
-/// Whether the Query has these frames: behind a frame-sync there is no TRcal.
-fn are_frames(alloc: Global) -> Option<bool> {
-    let preamble = query_frame(alloc, Lead::Preamble)?;
-    let sync = query_frame(alloc, Lead::FrameSync)?;
-    let (front, rest) = (QUERY.get(..5)?, QUERY.get(7..)?);
-    Some(
-        preamble.as_slice() == QUERY
-            && sync.as_slice().get(..5)? == front
-            && sync.as_slice().get(5..)? == rest,
-    )
+/// The same behind a frame-sync, which has no TRcal.
+const QUERY_BEHIND_SYNC: &[u32] = &[
+    12_500, 6_250, 6_250, 25_000, 6_250, // delimiter, Tari, RTcal
+    12_500, 6_250, 6_250, 6_250, 6_250, 6_250, 6_250, 6_250, // 1000
+    12_500, 6_250, 6_250, 6_250, 6_250, 6_250, 6_250, 6_250, // 1000
+    6_250, 6_250, 6_250, 6_250, 6_250, 6_250, 6_250, 6_250, // 0000
+    6_250, 6_250, 6_250, 6_250, 6_250, 6_250, 6_250, 6_250, // 0000
+    12_500, 6_250, 6_250, 6_250, 6_250, 6_250, 6_250, 6_250, // 1000
+    6_250, 6_250, 12_500, 6_250, // 01
+];
+
+const QUERIES: &[(Lead, &[u32])] = &[
+    (Lead::Preamble, QUERY),
+    (Lead::FrameSync, QUERY_BEHIND_SYNC),
+];
+
+/// Whether the Query has this frame.
+fn is_query(alloc: Global, lead: Lead, intervals: &[u32]) -> Option<bool> {
+    let frame = query_frame(alloc, lead)?;
+    Some(frame.as_slice() == intervals)
 }
 
 #[test]
 fn a_query_is_written(rt: HostRuntime) {
-    assert_eq!(rt; are_frames(rt.alloc()), Some(true));
+    for &(lead, intervals) in QUERIES {
+        assert!(rt;
+            is_query(rt.alloc(), lead, intervals) == Some(true),
+            "{lead:?}"
+        );
+    }
 }
 
 /// What the intervals are read as, and how many bits that are.
