@@ -69,7 +69,7 @@ impl AnyTag {
         }
     }
 
-    /// Power comes, which a tag that has it doesn't see: the tag is ready, with StoredCRC computed again.
+    /// Power comes. A tag that was without it is ready, with StoredCRC computed again; any other stays as it is.
     fn get_power(self) -> AnyTag
         ensures { tag_value_of result ≡ after_on (tag_value_of self).state (tag_value_of self).body }
     {
