@@ -327,7 +327,7 @@ const DENIED: Row = (b"rwK", b"------", b"DDD...");
 const NOTHING: Row = (b"", b"--", b"..");
 
 /// The only EPC to operate on, and a row.
-const ONLY: [(&[u16], Row); 6] = [
+const ONLY: &[(&[u16], Row)] = &[
     (&[0x1234, 0x5678], SAME),
     (&[], DENIED),
     (&[0x1234], DENIED),
@@ -338,16 +338,16 @@ const ONLY: [(&[u16], Row); 6] = [
 
 #[test]
 fn operations_for_one_tag(rt: HostRuntime) {
-    for (only, row) in &ONLY {
+    for &(only, row) in ONLY {
         assert!(rt;
-            goes(rt.alloc(), Some(*only), row) == Some(true),
+            goes(rt.alloc(), Some(only), &row) == Some(true),
             "{only:?}"
         );
     }
 }
 
 /// What the calls of an Access are given and answer: the first is given the reply before.
-const ACCESS: [(u8, u8); 4] = [(b'c', b'U'), (b'h', b'Q'), (b'd', b'W'), (b'h', b'o')];
+const ACCESS: &[(u8, u8)] = &[(b'c', b'U'), (b'h', b'Q'), (b'd', b'W'), (b'h', b'o')];
 
 /// Whether 32 Accesses go one after another.
 fn go_32_accesses(alloc: Global) -> Option<bool> {
@@ -357,7 +357,7 @@ fn go_32_accesses(alloc: Global) -> Option<bool> {
     let mut given = b'h';
     for _ in 0..32 {
         goes = goes_on(&mut run, &list, given, b'Q')? && goes;
-        for (answer, said) in ACCESS {
+        for &(answer, said) in ACCESS {
             goes = goes_on(&mut run, &list, answer, said)? && goes;
         }
         given = b'-';

@@ -38,41 +38,35 @@ fn a_whole_reply(rt: HostRuntime) {
     assert_eq!(rt; whole, Some(true));
 }
 
-/// A code, what is expected, what is heard, and the place of refusal.
-const REFUSED: [(Code, Expect, &str, u32); 9] = [
+/// A code, what is heard where an RN16 is expected, and the place of refusal.
+const REFUSED: &[(Code, &str, u32)] = &[
     // No levels at all begin every stream.
-    (Code::Fm0, Expect::Rn16, "", 0),
+    (Code::Fm0, "", 0),
     // The RN16 with its first, its fourth and its last level inverted. The last makes the dummy a data-0, and a stream ends
     // with a data-1.
     (
         Code::Fm0,
-        Expect::Rn16,
         "0101001000110010110101010100110100110101001011",
         0,
     ),
     (
         Code::Fm0,
-        Expect::Rn16,
         "1100001000110010110101010100110100110101001011",
         3,
     ),
     (
         Code::Fm0,
-        Expect::Rn16,
         "1101001000110010110101010100110100110101001010",
         46,
     ),
     // Its first 20 levels.
-    (Code::Fm0, Expect::Rn16, "11010010001100101101", 20),
+    (Code::Fm0, "11010010001100101101", 20),
     // The stream of one bit, which is no RN16.
-    (Code::Fm0, Expect::Rn16, "1101001000110011", 16),
-    // The RN16 where a handle is expected.
-    (Code::Fm0, Expect::Handle, RN16, 46),
+    (Code::Fm0, "1101001000110011", 16),
     // A stream in another code.
-    (Code::M2, Expect::Rn16, RN16, 1),
+    (Code::M2, RN16, 1),
     (
         Code::M2,
-        Expect::Rn16,
         "101010101010101010101001010101101001011010101001",
         48,
     ),
@@ -88,10 +82,16 @@ fn is_refused(alloc: Global, code: Code, expect: &Expect, levels: &str, place: u
 
 #[test]
 fn refusals(rt: HostRuntime) {
-    for (code, expect, levels, place) in &REFUSED {
+    for &(code, levels, place) in REFUSED {
         assert!(rt;
-            is_refused(rt.alloc(), *code, expect, levels, *place),
+            is_refused(rt.alloc(), code, &Expect::Rn16, levels, place),
             "{levels}"
         );
     }
+}
+
+/// The RN16 where a handle is expected.
+#[test]
+fn another_reply(rt: HostRuntime) {
+    assert!(rt; is_refused(rt.alloc(), Code::Fm0, &Expect::Handle, RN16, 46));
 }

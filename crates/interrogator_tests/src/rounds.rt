@@ -66,7 +66,7 @@ fn next_of(letter: u8, session: Session) -> Option<Next> {
 /// Q, C, the limit, the outcomes, what follows each, and the number of slot commands in the end.
 type RoundRow = (u8, u32, u32, &'static [u8], &'static [u8], u32);
 
-const ROUNDS: [RoundRow; 12] = [
+const ROUNDS: &[RoundRow] = &[
     // Qfp 1300, 1000, 1000, 1000, 700, 400: two frames of two slots with a reply in each, and a silent one.
     (1, 300, 20, b"RSWWSS", b"r=r=rQ", 6),
     // At Q 0 the first silence ends the round, and it stays ended.
@@ -125,7 +125,7 @@ fn goes(row: &RoundRow) -> Option<bool> {
 
 #[test]
 fn rounds_by_the_table(rt: HostRuntime) {
-    for row in &ROUNDS {
+    for row in ROUNDS {
         assert!(rt; goes(row) == Some(true), "{row:?}");
     }
 }

@@ -6,28 +6,59 @@ use report_lines::{
     push_blf_line, push_done_line, push_list_line, push_round_line, push_rx_line, push_seen_line,
     push_tx_line,
 };
-use std::test::Fail;
+use std::alloc::{AllocError, Global};
 
-#[test]
-fn lines_are_written(rt: HostRuntime) -> Result<(), Fail> {
-    let alloc = rt.alloc();
+/// The EPC 1234 ABCD.
+fn epc_words() -> EpcWords {
     let mut epc = EpcWords::new();
+    let _ = epc.push(0x1234);
+    let _ = epc.push(0xABCD);
+    epc
+}
+
+/// The lines of exchanges.
+fn exchange_lines(alloc: Global) -> Result<String, AllocError> {
     let mut text = String::new(alloc);
     push_blf_line(&mut text, 64, 150000)?;
     push_tx_line(&mut text, 18446744073709551615, &[12500, 6250, 6250])?;
     push_rx_line(&mut text, 1, 0, &[])?;
     push_rx_line(&mut text, 2, 3, &[true, true, false, true])?;
-    push_list_line(&mut text, 1, 3, 0x0000, &epc)?;
-    let _ = epc.push(0x1234);
-    let _ = epc.push(0xABCD);
+    Ok(text)
+}
+
+/// The lines of what was listed, and of rounds.
+fn round_lines(alloc: Global) -> Result<String, AllocError> {
+    let epc = epc_words();
+    let mut text = String::new(alloc);
+    push_list_line(&mut text, 1, 3, 0x0000, &EpcWords::new())?;
     push_list_line(&mut text, 2, 1, 0x1000, &epc)?;
     push_round_line(&mut text, 1, RoundEnd::Quiet, 6)?;
     push_round_line(&mut text, 2, RoundEnd::Limit, 70000)?;
     push_seen_line(&mut text, 2, 0x1000, &epc)?;
     push_done_line(&mut text)?;
-    assert_eq!(rt;
-        text.as_str(),
-        "blf 64/150000\ntx 18446744073709551615 12500 6250 6250\nrx 1 0 -\nrx 2 3 1101\nlist 1 3 0000 -\nlist 2 1 1000 1234ABCD\nround 1 quiet 6\nround 2 limit 70000\nseen 2 1000 1234ABCD\ndone\n"
+    Ok(text)
+}
+
+/// Whether there was memory for the text, and it is this one.
+fn is_text(written: Result<String, AllocError>, wanted: &str) -> bool {
+    match written {
+        Ok(text) => text.as_str() == wanted,
+        Err(_) => false,
+    }
+}
+
+#[test]
+fn lines_are_written(rt: HostRuntime) {
+    assert!(rt;
+        is_text(
+            exchange_lines(rt.alloc()),
+            "blf 64/150000\ntx 18446744073709551615 12500 6250 6250\nrx 1 0 -\nrx 2 3 1101\n"
+        )
     );
-    Ok(())
+    assert!(rt;
+        is_text(
+            round_lines(rt.alloc()),
+            "list 1 3 0000 -\nlist 2 1 1000 1234ABCD\nround 1 quiet 6\nround 2 limit 70000\nseen 2 1000 1234ABCD\ndone\n"
+        )
+    );
 }

@@ -5,7 +5,6 @@ ghost use Rattle.scenario.specs.Limits.{IsScenario};
 use scenario::{Scenario, read_scenario};
 use std::alloc::{AllocError, Global};
 use std::fmt::Write;
-use std::test::Fail;
 
 /// A tag with the PC 0800, the EPC 1234 and the draw word A1B2.
 pub const FIRST: &str = "tag 00000000 00000000 0000000000 08001234 E2000001 - A1B2\n";
@@ -13,23 +12,17 @@ pub const FIRST: &str = "tag 00000000 00000000 0000000000 08001234 E2000001 - A1
 /// A tag with the PC 0800, the EPC 5678 and the draw word 5678.
 pub const SECOND: &str = "tag 00000000 00000000 0000000000 08005678 E2000002 - 5678\n";
 
-/// The scenario of these lines, behind that of its version and a link in a line code.
-pub fn coded_scenario(alloc: Global, code: &str, lines: &[&str]) -> Option<Scenario>
+/// The scenario of these lines, behind those of its version and a link in FM0.
+pub fn scenario_of(alloc: Global, lines: &[&str]) -> Option<Scenario>
     ensures { IfSome result IsScenario }
 {
-    let text = scenario_text(alloc, code, lines).ok()?;
-    match read_scenario(alloc, text.as_bytes()) {
-        Ok(scenario) => Some(scenario),
-        Err(_) => None,
-    }
+    let text = scenario_text(alloc, lines).ok()?;
+    read_scenario(alloc, text.as_bytes()).ok()
 }
 
 /// The text of that scenario.
-fn scenario_text(alloc: Global, code: &str, lines: &[&str]) -> Result<String, AllocError> {
-    let mut text = String::new(alloc);
-    text.push_str("gen2 1\nlink 12500 31250 50000 6250 1 ")?;
-    text.push_str(code)?;
-    text.push_str(" 0\n")?;
+fn scenario_text(alloc: Global, lines: &[&str]) -> Result<String, AllocError> {
+    let mut text = String::from_str(alloc, "gen2 1\nlink 12500 31250 50000 6250 1 fm0 0\n")?;
     for line in lines {
         text.push_str(line)?;
     }
@@ -37,34 +30,22 @@ fn scenario_text(alloc: Global, code: &str, lines: &[&str]) -> Result<String, Al
     Ok(text)
 }
 
-/// The scenario of these lines with a link in FM0.
-pub fn scenario_of(alloc: Global, lines: &[&str]) -> Option<Scenario>
-    ensures { IfSome result IsScenario }
-{
-    coded_scenario(alloc, "fm0", lines)
-}
-
-/// The last word of the EPC of the tag of this number, and its first User word.
-pub fn numbered_words(k: u16) -> (u32, u32) {
-    (0x1A85 + u32::from(k), 0x0100 + u32::from(k))
-}
-
-/// Adds a tag whose first draw word is its number, so that it chooses the slot of its number.
-fn push_numbered_tag(text: &mut String, k: u16) -> Result<(), Fail> {
-    let (epc, user) = numbered_words(k);
+/// Adds the tag of this number, whose first draw word is its number, so that it chooses the slot of its number.
+fn push_numbered_tag(text: &mut String, k: u16) -> Result<(), AllocError> {
+    let epc = 0x1A85 + u32::from(k);
+    let user = 0x0100 + u32::from(k);
     let (second, third) = (0x1000 + u32::from(k), 0x2000 + u32::from(k));
     writeln!(
         text,
         "tag 00000000 00000000 0000000000 30003074257BF7194E400000{epc:04X} E200{k:04X} {user:04X}0000 {k:04X}{second:04X}{third:04X}"
-    )?;
-    Ok(())
+    )
 }
 
 /// The lines of 48 such tags.
-pub fn numbered_tags(alloc: Global) -> Result<String, Fail> {
+pub fn numbered_tags(alloc: Global) -> Option<String> {
     let mut text = String::new(alloc);
     for k in 0..48 {
-        push_numbered_tag(&mut text, k)?;
+        push_numbered_tag(&mut text, k).ok()?;
     }
-    Ok(text)
+    Some(text)
 }
