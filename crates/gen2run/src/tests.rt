@@ -1,12 +1,12 @@
-//! The program from its words and input to its status and output, over memory.
+//! The program from its words and input to its status and output, over memory whose calls fail. What it writes where none fails
+//! stands as rows in rows/.
 
 use crate::{Status, gen2run};
 use air_io::{MemSink, MemSource, Source, SureSource};
 use std::alloc::{AllocError, Global};
-use std::test::Fail;
 
 /// Room for the defined text of every test.
-const ROOM: u32 = 600_000;
+const ROOM: u32 = 60_000;
 
 /// Words, an input, the number of a read and of a write that fail (0 for none), the status, and what is written.
 type Row = (
@@ -21,44 +21,6 @@ type Row = (
 /// A line that asks for its bits.
 const STREAM: &str = "fm0 0 1101001000110011\n";
 
-/// Words that have no form.
-const NO_FORM: [&[&str]; 23] = [
-    &[],
-    &["Run"],
-    &["Decode"],
-    &["decode "],
-    &[""],
-    &["--help"],
-    &["-"],
-    &["gen"],
-    &["decode", "decode"],
-    &["run", "fast"],
-    &["run", ""],
-    &["run", "Trace"],
-    &["trace", "run"],
-    &["decode", "trace"],
-    &["names", "names"],
-    &["gen", "7"],
-    &["run", "trace", "trace"],
-    &["gen", "7", "257"],
-    &["gen", "07", "0"],
-    &["gen", "7", "00"],
-    &["gen", "+7", "0"],
-    &["gen", "", "0"],
-    &["gen", "18446744073709551616", "0"],
-];
-
-const DECODE: [Row; 8] = [
-    (&["decode"], "", 0, 0, Status::Done, ""),
-    (&["decode"], STREAM, 0, 0, Status::Done, "bits 1\n"),
-    (&["decode"], "x", 0, 0, Status::BadInput, "fault 1 end\n"),
-    (&["decode"], "\n", 0, 0, Status::BadInput, "fault 1 word\n"),
-    (&["decode"], STREAM, 1, 0, Status::ReadFault, ""),
-    (&["decode"], STREAM, 2, 0, Status::ReadFault, ""),
-    (&["decode"], STREAM, 0, 1, Status::WriteFault, ""),
-    (&["decode"], "x", 0, 1, Status::WriteFault, ""),
-];
-
 /// One tag that one round lists.
 const SCENARIO: &str = "gen2 1\nlink 12500 31250 50000 6250 1 fm0 0\n\
     tag 00000000 00000000 0000000000 08001234 E2000001 - A1B2\n\
@@ -67,8 +29,24 @@ const SCENARIO: &str = "gen2 1\nlink 12500 31250 50000 6250 1 fm0 0\n\
 const REPORT: &str = "list 1 1 0800 1234\nround 1 quiet 2\nseen 1 0800 1234\n\
     tag 0 ready BAAA0 0000000000 0000000000000000 ED3A08001234 E2000001 -\ndone\n";
 
-/// A report is written line by line: where the third write fails, two lines are there.
-const RUN: [Row; 4] = [
+const SUMMARY: &str = "tags 256\nlisted 256\ndistinct 256\nslots 746\nend quiet\ndone\n";
+
+/// A line that has a name, and both.
+const LISTED: &str = "list 1 1 3000 3074257BF7194E4000001A85\n";
+
+const NAMED: &str = "list 1 1 3000 3074257BF7194E4000001A85\n\
+    name urn:epc:tag:sgtin-96:3.0614141.812345.6789\n";
+
+/// Rows `failing-devices` and `write-pieces`. A report is written line by line: where the third write fails, two lines are there.
+/// `gen` reads nothing, so a source whose first read fails changes nothing there.
+const ROWS: &[Row] = &[
+    (&["run", "fast"], SCENARIO, 1, 1, Status::BadWords, ""),
+    (&["decode"], STREAM, 0, 0, Status::Done, "bits 1\n"),
+    (&["decode"], "x", 0, 0, Status::BadInput, "fault 1 end\n"),
+    (&["decode"], STREAM, 1, 0, Status::ReadFault, ""),
+    (&["decode"], STREAM, 2, 0, Status::ReadFault, ""),
+    (&["decode"], STREAM, 0, 1, Status::WriteFault, ""),
+    (&["decode"], "x", 0, 1, Status::WriteFault, ""),
     (&["run"], SCENARIO, 0, 0, Status::Done, REPORT),
     (&["run"], SCENARIO, 1, 0, Status::ReadFault, ""),
     (&["run"], SCENARIO, 0, 1, Status::WriteFault, ""),
@@ -80,107 +58,10 @@ const RUN: [Row; 4] = [
         Status::WriteFault,
         "list 1 1 0800 1234\nround 1 quiet 2\n",
     ),
-];
-
-/// Texts that are no scenario, each with its fault line.
-const NO_SCENARIO: [(&str, &str); 5] = [
-    ("", "fault 1 end\n"),
-    (
-        "gen2 1\nlink 12500 31250 50000 6250 1 fm0 0\n\
-         tag 00000000 00000000 0000000000 08001234 E2000001 - A1B2\n\
-         round all 0 a 0 300 5\n",
-        "fault 5 end\n",
-    ),
-    (
-        "gen2 1\r\nlink 12500 31250 50000 6250 1 fm0 0\r\nend\r\n",
-        "fault 1 version\n",
-    ),
-    (
-        "gen2 1\nlink 12500 31250 30000 6250 1 fm0 0\nend\n",
-        "fault 2 trcal\n",
-    ),
-    (
-        "gen2 1\nlink 12500 31250 50000 6250 1 fm0 0\n\
-         tag 00000000 00000000 0000000000 08001234 E2000001 - A1B2\n\
-         round all 0 a 16 300 5\nend\n",
-        "fault 4 number\n",
-    ),
-];
-
-/// The wave of a Query to which nothing replies.
-const TRACE: Row = (
-    &["run", "trace"],
-    "gen2 1\nlink 12500 31250 50000 6250 1 fm0 0\nround all 0 a 1 300 1\nend\n",
-    0,
-    0,
-    Status::Done,
-    "blf 64/150000\n\
-     tx 1 12500 6250 6250 25000 6250 43750 6250 \
-     12500 6250 6250 6250 6250 6250 6250 6250 12500 6250 6250 6250 6250 6250 6250 6250 \
-     6250 6250 6250 6250 6250 6250 6250 6250 6250 6250 6250 6250 6250 6250 6250 6250 \
-     12500 6250 6250 6250 6250 6250 6250 6250 6250 6250 12500 6250\n\
-     rx 1 0 -\nround 1 limit 1\ndone\n",
-);
-
-const NONE_LISTED: &str = "tags 0\nlisted 0\ndistinct 0\nslots 16\nend quiet\ndone\n";
-
-const ALL_LISTED: &str = "tags 256\nlisted 256\ndistinct 256\nslots 746\nend quiet\ndone\n";
-
-/// Nothing is read: a source whose first read fails changes nothing, and no input is too much.
-const GEN: [Row; 4] = [
-    (&["gen", "7", "0"], "", 0, 0, Status::Done, NONE_LISTED),
-    (&["gen", "7", "256"], "", 1, 0, Status::Done, ALL_LISTED),
-    (&["gen", "7", "256"], "x", 0, 0, Status::Done, ALL_LISTED),
+    (&["gen", "7", "256"], "x", 1, 0, Status::Done, SUMMARY),
     (&["gen", "7", "256"], "", 0, 1, Status::WriteFault, ""),
-];
-
-/// A report of which some list lines have a name.
-const UNNAMED: &str = "list 1 1 3000 3074257BF7194E4000001A85\n\
-                       list 1 2 3000 3074257bf7194e4000001a85\n\
-                       list 1 4 0800 1234\n\
-                       list 1 5 3400 3074257BF7194E4000001A850000\n\
-                       list  7 3000 3074257BF7194E4000001A85\n\
-                       list 1 8 3000 3174257BF7194E4000001A85\n\
-                       list 1 9 3000 301C00000000000000000000\n\
-                       list 1 10 3000 3034257BF400B7800004CB2F\n\
-                       list 1 11 3000 3034257BF400B7800004CB2F 1\n\
-                       round 1 quiet 16\n\
-                       \n\
-                       seen 1 3000 3074257BF7194E4000001A85\n\
-                       done\n";
-
-/// The same with its names.
-const NAMED: &str = "list 1 1 3000 3074257BF7194E4000001A85\n\
-                     name urn:epc:tag:sgtin-96:3.0614141.812345.6789\n\
-                     list 1 2 3000 3074257bf7194e4000001a85\n\
-                     list 1 4 0800 1234\n\
-                     list 1 5 3400 3074257BF7194E4000001A850000\n\
-                     list  7 3000 3074257BF7194E4000001A85\n\
-                     list 1 8 3000 3174257BF7194E4000001A85\n\
-                     list 1 9 3000 301C00000000000000000000\n\
-                     list 1 10 3000 3034257BF400B7800004CB2F\n\
-                     name urn:epc:tag:sgtin-96:1.0614141.000734.314159\n\
-                     list 1 11 3000 3034257BF400B7800004CB2F 1\n\
-                     round 1 quiet 16\n\
-                     \n\
-                     seen 1 3000 3074257BF7194E4000001A85\n\
-                     done\n";
-
-const NAMES: [Row; 7] = [
-    (&["names"], UNNAMED, 0, 0, Status::Done, NAMED),
-    (&["names"], "", 0, 0, Status::Done, ""),
-    (&["names"], "\n", 0, 0, Status::Done, "\n"),
-    (&["names"], "names\r\n\n", 0, 0, Status::Done, "names\r\n\n"),
-    (&["names"], "done", 0, 0, Status::BadInput, "fault 1 end\n"),
-    (
-        &["names"],
-        "list 1 1 3000 3074257BF7194E4000001A85\n\nx",
-        0,
-        0,
-        Status::BadInput,
-        "fault 3 end\n",
-    ),
-    (&["names"], UNNAMED, 0, 1, Status::WriteFault, ""),
+    (&["names"], LISTED, 0, 0, Status::Done, NAMED),
+    (&["names"], LISTED, 0, 1, Status::WriteFault, ""),
 ];
 
 /// The words as the program gets them.
@@ -215,98 +96,56 @@ fn does(alloc: Global, row: &Row) -> Result<bool, AllocError> {
 }
 
 #[test]
-fn words_without_a_form(rt: HostRuntime) -> Result<(), Fail> {
-    for texts in NO_FORM {
-        let row = (texts, STREAM, 0, 0, Status::BadWords, "");
-        assert!(rt; does(rt.alloc(), &row)?, "{texts:?}");
+fn failing_devices(rt: HostRuntime) {
+    for row in ROWS {
+        assert!(rt; does(rt.alloc(), row) == Ok(true), "{row:?}");
     }
-    Ok(())
 }
 
-#[test]
-fn texts_that_are_no_scenario(rt: HostRuntime) -> Result<(), Fail> {
-    let plain: &[&str] = &["run"];
-    for texts in [plain, &["run", "trace"]] {
-        for (input, output) in NO_SCENARIO {
-            let row = (texts, input, 0, 0, Status::BadInput, output);
-            assert!(rt; does(rt.alloc(), &row)?, "{input:?}");
-        }
-    }
-    Ok(())
-}
-
-#[test]
-fn each_form(rt: HostRuntime) -> Result<(), Fail> {
-    for rows in [DECODE.as_slice(), &RUN, &[TRACE], &GEN, &NAMES] {
-        for row in rows {
-            assert!(rt; does(rt.alloc(), row)?, "{row:?}");
-        }
-    }
-    Ok(())
-}
-
-/// The limit on the input is 16,777,216 bytes; none of these is a line feed.
-#[test]
-fn long_inputs(rt: HostRuntime) -> Result<(), Fail> {
-    for (length, wanted, output) in [
-        (
-            16_777_216usize,
-            Status::BadInput,
-            b"fault 1 end\n".as_slice(),
-        ),
-        (16_777_217, Status::TooLong, b""),
-    ] {
-        let mut source = SureSource::new(vec![in rt.alloc(); b'0'; length]?);
-        let (status, sink) = ran(rt.alloc(), &["decode"], &mut source, 0)?;
-        assert!(rt; status == wanted && sink.as_slice() == output, "{length}");
-    }
-    Ok(())
-}
-
-/// A scenario is read to its end also from a source that never fails.
-#[test]
-fn a_sure_source(rt: HostRuntime) -> Result<(), Fail> {
-    let mut source = SureSource::new(Vec::from_slice(rt.alloc(), SCENARIO.as_bytes())?);
-    let (status, sink) = ran(rt.alloc(), &["run"], &mut source, 0)?;
-    assert!(rt; status == Status::Done && sink.as_slice() == REPORT.as_bytes());
-    Ok(())
-}
-
-/// A text again and again.
+/// A text 300 times.
 fn repeated(alloc: Global, text: &str) -> Result<Vec<u8>, AllocError> {
     let mut bytes = Vec::new(alloc);
-    for _ in 0..40 {
+    for _ in 0..300 {
         bytes.extend_from_slice(text.as_bytes())?;
     }
     Ok(bytes)
 }
 
-/// What has more bytes than wait at once is written in several pieces, and a front of it where one fails.
-#[test]
-fn long_reports_are_written_in_pieces(rt: HostRuntime) -> Result<(), Fail> {
-    let named = repeated(rt.alloc(), NAMED)?;
-    for (failing_write, wanted) in [(0, Status::Done), (3, Status::WriteFault)] {
-        let mut source = SureSource::new(repeated(rt.alloc(), UNNAMED)?);
-        let (status, sink) = ran(rt.alloc(), &["names"], &mut source, failing_write)?;
-        let written = sink.as_slice();
-        let is_whole = written.len() == named.len();
-        assert!(rt; status == wanted && is_whole == (failing_write == 0));
-        assert!(rt; written.len() > 4_096 && named.starts_with(written));
+/// How a run over so many lines that have a name ends where the write of this number fails, and how many bytes of the right ones
+/// were written; none where others were.
+fn long_run(alloc: Global, failing_write: u64) -> Result<Option<(Status, usize)>, AllocError> {
+    let named = repeated(alloc, NAMED)?;
+    let mut source = SureSource::new(repeated(alloc, LISTED)?);
+    let (status, sink) = ran(alloc, &["names"], &mut source, failing_write)?;
+    let written = sink.as_slice();
+    if !named.starts_with(written) {
+        return Ok(None);
     }
-    Ok(())
+    Ok(Some((status, written.len())))
 }
+
+/// What has more bytes than wait at once is written in several pieces of whole lines, and a front of it where one fails.
+#[test]
+fn long_texts_are_written_in_pieces(rt: HostRuntime) {
+    let whole = long_run(rt.alloc(), 0);
+    assert!(rt; whole == Ok(Some((Status::Done, 300 * NAMED.len()))));
+    let front = long_run(rt.alloc(), 3);
+    assert!(rt; matches!(front, Ok(Some((Status::WriteFault, 4_097..=8_192)))));
+}
+
+const NUMBERS: &[(Status, u8)] = &[
+    (Status::Done, 0),
+    (Status::BadWords, 2),
+    (Status::BadInput, 3),
+    (Status::ReadFault, 4),
+    (Status::WriteFault, 5),
+    (Status::TooLong, 6),
+    (Status::OutOfMemory, 7),
+];
 
 #[test]
 fn statuses_have_numbers(rt: HostRuntime) {
-    for (status, number) in [
-        (Status::Done, 0),
-        (Status::BadWords, 2),
-        (Status::BadInput, 3),
-        (Status::ReadFault, 4),
-        (Status::WriteFault, 5),
-        (Status::TooLong, 6),
-        (Status::OutOfMemory, 7),
-    ] {
-        assert_eq!(rt; status.number(), number);
+    for &(status, number) in NUMBERS {
+        assert!(rt; status.number() == number, "{number}");
     }
 }
