@@ -102,6 +102,27 @@ fn failing_devices(rt: HostRuntime) {
     }
 }
 
+/// Whether a run over a source that never fails ends so, with this output, where the write of this number fails.
+fn runs_surely(
+    alloc: Global,
+    failing_write: u64,
+    wanted: Status,
+    output: &str,
+) -> Result<bool, AllocError> {
+    let mut source = SureSource::new(Vec::from_slice(alloc, SCENARIO.as_bytes())?);
+    let (status, sink) = ran(alloc, &["run"], &mut source, failing_write)?;
+    Ok(status == wanted && sink.as_slice() == output.as_bytes())
+}
+
+#[test]
+fn a_source_that_never_fails(rt: HostRuntime) {
+    let whole = runs_surely(rt.alloc(), 0, Status::Done, REPORT);
+    assert!(rt; whole == Ok(true));
+    let front = "list 1 1 0800 1234\nround 1 quiet 2\n";
+    let cut_off = runs_surely(rt.alloc(), 3, Status::WriteFault, front);
+    assert!(rt; cut_off == Ok(true));
+}
+
 /// A text 300 times.
 fn repeated(alloc: Global, text: &str) -> Result<Vec<u8>, AllocError> {
     let mut bytes = Vec::new(alloc);

@@ -1,4 +1,4 @@
-//! Commands, read and written. The spelling of each, and each refusal, stand in rows/wire/commands.txt.
+//! Commands, read and written. The spelling of each, and each refusal, stand in rows/decode/commands.txt.
 use crate::lists::bits_of;
 use bit_strings::Bits;
 use command_grammar::{

@@ -1,4 +1,4 @@
-//! Frames in pulse-interval encoding, and links. Frames that are read, and each refusal, stand in rows/wire/frames.txt.
+//! Frames in pulse-interval encoding, and links. Frames that are read, and each refusal, stand in rows/decode/frames.txt.
 ghost use Rattle.std.specs.Prelude.{◌≤◌};
 
 use crate::lists::bits_of;

@@ -1,5 +1,5 @@
 //! Tests of the public calls of the wire: line codes, frames, samples, commands and replies. What a decode line shows of streams,
-//! frames, commands, replies and samples stands as rows of text in rows/wire.
+//! frames, commands, replies and samples stands as rows of text in rows/decode.
 #![tactic(auto)]
 
 #[cfg(test)]

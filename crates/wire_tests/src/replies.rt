@@ -1,4 +1,4 @@
-//! Replies, read and written. Each kind of reply, and each refusal, stand in rows/wire/replies.txt.
+//! Replies, read and written. Each kind of reply, and each refusal, stand in rows/decode/replies.txt.
 use crate::lists::bits_of;
 use bit_strings::Bits;
 use reply_grammar::{EpcWords, Expect, ReadWords, Reply, decode_reply, encode_reply};

@@ -1,4 +1,4 @@
-//! Groups of samples, and the levels they stand for. More rows stand in rows/wire/samples.txt.
+//! Groups of samples, and the levels they stand for. More rows stand in rows/decode/samples.txt.
 use bit_strings::Bits;
 use sample_slicer::{SliceRefusal, slice_levels};
 use std::alloc::Global;

@@ -1,4 +1,4 @@
-//! Streams of the four codes, with both pilots, written and read. More of them stand in rows/wire/streams.txt.
+//! Streams of the four codes, with both pilots, written and read. More of them stand in rows/decode/streams.txt.
 ghost use Rattle.std.specs.Prelude.{◌≡◌, ◌≤◌, length};
 
 use crate::lists::bits_of;
