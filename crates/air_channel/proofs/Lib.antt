@@ -6,7 +6,7 @@ pub mod Taking
 pub mod Populations
 pub mod Exchanging
 pub mod Links
-pub mod NumberBits
+pub mod TagSetBits
 pub mod Slots
 pub mod Seating
 pub mod Heard

@@ -45,7 +45,7 @@ link_stays : (places after : List (Option ℕ)) (number place link : ℕ) → li
 link_stays places after number place link apart stays (inl a) = inl a
 link_stays places after number place link apart stays (inr a) = inr (a.0, a.1, stays a.0 (λ same. apart (a.1 ∙ ap (λ n. 131073 + n) same)) ∙ a.2)
 
--- of a place to which no link leads, no tag is before another
+-- where the link of a place leads to no tag, no tag stands there, since each stands behind one that came later
 none_before : (places : List (Option ℕ)) (links backs : List ℕ) (place fuel number : ℕ) (linked : IsLinked places links backs) → length places ≤ get_or links place 0
     → linked.now ≤ linked.came number + fuel → place_of places number ≢ Some place
 none_before places links backs place zero number linked past late = λ is. omega (arith, late, linked.past number)
@@ -101,7 +101,7 @@ none_linked : (count : ℕ) (links backs : List ℕ) → count ≤ 256 → LeadN
 none_linked count links backs few nowhere room = record {
   few = rw (length-replicate {A = Option ℕ} count None) few;
   size = nowhere.size;
-  room = room;
+  backs_size = room;
   inside = λ number place stands. absurd (stands_nowhere count number place stands);
   each = λ link. nowhere_each links link nowhere;
   onward = λ place link below of within. absurd (nowhere_onward count links place link few nowhere below of within);
@@ -197,7 +197,7 @@ taken_onward places links backs number place next back on link t limited of_afte
     let linked = t.linked in
     let of : IsLinkOf places on link = taken_link places number on link l.within of_after in
     let apart_own : link ≢ 131073 + number = not_own (set places number None) number on link (is_set places number None l.within) limited of_after in
-    let room : next < length backs = omega (arith, linked.room, l.small) in
+    let room : next < length backs = omega (arith, linked.backs_size, l.small) in
     elim (eqb_tells link back) [
       | inl same ↦
           let value : get_or (set links back next) link 0 ≡ next = set_here links back next link same.1 l.room in
@@ -224,7 +224,7 @@ taken_back places links backs number place next back tag on t stands_after =
     let linked = t.linked in
     let stands = taken_stand places number tag on l.within stands_after in
     let stays : (other : ℕ) → other ≢ number → place_of (set places number None) other ≡ place_of places other = λ other apart. stays_same places number other None apart in
-    let room : next < length backs = omega (arith, linked.room, l.small) in
+    let room : next < length backs = omega (arith, linked.backs_size, l.small) in
     elim (eqb_tells tag next) [
       | inl same ↦
           let value : get_or (set backs next back) tag 0 ≡ back = set_here backs next back tag same.1 room in
@@ -247,7 +247,7 @@ taken_earlier places links backs number place next back tag other on t stands_af
     let l = taking_links places links backs number place next back t in
     let linked = t.linked in
     let stands = taken_stand places number tag on l.within stands_after in
-    let room : next < length backs = omega (arith, linked.room, l.small) in
+    let room : next < length backs = omega (arith, linked.backs_size, l.small) in
     elim (eqb_tells tag next) [
       | inl same ↦
           let value : get_or (set backs next back) tag 0 ≡ back = set_here backs next back tag same.1 room in
@@ -266,7 +266,7 @@ taken places links backs number place next back t =
     record {
       few = rw (length-set places number None) linked.few;
       size = length-set links back next ∙ linked.size;
-      room = length-set backs next back ∙ linked.room;
+      backs_size = length-set backs next back ∙ linked.backs_size;
       inside = λ other on stands. linked.inside other on (taken_stand places number other on l.within stands).1;
       each = λ link. set_each links back next link linked.each l.room l.small;
       onward = λ on link below of there. taken_onward places links backs number place next back on link t below of there;
@@ -335,8 +335,8 @@ placed places links backs number place first p =
       to_this = set_here links' place number place refl (rw (length-set links (131073 + number) first) (omega (arith, linked.size, p.below)));
       to_first = set_there links' place number (131073 + number) (λ same. apart (sym same)) ∙ set_here links (131073 + number) first (131073 + number) refl own_room;
       to_rest = λ link elsewhere not_behind. set_there links' place number link elsewhere ∙ set_there links (131073 + number) first link not_behind;
-      from_this = set_here backs' number place number refl (rw (length-set backs first (131073 + number)) (omega (arith, linked.room, linked.few, p.within)));
-      from_first = λ differs. set_there backs' number place first differs ∙ set_here backs first (131073 + number) first refl (omega (arith, linked.room, small));
+      from_this = set_here backs' number place number refl (rw (length-set backs first (131073 + number)) (omega (arith, linked.backs_size, linked.few, p.within)));
+      from_first = λ differs. set_there backs' number place first differs ∙ set_here backs first (131073 + number) first refl (omega (arith, linked.backs_size, small));
       from_rest = λ tag differs elsewhere. set_there backs' number place tag differs ∙ set_there backs first (131073 + number) tag elsewhere;
     }
 
@@ -468,7 +468,7 @@ put_there places links backs number place first p =
     record {
       few = rw (length-set places number (Some place)) linked.few;
       size = length-set links' place number ∙ length-set links (131073 + number) first ∙ linked.size;
-      room = length-set (set backs first (131073 + number)) number place ∙ length-set backs first (131073 + number) ∙ linked.room;
+      backs_size = length-set (set backs first (131073 + number)) number place ∙ length-set backs first (131073 + number) ∙ linked.backs_size;
       inside = λ other on stands.
           elim (put_stand places number place other on p.within stands) [
             | inl same ↦ rw same.1 p.below
@@ -515,7 +515,7 @@ taking places links backs number next back stands linked within is some next_is 
         linked = linked;
         stands = sym (place_read places number stands within is) ∙ there.1;
         next_is = sym (next_is ∙ get_or_default_zero links (131073 + number) next (omega (arith, linked.size, linked.few, within)));
-        back_is = sym (back_is ∙ get_or_default_zero backs number back (omega (arith, linked.room, linked.few, within)));
+        back_is = sym (back_is ∙ get_or_default_zero backs number back (omega (arith, linked.backs_size, linked.few, within)));
       },
     )
 
@@ -535,7 +535,7 @@ take_back_inside places links backs number next back stands linked within is som
 -- a link that is read leads to a tag or to none
 pub link_small : (places : List (Option ℕ)) (links backs : List ℕ) (link value : ℕ) → IsLinked places links backs → link < length links → value ≡ get_or links link value → value < length backs
 link_small places links backs link value linked within is =
-    omega (arith, linked.room, is ∙ get_or_default_zero links link value within, linked.each link)
+    omega (arith, linked.backs_size, is ∙ get_or_default_zero links link value within, linked.each link)
 
 set_none : (places : List (Option ℕ)) (number : ℕ) → place_of places number ≡ None → set places number None ≡ places
 set_none [] number none = refl

@@ -7,7 +7,7 @@ use Rattle.std.proofs.lemmas.Option.{same_Some}
 use Rattle.tag_machine.specs.Inventory.{slot_below}
 use Rattle.air_channel.specs.declared.waiting.Standing.{Standing}
 use Rattle.air_channel.specs.declared.waiting.Standing.TheVariants.{Waits, Called}
-use Rattle.air_channel.specs.Numbers.{bit_of, IsIn, IsNextIn}
+use Rattle.air_channel.specs.TagSets.{bit_of, IsIn, IsNextIn}
 use Rattle.air_channel.specs.Wheel.{place_of, IsTagOn}
 use Rattle.air_channel.proofs.Links.{stands_inside, stands_nowhere}
 use Rattle.air_channel.specs.Waiting.{standing_at, IsLegalStanding, IsNextCalled, IsDue, counted_down, called_place, slot_place, slot_behind, slot_in, standing_there, standing_on, standings_on, AreBases, AreCalled, AreSlots}

@@ -15,6 +15,6 @@ pub mod Taken
 pub mod Rooms
 pub mod Lent
 pub mod Wheel
-pub mod Numbers
+pub mod TagSets
 pub mod Waiting
 pub mod Seated

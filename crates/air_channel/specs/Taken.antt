@@ -14,6 +14,6 @@ unfoldable pub HasTaken : EdgesValue → FramerValue → List ℕ → Type 0
 HasTaken edges framer intervals = TakenBits edges framer intervals
 
 -- the receiver was given no interval
-pub record IsBegun (edges : EdgesValue) (framer : FramerValue) : Type 0 where
+pub record HasTakenNothing (edges : EdgesValue) (framer : FramerValue) : Type 0 where
   pub taken : HasTaken edges framer []
   pub count : edges.count ≡ 0

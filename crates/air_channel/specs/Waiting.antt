@@ -5,7 +5,7 @@ use Rattle.tag_machine.specs.Inventory.{slot_below}
 use Rattle.air_channel.specs.declared.waiting.Standing.{Standing}
 use Rattle.air_channel.specs.declared.waiting.Standing.TheVariants.{Waits, Called}
 use Rattle.air_channel.specs.Wheel.{place_of}
-use Rattle.air_channel.specs.Numbers.{IsIn}
+use Rattle.air_channel.specs.TagSets.{IsIn}
 
 -- how the tag of a number takes part; it doesn't where there is no such tag
 abbrev pub standing_at : List (Option Standing) → ℕ → Option Standing

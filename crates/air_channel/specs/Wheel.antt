@@ -21,13 +21,14 @@ IsLinkOf places place link = (link ≡ place) ⊎ ((number : ℕ) × (link ≡ 1
 pub record IsLinked (places : List (Option ℕ)) (links backs : List ℕ) : Type 0 where
   pub few : length places ≤ 256
   pub size : length links ≡ 131329
-  pub room : length backs ≡ 257
+  pub backs_size : length backs ≡ 257
   pub inside : (number place : ℕ) → place_of places number ≡ Some place → place < 131073
   pub each : (link : ℕ) → get_or links link 0 ≤ 256
   pub onward : (place link : ℕ) → place < 131073 → IsLinkOf places place link → get_or links link 0 < length places
       → (place_of places (get_or links link 0) ≡ Some place) × (get_or backs (get_or links link 0) 0 ≡ link)
   pub back : (number place : ℕ) → place_of places number ≡ Some place
       → IsLinkOf places place (get_or backs number 0) × (get_or links (get_or backs number 0) 0 ≡ number)
+  -- when each tag came to its place, and a time after all of these: so links go round in no circle
   pub came : ℕ → ℕ
   pub now : ℕ
   pub past : (number : ℕ) → came number < now

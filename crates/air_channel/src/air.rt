@@ -59,13 +59,13 @@ pub struct Air {
 impl Model for Air {
     ghost use Rattle.air_channel.specs.Air.{AirValue};
     ghost use Rattle.air_channel.specs.Rooms.{HasRoom};
-    ghost use Rattle.air_channel.specs.Taken.{IsBegun};
+    ghost use Rattle.air_channel.specs.Taken.{HasTakenNothing};
 
     ghost Value = { AirValue };
 
     ghost view = { λ a. record { link = a.link; several = a.several; tags = a.population; frame = a.frame.items; stream = a.stream.items; replies = a.replies.count; exchanges = a.exchanges } };
 
-    ghost invariant = { λ a. HasRoom a.bits a.frame a.stream × IsBegun a.receiver.edges a.receiver.framer };
+    ghost invariant = { λ a. HasRoom a.bits a.frame a.stream × HasTakenNothing a.receiver.edges a.receiver.framer };
 }
 
 impl Air {

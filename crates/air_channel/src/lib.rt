@@ -3,12 +3,12 @@
 
 mod air;
 mod laws;
-mod numbers;
 mod population;
 mod receive_reply;
 mod receiver;
 mod replies;
 mod seat;
+mod tag_set;
 mod transmit;
 mod waiting;
 mod wheel;

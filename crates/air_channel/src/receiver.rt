@@ -5,7 +5,7 @@ ghost use Rattle.command_grammar.specs.Commands.{SpellsCommand};
 ghost use Rattle.command_grammar.specs.declared.commands.Command.{Command};
 ghost use Rattle.pie_line.specs.Pie.{IsFrame, longest_interval};
 ghost use Rattle.pie_line.specs.declared.frame.FrameKind.{FrameKind};
-ghost use Rattle.air_channel.specs.Taken.{HasTaken, IsBegun};
+ghost use Rattle.air_channel.specs.Taken.{HasTaken, HasTakenNothing};
 
 use command_grammar::{Command, CommandRefusal, Framer};
 use pie_line::{Edge, Edges, one_answer};
@@ -23,7 +23,7 @@ impl Receiver {
     /// A receiver that was given no interval.
     #[tactic(auto, unfolding(crate::specs::Taken::HasTaken))]
     pub(crate) fn new() -> Receiver
-        ensures { IsBegun result.edges result.framer }
+        ensures { HasTakenNothing result.edges result.framer }
     {
         Receiver {
             edges: Edges::new(),
@@ -72,7 +72,7 @@ impl Receiver {
             × IsFrame kind bits intervals × SpellsCommand command bits }
         ensures heard { (intervals : List ℕ) (kind : FrameKind) (bits : List Bool) (command : Command) → HasTaken self.old.edges self.old.framer intervals
             → IsFrame kind bits intervals → SpellsCommand command bits → self.new.heard ≡ Ok command }
-        ensures begun { IsBegun self.new.edges self.new.framer }
+        ensures begun { HasTakenNothing self.new.edges self.new.framer }
     {
         one_answer();
         let edges = mem::replace(&mut self.edges, Edges::new());

@@ -120,6 +120,7 @@ impl Replies {
     }
 
     /// Lets a tag hear a command by which its state may change its kind, and takes in its reply.
+    // Its room for a moved tag is filled at each call, and most tags only wait, so it stands apart.
     #[inline(never)]
     fn hear_moved<L: Ledger>(&mut self, seat: &mut Seat, command: &Command, steps: &mut Steps<L>)
         requires { self.old.count < 4294967295 }

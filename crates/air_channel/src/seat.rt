@@ -97,7 +97,8 @@ impl Seat {
         self.tag = Some(tag.event(event));
     }
 
-    /// Lets the tag hear a command where it misses it or only waits, and answers whether it did. It sends nothing then.
+    /// Lets the tag hear a command in its place, unless it misses it, and answers whether that was all. It wasn't where the tag
+    /// may answer or change the kind of its state, and then it has heard nothing yet.
     #[inline]
     pub(crate) fn hear_in_place<L: Ledger>(
         &mut self,
@@ -107,7 +108,7 @@ impl Seat {
     ) -> bool
         ensures heard { result ≡ true → outcome_unless misses command.now self.old ≡ silent self.new.state self.new.body }
         ensures left { result ≡ false → self.new ≡ self.old }
-        ensures hears { result ≡ false → misses ≡ false }
+        ensures reached { result ≡ false → misses ≡ false }
         ensures counted { steps.new ≡ steps.old + (if result then (if misses then 0 else 1) else 0) }
         ensures legal { IsLegalTag self.new }
     {

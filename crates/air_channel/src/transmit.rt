@@ -5,7 +5,7 @@ ghost use Rattle.command_grammar.specs.Commands.{IsLegalCommand};
 ghost use Rattle.pie_line.specs.Pie.{longest_interval};
 ghost use Rattle.air_channel.specs.Channel.{lead_of, wave_for};
 ghost use Rattle.air_channel.specs.Rooms.{longest_frame, room_for_frames};
-ghost use Rattle.air_channel.specs.Taken.{HasTaken, IsBegun};
+ghost use Rattle.air_channel.specs.Taken.{HasTaken, HasTakenNothing};
 
 use crate::receiver::Receiver;
 use bit_strings::Bits;
@@ -25,9 +25,9 @@ pub(crate) fn transmit(
 )
     requires bits_room { room_for_frames ≤ bits.old.capacity }
     requires frame_room { room_for_frames ≤ frame.old.capacity }
-    requires begun { IsBegun receiver.old.edges receiver.old.framer }
+    requires begun { HasTakenNothing receiver.old.edges receiver.old.framer }
     ensures heard { receiver.new.heard ≡ Ok command.now }
-    ensures begun { IsBegun receiver.new.edges receiver.new.framer }
+    ensures begun { HasTakenNothing receiver.new.edges receiver.new.framer }
     ensures legal { IsLegalCommand command.now }
     ensures wave { frame.new.items ≡ wave_for link.now command.now }
     ensures each { All (λ interval. interval ≤ longest_interval) frame.new.items }

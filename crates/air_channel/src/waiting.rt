@@ -2,7 +2,7 @@
 ghost use Rattle.std.specs.Prelude.{◌≡◌, ◌↔◌, ℕ, ◌+◌, ◌<◌, ◌≤◌, false, Some, None, length, map, replicate, slice_set, IfOk};
 ghost use Rattle.air_channel.specs.Waiting.{AreSlots, IsDue, IsLegalStanding, IsNextCalled, counted_down, slot_in, slot_place, standing_at, waits_in};
 
-use crate::numbers::Numbers;
+use crate::tag_set::TagSet;
 use crate::wheel::Wheel;
 use bit_strings::{OutOfMemory, Session};
 use std::alloc::Global;
@@ -33,7 +33,7 @@ pub(crate) enum Standing {
 pub(crate) struct Waiting {
     bases: [u16; 4],
     wheel: Wheel,
-    called: Numbers,
+    called: TagSet,
 }
 
 impl Model for Waiting {
@@ -58,7 +58,7 @@ impl Waiting {
         Ok(Waiting {
             bases: [0; 4],
             wheel,
-            called: Numbers::none(),
+            called: TagSet::empty(),
         })
     }
 
@@ -153,7 +153,7 @@ impl Waiting {
     {
         let session = session.get();
         let base = self.bases[session as usize];
-        self.wheel.first(slot_place(base, session, 1))
+        self.wheel.tag_on(slot_place(base, session, 1))
     }
 
     /// Counts the slot counters of all tags down that wait in a session.

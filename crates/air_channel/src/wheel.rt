@@ -65,7 +65,7 @@ impl Wheel {
     }
 
     /// A tag on a place; none exactly where no tag stands there.
-    pub(crate) fn first(&self, place: u32) -> Option<u16>
+    pub(crate) fn tag_on(&self, place: u32) -> Option<u16>
         requires { place < 131073 }
         ensures { IsTagOn self.now place result }
     {

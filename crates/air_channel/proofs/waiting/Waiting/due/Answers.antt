@@ -4,5 +4,5 @@ use Rattle.air_channel.proofs.waiting.Waiting.due.Goals as goal
 pub returns : goal.returns
 returns c =
     rw (← c.self.view_is, ← c.get-session.ensures.value)
-    (due_there c.self.inside.bases c.self.inside.wheel c.get-session.result c.slot_place.result c.first.result c.self.invariant.0 (rw c.get-session.ensures.value c.get-session.ensures.range)
-    c.slot_place.ensures c.first.ensures)
+    (due_there c.self.inside.bases c.self.inside.wheel c.get-session.result c.slot_place.result c.tag_on.result c.self.invariant.0 (rw c.get-session.ensures.value c.get-session.ensures.range)
+    c.slot_place.ensures c.tag_on.ensures)

@@ -1,6 +1,6 @@
 use Rattle.std.proofs.Common.{arith}
 use Rattle.air_channel.proofs.Links.{tag_on, no_tag_on}
-use Rattle.air_channel.proofs.wheel.Wheel.first.Goals as goal
+use Rattle.air_channel.proofs.wheel.Wheel.tag_on.Goals as goal
 
 pub returns-then-first-len : goal.returns-then-first-len
 returns-then-first-len c =

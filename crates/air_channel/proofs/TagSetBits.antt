@@ -5,7 +5,7 @@ use Rattle.std.proofs.lemmas.Bool.{cases_lt}
 use Rattle.std.proofs.lemmas.Bool.Decides.{eqb_tells}
 use Rattle.std.proofs.lemmas.List.{get_or-set_same, get_or-set_other}
 use Rattle.std.proofs.lemmas.Nat.Bits.{bit_at-zero, bit_at-lt, bit_at_and, bit_at_ones, bit_at_mask_inside, bit_at_mask_below, bit_at_set_same, bit_at_set_other, bit_at_clear_same, bit_at_clear_other, bit_at-trailing_zeros}
-use Rattle.air_channel.specs.Numbers.{bit_of, IsIn, IsNextIn}
+use Rattle.air_channel.specs.TagSets.{bit_of, IsIn, IsNextIn}
 
 -- the bit of a number whose word is replaced
 replaced_same : (words : List ℕ) (number word : ℕ) → length words ≡ 4 → number < 256 → bit_of (set words (number / 64) word) number ≡ bit_at word (number % 64)

@@ -1,24 +1,24 @@
-//! Sets of numbers of tags.
+//! Sets of tags.
 ghost use Rattle.std.specs.Prelude.{◌≡◌, ◌≢◌, ℕ, ◌<◌, ◌≤◌};
-ghost use Rattle.air_channel.specs.Numbers.{IsIn, IsNextIn, bit_of};
+ghost use Rattle.air_channel.specs.TagSets.{IsIn, IsNextIn, bit_of};
 
 use std::marker::Model;
 
-/// How many numbers a word of a set tells of.
+/// Of how many tags a word of a set tells.
 const WORD: u16 = 64;
 
 /// How many words a set has.
 const WORDS: u16 = 4;
 
-/// A set of numbers below 256.
+/// A set of tags, by their numbers, which are below 256.
 ///
-/// A contract sees its words, with a bit for each number.
+/// A contract sees its words, with a bit for each tag.
 #[derive(Drop)]
-pub(crate) struct Numbers {
+pub(crate) struct TagSet {
     words: [u64; 4],
 }
 
-impl Model for Numbers {
+impl Model for TagSet {
     ghost use Rattle.std.specs.Prelude.{◌≡◌, ℕ, List, length};
 
     ghost Value = { List ℕ };
@@ -28,15 +28,15 @@ impl Model for Numbers {
     ghost invariant = { λ a. length a.words ≡ 4 };
 }
 
-impl Numbers {
-    /// The set of no number.
-    pub(crate) fn none() -> Numbers
+impl TagSet {
+    /// The set of no tag.
+    pub(crate) fn empty() -> TagSet
         ensures { (number : ℕ) → number < 256 → bit_of result number ≡ 0 }
     {
-        Numbers { words: [0; 4] }
+        TagSet { words: [0; 4] }
     }
 
-    /// Adds a number.
+    /// Adds a tag.
     pub(crate) fn insert(&mut self, number: u16)
         requires { number < 256 }
         ensures there { IsIn self.new number }
@@ -45,7 +45,7 @@ impl Numbers {
         self.words[(number / WORD) as usize] |= 1 << (number % WORD);
     }
 
-    /// Removes a number.
+    /// Removes a tag.
     pub(crate) fn remove(&mut self, number: u16)
         requires { number < 256 }
         ensures there { bit_of self.new number ≡ 0 }
@@ -54,7 +54,7 @@ impl Numbers {
         self.words[(number / WORD) as usize] &= !(1 << (number % WORD));
     }
 
-    /// The least number from one on, if there is one.
+    /// The tag with the least number from one on, if there is one.
     pub(crate) fn next(&self, from: u16) -> Option<u16>
         requires { from ≤ 256 }
         ensures { IsNextIn self.now from result }

@@ -1,4 +1,4 @@
--- Sets of numbers below 256, as words of 64 bits.
+-- Sets of tags by their numbers, which are below 256, as words of 64 bits.
 use Rattle.std.proofs.Common.{◌≡◌, ℕ, ◌/◌, ◌%◌, ◌<◌, ◌≤◌, List, Option, Some, None, get_or}
 use Rattle.std.specs.Int.{bit_at}
 

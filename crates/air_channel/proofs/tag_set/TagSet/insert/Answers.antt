@@ -1,6 +1,6 @@
 use Rattle.std.proofs.Common.{◌/◌, refl, get_or}
-use Rattle.air_channel.proofs.NumberBits.{inserted, inserted_other}
-use Rattle.air_channel.proofs.numbers.Numbers.insert.Goals as goal
+use Rattle.air_channel.proofs.TagSetBits.{inserted, inserted_other}
+use Rattle.air_channel.proofs.tag_set.TagSet.insert.Goals as goal
 
 pub returns-clause-there : goal.returns-clause-there
 returns-clause-there c = inserted c.self.inside.words c.args.number (get_or c.self.inside.words (c.args.number / 64) 0) c.self.invariant c.requires refl

@@ -2,8 +2,8 @@ use Rattle.std.proofs.Common.{◌+◌, ◌*◌, ◌%◌, refl, get_or, bit_and, 
 use Rattle.std.specs.Int.{trailing_zeros, w64}
 use Rattle.std.proofs.lemmas.Nat.Bits.{ones_shl}
 use lib.Bits.{and_le_r}
-use Rattle.air_channel.proofs.NumberBits.{none_yet, first_mask, whole_mask, none_further, found_there}
-use Rattle.air_channel.proofs.numbers.Numbers.next.Goals as goal
+use Rattle.air_channel.proofs.TagSetBits.{none_yet, first_mask, whole_mask, none_further, found_there}
+use Rattle.air_channel.proofs.tag_set.TagSet.next.Goals as goal
 
 pub loop-at-init : goal.loop-at-init
 loop-at-init c = (none_yet c.self.inside.words c.args.from, first_mask c.args.from _ (ones_shl 64 (c.args.from % 64) (omega arith)))
