@@ -9,6 +9,7 @@ fn bits_of(alloc: Global, text: &str) -> Option<Bits> {
     Some(bits)
 }
 
+/// Row `ebv-vectors`: numbers and their vectors.
 const VECTORS: &[(u32, &str)] = &[
     (0, "00000000"),
     (127, "01111111"),
@@ -73,7 +74,7 @@ fn digits_are_taken_in_runs(rt: HostRuntime) {
     }
 }
 
-/// Bits, a place, and what stands there.
+/// Row `ebv-vectors`, and more: bits, a place, and what stands there.
 const OTHERS: &[(&str, u32, Ebv)] = &[
     ("1000000000000001", 0, Ebv::NotShortest),
     ("10000000", 0, Ebv::NotShortest),

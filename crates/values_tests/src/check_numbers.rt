@@ -12,7 +12,7 @@ fn bits_of(alloc: Global, bytes: &[u8]) -> Option<Bits> {
     Some(bits)
 }
 
-/// The CRC-16 and the CRC-5 of the catalogue's bytes, and the CRC-5 of a register that takes them in.
+/// Row `crc-vectors`: the CRC-16 and the CRC-5 of the catalogue's bytes, and the CRC-5 of a register that takes them in.
 fn catalogue_checks(alloc: Global) -> Option<(u16, u8, u8)> {
     let bits = bits_of(alloc, b"123456789")?;
     let (first, others) = bits.as_slice().split_first()?;

@@ -42,6 +42,23 @@ fn bits_come_one_at_a_time(rt: HostRuntime) {
     }
 }
 
+/// Why the digits are no command, written in place of an answer, and what the Framer stands for then.
+fn framed_in_place(digits: &str) -> (Option<CommandRefusal>, Option<CommandRefusal>) {
+    let mut framer = Framer::new();
+    for digit in digits.as_bytes() {
+        framer.push(*digit == b'1');
+    }
+    let mut answer = Err(CommandRefusal::Short(0));
+    framer.finish_to(&mut answer);
+    (answer.err(), framer.finish().err())
+}
+
+#[test]
+fn a_framer_begins_anew(rt: HostRuntime) {
+    let begun = Some(CommandRefusal::Short(0));
+    assert!(rt; framed_in_place("10") == (Some(CommandRefusal::Short(2)), begun));
+}
+
 /// The spelling of a Req_RN with the number A1B2.
 const REQ_RN: &str = "1100000110100001101100101000101101110010";
 
