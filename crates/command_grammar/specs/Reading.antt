@@ -92,19 +92,19 @@ masked_banks = fork (fork none (pick mask_banks.Epc)) (fork (pick mask_banks.Tid
 abbrev pub all_banks : Choice Bank
 all_banks = fork (fork (pick banks.Reserved) (pick banks.Epc)) (fork (pick banks.Tid) (pick banks.User))
 
--- the kinds whose code begins with 10, 1100, 11000 and 11001
-abbrev pub kinds_10 : Choice CommandKind
+-- the kinds whose codes begin with 10, 11000, 11001 and 11
+abbrev kinds_10 : Choice CommandKind
 kinds_10 = fork (fork (pick kinds.Query) (pick kinds.QueryAdjust)) (fork (pick kinds.Select) none)
 
-abbrev pub kinds_11000 : Choice CommandKind
+abbrev kinds_11000 : Choice CommandKind
 kinds_11000 = fork
     (fork (fork (pick kinds.Nak) (pick kinds.ReqRn)) (fork (pick kinds.Read) (pick kinds.Write)))
     (fork (fork (pick kinds.Kill) (pick kinds.Lock)) (fork (pick kinds.Access) (pick kinds.BlockWrite)))
 
-abbrev pub kinds_11001 : Choice CommandKind
+abbrev kinds_11001 : Choice CommandKind
 kinds_11001 = fork (fork (fork (pick kinds.BlockErase) none) none) none
 
-abbrev pub kinds_11 : Choice CommandKind
+abbrev kinds_11 : Choice CommandKind
 kinds_11 = fork (fork (fork kinds_11000 kinds_11001) none) none
 
 abbrev pub all_kinds : Choice CommandKind

@@ -294,7 +294,7 @@ fn take_pair(field: PairField, first: Option<bool>, bit: bool, fields: &mut Fiel
     Next::Done
 }
 
-/// The number of two bits.
+/// The number that two bits are, the first one the higher.
 fn number_of(first: bool, second: bool) -> usize
     ensures value { result ≡ 2 * digit_of first + digit_of second }
     ensures small { result < 4 }

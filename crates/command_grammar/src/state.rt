@@ -157,8 +157,8 @@ impl State {
         }
     }
 
-    /// Answers with the command that the bits are, or with why they are none, where this was refused. It stands for
-    /// no bits afterwards.
+    /// Answers with the command that the bits are, or with `refused`, or with `Short`. It stands for no bits
+    /// afterwards.
     #[inline(always)]
     pub(crate) fn finish(
         &mut self,
@@ -171,12 +171,12 @@ impl State {
         ensures sound { IsSoundPlace self.new.place self.new.fields }
     {
         let pushed = self.pushed;
-        let place = self.place;
+        let stopped = self.place;
         self.pushed = 0;
         self.place = Place::Code(CodeFront::Nothing);
         match refused {
             Some((place, reason)) => *answer = Err(CommandRefusal::At(place, reason)),
-            None => match place {
+            None => match stopped {
                 Place::Whole => self.fields.answer(self.kind, answer),
                 Place::Code(_) | Place::Within(_) => *answer = Err(CommandRefusal::Short(pushed)),
             },

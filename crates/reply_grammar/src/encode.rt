@@ -30,7 +30,7 @@ pub fn encode_reply(reply: &Reply, handle: u16, out: &mut Bits)
 /// Writes the bits of the reply that is an RN16. A `Reply` has room for the longest list of words, so it isn't made
 /// for so short a reply.
 pub fn encode_rn16(rn: u16, out: &mut Bits)
-    requires { reply_room ≤ out.old.capacity }
+    requires { 16 ≤ out.old.capacity }
     ensures { out.new ≡ record out.old { items = spelling (Rn16 rn) 0 } }
 {
     out.clear();

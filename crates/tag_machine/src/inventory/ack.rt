@@ -15,7 +15,7 @@ use bit_strings::Bits;
 use reply_grammar::encode_epc;
 use std::sync::ledger::Ledger;
 
-/// The answer to an ACK: PC and the EPC.
+/// Answers an ACK: PC, EPC and CRC-16, with the preamble of the Query's TRext.
 fn answer_epc(tag: AnyTag, out: &mut Bits) -> Heard
     requires room { reply_room ≤ out.old.capacity }
     ensures { GivesOutcome (plain_answer (tag_value_of tag).state (tag_value_of tag).body (epc_reply (tag_value_of tag).body) 0) result out.old out.new }

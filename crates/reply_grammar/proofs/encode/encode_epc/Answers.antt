@@ -1,16 +1,11 @@
-use Rattle.std.proofs.Common.{◌≡◌, ℕ, ◌++◌, List, Bool, [], ap, ◌∙◌, arith, length-append, length}
-use Rattle.bit_strings.specs.BitString.{BitString}
+use Rattle.std.proofs.Common.{[], ap, ◌∙◌, arith, length-append, length}
 use Rattle.bit_strings.specs.Numbers.{field_of}
 use Rattle.bit_strings.specs.NumberLaws.{length-field_of}
 use Rattle.bit_strings.specs.Words.{bits_of_words}
 use Rattle.bit_strings.specs.WordLaws.{length-bits_of_words}
 use Rattle.reply_grammar.specs.Table.{spelling}
-use Rattle.reply_grammar.proofs.Writing.{wrote, checked, room_left}
+use Rattle.reply_grammar.proofs.Writing.{wrote, checked, room_left, words_lent}
 use Rattle.reply_grammar.proofs.encode.encode_epc.Goals as goal
-
--- a list is the words that were lent
-words_lent : (capacity : ℕ) (front : List Bool) (lent words : List ℕ) → lent ≡ words → ◌≡◌ {A = BitString} (record { items = front ++ bits_of_words lent; capacity = capacity }) (record { items = front ++ bits_of_words words; capacity = capacity })
-words_lent capacity front lent words same = ap (λ (ws : List ℕ). record { items = front ++ bits_of_words ws; capacity = capacity }) same
 
 pub put_words-requires : goal.put_words-requires
 put_words-requires c =

@@ -1,4 +1,4 @@
-use Rattle.std.proofs.Common.{◌≡◌, ℕ, ◌++◌, List, Bool, false, [], ◌∷◌, ap, sym, ◌∙◌, arith, length-append, length}
+use Rattle.std.proofs.Common.{◌≡◌, ℕ, false, [], ◌∷◌, ap, sym, ◌∙◌, arith, length-append, length}
 use Rattle.bit_strings.specs.BitString.{BitString}
 use Rattle.bit_strings.specs.Numbers.{field_of}
 use Rattle.bit_strings.specs.NumberLaws.{length-field_of}
@@ -7,16 +7,12 @@ use Rattle.bit_strings.specs.WordLaws.{length-bits_of_words}
 use Rattle.reply_grammar.specs.declared.expected.Reply.{Reply}
 use Rattle.reply_grammar.specs.declared.expected.Reply.TheVariants.{Rn16, Epc, Handle, Words, Header, Error}
 use Rattle.reply_grammar.specs.Table.{spelling}
-use Rattle.reply_grammar.proofs.Writing.{wrote, checked, room_left}
+use Rattle.reply_grammar.proofs.Writing.{wrote, checked, room_left, words_lent}
 use Rattle.reply_grammar.proofs.encode.write_reply.Goals as goal
 
 -- the spelling of the reply that was found
 spelled_as : (capacity handle : ℕ) (reply found : Reply) → reply ≡ found → ◌≡◌ {A = BitString} (record { items = spelling found handle; capacity = capacity }) (record { items = spelling reply handle; capacity = capacity })
 spelled_as capacity handle reply found is = ap (λ (r : Reply). record { items = spelling r handle; capacity = capacity }) (sym is)
-
--- a list is the words that were lent
-words_lent : (capacity : ℕ) (front : List Bool) (lent words : List ℕ) → lent ≡ words → ◌≡◌ {A = BitString} (record { items = front ++ bits_of_words lent; capacity = capacity }) (record { items = front ++ bits_of_words words; capacity = capacity })
-words_lent capacity front lent words same = ap (λ (ws : List ℕ). record { items = front ++ bits_of_words ws; capacity = capacity }) same
 
 pub put_check-requires : goal.put_check-requires
 put_check-requires c =
