@@ -1,5 +1,5 @@
 -- What the exchanges of a slot make of a run.
-use Rattle.std.proofs.Common.{◌≡◌, ℕ, suc, ◌+◌, ◌≤◌, ◌<◌, ◌^◌, List, [], ◌∷◌, ◌++◌, length, map, Option, Some, None, Result, Ok, Err, refl, sym, ◌∙◌, ap, subst, arith, append_assoc, length-append}
+use Rattle.std.proofs.Common.{◌≡◌, ℕ, suc, ◌+◌, ◌≤◌, ◌<◌, ◌^◌, Bool, List, [], ◌∷◌, ◌++◌, length, map, Option, Some, None, Result, Ok, Err, refl, sym, ◌∙◌, ap, subst, arith, append_assoc, length-append}
 use Rattle.std.proofs.lemmas.List.{append-nil, map-append}
 use Rattle.std.specs.Result.{IfErr, OnOk}
 use Rattle.access_ops.specs.Operations.{dialogue_of}
@@ -17,7 +17,7 @@ use Rattle.air_world.proofs.Growth.{answer-grows, listing-grows}
 use Rattle.air_world.proofs.Lines.{report_text-append}
 use Rattle.air_channel.specs.ReceptionLaws.{stream_reception}
 use Rattle.air_world.proofs.Writing.{cut-longer, cut-past}
-use Rattle.air_world.specs.Heard.{pair_received}
+use Rattle.air_world.specs.Heard.{pair_received, rn16_received}
 use Rattle.air_world.specs.History.{past_behind_dialogue, past_behind_listing, ack_reception, past_behind_ack, past_behind_answer, slot_reception, past_behind_slot}
 use Rattle.air_world.specs.Listing.{Listed, reception_of_ack, listed_from, listed_by, listing_of}
 use Rattle.air_world.specs.Playing.{Origin, RunValue, PlaysAt, StandsAt, IsWritten, IsCutOff, HasRoom, pair_of, past_text, expectation_of}
@@ -25,11 +25,13 @@ use Rattle.air_world.specs.Report.{past_lines, trace_lines, list_line}
 use Rattle.air_world.specs.declared.mode.PlayFault.{PlayFault}
 use Rattle.command_grammar.specs.declared.commands.Command.{Command}
 use Rattle.command_grammar.specs.declared.commands.Command.TheVariants as commands
+use Rattle.line_code.specs.Table.{Table}
 use Rattle.line_codes.specs.Codes.{table_of}
 use Rattle.pie_line.specs.Link.{LinkValue}
 use Rattle.reply_grammar.specs.declared.expected.Expect.{Expect}
 use Rattle.reply_grammar.specs.declared.expected.Expect.TheVariants as expects
 use Rattle.reply_grammar.specs.declared.expected.Received.{Received}
+use Rattle.reply_grammar.specs.declared.expected.Received.TheVariants as receiveds
 use Rattle.reply_grammar.specs.declared.expected.Reply.TheVariants as replies
 use Rattle.report_lines.specs.ReportLine.{ReportLine, report_line_text, report_text}
 use Rattle.report_lines.specs.SeenCounts.{Seen, seen_in, count_of}
@@ -53,6 +55,29 @@ pub asked-reception : (origin : Origin) (past : List Item) (round slot : ℕ) (c
 asked-reception origin past round slot command expect air after run later got received asked rows range stays plays behind stream is came heard =
     heard-reception origin.start.link (next_record origin.start round slot command past).given after expect received behind.link stream (sym is ∙ came)
     (given-in-expected origin.start.several command expect (next_entry origin.start past) (tags_behind origin.start past) asked rows range stays (subst AreLegalTags plays.tags plays.legal)) heard
+
+-- what a slot command with a stream brings, by the RN16 that comes whole
+abbrev pub rn16_reception : Option ℕ → Reception
+rn16_reception (Some rn) = whole_reply (replies.Rn16 rn)
+rn16_reception None = no_such_reply
+
+-- a stream that brings no RN16 where one is expected is no such reply
+pub rn16-heard : (t : Table) (trext : Bool) (levels : List Bool) (received : Received) (rn : Option ℕ) → IsReceived t trext expects.Rn16 levels received
+    → rn ≡ rn16_received (reception_from received) → rn16_reception rn ≡ reception_from received
+rn16-heard t trext levels (receiveds.Whole (replies.Rn16 own)) rn is found = ap rn16_reception found
+rn16-heard t trext levels (receiveds.Whole (replies.Epc pc epc)) rn is found = absurd is.answers.suits
+rn16-heard t trext levels (receiveds.Whole (replies.Handle own)) rn is found = absurd is.answers.suits
+rn16-heard t trext levels (receiveds.Whole (replies.Words words)) rn is found = absurd is.answers.suits
+rn16-heard t trext levels (receiveds.Whole replies.Header) rn is found = absurd is.answers.suits
+rn16-heard t trext levels (receiveds.Whole (replies.Error code)) rn is found = absurd is.answers.suits
+rn16-heard t trext levels (receiveds.Refused place) rn is found = ap rn16_reception found
+
+-- what is heard changes nothing of a run
+pub plays-kept : (origin : Origin) (past : List Item) (air : AirValue) (run later : RunValue) → later ≡ run → PlaysAt origin past air run → PlaysAt origin past air later
+plays-kept origin past air run later same plays = subst (λ (r : RunValue). PlaysAt origin past air r) (sym same) plays
+
+pub seen-kept : (run later : RunValue) (seen : List Seen) → later ≡ run → run.seen ≡ seen → later.seen ≡ seen
+seen-kept run later seen same is = ap (λ (r : RunValue). r.seen) same ∙ is
 
 -- the text behind an exchange: what a trace tells of it, then what it lists
 pub text-exchanged : (origin : Origin) (sent : Record) (past : List Item)

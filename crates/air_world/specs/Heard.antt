@@ -1,16 +1,18 @@
 -- Profile: what an interrogator heard, as what it makes of it.
 use Rattle.std.specs.Prelude.{ℕ, List, Option, Some, None}
-use Rattle.air_world.specs.declared.run.SlotReply.{SlotReply}
-use Rattle.air_world.specs.declared.run.SlotReply.TheVariants as heard
-use Rattle.reply_grammar.specs.Reception.{Reception, no_stream, whole_reply, no_such_reply}
+use Rattle.reply_grammar.specs.Reception.{Reception, whole_reply}
 use Rattle.reply_grammar.specs.declared.expected.Reply.{Reply}
 use Rattle.reply_grammar.specs.declared.expected.Reply.TheVariants as replies
 
--- what is heard in a slot
-abbrev pub slot_reply_reception : SlotReply → Reception
-slot_reply_reception heard.Silence = no_stream
-slot_reply_reception heard.Refused = no_such_reply
-slot_reply_reception (heard.Rn16 rn) = whole_reply (replies.Rn16 rn)
+-- the RN16 of a reply that is one
+abbrev pub rn16_in : Reply → Option ℕ
+rn16_in (replies.Rn16 rn) = Some rn
+rn16_in reply = None
+
+-- the RN16 that comes whole
+abbrev pub rn16_received : Reception → Option ℕ
+rn16_received (whole_reply reply) = rn16_in reply
+rn16_received reception = None
 
 -- the PC and the EPC of a reply that brings them
 abbrev pub pair_in : Reply → Option (ℕ × List ℕ)

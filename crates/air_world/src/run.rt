@@ -3,13 +3,12 @@ ghost use Rattle.std.specs.Prelude.{◌≡◌, ℕ, ◌+◌, ◌≤◌, ◌<◌,
 ghost use Rattle.std.specs.String.{string_bytes};
 ghost use Rattle.air_channel.specs.Channel.{got_of, heard_levels};
 ghost use Rattle.air_channel.specs.Past.{Item, next_record, past_behind_command};
-ghost use Rattle.air_channel.specs.Reception.{reception_of};
 ghost use Rattle.air_channel.specs.Received.{IsReceived};
 ghost use Rattle.air_world.specs.History.{outcome_of, past_behind_ack, past_behind_round, past_behind_slot, slot_reception};
 ghost use Rattle.line_codes.specs.Codes.{table_of};
 ghost use Rattle.reply_grammar.specs.Reception.{reception_from};
 ghost use Rattle.report_lines.specs.SeenCounts.{count_of, seen_in};
-ghost use Rattle.air_world.specs.Heard.{slot_reply_reception, pair_received};
+ghost use Rattle.air_world.specs.Heard.{rn16_received, pair_received};
 ghost use Rattle.air_world.specs.Playing.{Origin, PlaysAt, StandsAt, IsStanding, IsTold, IsUnderway, IsWritten, IsCutOff, past_text, expectation_of, last_exchange_lines};
 ghost use Rattle.air_world.specs.Report.{trace_lines};
 ghost use Rattle.air_world.specs.Summary.{is_quiet};
@@ -40,16 +39,6 @@ const BIT_ROOM: u32 = 131_968;
 
 /// Room for the longest line, which tells of the levels of the longest stream.
 const LINE_ROOM: usize = 132_100;
-
-/// What is heard in a slot.
-pub(crate) enum SlotReply {
-    /// Nothing.
-    Silence,
-    /// A stream that is no whole RN16.
-    Refused,
-    /// A whole RN16.
-    Rn16(u16),
-}
 
 /// What is kept of a run beside the air.
 ///
@@ -135,72 +124,14 @@ impl<'a, L: Ledger> Run<'a, L> {
         Ok(got)
     }
 
-    /// Sends a slot command, in one exchange, and says what is heard in the slot. A trace tells of it.
-    fn ask_rn16<O: Sink>(
-        &mut self,
-        air: &mut Air,
-        command: &Command,
-        out: &mut O,
-    ) -> Result<SlotReply, PlayFault>
-        requires underway { IsUnderway 1 air.old self.old }
-        requires expects { expectation_of command.now ≡ Some Expect.Rn16 }
-        ensures plays { (origin : Origin) (past : List Item) (round slot : ℕ) → PlaysAt origin past air.old self.old
-            → PlaysAt origin (past_behind_command origin.start round slot command.now past) air.new self.new }
-        ensures seen { self.new.seen ≡ self.old.seen }
-        ensures heard { (origin : Origin) (past : List Item) (round slot : ℕ) → PlaysAt origin past air.old self.old
-            → IfOk result (λ heard. slot_reply_reception heard ≡ reception_of Expect.Rn16 (next_record origin.start round slot command.now past).given) }
-        ensures ok { (origin : Origin) (past : List Item) (round slot : ℕ) (before : List ℕ) → PlaysAt origin past air.old self.old
-            → IsWritten origin before (O.written out.old) (O.faults out.old)
-            → IfOk result (λ _. IsWritten origin (before ++ report_text (trace_lines origin.mode origin.start.link (next_record origin.start round slot command.now past))) (O.written out.new) (O.faults out.new)) }
-        ensures err { (origin : Origin) (past : List Item) (round slot : ℕ) (before : List ℕ) → PlaysAt origin past air.old self.old
-            → IsWritten origin before (O.written out.old) (O.faults out.old)
-            → IfErr result (IsCutOff origin (before ++ report_text (trace_lines origin.mode origin.start.link (next_record origin.start round slot command.now past))) (O.written out.new) (O.faults out.new)) }
-    {
-        answers_are_replies();
-        steps_keep_tags_legal();
-        match self.send(air, command, out)? {
-            Got::Silence => Ok(SlotReply::Silence),
-            Got::Stream => Ok(self.hear_rn16(air)),
-        }
-    }
-
-    /// Sends an ACK, in one exchange, and gives the PC and the EPC that come whole. A trace tells of it.
-    fn ask_epc<O: Sink>(
-        &mut self,
-        air: &mut Air,
-        command: &Command,
-        out: &mut O,
-    ) -> Result<Option<(u16, EpcWords)>, PlayFault>
-        requires underway { IsUnderway 1 air.old self.old }
-        requires expects { expectation_of command.now ≡ Some Expect.Epc }
-        ensures plays { (origin : Origin) (past : List Item) (round slot : ℕ) → PlaysAt origin past air.old self.old
-            → PlaysAt origin (past_behind_command origin.start round slot command.now past) air.new self.new }
-        ensures seen { self.new.seen ≡ self.old.seen }
-        ensures heard { (origin : Origin) (past : List Item) (round slot : ℕ) → PlaysAt origin past air.old self.old
-            → IfOk result (λ pair. pair ≡ pair_received (reception_of Expect.Epc (next_record origin.start round slot command.now past).given)) }
-        ensures ok { (origin : Origin) (past : List Item) (round slot : ℕ) (before : List ℕ) → PlaysAt origin past air.old self.old
-            → IsWritten origin before (O.written out.old) (O.faults out.old)
-            → IfOk result (λ _. IsWritten origin (before ++ report_text (trace_lines origin.mode origin.start.link (next_record origin.start round slot command.now past))) (O.written out.new) (O.faults out.new)) }
-        ensures err { (origin : Origin) (past : List Item) (round slot : ℕ) (before : List ℕ) → PlaysAt origin past air.old self.old
-            → IsWritten origin before (O.written out.old) (O.faults out.old)
-            → IfErr result (IsCutOff origin (before ++ report_text (trace_lines origin.mode origin.start.link (next_record origin.start round slot command.now past))) (O.written out.new) (O.faults out.new)) }
-    {
-        answers_are_replies();
-        steps_keep_tags_legal();
-        match self.send(air, command, out)? {
-            Got::Silence => Ok(None),
-            Got::Stream => Ok(self.hear_epc(air)),
-        }
-    }
-
-    /// What is heard in a slot in which a stream came.
-    fn hear_rn16(&mut self, air: &Air) -> SlotReply
+    /// The RN16 of the stream that came last, if it comes whole.
+    fn hear_rn16(&mut self, air: &Air) -> Option<u16>
         ensures same { self.new ≡ self.old }
-        ensures received { (received : Received) × IsReceived (table_of air.now.link.code) air.now.link.trext Expect.Rn16 air.now.stream received × (slot_reply_reception result ≡ reception_from received) }
+        ensures received { (received : Received) × IsReceived (table_of air.now.link.code) air.now.link.trext Expect.Rn16 air.now.stream received × (result ≡ rn16_received (reception_from received)) }
     {
         match self.hear(air, &Expect::Rn16, false) {
-            Received::Whole(Reply::Rn16(rn)) => SlotReply::Rn16(rn),
-            _ => SlotReply::Refused,
+            Received::Whole(Reply::Rn16(rn)) => Some(rn),
+            _ => None,
         }
     }
 
@@ -304,13 +235,17 @@ impl<'a, L: Ledger> Run<'a, L> {
         ensures err { (origin : Origin) (past : List Item) → StandsAt origin past air.old self.old (O.written out.old) (O.faults out.old)
             → IfErr result (IsCutOff origin (past_text origin (past_behind_slot origin.start operations.now round slot command.now past)) (O.written out.new) (O.faults out.new)) }
     {
-        match self.ask_rn16(air, command, out)? {
-            SlotReply::Silence => Ok(Outcome::Silence),
-            SlotReply::Refused => Ok(Outcome::Refused),
-            SlotReply::Rn16(rn) => {
-                self.acknowledge(air, round, slot, rn, operations, out)?;
-                Ok(Outcome::Whole)
-            }
+        answers_are_replies();
+        steps_keep_tags_legal();
+        match self.send(air, command, out)? {
+            Got::Silence => Ok(Outcome::Silence),
+            Got::Stream => match self.hear_rn16(air) {
+                None => Ok(Outcome::Refused),
+                Some(rn) => {
+                    self.acknowledge(air, round, slot, rn, operations, out)?;
+                    Ok(Outcome::Whole)
+                }
+            },
         }
     }
 
@@ -331,13 +266,18 @@ impl<'a, L: Ledger> Run<'a, L> {
         ensures err { (origin : Origin) (past : List Item) → StandsAt origin past air.old self.old (O.written out.old) (O.faults out.old)
             → IfErr result (IsCutOff origin (past_text origin (past_behind_ack origin.start operations.now round slot rn past)) (O.written out.new) (O.faults out.new)) }
     {
+        answers_are_replies();
+        steps_keep_tags_legal();
         let ack = Command::Ack { rn };
-        match self.ask_epc(air, &ack, out)? {
-            None => Ok(()),
-            Some((pc, epc)) => {
-                self.list(round, slot, pc, &epc, out)?;
-                self.operate(air, round, slot, operations, &epc, rn, out)
-            }
+        match self.send(air, &ack, out)? {
+            Got::Silence => Ok(()),
+            Got::Stream => match self.hear_epc(air) {
+                None => Ok(()),
+                Some((pc, epc)) => {
+                    self.list(round, slot, pc, &epc, out)?;
+                    self.operate(air, round, slot, operations, &epc, rn, out)
+                }
+            },
         }
     }
 
