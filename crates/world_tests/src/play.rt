@@ -1,6 +1,6 @@
 //! Whole runs. Scenarios with their reports stand in rows/runs; here is what no report shows.
 
-use crate::worlds::{FIRST, scenario_of};
+use crate::worlds::{FIRST, LISTED_TWICE, scenario_of};
 use air_io::MemSink;
 use air_world::{Mode, PlayFault, play, set_up};
 use std::alloc::Global;
@@ -12,17 +12,6 @@ const REPORT: &str = "list 1 1 0800 1234\n\
                       seen 1 0800 1234\n\
                       tag 0 ready BAAA0 0000000000 0000000000000000 ED3A08001234 E2000001 -\n\
                       done\n";
-
-/// Tags with the same EPC or the same PC, of which one is listed twice.
-const LISTED_TWICE: &[&str] = &[
-    "tag 00000000 00000000 0000000000 08001234 E2000001 - 00001111\n",
-    "tag 00000000 00000000 0000000000 08005678 E2000002 - 00012222\n",
-    "tag 00000000 00000000 0000000000 08011234 E2000003 - 00023333\n",
-    "round all 0 a 2 300 20\n",
-    "event off 1\n",
-    "event off 2\n",
-    "round all 0 b 0 300 5\n",
-];
 
 /// Three Selects, and a tag in a later slot.
 const SELECTS: &[&str] = &[

@@ -1,6 +1,6 @@
 //! What whole runs count, worked out by hand. What runs of generated scenarios count stands in rows/words.txt.
 
-use crate::worlds::{FIRST, scenario_of};
+use crate::worlds::{FIRST, LISTED_TWICE, scenario_of};
 use air_world::{Summary, summarise};
 use std::alloc::Global;
 
@@ -26,17 +26,6 @@ const MISSED: &[&str] = &[
 
 /// A tag whose EPC does not come whole.
 const BROKEN: &[&str] = &[FIRST, "air 2 break 40\n", "round all 0 a 0 300 5\n"];
-
-/// Three tags with the same EPC or the same PC, of which one is listed again.
-const LISTED_TWICE: &[&str] = &[
-    "tag 00000000 00000000 0000000000 08001234 E2000001 - 00001111\n",
-    "tag 00000000 00000000 0000000000 08005678 E2000002 - 00012222\n",
-    "tag 00000000 00000000 0000000000 08011234 E2000003 - 00023333\n",
-    "round all 0 a 2 300 20\n",
-    "event off 1\n",
-    "event off 2\n",
-    "round all 0 b 0 300 5\n",
-];
 
 /// A round that ends quiet, and one that ends by its limit.
 const LIMIT_LAST: &[&str] = &[FIRST, "round all 0 a 0 300 5\n", "round all 0 b 0 300 1\n"];

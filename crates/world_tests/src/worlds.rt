@@ -12,6 +12,17 @@ pub const FIRST: &str = "tag 00000000 00000000 0000000000 08001234 E2000001 - A1
 /// A tag with the PC 0800, the EPC 5678 and the draw word 5678.
 pub const SECOND: &str = "tag 00000000 00000000 0000000000 08005678 E2000002 - 5678\n";
 
+/// Three tags with the same EPC or the same PC, of which one is listed again.
+pub const LISTED_TWICE: &[&str] = &[
+    "tag 00000000 00000000 0000000000 08001234 E2000001 - 00001111\n",
+    "tag 00000000 00000000 0000000000 08005678 E2000002 - 00012222\n",
+    "tag 00000000 00000000 0000000000 08011234 E2000003 - 00023333\n",
+    "round all 0 a 2 300 20\n",
+    "event off 1\n",
+    "event off 2\n",
+    "round all 0 b 0 300 5\n",
+];
+
 /// The scenario of these lines, behind those of its version and a link in FM0.
 pub fn scenario_of(alloc: Global, lines: &[&str]) -> Option<Scenario>
     ensures { IfSome result IsScenario }
