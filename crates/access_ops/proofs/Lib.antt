@@ -1,4 +1,4 @@
-pub mod Doing
-pub mod Telling
-pub mod Legal
-pub mod Moving
+pub mod NextOperation
+pub mod OperationLaws
+pub mod LegalCommands
+pub mod BehindMoves

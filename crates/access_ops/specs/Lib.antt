@@ -1,5 +1,3 @@
-pub mod DialogueLaws
-pub mod OperationLaws
 pub mod Operations
-pub mod Running
-pub mod Standing
+pub mod OpRunValue
+pub mod laws

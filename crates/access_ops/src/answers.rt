@@ -1,6 +1,6 @@
 //! What is made of an answer.
 ghost use Rattle.std.specs.Prelude.{◌≡◌, option_copied};
-ghost use Rattle.access_ops.specs.Standing.{number_of, result_in_reply, result_of};
+ghost use Rattle.access_ops.specs.OpRunValue.{number_in_answer, result_in_reply, result_of};
 
 use crate::copies::copy_of_words;
 use crate::op_next::{Answer, OpResult};
@@ -8,7 +8,7 @@ use reply_grammar::{ReadWords, Received, Reply};
 
 /// The number in an answer to a Req_RN, or the result with which the run ends.
 pub(crate) fn number_in(answer: Option<&Answer>) -> Result<u16, OpResult>
-    ensures { result ≡ number_of (option_copied answer.entry) }
+    ensures { result ≡ number_in_answer (option_copied answer.entry) }
 {
     match answer {
         Some(Answer::Got(Received::Whole(Reply::Handle(number)))) => Ok(*number),

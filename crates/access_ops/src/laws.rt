@@ -5,7 +5,7 @@ ghost use Rattle.command_grammar.specs.Commands.{IsLegalCommand, IsWord, spellin
 ghost use Rattle.command_grammar.specs.declared.commands.Command.{Command};
 ghost use Rattle.reply_grammar.specs.declared.expected.Expect.{Expect};
 ghost use Rattle.access_ops.specs.Operations.{AreMoves, Move, is_for, lower_half, next_operation, told, upper_half};
-ghost use Rattle.access_ops.specs.OperationLaws.{EndsRun, Expects, IsLegalOp, Serves, commands_in, commands_sent, results_in, results_told};
+ghost use Rattle.access_ops.specs.laws.OperationLaws.{EndsRun, Expects, IsLegalOp, Serves, commands_in, commands_sent, results_in, results_told};
 ghost use Rattle.access_ops.specs.declared.Op.{Op};
 ghost use Rattle.access_ops.specs.declared.OpList.{OpList};
 ghost use Rattle.access_ops.specs.declared.op_next.OpNext.TheVariants.{Send, Result, End};

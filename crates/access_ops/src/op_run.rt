@@ -1,7 +1,7 @@
 //! The operations on one tag, done one thing at a time.
 ghost use Rattle.std.specs.Prelude.{◌≡◌, ◌+◌, ◌*◌, ◌-◌, ◌≤◌, ℕ, false, List, [], length, drop, option_copied, if◌then◌else◌};
 ghost use Rattle.access_ops.specs.Operations.{Move, behind_last, denials, is_for, operations_from_rn16, operation, words_expected};
-ghost use Rattle.access_ops.specs.Standing.{Does, IsNextOperation, OpRunStandsFor, behind_cover, behind_heard, behind_purpose, last_answer, later_of, stage_behind_result, turns_at, turns_in, turns_left};
+ghost use Rattle.access_ops.specs.OpRunValue.{Does, IsNextOperation, OpRunStandsFor, behind_cover, behind_heard, behind_purpose, last_answer, later_of, stage_behind_result, turns_at, turns_in, turns_left};
 ghost use Rattle.access_ops.specs.declared.OpList.{OpList};
 
 use crate::answers::{number_in, result_in};
@@ -27,7 +27,7 @@ pub struct OpRun {
 }
 
 impl Model for OpRun {
-    ghost use Rattle.access_ops.specs.Standing.{OpRunValue};
+    ghost use Rattle.access_ops.specs.OpRunValue.{OpRunValue};
 
     ghost Value = { OpRunValue };
 

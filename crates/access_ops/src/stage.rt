@@ -1,7 +1,7 @@
 //! How far the operations on a tag are.
 ghost use Rattle.std.specs.Prelude.{◌≡◌, ◌/◌, ◌%◌, ◌^◌, ◌<◌};
 ghost use Rattle.access_ops.specs.Operations.{lower_half, upper_half};
-ghost use Rattle.access_ops.specs.Standing.{half_command, lower_expected, lower_extended, password_value};
+ghost use Rattle.access_ops.specs.OpRunValue.{half_command, lower_expected, lower_extended, password_value};
 
 use bit_strings::Pointer;
 use command_grammar::{Bank, Command};

@@ -1,15 +1,13 @@
 -- Profile: what a contract sees of the air between one interrogator and a population of tags, and what an exchange makes of it.
 use Rattle.std.specs.Prelude.{ℕ, ◌+◌, ◌<◌, ◌==◌, Bool, List, length, All, if◌then◌else◌}
-use Rattle.std.specs.List.{AllByRecursion}
 use Rattle.air_events.specs.declared.Entry.{Entry}
 use Rattle.air_events.specs.declared.Event.{Event}
 use Rattle.air_events.specs.declared.Several.{Several}
 use Rattle.command_grammar.specs.declared.commands.Command.{Command}
 use Rattle.pie_line.specs.Link.{LinkValue}
-use Rattle.tag_machine.specs.TagValue.{TagValue, IsLegalTag}
-use Rattle.tag_machine.specs.Answers.{Outcome}
-use Rattle.air_channel.specs.Exchange.{Replied, outcomes_from, replies_from, tags_after, tags_after_event}
-use Rattle.air_channel.specs.Channel.{Given, given_of, heard_levels, wave_for}
+use Rattle.tag_machine.specs.TagValue.{TagValue}
+use Rattle.air_model.specs.Exchange.{outcomes_in, replies_in, tags_after, tags_after_event}
+use Rattle.air_model.specs.Channel.{given_in, heard_levels, wave_for}
 
 -- the link, what the channel gives of several replies, the tags in the order of their numbers, the frame that was sent last,
 -- the stream that came back, how many tags replied, and how many exchanges there were
@@ -29,18 +27,6 @@ last_exchange = 18446744073709551615
 abbrev pub next_exchange : ℕ → ℕ
 next_exchange exchanges = if exchanges == last_exchange then last_exchange else exchanges + 1
 
--- what comes of a command and an entry for each of the tags, numbered from 0
-abbrev pub outcomes_in : Command → Entry → List TagValue → List Outcome
-outcomes_in command entry tags = outcomes_from 0 command entry tags
-
--- what the tags sent, in the order of their numbers
-abbrev pub replies_in : Command → Entry → List TagValue → List Replied
-replies_in command entry tags = replies_from 0 (outcomes_in command entry tags)
-
--- what the channel gives of it
-abbrev pub given_in : Several → Command → Entry → List TagValue → Given
-given_in several command entry tags = given_of (replies_in command entry tags) entry.choice several
-
 -- the air after an exchange
 abbrev pub air_after : AirValue → Command → Entry → AirValue
 air_after air command entry = record {
@@ -56,10 +42,6 @@ air_after air command entry = record {
 -- the air after an event befell the tag of a number, outside every exchange
 abbrev pub air_after_event : AirValue → Event → ℕ → AirValue
 air_after_event air event number = record air { tags = tags_after_event 0 event number air.tags }
-
--- each tag is legal
-abbrev pub AreLegalTags : List TagValue → Type 0
-AreLegalTags tags = AllByRecursion IsLegalTag tags
 
 -- each tag that an entry names is there
 pub record NamesTags (count : ℕ) (entry : Entry) : Type 0 where

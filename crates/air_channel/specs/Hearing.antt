@@ -6,7 +6,7 @@ use Rattle.air_events.specs.declared.Event.{Event}
 use Rattle.command_grammar.specs.declared.commands.Command.{Command}
 use Rattle.tag_machine.specs.TagValue.{TagValue}
 use Rattle.tag_machine.specs.Answers.{Outcome}
-use Rattle.air_channel.specs.Exchange.{tags_after_event, outcome_unless, is_missed}
+use Rattle.air_model.specs.Exchange.{tags_after_event, outcome_unless, is_missed}
 
 -- the tags that are numbered from a number on after these events, in order
 abbrev pub tags_after_events : ℕ → List (Event × ℕ) → List TagValue → List TagValue

@@ -7,7 +7,7 @@ use Rattle.line_code.specs.Stream.{stream_of}
 use Rattle.line_codes.specs.Codes.{table_of}
 use Rattle.pie_line.specs.Link.{LinkValue}
 use Rattle.tag_machine.specs.Answers.{Sent, IsSent, bits_sent}
-use Rattle.air_channel.specs.Exchange.{Replied}
+use Rattle.air_model.specs.Exchange.{Replied}
 
 -- the number of the reply that is kept, how many tags replied, and the bits of the reply with that number and its mark, once
 -- there are so many

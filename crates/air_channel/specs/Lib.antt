@@ -1,12 +1,4 @@
-pub mod Received
-pub mod ReceivedLaws
-pub mod Exchange
-pub mod Channel
 pub mod Air
-pub mod Reception
-pub mod ReceptionLaws
-pub mod AwaitedLaws
-pub mod Past
 pub mod Seats
 pub mod Kept
 pub mod Giving

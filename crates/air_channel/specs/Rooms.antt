@@ -1,7 +1,8 @@
 -- The room of the buffers of an air, and how long what stands in them is: the longest command has 4,162 bits and so a frame of
--- at most 8,331 intervals, and the longest reply a stream of 131,968 levels.
+-- at most 8,331 intervals, and the longest reply a stream of 131,968 levels (`longest_stream`).
 use Rattle.std.specs.Prelude.{ℕ, ◌≤◌, All, length}
 use Rattle.bit_strings.specs.BitString.{BitString}
+use Rattle.air_model.specs.Channel.{longest_stream}
 use Rattle.pie_line.specs.IntervalList.{IntervalList}
 use Rattle.pie_line.specs.Pie.{longest_interval}
 
@@ -16,10 +17,6 @@ longest_frame = 8331
 -- the room for the stream of each reply, in levels
 abbrev pub room_for_streams : ℕ
 room_for_streams = 132208
-
--- how many levels the longest stream has
-abbrev pub longest_stream : ℕ
-longest_stream = 131968
 
 pub record HasRoom (bits : BitString) (frame : IntervalList) (stream : BitString) : Type 0 where
   pub bits_room : room_for_frames ≤ bits.capacity

@@ -1,6 +1,11 @@
 -- Tags that stand on places: for each tag, by its number, the place where it stands, or none. The tags of one place are
 -- linked in both directions, the one that came last first.
 use Rattle.std.proofs.Common.{◌≡◌, ◌≢◌, ℕ, ◌+◌, ◌<◌, ◌≤◌, ◌⊎◌, List, length, Option, Some, None, get_or}
+use Rattle.air_events.specs.TagNumbers.{most_tags}
+
+-- how many places there are: one for each of the 32,768 values of a slot counter in each of the four sessions, and one more
+abbrev pub most_places : ℕ
+most_places = 131073
 
 -- the place where a tag stands; none where there is no such tag
 abbrev pub place_of : List (Option ℕ) → ℕ → Option ℕ
@@ -14,17 +19,17 @@ IsTagOn places place (Some number) = place_of places number ≡ Some place
 -- where the links of a place stand: the link to the first tag at the number of the place, and the link behind a tag after those
 -- of all places
 abbrev pub IsLinkOf : List (Option ℕ) → ℕ → ℕ → Type 0
-IsLinkOf places place link = (link ≡ place) ⊎ ((number : ℕ) × (link ≡ 131073 + number) × (place_of places number ≡ Some place))
+IsLinkOf places place link = (link ≡ place) ⊎ ((number : ℕ) × (link ≡ most_places + number) × (place_of places number ≡ Some place))
 
 -- the links of the tags that stand on these places, and for each tag which link leads back from it. A link leads to a tag of its
 -- place, or to none, and a tag that is linked behind another came before it.
 pub record IsLinked (places : List (Option ℕ)) (links backs : List ℕ) : Type 0 where
-  pub few : length places ≤ 256
-  pub size : length links ≡ 131329
-  pub backs_size : length backs ≡ 257
-  pub inside : (number place : ℕ) → place_of places number ≡ Some place → place < 131073
-  pub each : (link : ℕ) → get_or links link 0 ≤ 256
-  pub onward : (place link : ℕ) → place < 131073 → IsLinkOf places place link → get_or links link 0 < length places
+  pub few : length places ≤ most_tags
+  pub size : length links ≡ most_places + most_tags
+  pub backs_size : length backs ≡ most_tags + 1
+  pub inside : (number place : ℕ) → place_of places number ≡ Some place → place < most_places
+  pub each : (link : ℕ) → get_or links link 0 ≤ most_tags
+  pub onward : (place link : ℕ) → place < most_places → IsLinkOf places place link → get_or links link 0 < length places
       → (place_of places (get_or links link 0) ≡ Some place) × (get_or backs (get_or links link 0) 0 ≡ link)
   pub back : (number place : ℕ) → place_of places number ≡ Some place
       → IsLinkOf places place (get_or backs number 0) × (get_or links (get_or backs number 0) 0 ≡ number)
@@ -32,9 +37,9 @@ pub record IsLinked (places : List (Option ℕ)) (links backs : List ℕ) : Type
   pub came : ℕ → ℕ
   pub now : ℕ
   pub past : (number : ℕ) → came number < now
-  pub earlier : (number other place : ℕ) → place_of places number ≡ Some place → get_or backs number 0 ≡ 131073 + other → came number < came other
+  pub earlier : (number other place : ℕ) → place_of places number ≡ Some place → get_or backs number 0 ≡ most_places + other → came number < came other
 
 -- links that lead to no tag
 pub record LeadNowhere (links : List ℕ) : Type 0 where
-  pub size : length links ≡ 131329
-  pub each : (at : ℕ) → at < 131329 → get_or links at 0 ≡ 256
+  pub size : length links ≡ most_places + most_tags
+  pub each : (at : ℕ) → at < most_places + most_tags → get_or links at 0 ≡ most_tags

@@ -1,20 +1,22 @@
 //! The air between one interrogator and a population of tags.
 ghost use Rattle.std.specs.Prelude.{◌≡◌, ◌+◌, ◌*◌, ◌<◌, ◌≤◌, [], All, Some, length, slice_get, IfOk};
 ghost use Rattle.std.specs.Borrow.{sem};
+ghost use Rattle.air_events.specs.TagNumbers.{most_tags};
 ghost use Rattle.command_grammar.specs.Commands.{IsLegalCommand};
 ghost use Rattle.pie_line.specs.Pie.{longest_interval};
 ghost use Rattle.tag_machine.specs.Hearing.{tag_value_of};
 ghost use Rattle.tag_machine.specs.TagValue.{IsLegalTag};
-ghost use Rattle.air_channel.specs.Air.{AreLegalTags, NamesTags, air_after, air_after_event, given_in, next_exchange};
-ghost use Rattle.air_channel.specs.Channel.{got_of};
-ghost use Rattle.air_channel.specs.Exchange.{IsQueryRep, busy_from};
+ghost use Rattle.air_model.specs.Exchange.{AreLegalTags, IsQueryRep, busy_from};
+ghost use Rattle.air_channel.specs.Air.{NamesTags, air_after, air_after_event, next_exchange};
+ghost use Rattle.air_model.specs.Channel.{given_in, got_of, longest_stream};
 ghost use Rattle.air_channel.specs.Lent.{KeepsAir};
-ghost use Rattle.air_channel.specs.Rooms.{longest_frame, longest_stream};
+ghost use Rattle.air_channel.specs.Rooms.{longest_frame};
 
 use crate::population::Population;
 use crate::receiver::Receiver;
 use crate::replies::Replies;
 use crate::transmit::transmit;
+use air_model::Got;
 use bit_strings::{Bits, Levels, OutOfMemory};
 use command_grammar::Command;
 use pie_line::{Intervals, Link};
@@ -29,15 +31,6 @@ const FRAME_ROOM: u32 = 8400;
 
 /// How many levels there is room for: more than the 131,968 of the longest reply's stream.
 const STREAM_ROOM: u32 = 132_208;
-
-/// Whether an interrogator hears anything in reply to a command.
-#[derive(Clone, Copy, Debug, PartialEq, Eq)]
-pub enum Got {
-    /// Nothing.
-    Silence,
-    /// A stream of levels.
-    Stream,
-}
 
 /// The air between one interrogator and a population of tags, with the buffers for what goes through it.
 ///
@@ -161,7 +154,7 @@ impl Air {
     /// How many tags there are.
     pub fn len(&self) -> u32
         ensures count { result ≡ length self.now.tags }
-        ensures few { length self.now.tags ≤ 256 }
+        ensures few { length self.now.tags ≤ most_tags }
         ensures legal { AreLegalTags self.now.tags }
     {
         self.population.len()

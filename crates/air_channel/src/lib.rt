@@ -1,10 +1,8 @@
-//! The channel between tags and interrogator: what an interrogator makes of the levels that it hears.
+//! The air between one interrogator and a population of tags: what goes over it in an exchange, as frames and streams.
 #![tactic(auto)]
 
 mod air;
-mod laws;
 mod population;
-mod receive_reply;
 mod receiver;
 mod replies;
 mod seat;
@@ -13,9 +11,6 @@ mod transmit;
 mod waiting;
 mod wheel;
 
-pub use air::{Air, Got};
-pub use laws::{kinds_received, one_received, reception_law, reply_received};
-pub use line_codes::Code;
+pub use air::Air;
+pub use air_model::Got;
 pub use population::Population;
-pub use receive_reply::receive;
-pub use reply_grammar::{Expect, Received, Reply};

@@ -1,21 +1,24 @@
 //! Tags with numbers.
 ghost use Rattle.std.specs.Prelude.{◌≡◌, ℕ, ◌+◌, ◌*◌, ◌<◌, ◌≤◌, true, List, [], All, Some, None, map, length, vec_len, slice_get, slice_set, IfOk};
 ghost use Rattle.std.specs.Borrow.{sem};
+ghost use Rattle.air_events.specs.TagNumbers.{most_tags};
 ghost use Rattle.tag_machine.specs.Answers.{silent};
 ghost use Rattle.tag_machine.specs.Hearing.{tag_value_of};
 ghost use Rattle.tag_machine.specs.Step.{step};
 ghost use Rattle.tag_machine.specs.TagValue.{BodyValue, IsLegalTag, StateValue};
-ghost use Rattle.air_channel.specs.Air.{AreLegalTags};
-ghost use Rattle.air_channel.specs.Exchange.{IsQueryRep, busy_from, is_missed, replies_from, tags_after, tags_after_event};
+ghost use Rattle.air_model.specs.Exchange.{AreLegalTags, IsQueryRep, busy_from, is_missed, replies_from, tags_after, tags_after_event};
 ghost use Rattle.air_channel.specs.Hearing.{hearing_from, tags_after_events};
 ghost use Rattle.air_channel.specs.Kept.{RepliesStandFor};
 ghost use Rattle.air_channel.specs.Lent.{KeepsPopulation};
-ghost use Rattle.air_channel.specs.Seated.{AreAtRest, AreCalledFor, AreUncalledSettled, CallsTags, IsDueCalled, IsMissedCalled, called_in, outcomes_called, seats_written_back, standing_in, standings_of, steps_back, tags_of};
-ghost use Rattle.air_channel.specs.Waiting.{standing_at};
+ghost use Rattle.air_channel.specs.Seated.{AreAtRest, AreCalledFor, AreUncalledSettled, CallsTags, IsDueCalled, IsMissedCalled, called_in, outcomes_called, seats_written_back, participation_in, participations_of, steps_back, tags_of};
+ghost use Rattle.air_channel.specs.TagSets.{IsSetOf};
+ghost use Rattle.air_channel.specs.Waiting.{participation_at};
 
 use crate::replies::Replies;
 use crate::seat::Seat;
-use crate::waiting::{Standing, Waiting};
+use crate::tag_set::TagSet;
+use crate::waiting::{Participation, Waiting};
+use air_events::TagNumber;
 use bit_strings::{OutOfMemory, Session};
 use command_grammar::Command;
 use std::alloc::Global;
@@ -23,7 +26,7 @@ use std::marker::Model;
 use std::sync::ledger::Ledger;
 use tag_machine::{AnyTag, Entry, Event, Steps, reaches_waiting};
 
-/// Tags, numbered from 0, of which there are at most 256.
+/// Tags, numbered from 0, of which there are at most 4,096.
 ///
 /// A tag that waits for its slot isn't counted down one by one: its slot counter is the one that `waiting` says, and
 /// is written back into its seat when the tag is called.
@@ -33,37 +36,45 @@ use tag_machine::{AnyTag, Entry, Event, Steps, reaches_waiting};
 pub struct Population {
     seats: Vec<Seat>,
     waiting: Waiting,
+    /// The tags that miss a command, while the others hear it, and else none.
+    missed: TagSet,
 }
 
 impl Model for Population {
     ghost use Rattle.std.specs.Prelude.{List};
     ghost use Rattle.tag_machine.specs.TagValue.{TagValue};
     ghost use Rattle.air_channel.specs.Seated.{AreAtRest, tags_of};
+    ghost use Rattle.air_channel.specs.TagSets.{HasNone};
 
     ghost Value = { List TagValue };
 
     ghost view = { λ a. tags_of a.waiting a.seats.items };
 
-    ghost invariant = { λ a. AreAtRest a.waiting a.seats.items };
+    ghost invariant = { λ a. AreAtRest a.waiting a.seats.items × HasNone a.missed };
 }
 
 impl Population {
     /// The population of these tags, in this order. After a refusal the tags are dropped. It takes all memory that
     /// exchanges want.
     pub fn new(alloc: Global, tags: Vec<AnyTag>) -> Result<Population, OutOfMemory>
-        requires { vec_len tags ≤ 256 }
+        requires { vec_len tags ≤ most_tags }
         ensures { IfOk result (λ population. population ≡ map tag_value_of tags.items) }
     {
         let seats = seats_of(alloc, tags)?;
         let mut waiting = Waiting::new(alloc, seats.len())?;
         settle(seats.as_slice(), &mut waiting);
-        Ok(Population { seats, waiting })
+        let missed = TagSet::new(alloc)?;
+        Ok(Population {
+            seats,
+            waiting,
+            missed,
+        })
     }
 
     /// How many tags there are.
     pub(crate) fn len(&self) -> u32
         ensures count { result ≡ length self.now }
-        ensures few { length self.now ≤ 256 }
+        ensures few { length self.now ≤ most_tags }
         ensures legal { AreLegalTags self.now }
     {
         self.seats.len() as u32
@@ -77,13 +88,11 @@ impl Population {
         ensures legal { IsLegalTag (tag_value_of result.now) }
         ensures counted { steps.new ≤ steps.old + 1 }
     {
-        write_back(
-            self.seats.as_mut_slice(),
-            &self.waiting,
-            number as u16,
-            steps,
-        );
-        self.seats[number as usize].tag()
+        let seats = self.seats.as_mut_slice();
+        let number = TagNumber::of(number);
+        write_back(seats, &self.waiting, number, steps);
+        let at = number.index();
+        self.seats[at].tag()
     }
 
     /// Lets an event befall the tag with this number.
@@ -91,18 +100,16 @@ impl Population {
         requires { number < length self.old }
         ensures tags { self.new ≡ tags_after_event 0 event number self.old }
         ensures legal { AreLegalTags self.new }
-        ensures few { length self.new ≤ 256 }
+        ensures few { length self.new ≤ most_tags }
         ensures counted { steps.new ≤ steps.old + 1 }
     {
-        call(
-            self.seats.as_mut_slice(),
-            &mut self.waiting,
-            number as u16,
-            steps,
-        );
-        let seat = &mut self.seats[number as usize];
+        let seats = self.seats.as_mut_slice();
+        let number = TagNumber::of(number);
+        call(seats, &mut self.waiting, number, steps);
+        let at = number.index();
+        let seat = &mut self.seats[at];
         seat.befall(event);
-        self.waiting.put(number as u16, seat.standing());
+        self.waiting.put(number, seat.participation());
     }
 
     /// Lets each of these events befall its tag, in order.
@@ -135,14 +142,17 @@ impl Population {
         ensures bound { IsQueryRep command.now → steps.new ≤ steps.old + 2 * busy_from 0 command.now entry.now self.old }
         ensures legal { AreLegalTags self.new }
     {
+        self.missed.insert_all(entry.missed.as_slice());
         hear_at_rest(
             self.seats.as_mut_slice(),
             &mut self.waiting,
             command,
             entry,
+            &self.missed,
             replies,
             steps,
         );
+        self.missed.remove_all(entry.missed.as_slice());
     }
 }
 
@@ -161,36 +171,47 @@ fn seats_of(alloc: Global, tags: Vec<AnyTag>) -> Result<Vec<Seat>, OutOfMemory>
 /// Lets each tag take part as its state says.
 fn settle(seats: &[Seat], waiting: &mut Waiting)
     requires whole { length waiting.old ≡ length seats.now }
-    requires few { length seats.now ≤ 256 }
-    ensures { waiting.new ≡ standings_of seats.now }
+    requires few { length seats.now ≤ most_tags }
+    ensures { waiting.new ≡ participations_of seats.now }
 {
-    for number in 0..seats.len() {
-        waiting.put(number as u16, seats[number].standing());
+    for at in 0..seats.len() {
+        waiting.put(TagNumber::from_index(at), seats[at].participation());
     }
 }
 
 /// Writes the slot counter of a tag that waits back into its seat.
-fn write_back<L: Ledger>(seats: &mut [Seat], waiting: &Waiting, number: u16, steps: &mut Steps<L>)
+fn write_back<L: Ledger>(
+    seats: &mut [Seat],
+    waiting: &Waiting,
+    number: TagNumber,
+    steps: &mut Steps<L>,
+)
     requires whole { length waiting.now ≡ length seats.old }
     requires number { number < length seats.old }
     ensures seats { seats.new ≡ seats_written_back waiting.now number seats.old }
-    ensures counted { steps.new ≤ steps.old + steps_back (standing_at waiting.now number) }
+    ensures counted { steps.new ≤ steps.old + steps_back (participation_at waiting.now number) }
     ensures legal { AreLegalTags seats.old → AreLegalTags seats.new }
 {
     if let Some(slot) = waiting.slot(number) {
-        seats[number as usize].set_slot(slot, steps);
+        let at = number.index();
+        seats[at].set_slot(slot, steps);
     }
 }
 
 /// Calls a tag to the next command.
-fn call<L: Ledger>(seats: &mut [Seat], waiting: &mut Waiting, number: u16, steps: &mut Steps<L>)
+fn call<L: Ledger>(
+    seats: &mut [Seat],
+    waiting: &mut Waiting,
+    number: TagNumber,
+    steps: &mut Steps<L>,
+)
     requires whole { length waiting.old ≡ length seats.old }
     requires number { number < length seats.old }
-    ensures waiting { waiting.new ≡ slice_set waiting.old number (Some Standing.Called) }
+    ensures waiting { waiting.new ≡ slice_set waiting.old number (Some Participation.Called) }
     ensures calls { CallsTags waiting.old seats.old steps.old waiting.new seats.new steps.new }
 {
     write_back(seats, waiting, number, steps);
-    waiting.put(number, Some(Standing::Called));
+    waiting.put(number, Some(Participation::Called));
 }
 
 /// Lets each tag hear a command, unless it misses it, in the order of their numbers. Only tags that may change or answer
@@ -200,9 +221,11 @@ fn hear_at_rest<L: Ledger>(
     waiting: &mut Waiting,
     command: &Command,
     entry: &Entry,
+    missed: &TagSet,
     replies: &mut Replies,
     steps: &mut Steps<L>,
 )
+    requires marks { IsSetOf missed.now entry.now.missed }
     requires rest { AreAtRest waiting.old seats.old }
     requires begun { RepliesStandFor [] replies.old }
     requires missed { All (λ tag. tag < length seats.old) entry.now.missed }
@@ -215,11 +238,11 @@ fn hear_at_rest<L: Ledger>(
 {
     if let Command::QueryRep { session } = command {
         call_hearers(seats, waiting, *session, entry, steps);
-        hear_called(seats, waiting, command, entry, replies, steps);
+        hear_called(seats, waiting, command, entry, missed, replies, steps);
     } else if reaches_waiting(command) {
-        hear_all(seats, waiting, command, entry, replies, steps);
+        hear_all(seats, waiting, command, entry, missed, replies, steps);
     } else {
-        hear_called(seats, waiting, command, entry, replies, steps);
+        hear_called(seats, waiting, command, entry, missed, replies, steps);
     }
 }
 
@@ -251,14 +274,15 @@ fn call_missed<L: Ledger>(
     steps: &mut Steps<L>,
 )
     requires whole { length waiting.old ≡ length seats.old }
-    requires few { length seats.old ≤ 256 }
+    requires few { length seats.old ≤ most_tags }
     requires missed { All (λ tag. tag < length seats.old) entry.now.missed }
-    ensures called { (number : ℕ) → IsMissedCalled session (is_missed number entry.now) (standing_at waiting.old number) (standing_at waiting.new number) }
+    ensures called { (number : ℕ) → IsMissedCalled session (is_missed number entry.now) (participation_at waiting.old number) (participation_at waiting.new number) }
     ensures calls { CallsTags waiting.old seats.old steps.old waiting.new seats.new steps.new }
 {
     for &number in entry.missed.as_slice() {
-        if waiting.waits_in(number as u16, session) {
-            call(seats, waiting, number as u16, steps);
+        let number = TagNumber::of(number);
+        if waiting.waits_in(number, session) {
+            call(seats, waiting, number, steps);
         }
     }
 }
@@ -271,7 +295,7 @@ fn call_due<L: Ledger>(
     steps: &mut Steps<L>,
 )
     requires whole { length waiting.old ≡ length seats.old }
-    ensures called { (number : ℕ) → IsDueCalled session (standing_at waiting.old number) (standing_at waiting.new number) }
+    ensures called { (number : ℕ) → IsDueCalled session (participation_at waiting.old number) (participation_at waiting.new number) }
     ensures calls { CallsTags waiting.old seats.old steps.old waiting.new seats.new steps.new }
 {
     while let Some(number) = waiting.due(session) {
@@ -286,9 +310,11 @@ fn hear_all<L: Ledger>(
     waiting: &mut Waiting,
     command: &Command,
     entry: &Entry,
+    missed: &TagSet,
     replies: &mut Replies,
     steps: &mut Steps<L>,
 )
+    requires marks { IsSetOf missed.now entry.now.missed }
     requires rest { AreAtRest waiting.old seats.old }
     requires begun { RepliesStandFor [] replies.old }
     ensures tags { tags_of waiting.new seats.new ≡ tags_after (hearing_from 0 command.now entry.now (tags_of waiting.old seats.old)) }
@@ -297,22 +323,23 @@ fn hear_all<L: Ledger>(
     ensures counted { steps.new ≤ steps.old + 2 * length seats.old }
     ensures rest { AreAtRest waiting.new seats.new }
 {
-    for number in 0..seats.len() {
-        if !is_passed(waiting, number as u16, command) {
-            write_back(seats, waiting, number as u16, steps);
-            let misses = is_missed(number as u32, entry);
-            let seat = &mut seats[number];
+    for at in 0..seats.len() {
+        let number = TagNumber::from_index(at);
+        if !is_passed(waiting, number, command) {
+            write_back(seats, waiting, number, steps);
+            let misses = is_missed(number, entry, missed);
+            let seat = &mut seats[at];
             replies.hear(seat, misses, command, steps);
-            waiting.put(number as u16, seat.standing());
+            waiting.put(number, seat.participation());
         }
     }
 }
 
 /// Whether a tag stays as it is at a command since it takes no part in a round.
-fn is_passed(waiting: &Waiting, number: u16, command: &Command) -> bool
+fn is_passed(waiting: &Waiting, number: TagNumber, command: &Command) -> bool
     requires { number < length waiting.now }
-    ensures idle { result ≡ true → standing_at waiting.now number ≡ None }
-    ensures stays { result ≡ true → (state : StateValue) (body : BodyValue) → standing_in state ≡ None → step command.now state body ≡ silent state body }
+    ensures idle { result ≡ true → participation_at waiting.now number ≡ None }
+    ensures stays { result ≡ true → (state : StateValue) (body : BodyValue) → participation_in state ≡ None → step command.now state body ≡ silent state body }
 {
     matches!(command, Command::QueryAdjust { .. }) && !waiting.takes_part(number)
 }
@@ -324,12 +351,14 @@ fn hear_called<L: Ledger>(
     waiting: &mut Waiting,
     command: &Command,
     entry: &Entry,
+    missed: &TagSet,
     replies: &mut Replies,
     steps: &mut Steps<L>,
 )
+    requires marks { IsSetOf missed.now entry.now.missed }
     requires begun { RepliesStandFor [] replies.old }
     requires whole { length waiting.old ≡ length seats.old }
-    requires few { length seats.old ≤ 256 }
+    requires few { length seats.old ≤ most_tags }
     requires legal { AreLegalTags seats.old }
     requires uncalled { AreUncalledSettled waiting.old (tags_of waiting.old seats.old) }
     ensures tags { tags_of waiting.new seats.new ≡ tags_after (outcomes_called 0 command.now entry.now waiting.old (tags_of waiting.old seats.old)) }
@@ -341,20 +370,22 @@ fn hear_called<L: Ledger>(
     let mut next = waiting.first_called();
     while let Some(number) = next {
         next = waiting.called_after(number);
-        let misses = is_missed(u32::from(number), entry);
-        let seat = &mut seats[number as usize];
+        let misses = is_missed(number, entry, missed);
+        let at = number.index();
+        let seat = &mut seats[at];
         replies.hear(seat, misses, command, steps);
-        waiting.put(number, seat.standing());
+        waiting.put(number, seat.participation());
     }
 }
 
-/// Whether the tag with this number misses the command.
-fn is_missed(number: u32, entry: &Entry) -> bool
+/// Whether a tag misses the command, where `missed` has all that do.
+fn is_missed(number: TagNumber, entry: &Entry, missed: &TagSet) -> bool
+    requires { IsSetOf missed.now entry.now.missed }
     ensures { result ≡ is_missed number entry.now }
 {
-    entry
-        .missed
-        .as_slice()
-        .iter()
-        .any(|missed| *missed == number)
+    // Most commands are missed by no tag.
+    if entry.missed.is_empty() {
+        return false;
+    }
+    missed.contains(number)
 }

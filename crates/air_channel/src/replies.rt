@@ -6,14 +6,14 @@ ghost use Rattle.tag_machine.specs.Answers.{Sent};
 ghost use Rattle.tag_machine.specs.Hearing.{mark_of};
 ghost use Rattle.tag_machine.specs.Step.{step};
 ghost use Rattle.tag_machine.specs.TagValue.{IsLegalTag};
-ghost use Rattle.air_channel.specs.Exchange.{Replied, outcome_unless, reply_of};
-ghost use Rattle.air_channel.specs.Channel.{default_given, first_broken, given_of, got_of, heard_levels, whole_or_silence};
+ghost use Rattle.air_model.specs.Exchange.{Replied, outcome_unless, reply_of};
+ghost use Rattle.air_model.specs.Channel.{default_given, first_broken, given_of, got_of, heard_levels, whole_or_silence, longest_stream};
 ghost use Rattle.air_channel.specs.Kept.{RepliesStandFor, kept_levels, wanted_by};
 ghost use Rattle.air_channel.specs.Giving.{Means};
-ghost use Rattle.air_channel.specs.Rooms.{longest_stream, room_for_streams};
+ghost use Rattle.air_channel.specs.Rooms.{room_for_streams};
 
-use crate::air::Got;
 use crate::seat::Seat;
+use air_model::Got;
 use bit_strings::{Bits, Levels, OutOfMemory};
 use command_grammar::Command;
 use line_codes::encode_bits;

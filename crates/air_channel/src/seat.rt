@@ -6,11 +6,11 @@ ghost use Rattle.tag_machine.specs.Events.{tag_after_event};
 ghost use Rattle.tag_machine.specs.Hearing.{mark_of, tag_value_of, typed_name_of};
 ghost use Rattle.tag_machine.specs.Step.{step};
 ghost use Rattle.tag_machine.specs.TagValue.{IsLegalTag};
-ghost use Rattle.air_channel.specs.Exchange.{outcome_unless};
-ghost use Rattle.air_channel.specs.Seated.{standing_in, with_slot};
-ghost use Rattle.air_channel.specs.Waiting.{IsLegalStanding};
+ghost use Rattle.air_model.specs.Exchange.{outcome_unless};
+ghost use Rattle.air_channel.specs.Seated.{participation_in, with_slot};
+ghost use Rattle.air_channel.specs.Waiting.{IsLegalParticipation};
 
-use crate::waiting::Standing;
+use crate::waiting::Participation;
 use bit_strings::Bits;
 use command_grammar::Command;
 use std::marker::Model;
@@ -58,15 +58,15 @@ impl Seat {
     }
 
     /// How the tag takes part in a round.
-    pub(crate) fn standing(&self) -> Option<Standing>
-        ensures value { result ≡ standing_in self.now.state }
-        ensures legal { IsLegalStanding result }
+    pub(crate) fn participation(&self) -> Option<Participation>
+        ensures value { result ≡ participation_in self.now.state }
+        ensures legal { IsLegalParticipation result }
     {
         let tag = self.tag();
         match tag.state() {
-            StateName::Arbitrate => Some(waits(tag)),
+            StateName::Arbitrate => Some(wait_of(tag)),
             StateName::InReply | StateName::Acknowledged | StateName::Opened | StateName::Secured =>
-                Some(Standing::Called),
+                Some(Participation::Called),
             StateName::Ready | StateName::Killed | StateName::Unpowered => None,
         }
     }
@@ -112,10 +112,13 @@ impl Seat {
         ensures counted { steps.new ≡ steps.old + (if result then (if misses then 0 else 1) else 0) }
         ensures legal { IsLegalTag self.new }
     {
-        match &mut self.tag {
-            Some(tag) => misses || tag.hear_in_place(command, steps),
-            None => unreachable!(),
+        let Some(tag) = &mut self.tag else {
+            unreachable!()
+        };
+        if misses {
+            return true;
         }
+        tag.hear_in_place(command, steps)
     }
 
     /// Lets the tag hear a command. The bits of its answer stand in `out` afterwards, and none where it sends nothing.
@@ -143,13 +146,13 @@ impl Seat {
 }
 
 /// How a tag waits in arbitrate.
-fn waits(tag: &AnyTag) -> Standing
+fn wait_of(tag: &AnyTag) -> Participation
     requires { typed_name_of tag.now ≡ StateName.Arbitrate }
-    ensures value { Some result ≡ standing_in (tag_value_of tag.now).state }
-    ensures legal { IsLegalStanding (Some result) }
+    ensures value { Some result ≡ participation_in (tag_value_of tag.now).state }
+    ensures legal { IsLegalParticipation (Some result) }
 {
     match tag {
-        AnyTag::Arbitrate(tag) => Standing::Waits(tag.session().get(), tag.slot()),
+        AnyTag::Arbitrate(tag) => Participation::Waits(tag.session().get(), tag.slot()),
         _ => unreachable!(),
     }
 }

@@ -1,31 +1,28 @@
 //! Places on which tags stand, and the links between the tags of one place.
 ghost use Rattle.std.specs.Prelude.{◌≡◌, ◌<◌, ◌≤◌, ℕ, Some, None, length, replicate, slice_set, IfOk};
-ghost use Rattle.air_channel.specs.Wheel.{IsTagOn, LeadNowhere, place_of};
+ghost use Rattle.air_events.specs.TagNumbers.{most_tags};
+ghost use Rattle.air_channel.specs.Wheel.{most_places, IsTagOn, LeadNowhere, place_of};
 
+use air_events::{MOST_TAGS, TagNumber};
 use bit_strings::OutOfMemory;
 use std::alloc::Global;
 use std::marker::Model;
 
 /// How many places there are: one for each of the 32,768 values of a slot counter in each of the four sessions,
 /// and one more.
-pub(crate) const PLACES: u32 = 131_073;
+const PLACES: usize = 131_073;
 
-/// How many tags there is room for.
-const TAGS: u32 = 256;
-
-/// The link behind the last tag of a place, which is the number of no tag.
-const NONE: u16 = 256;
-
-/// Tags with numbers, each of which stands on one place or on none. The tags of one place are linked in both directions.
+/// Tags, each of which stands on one place or on none. The tags of one place are linked in both directions.
 ///
 /// A contract sees for each tag the place where it stands, or none.
 #[derive(Drop)]
 pub(crate) struct Wheel {
-    /// For each place the number of the first tag there, and then for each tag that of the next one on its place.
+    /// For each place the number of the first tag there, and then for each tag that of the next one on its place. `MOST_TAGS` is the number
+    /// of none.
     links: Vec<u16>,
     /// For each tag that stands on a place, which link leads to it. One more is written where a link leads to none.
-    backs: Vec<u32>,
-    places: Vec<Option<u32>>,
+    backs: Vec<usize>,
+    places: Vec<Option<usize>>,
 }
 
 impl Model for Wheel {
@@ -42,11 +39,11 @@ impl Model for Wheel {
 impl Wheel {
     /// So many tags, which stand on no place.
     pub(crate) fn new(alloc: Global, count: usize) -> Result<Wheel, OutOfMemory>
-        requires { count ≤ 256 }
+        requires { count ≤ most_tags }
         ensures { IfOk result (λ wheel. wheel ≡ replicate count None) }
     {
         let links = no_links(alloc)?;
-        let backs = vec![in alloc; 0; (TAGS + 1) as usize]?;
+        let backs = vec![in alloc; 0; usize::from(MOST_TAGS) + 1]?;
         let places = no_places(alloc, count)?;
         Ok(Wheel {
             links,
@@ -56,55 +53,57 @@ impl Wheel {
     }
 
     /// The place where a tag stands, if there is one.
-    pub(crate) fn place(&self, number: u16) -> Option<u32>
+    pub(crate) fn place(&self, number: TagNumber) -> Option<usize>
         requires { number < length self.now }
         ensures value { result ≡ place_of self.now number }
-        ensures range { (place : ℕ) → result ≡ Some place → place < 131073 }
+        ensures range { (place : ℕ) → result ≡ Some place → place < most_places }
     {
-        self.places[number as usize]
+        let at = number.index();
+        self.places[at]
     }
 
     /// A tag on a place; none exactly where no tag stands there.
-    pub(crate) fn tag_on(&self, place: u32) -> Option<u16>
-        requires { place < 131073 }
+    pub(crate) fn tag_on(&self, place: usize) -> Option<TagNumber>
+        requires { place < most_places }
         ensures { IsTagOn self.now place result }
     {
-        let first = self.links[place as usize];
-        if (first as usize) < self.places.len() {
-            Some(first)
+        let first = usize::from(self.links[place]);
+        if first < self.places.len() {
+            Some(TagNumber::from_index(first))
         } else {
             None
         }
     }
 
     /// Lets a tag stand on a place, and nowhere else.
-    pub(crate) fn put(&mut self, number: u16, place: u32)
+    pub(crate) fn put(&mut self, number: TagNumber, place: usize)
         requires number { number < length self.old }
-        requires place { place < 131073 }
+        requires place { place < most_places }
         ensures { self.new ≡ slice_set self.old number (Some place) }
     {
         self.take(number);
-        let behind = PLACES + number as u32;
-        let first = self.links[place as usize];
-        self.links[behind as usize] = first;
-        self.backs[first as usize] = behind;
-        self.links[place as usize] = number;
-        self.backs[number as usize] = place;
-        self.places[number as usize] = Some(place);
+        let at = number.index();
+        let behind = PLACES + at;
+        let first = self.links[place];
+        self.links[behind] = first;
+        self.backs[usize::from(first)] = behind;
+        self.links[place] = number.get();
+        self.backs[at] = place;
+        self.places[at] = Some(place);
     }
 
     /// Lets a tag stand nowhere.
-    pub(crate) fn take(&mut self, number: u16)
+    pub(crate) fn take(&mut self, number: TagNumber)
         requires { number < length self.old }
         ensures { self.new ≡ slice_set self.old number None }
     {
-        if self.places[number as usize].is_some() {
-            let behind = PLACES + number as u32;
-            let next = self.links[behind as usize];
-            let back = self.backs[number as usize];
-            self.links[back as usize] = next;
-            self.backs[next as usize] = back;
-            self.places[number as usize] = None;
+        let at = number.index();
+        if self.places[at].is_some() {
+            let next = self.links[PLACES + at];
+            let back = self.backs[at];
+            self.links[back] = next;
+            self.backs[usize::from(next)] = back;
+            self.places[at] = None;
         }
     }
 }
@@ -113,12 +112,12 @@ impl Wheel {
 fn no_links(alloc: Global) -> Result<Vec<u16>, OutOfMemory>
     ensures { IfOk result (λ links. LeadNowhere links.items) }
 {
-    let links = vec![in alloc; NONE; (PLACES + TAGS) as usize]?;
+    let links = vec![in alloc; MOST_TAGS; PLACES + usize::from(MOST_TAGS)]?;
     Ok(links)
 }
 
 /// No place for each of so many tags.
-fn no_places(alloc: Global, count: usize) -> Result<Vec<Option<u32>>, OutOfMemory>
+fn no_places(alloc: Global, count: usize) -> Result<Vec<Option<usize>>, OutOfMemory>
     ensures { IfOk result (λ places. places.items ≡ replicate count None) }
 {
     let mut places = Vec::with_capacity(alloc, count)?;

@@ -10,3 +10,8 @@ no_entry = record { events = []; missed = []; choice = None }
 abbrev pub entry_at : List (ℕ × Entry) → ℕ → Entry
 entry_at [] exchange = no_entry
 entry_at (entry ∷ entries) exchange = if entry.0 == exchange then entry.1 else entry_at entries exchange
+
+-- the numbers of the exchanges rise, from above the number before
+abbrev pub Rises : ℕ → List (ℕ × Entry) → Type 0
+Rises before [] = Unit {0}
+Rises before (entry ∷ entries) = (before < entry.0) × Rises entry.0 entries

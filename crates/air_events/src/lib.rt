@@ -1,9 +1,15 @@
 //! What befalls a tag or the channel besides commands: events of tags, and what a scenario says of one
-//! exchange. All of it is profile: the standard leaves power, time and the channel to the world.
+//! exchange after another; and the numbers of tags. All of it is profile: the standard leaves power, time
+//! and the channel to the world.
 #![tactic(auto)]
+
+mod cursor;
+mod tag_number;
 
 use bit_strings::List;
 use command_grammar::FlagName;
+pub use cursor::{EntryCursor, empty_entry};
+pub use tag_number::{MOST_TAGS, TagNumber};
 
 /// What befalls one tag besides commands.
 #[derive(Clone, Copy, Debug, PartialEq, Eq)]

@@ -4,10 +4,6 @@ use Rattle.std.specs.Option.{option_map}
 use Rattle.std.proofs.lemmas.List.{append-nil}
 use Rattle.air_io.specs.Flow.{Reads, Adds}
 
-pub Reads-nothing : (left : Option (List ℕ)) → Reads left left []
-Reads-nothing None = refl
-Reads-nothing (Some rest) = refl
-
 pub Reads-more : (old between new : Option (List ℕ)) (bytes more : List ℕ) → Reads old between bytes → Reads between new more → Reads old new (bytes ++ more)
 Reads-more old between None bytes more first second = first ∙ ap (option_map (λ rest. bytes ++ rest)) second
 Reads-more old between (Some rest) bytes more first second =

@@ -1,34 +1,32 @@
 -- A run as it begins and as it ends.
-use Rattle.std.proofs.Common.{◌≡◌, ℕ, ◌+◌, ◌<◌, ◌==◌, Bool, true, false, List, [], ◌∷◌, ◌++◌, length, map, Option, Result, Ok, Err, refl, sym, ◌∙◌, ap, subst, arith}
+use Rattle.std.proofs.Common.{◌≡◌, ◌⊎◌, ℕ, ◌+◌, ◌<◌, ◌==◌, Bool, true, false, List, [], ◌∷◌, ◌++◌, length, map, Option, Some, None, Result, Ok, Err, refl, sym, ◌∙◌, ap, subst, arith}
 use Rattle.std.proofs.lemmas.List.{length-map}
 use Rattle.std.proofs.lemmas.List.Elements.{All-head, All-tail, All-nil, All-weaker}
 use Rattle.std.specs.Prelude.{All, if◌then◌else◌}
-use Rattle.std.specs.Result.{IfErr, OnErr, IsErrOf}
-use Rattle.air_channel.specs.Air.{AirValue, AreLegalTags, NamesTags}
-use Rattle.air_channel.specs.Past.{tags_behind_from}
+use Rattle.std.specs.Result.{IfErr, OnOk}
+use Rattle.air_channel.specs.Air.{AirValue, NamesTags}
+use Rattle.air_events.specs.Cursor.{IsLeft}
 use Rattle.air_events.specs.Entries.{entry_at}
 use Rattle.air_events.specs.declared.Entry.{Entry}
 use Rattle.air_events.specs.declared.Event.{Event}
-use Rattle.scenario_lines.specs.LineForm.{IsEvent, IsPlace}
-use Rattle.air_io.specs.Flow.{Adds, FaultsRose}
-use Rattle.air_io.specs.FlowLaws.{Adds-nothing}
-use Rattle.air_world.proofs.Lines.{report_text-append}
-use Rattle.air_world.proofs.Growth.{steps-grow}
-use Rattle.air_world.proofs.Writing.{cut-longer, cut-past, cut-text}
-use Rattle.air_world.specs.History.{past_behind}
-use Rattle.air_world.specs.Listing.{listing_of}
-use Rattle.air_world.specs.Playing.{Origin, RunValue, PlaysAt, StandsAt, IsWritten, IsCutOff, IsTold, IsPlayed, NamesItsTags, pair_of, past_text, origin_of}
-use Rattle.air_world.specs.Report.{first_lines, past_lines, last_lines, tag_lines, report_text_of}
-use Rattle.air_world.specs.ScenarioStart.{start_of, history, new_air, tag_of}
-use Rattle.air_world.specs.declared.mode.Mode.{Mode}
-use Rattle.air_world.specs.declared.mode.PlayFault.{PlayFault}
-use Rattle.air_world.specs.declared.mode.PlayFault.TheVariants.{Write}
-use Rattle.report_lines.specs.ReportLine.{ReportLine, DoneLine, report_text}
+use Rattle.air_model.specs.Exchange.{AreLegalTags}
+use Rattle.air_model.specs.Past.{tags_behind_from}
+use Rattle.air_world.proofs.Passing.{cut-behind, cut-longer, passes-then}
+use Rattle.air_world.specs.NewAir.{new_air}
+use Rattle.air_world.specs.Playing.{RunValue, IsAt, StandsAt, IsBetweenSteps, NamesItsTags, pair_of}
+use Rattle.air_world.specs.Telling.{Ends, IsCutOff, IsPlayed, Passes, lines_behind, lines_of_run}
+use Rattle.report_lines.specs.ReportLine.{ReportLine, DoneLine}
 use Rattle.report_lines.specs.SeenCounts.{seen_in, seen_line}
-use Rattle.scenario.specs.Cursor.{IsLeft}
+use Rattle.report_lines.specs.declared.mode.PlayFault.{PlayFault}
+use Rattle.report_lines.specs.declared.mode.PlayFault.TheVariants.{OutOfMemory}
+use Rattle.runs.specs.History.{past_behind}
+use Rattle.runs.specs.Listing.{listing_of}
+use Rattle.runs.specs.Report.{last_lines, tag_lines}
+use Rattle.runs.specs.ScenarioStart.{start_of, history, tag_of}
 use Rattle.scenario.specs.Limits.{IsScenario, IsEntry, IsStep}
 use Rattle.scenario.specs.declared.values.Scenario.{Scenario}
 use Rattle.scenario.specs.declared.values.Step.{Step}
+use Rattle.scenario_lines.specs.LineForm.{IsEvent, IsPlace}
 use Rattle.tag_machine.specs.TagValue.{TagValue}
 
 names-one : (tags : ℕ) (entry : ℕ × Entry) → IsEntry tags entry → NamesTags tags entry.1
@@ -55,19 +53,12 @@ tags-before : (number : ℕ) (starts : List TagValue) → tags_behind_from numbe
 tags-before number [] = refl
 tags-before number (start ∷ starts) = ap (λ (t : List TagValue). start ∷ t) (tags-before (number + 1) starts)
 
--- nothing was written yet
-pub nothing-written : (mode : Mode) (scenario : Scenario) (written : Option (List ℕ)) (faults : ℕ) → IsWritten (origin_of mode scenario written faults) [] written faults
-nothing-written mode scenario written faults = record { added = Adds-nothing written; count = omega arith }
-
 -- the run begins
-pub stands-first : (mode : Mode) (scenario : Scenario) (first written : Option (List ℕ)) (before faults : ℕ) (air : AirValue) (run : RunValue) → IsScenario scenario → air ≡ new_air (start_of scenario)
-    → AreLegalTags air.tags → (left : List (ℕ × Entry)) → IsLeft left scenario.entries 0 → run ≡ record { mode = mode; entries = left; seen = []; rounds = 0; slots = 0; quiet = true }
-    → IsWritten (origin_of mode scenario first before) (past_text (origin_of mode scenario first before) []) written faults
-    → StandsAt (origin_of mode scenario first before) [] air run written faults
-stands-first mode scenario first written before faults air run is fresh legal left left_is run_is done = record {
+pub at-first : (scenario : Scenario) (air : AirValue) (run : RunValue) → IsScenario scenario → air ≡ new_air (start_of scenario) → AreLegalTags air.tags → (left : List (ℕ × Entry))
+    → IsLeft left scenario.entries 0 → run ≡ record { entries = left; seen = []; rounds = 0; out_of_memory = false } → IsAt (start_of scenario) [] air run
+at-first scenario air run is fresh legal left left_is run_is = record {
   plays = record {
     names = scenario-names scenario is;
-    mode = ap (λ (r : RunValue). r.mode) run_is;
     link = ap (λ (a : AirValue). a.link) fresh;
     several = ap (λ (a : AirValue). a.several) fresh;
     tags = ap (λ (a : AirValue). a.tags) fresh ∙ sym (tags-before 0 (start_of scenario).tags);
@@ -75,23 +66,18 @@ stands-first mode scenario first written before faults air run is fresh legal le
     exchanges = ap (λ (a : AirValue). a.exchanges) fresh;
     entries = subst (λ l. IsLeft l scenario.entries 0) (sym (ap (λ (r : RunValue). r.entries) run_is)) left_is;
     rounds = ap (λ (r : RunValue). r.rounds) run_is;
-    slots = ap (λ (r : RunValue). r.slots) run_is;
-    quiet = ap (λ (r : RunValue). r.quiet) run_is;
   };
-  seen = ap (λ (r : RunValue). r.seen) run_is;
-  text = done;
+  seen = λ enough. ap (λ (r : RunValue). r.seen) run_is;
 }
 
 -- there is room for all steps
-pub told-first : (mode : Mode) (scenario : Scenario) (first written : Option (List ℕ)) (before faults : ℕ) (air : AirValue) (run : RunValue) → IsScenario scenario
-    → StandsAt (origin_of mode scenario first before) [] air run written faults → IsTold (length scenario.steps) air run written faults
-told-first mode scenario first written before faults air run is stands = record {
-  origin = origin_of mode scenario first before;
+pub between-first : (scenario : Scenario) (air : AirValue) (run : RunValue) → IsScenario scenario → IsAt (start_of scenario) [] air run → IsBetweenSteps (length scenario.steps) air run
+between-first scenario air run is at = record {
+  start = start_of scenario;
   past = [];
-  stands = stands;
+  at = at;
   room = omega (arith, is.few_steps);
   rounds = omega (arith, is.few_steps);
-  slots = omega (arith, is.few_steps);
 }
 
 pub steps-legal : (scenario : Scenario) (air : AirValue) → IsScenario scenario → air ≡ new_air (start_of scenario) → All (IsStep (length air.tags)) scenario.steps
@@ -99,78 +85,46 @@ steps-legal scenario air is fresh =
     let count : length air.tags ≡ length scenario.tags = ap (λ (a : AirValue). length a.tags) fresh ∙ length-map scenario.tags tag_of in
     subst (λ n. All (IsStep n) scenario.steps) (sym count) is.steps
 
--- the lines of the history and those behind them are the report
-pub report-whole : (mode : Mode) (scenario : Scenario) (first : Option (List ℕ)) (before : ℕ) (air : AirValue) (run : RunValue) → PlaysAt (origin_of mode scenario first before) (history scenario) air run
-    → run.seen ≡ seen_in (map pair_of (listing_of (history scenario)))
-    → past_text (origin_of mode scenario first before) (history scenario) ++ report_text (map seen_line run.seen ++ tag_lines 0 air.tags ++ DoneLine ∷ []) ≡ report_text_of mode scenario
-report-whole mode scenario first before air run plays seen =
-    let lines : List ReportLine = past_lines mode (start_of scenario).link (history scenario) in
-    let last : map seen_line run.seen ++ tag_lines 0 air.tags ++ DoneLine ∷ [] ≡ last_lines (start_of scenario) (history scenario) =
-    ap (λ s. map seen_line s ++ tag_lines 0 air.tags ++ DoneLine ∷ []) seen
-    ∙ ap (λ t. map seen_line (seen_in (map pair_of (listing_of (history scenario)))) ++ tag_lines 0 t ++ DoneLine ∷ []) plays.tags in
-    ap (λ (l : List ReportLine). report_text lines ++ report_text l) last ∙ sym (report_text-append lines (last_lines (start_of scenario) (history scenario)))
-
--- a write failed
-pub write-failed : (r : Result (Unit {0}) PlayFault) (origin : Origin) (text : List ℕ) (written : Option (List ℕ)) (faults : ℕ) → IfErr r (IsCutOff origin text written faults) → IsErrOf r Write → FaultsRose origin.faults faults
-write-failed (Ok done) origin text written faults cut is = absurd (cc)
-write-failed (Err fault) origin text written faults cut is = let same : fault ≡ Write = cc in cut.rose same
-
-pub front-added : (r : Result (Unit {0}) PlayFault) (origin : Origin) (text : List ℕ) (written : Option (List ℕ)) (faults : ℕ) → IfErr r (IsCutOff origin text written faults)
-    → OnErr r ((front : List ℕ) × (rest : List ℕ) × (text ≡ front ++ rest) × Adds origin.written written front)
-front-added (Ok done) origin text written faults cut = tt
-front-added (Err fault) origin text written faults cut = (cut.front, cut.rest, cut.split, cut.added)
-
--- the first lines are those of no past
-pub first-text : (mode : Mode) (scenario : Scenario) (first : Option (List ℕ)) (before : ℕ) (air : AirValue) (run : RunValue) → run.mode ≡ mode → air ≡ new_air (start_of scenario)
-    → report_text (first_lines run.mode air.link) ≡ past_text (origin_of mode scenario first before) []
-first-text mode scenario first before air run told fresh = ap (λ m. report_text (first_lines m air.link)) told ∙ ap (λ (a : AirValue). report_text (first_lines mode a.link)) fresh
-
-report-split : (mode : Mode) (scenario : Scenario) (first : Option (List ℕ)) (before : ℕ)
-    → report_text_of mode scenario ≡ past_text (origin_of mode scenario first before) (history scenario) ++ report_text (last_lines (start_of scenario) (history scenario))
-report-split mode scenario first before = report_text-append (past_lines mode (start_of scenario).link (history scenario)) (last_lines (start_of scenario) (history scenario))
-
--- the steps were cut off
-pub cut-history : (mode : Mode) (scenario : Scenario) (first written : Option (List ℕ)) (before faults : ℕ) (fault : PlayFault)
-    → IsCutOff (origin_of mode scenario first before) (past_text (origin_of mode scenario first before) (history scenario)) written faults fault
-    → IsCutOff (origin_of mode scenario first before) (report_text_of mode scenario) written faults fault
-cut-history mode scenario first written before faults fault cut =
-    cut-longer (origin_of mode scenario first before) (past_text (origin_of mode scenario first before) (history scenario)) (report_text (last_lines (start_of scenario) (history scenario)))
-    (report_text_of mode scenario) written faults fault (report-split mode scenario first before) cut
-
--- the first lines were cut off
-pub cut-first : (mode : Mode) (scenario : Scenario) (first written : Option (List ℕ)) (before faults : ℕ) (fault : PlayFault) (air : AirValue) (run : RunValue) → run.mode ≡ mode → air ≡ new_air (start_of scenario)
-    → IsCutOff (origin_of mode scenario first before) (report_text (first_lines run.mode air.link)) written faults fault
-    → IsCutOff (origin_of mode scenario first before) (report_text_of mode scenario) written faults fault
-cut-first mode scenario first written before faults fault air run told fresh cut =
-    cut-history mode scenario first written before faults fault
-    (cut-past (origin_of mode scenario first before) [] (history scenario) written faults fault (steps-grow (start_of scenario) scenario.steps [])
-    (cut-text (origin_of mode scenario first before) _ _ written faults fault (first-text mode scenario first before air run told fresh) cut))
-
--- all is written
-pub played : (mode : Mode) (scenario : Scenario) (first was_written written : Option (List ℕ)) (before was_faults faults : ℕ) (air after : AirValue) (run : RunValue)
-    → StandsAt (origin_of mode scenario first before) (history scenario) air run was_written was_faults → after ≡ air
-    → IsWritten (origin_of mode scenario first before) (past_text (origin_of mode scenario first before) (history scenario) ++ report_text (map seen_line run.seen ++ tag_lines 0 air.tags ++ DoneLine ∷ [])) written faults
-    → IsPlayed mode scenario first written before faults after
-played mode scenario first was_written written before was_faults faults air after run stands same done = record {
-  report = subst (λ (text : List ℕ). Adds first written text) (report-whole mode scenario first before air run stands.plays stands.seen) done.added;
-  tags = ap (λ (a : AirValue). a.tags) same ∙ stands.plays.tags;
-  exchanges = ap (λ (a : AirValue). a.exchanges) same ∙ stands.plays.exchanges;
-  count = done.count;
-}
-
--- the last lines were cut off
-pub cut-last : (mode : Mode) (scenario : Scenario) (first was_written written : Option (List ℕ)) (before was_faults faults : ℕ) (fault : PlayFault) (air : AirValue) (run : RunValue)
-    → StandsAt (origin_of mode scenario first before) (history scenario) air run was_written was_faults
-    → IsCutOff (origin_of mode scenario first before) (past_text (origin_of mode scenario first before) (history scenario) ++ report_text (map seen_line run.seen ++ tag_lines 0 air.tags ++ DoneLine ∷ [])) written faults fault
-    → IsCutOff (origin_of mode scenario first before) (report_text_of mode scenario) written faults fault
-cut-last mode scenario first was_written written before was_faults faults fault air run stands cut =
-    cut-text (origin_of mode scenario first before) _ _ written faults fault (report-whole mode scenario first before air run stands.plays stands.seen) cut
+-- what is told behind the steps is what the report has there
+last-told : (scenario : Scenario) (air : AirValue) (run : RunValue) → IsAt (start_of scenario) (history scenario) air run → run.out_of_memory ≡ false
+    → map seen_line run.seen ++ tag_lines 0 air.tags ++ DoneLine ∷ [] ≡ last_lines (start_of scenario) (history scenario)
+last-told scenario air run at enough =
+    ap (λ s. map seen_line s ++ tag_lines 0 air.tags ++ DoneLine ∷ []) (at.seen enough)
+    ∙ ap (λ t. map seen_line (seen_in (map pair_of (listing_of (history scenario)))) ++ tag_lines 0 t ++ DoneLine ∷ []) at.plays.tags
 
 -- the steps as a slice
-pub history-slice : (origin : Origin) (scenario : Scenario) (steps : List Step) (air : AirValue) (run : RunValue) (written : Option (List ℕ)) (faults : ℕ) → steps ≡ scenario.steps
-    → StandsAt origin (past_behind (start_of scenario) steps []) air run written faults → StandsAt origin (history scenario) air run written faults
-history-slice origin scenario steps air run written faults same stands = subst (λ (s : List Step). StandsAt origin (past_behind (start_of scenario) s []) air run written faults) same stands
+pub stands-slice : (Heard : List ReportLine → Type 0) (scenario : Scenario) (steps : List Step) (air : AirValue) (run : RunValue) → steps ≡ scenario.steps
+    → StandsAt Heard (start_of scenario) (past_behind (start_of scenario) steps []) air run → StandsAt Heard (start_of scenario) (history scenario) air run
+stands-slice Heard scenario steps air run same stands = subst (λ (s : List Step). StandsAt Heard (start_of scenario) (past_behind (start_of scenario) s []) air run) same stands
 
-pub cut-slice : (origin : Origin) (scenario : Scenario) (steps : List Step) (written : Option (List ℕ)) (faults : ℕ) (fault : PlayFault) → steps ≡ scenario.steps
-    → IsCutOff origin (past_text origin (past_behind (start_of scenario) steps [])) written faults fault → IsCutOff origin (past_text origin (history scenario)) written faults fault
-cut-slice origin scenario steps written faults fault same cut = subst (λ (s : List Step). IsCutOff origin (past_text origin (past_behind (start_of scenario) s [])) written faults fault) same cut
+-- all is told
+pub whole-told : {A : Type 0} (hears : A → List ReportLine → A → Type 0) (scenario : Scenario) (old middle new : A) (air : AirValue) (run : RunValue)
+    → StandsAt (Passes hears [] old middle) (start_of scenario) (history scenario) air run → run.out_of_memory ≡ false
+    → ((before : List ReportLine) → Passes hears before middle new (before ++ (map seen_line run.seen ++ tag_lines 0 air.tags ++ DoneLine ∷ [])))
+    → Passes hears [] old new (lines_of_run (start_of scenario) scenario.steps)
+whole-told hears scenario old middle new air run stands enough last =
+    let lines : List ReportLine = lines_behind (start_of scenario) (history scenario) in
+    passes-then hears [] lines (lines_of_run (start_of scenario) scenario.steps) old middle new stands.told
+    (subst (λ (l : List ReportLine). Passes hears lines middle new (lines ++ l)) (last-told scenario air run stands.at enough) (last lines))
+
+-- ... so the run is played, or its listener met a fault
+pub ends-played : {A : Type 0} (hears : A → List ReportLine → A → Type 0) (failed : A → Option PlayFault) (r : Result (Unit {0}) PlayFault) (scenario : Scenario) (old new : A) (air after : AirValue) (run : RunValue)
+    → Passes hears [] old new (lines_of_run (start_of scenario) scenario.steps) → IsAt (start_of scenario) (history scenario) air run → after ≡ air
+    → OnOk r (failed new ≡ None) → IfErr r (λ fault. (failed new ≡ Some fault) ⊎ (fault ≡ OutOfMemory))
+    → Ends r (IsPlayed hears failed scenario old new after) (IsCutOff hears failed [] old new (lines_of_run (start_of scenario) scenario.steps))
+ends-played hears failed (Ok done) scenario old new air after run told at kept faultless cause = record {
+  passes = told;
+  faultless = faultless;
+  tags = ap (λ (a : AirValue). a.tags) kept ∙ at.plays.tags;
+  exchanges = ap (λ (a : AirValue). a.exchanges) kept ∙ at.plays.exchanges;
+}
+ends-played hears failed (Err fault) scenario old new air after run told at kept faultless cause =
+    cut-behind hears failed [] (lines_of_run (start_of scenario) scenario.steps) old new fault told cause
+
+-- the steps were cut off
+pub cut-history : {A : Type 0} (hears : A → List ReportLine → A → Type 0) (failed : A → Option PlayFault) (scenario : Scenario) (steps : List Step) (old new : A) (fault : PlayFault) → steps ≡ scenario.steps
+    → IsCutOff hears failed [] old new (lines_behind (start_of scenario) (past_behind (start_of scenario) steps [])) fault
+    → IsCutOff hears failed [] old new (lines_of_run (start_of scenario) scenario.steps) fault
+cut-history hears failed scenario steps old new fault same cut =
+    cut-longer hears failed [] (lines_behind (start_of scenario) (history scenario)) (last_lines (start_of scenario) (history scenario)) (lines_of_run (start_of scenario) scenario.steps) old new fault refl
+    (subst (λ (s : List Step). IsCutOff hears failed [] old new (lines_behind (start_of scenario) (past_behind (start_of scenario) s [])) fault) same cut)

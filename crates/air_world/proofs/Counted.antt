@@ -1,53 +1,174 @@
--- What a run counted, of the history of its scenario.
-use Rattle.std.proofs.Common.{◌≡◌, ℕ, ◌<◌, ◌^◌, List, [], length, map, Option, refl, ◌∙◌, ap, arith}
+-- What is counted of all that a run tells, of the history of its scenario.
+use Rattle.std.proofs.Common.{◌≡◌, ℕ, suc, ◌+◌, ◌*◌, ◌≤◌, Bool, not, List, [], ◌∷◌, ◌++◌, length, length-append, map, refl, sym, ◌∙◌, ap, subst, arith}
 use Rattle.std.proofs.lemmas.List.{length-map}
-use Rattle.air_channel.specs.Air.{AirValue}
-use Rattle.air_channel.specs.Past.{Item}
-use Rattle.air_io.specs.Flow.{FaultsRose}
-use Rattle.air_world.proofs.Growth.{RoundsKeepLimit}
-use Rattle.air_world.proofs.HeadlineCounts.{steps-exchanges, few-exchanges}
-use Rattle.air_world.proofs.HeadlineLegal.{legal-steps}
+use Rattle.std.proofs.lemmas.List.Sums.{count_by-le-length, length-filter}
+use Rattle.std.specs.Borrow.{Bor}
+use Rattle.access_ops.specs.declared.OpList.{OpList}
+use Rattle.air_model.specs.Past.{Start, Item, befell, exchanged, operated, ended, past_behind_command, exchanges_in, rounds_in, tags_behind}
+use Rattle.air_world.proofs.Rounds.{KeepsLimit}
 use Rattle.air_world.proofs.Slots.{few-listed}
-use Rattle.air_world.specs.Headline.{AreLegalSteps}
-use Rattle.air_world.specs.Listing.{listing_of}
-use Rattle.air_world.specs.Playing.{Origin, RunValue, StandsAt, pair_of}
-use Rattle.air_world.specs.ScenarioStart.{history, start_of, new_air}
-use Rattle.air_world.specs.Summary.{summary_of, pairs_in}
-use Rattle.air_world.specs.declared.mode.PlayFault.{PlayFault}
-use Rattle.air_world.specs.declared.mode.PlayFault.TheVariants.{Write, OutOfMemory}
-use Rattle.report_lines.specs.SeenCounts.{distinct, seen_among, seen_in, total_of}
-use Rattle.report_lines.specs.SeenLaws.{total_of-all}
+use Rattle.air_world.specs.Counting.{Counts, Fits, counted_line, counted_lines, nothing_counted}
+use Rattle.air_world.specs.CountingLaws.{counted-append}
+use Rattle.air_world.specs.Playing.{most_slots}
+use Rattle.air_world.specs.Telling.{lines_behind, lines_of_run}
+use Rattle.command_grammar.specs.declared.commands.Command.{Command}
+use Rattle.q_round.specs.declared.round.RoundEnd.{RoundEnd}
+use Rattle.report_lines.specs.Line.{line_of}
+use Rattle.report_lines.specs.ReportLine.{ReportLine, OpLine, RoundLine, SeenLine, DoneLine}
+use Rattle.report_lines.specs.SeenCounts.{Seen, distinct, same_pair, seen_among, seen_in}
+use Rattle.report_lines.specs.declared.line.Line.{Line}
+use Rattle.report_lines.specs.declared.line.Line.TheVariants as lines
+use Rattle.report_lines.specs.declared.mode.Mode.TheVariants.{Trace}
+use Rattle.runs.proofs.Growth.{answer-keeps, few-outcomes, round-holds}
+use Rattle.runs.proofs.HeadlineCounts.{steps-exchanges, few-exchanges}
+use Rattle.runs.proofs.HeadlineLegal.{legal-steps}
+use Rattle.runs.proofs.Tags.{length-tags}
+use Rattle.runs.specs.Headline.{AreLegalSteps, IsLegalStep}
+use Rattle.runs.specs.History.{past_behind, past_behind_slot, past_behind_step, slot_reception}
+use Rattle.runs.specs.Listing.{Listed, listed_by, listing_of}
+use Rattle.runs.specs.Report.{item_lines, last_lines, list_line, tag_lines}
+use Rattle.runs.specs.ScenarioStart.{history, start_of, tag_of}
+use Rattle.runs.specs.Summary.{all_quiet, pairs_in, slots_in, summary_of}
+use Rattle.runs.specs.declared.summary.Summary.{Summary}
 use Rattle.scenario.specs.Limits.{IsScenario}
 use Rattle.scenario.specs.declared.values.Scenario.{Scenario}
+use Rattle.scenario.specs.declared.values.Step.{Step}
+use Rattle.scenario.specs.declared.values.Step.TheVariants as steps
+use Rattle.tag_machine.specs.TagValue.{TagValue}
+use Rattle.tag_machine.specs.declared.any_tag.AnyTag.{AnyTag}
 
--- what was listed in all
-total-listed : (run : RunValue) (past : List Item) → run.seen ≡ seen_in (map pair_of (listing_of past)) → total_of run.seen ≡ length (listing_of past)
-total-listed run past seen = ap total_of seen ∙ total_of-all (map pair_of (listing_of past)) ∙ length-map (listing_of past) pair_of
+-- the lines of what was listed
+counted-listed : (counted : Summary) (listed : List Listed) → counted_lines counted (map list_line listed) ≡ record counted { listed = counted.listed + length listed }
+counted-listed counted [] = let none : counted.listed ≡ counted.listed + 0 = omega arith in ap (λ n. record counted { listed = n }) none
+counted-listed counted (one ∷ others) =
+    let sum : counted.listed + 1 + length others ≡ counted.listed + suc (length others) = omega arith in
+    counted-listed (record counted { listed = counted.listed + 1 }) others ∙ ap (λ n. record counted { listed = n }) sum
 
-distinct-listed : (run : RunValue) (past : List Item) → run.seen ≡ seen_in (map pair_of (listing_of past)) → length run.seen ≡ length (distinct (pairs_in past))
-distinct-listed run past seen = ap length seen ∙ length-map (distinct (pairs_in past)) (seen_among (pairs_in past))
+-- the lines of the counts
+counted-seen : (counted : Summary) (pairs : List Seen) → counted_lines counted (map (λ (seen : Seen). SeenLine seen.count seen.pc seen.epc) pairs) ≡ record counted { distinct = counted.distinct + length pairs }
+counted-seen counted [] = let none : counted.distinct ≡ counted.distinct + 0 = omega arith in ap (λ n. record counted { distinct = n }) none
+counted-seen counted (one ∷ others) =
+    let sum : counted.distinct + 1 + length others ≡ counted.distinct + suc (length others) = omega arith in
+    counted-seen (record counted { distinct = counted.distinct + 1 }) others ∙ ap (λ n. record counted { distinct = n }) sum
 
--- it fits
-pub total-fits : RoundsKeepLimit → (scenario : Scenario) (run : RunValue) → IsScenario scenario → run.seen ≡ seen_in (map pair_of (listing_of (history scenario))) → total_of run.seen < 2 ^ 64
-total-fits keeps scenario run is seen =
-    let legal : AreLegalSteps scenario.steps = legal-steps scenario is in
-    let total = ap total_of seen ∙ total_of-all (map pair_of (listing_of (history scenario))) in
-    let listed = few-listed (history scenario) in
-    let most = steps-exchanges keeps (start_of scenario) scenario.steps [] legal in
+-- the lines of the tags
+counted-tags : (counted : Summary) (number : ℕ) (tags : List TagValue) → counted_lines counted (tag_lines number tags) ≡ record counted { tags = counted.tags + length tags }
+counted-tags counted number [] = let none : counted.tags ≡ counted.tags + 0 = omega arith in ap (λ n. record counted { tags = n }) none
+counted-tags counted number (tag ∷ tags) =
+    let sum : counted.tags + 1 + length tags ≡ counted.tags + suc (length tags) = omega arith in
+    counted-tags (record counted { tags = counted.tags + 1 }) (number + 1) tags ∙ ap (λ n. record counted { tags = n }) sum
+
+-- what a past counts of listings and rounds
+abbrev counted_past : List Item → Summary
+counted_past past = record { tags = 0; listed = length (listing_of past); distinct = 0; slots = slots_in past; quiet = all_quiet past }
+
+-- ... is counted of its lines
+counted-past : (start : Start) (past : List Item) → counted_lines nothing_counted (lines_behind start past) ≡ counted_past past
+counted-past start [] = refl
+counted-past start (befell event number ∷ past) = counted-append nothing_counted (lines_behind start past) [] ∙ counted-past start past
+counted-past start (operated round slot index result ∷ past) =
+    counted-append nothing_counted (lines_behind start past) _ ∙ ap (λ (c : Summary). counted_lines c (OpLine round slot index result ∷ [])) (counted-past start past)
+counted-past start (ended round end slots ∷ past) =
+    counted-append nothing_counted (lines_behind start past) _ ∙ ap (λ (c : Summary). counted_lines c (RoundLine round end slots ∷ [])) (counted-past start past)
+counted-past start (exchanged sent ∷ past) =
+    let more : length (listing_of past) + length (listed_by sent) ≡ length (listing_of past ++ listed_by sent) = sym (length-append (listing_of past) (listed_by sent)) in
+    counted-append nothing_counted (lines_behind start past) (item_lines Trace start.link (exchanged sent))
+    ∙ ap (λ (c : Summary). counted_lines c (item_lines Trace start.link (exchanged sent))) (counted-past start past)
+    ∙ counted-listed (counted_past past) (listed_by sent)
+    ∙ ap (λ n. record (counted_past past) { listed = n }) more
+
+-- the different pairs that were listed
+distinct-listed : (past : List Item) → length (seen_in (pairs_in past)) ≡ length (distinct (pairs_in past))
+distinct-listed past = length-map (distinct (pairs_in past)) (seen_among (pairs_in past))
+
+-- what is counted of all that is told
+counted-whole : (scenario : Scenario) → counted_lines nothing_counted (lines_of_run (start_of scenario) scenario.steps) ≡ summary_of scenario
+counted-whole scenario =
+    let start : Start = start_of scenario in
+    let past : List Item = history scenario in
+    let seen : List ReportLine = map (λ (seen : Seen). SeenLine seen.count seen.pc seen.epc) (seen_in (pairs_in past)) in
+    let tags : List ReportLine = tag_lines 0 (tags_behind start past) in
+    let pairs : 0 + length (seen_in (pairs_in past)) ≡ length (distinct (pairs_in past)) = omega (arith, distinct-listed past) in
+    let count : 0 + length (tags_behind start past) ≡ length start.tags = omega (arith, length-tags start past) in
+    counted-append nothing_counted (lines_behind start past) (last_lines start past)
+    ∙ ap (λ (c : Summary). counted_lines c (last_lines start past)) (counted-past start past)
+    ∙ counted-append (counted_past past) (seen ++ tags) (DoneLine ∷ [])
+    ∙ counted-append (counted_past past) seen tags
+    ∙ ap (λ (c : Summary). counted_lines c tags) (counted-seen (counted_past past) (seen_in (pairs_in past)) ∙ ap (λ n. record (counted_past past) { distinct = n }) pairs)
+    ∙ counted-tags (record (counted_past past) { distinct = length (distinct (pairs_in past)) }) 0 (tags_behind start past)
+    ∙ ap (λ n. record (counted_past past) { distinct = length (distinct (pairs_in past)); tags = n }) count
+
+-- no slot of a round is counted before its end
+slots-slot : (start : Start) (operations : OpList) (round slot : ℕ) (command : Command) (past : List Item)
+    → slots_in (past_behind_slot start operations round slot command past) ≡ slots_in past
+slots-slot start operations round slot command past =
+    answer-keeps (λ now. slots_in now ≡ slots_in past) start operations round slot (slot_reception start round slot command past) (past_behind_command start round slot command past)
+    (record { command = λ sent expect extended now expects same. same; result = λ index result now same. same })
+    (λ rn same. same) refl
+
+-- how many slots a step adds at most
+step-slots : KeepsLimit → (start : Start) (step : Step) (past : List Item) → IsLegalStep step → slots_in (past_behind_step start step past) ≤ slots_in past + most_slots
+step-slots keeps start (steps.Select command) past is = omega arith
+step-slots keeps start steps.Nak past is = omega arith
+step-slots keeps start (steps.Event event number) past is = omega arith
+step-slots keeps start (steps.Round spec operations) past is =
+    round-holds (λ outcomes now. slots_in now ≡ slots_in past) (λ now. slots_in now ≤ slots_in past + most_slots) start operations spec past keeps is.legal
+    (record {
+      slot = λ outcomes now command are sends same. slots-slot start operations (rounds_in past + 1) (length outcomes + 1) command now ∙ same;
+      end = λ outcomes now end are sends same. omega (arith, same, few-outcomes keeps spec outcomes is.legal are, is.legal.limit.1);
+    })
+    refl
+
+-- ... and steps
+steps-slots : KeepsLimit → (start : Start) (steps : List Step) (past : List Item) → AreLegalSteps steps → slots_in (past_behind start steps past) ≤ slots_in past + most_slots * length steps
+steps-slots keeps start [] past are = omega arith
+steps-slots keeps start (step ∷ steps) past are =
+    let behind : List Item = past_behind_step start step past in
+    omega (arith, step-slots keeps start step past are.0, steps-slots keeps start steps behind are.1)
+
+-- there are no more different pairs than pairs
+few-distinct : (pairs : List (ℕ × List ℕ)) → length (distinct pairs) ≤ length pairs
+few-distinct [] = omega arith
+few-distinct (pair ∷ pairs) =
+    let keep : ℕ × List ℕ → Bool = λ other. not (same_pair pair other) in
+    omega (arith, length-filter keep (distinct pairs), count_by-le-length keep (distinct pairs), few-distinct pairs)
+
+-- the numbers of a summary fit
+summary-fits : KeepsLimit → (scenario : Scenario) → IsScenario scenario → Fits (summary_of scenario)
+summary-fits keeps scenario is =
+    let start : Start = start_of scenario in
+    let past : List Item = history scenario in
+    let legal = legal-steps scenario is in
+    let tags : length start.tags ≡ length scenario.tags = length-map scenario.tags tag_of in
+    let pairs : length (pairs_in past) ≡ length (listing_of past) = length-map (listing_of past) (λ listed. (listed.pc, listed.epc)) in
+    let listed : length (pairs_in past) ≤ exchanges_in past = few-listed past in
+    let most = steps-exchanges keeps start scenario.steps [] legal in
     let few = few-exchanges scenario.steps legal in
-    omega (arith, total, listed, most, few, is.few_steps)
+    let slots : slots_in past ≤ slots_in [] + most_slots * length scenario.steps = steps-slots keeps start scenario.steps [] legal in
+    record {
+      tags = omega (arith, tags, is.few_tags);
+      listed = omega (arith, pairs, listed, most, few, is.few_steps);
+      distinct = omega (arith, few-distinct (pairs_in past), listed, most, few, is.few_steps);
+      slots = omega (arith, slots, is.few_steps);
+    }
 
--- what a run counted is the summary
-pub counted-whole : (scenario : Scenario) (origin : Origin) (tags : ℕ) (first air : AirValue) (run : RunValue) (written : Option (List ℕ)) (faults : ℕ) → first ≡ new_air (start_of scenario) → tags ≡ length first.tags
-    → StandsAt origin (history scenario) air run written faults
-    → record { tags = tags; listed = total_of run.seen; distinct = length run.seen; slots = run.slots; quiet = run.quiet } ≡ summary_of scenario
-counted-whole scenario origin tags first air run written faults fresh count stands =
-    let all = count ∙ ap (λ (a : AirValue). length a.tags) fresh in
-    let listed = total-listed run (history scenario) stands.seen in
-    let pairs = distinct-listed run (history scenario) stands.seen in
-    λ i. record { tags = all i; listed = listed i; distinct = pairs i; slots = stands.plays.slots i; quiet = stands.plays.quiet i }
+-- who counted all that is told has the summary
+pub summary-counted : KeepsLimit → (scenario : Scenario) (first later : Summary) → IsScenario scenario → first ≡ nothing_counted → Counts (lines_of_run (start_of scenario) scenario.steps) first later → later ≡ summary_of scenario
+summary-counted keeps scenario first later is fresh counts =
+    let whole : counted_lines first (lines_of_run (start_of scenario) scenario.steps) ≡ summary_of scenario =
+    ap (λ (s : Summary). counted_lines s (lines_of_run (start_of scenario) scenario.steps)) fresh ∙ counted-whole scenario in
+    counts.counted (subst Fits (sym whole) (summary-fits keeps scenario is)) ∙ whole
 
--- where no write fails, memory was refused
-pub sure-fault : (fault : PlayFault) → (fault ≡ Write → FaultsRose 0 0) → fault ≡ OutOfMemory
-sure-fault Write rose = let none = (rose refl).larger_or_last refl in absurd (omega (arith, none))
-sure-fault OutOfMemory rose = refl
+-- a line that isn't counted
+pub other-line : (counted : Summary) (line : Line) → ((round slot pc : ℕ) (epc : Bor (List ℕ)) → line ≡ lines.List round slot pc epc → ⊥)
+    → ((round : ℕ) (end : RoundEnd) (slots : ℕ) → line ≡ lines.Round round end slots → ⊥) → ((count pc : ℕ) (epc : Bor (List ℕ)) → line ≡ lines.Seen count pc epc → ⊥)
+    → ((number : ℕ) (tag : Bor AnyTag) → line ≡ lines.Tag number tag → ⊥) → counted ≡ counted_line counted (line_of line)
+other-line counted (lines.Blf numerator denominator) list round seen tag = refl
+other-line counted (lines.Tx exchange intervals) list round seen tag = refl
+other-line counted (lines.Rx exchange count levels) list round seen tag = refl
+other-line counted (lines.List r s pc epc) list round seen tag = absurd (list r s pc epc refl)
+other-line counted (lines.Op r s index result) list round seen tag = refl
+other-line counted (lines.Round r end slots) list round seen tag = absurd (round r end slots refl)
+other-line counted (lines.Seen count pc epc) list round seen tag = absurd (seen count pc epc refl)
+other-line counted (lines.Tag number t) list round seen tag = absurd (tag number t refl)
+other-line counted lines.Done list round seen tag = refl

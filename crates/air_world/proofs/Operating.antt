@@ -1,32 +1,26 @@
 -- The moves of a dialogue with a tag, one after another.
 use Rattle.std.proofs.Common.{◌≡◌, ℕ, ◌+◌, ◌≤◌, ◌*◌, ◌-◌, ◌||◌, List, [], ◌∷◌, ◌++◌, length, Bool, Option, Some, None, refl, sym, ◌∙◌, ap, subst, arith}
-use Rattle.std.proofs.lemmas.List.{append-nil}
-use Rattle.access_ops.specs.DialogueLaws.{AwaitsReplies, SendsAtMost, dialogues-await, dialogues-are-few, first-sends, first-tells, first-done}
-use Rattle.access_ops.specs.OperationLaws.{Expects}
+use Rattle.access_ops.specs.laws.DialogueLaws.{AwaitsReplies, SendsAtMost, dialogues-await, dialogues-are-few, first-sends, first-tells, first-done}
+use Rattle.access_ops.specs.laws.OperationLaws.{Expects}
 use Rattle.access_ops.specs.Operations.{Dialogue, sends, tells, done, dialogue_of, Move, answered, told, reception_in, dialogue_behind, dialogue_after, IsAnswerFor}
-use Rattle.access_ops.specs.Standing.{OpRunValue, OpRunStandsFor, IsNextOperation, last_answer, turns_left}
+use Rattle.access_ops.specs.OpRunValue.{OpRunValue, OpRunStandsFor, IsNextOperation, last_answer, turns_left}
 use Rattle.access_ops.specs.declared.OpList.{OpList}
 use Rattle.access_ops.specs.declared.op_next.Answer.{Answer}
 use Rattle.access_ops.specs.declared.op_next.Answer.TheVariants.{Got}
 use Rattle.access_ops.specs.declared.op_next.OpNext.TheVariants as nexts
 use Rattle.access_ops.specs.declared.op_next.OpResult.{OpResult}
 use Rattle.air_channel.specs.Air.{AirValue}
-use Rattle.air_channel.specs.Past.{Start, Record, Item, operated, next_record, past_behind_command, exchanges_in}
-use Rattle.air_channel.specs.AwaitedLaws.{awaited_reception}
-use Rattle.air_channel.specs.Channel.{Given, got_of, heard_levels}
-use Rattle.air_channel.specs.Received.{IsReceived}
-use Rattle.air_channel.specs.Reception.{HoldsOfSent, IsUnmistakable, reception_with}
-use Rattle.air_channel.specs.declared.air.Got.TheVariants as gots
-use Rattle.air_world.proofs.Growth.{dialogue-grows}
-use Rattle.air_world.proofs.Lines.{report_text-append}
-use Rattle.air_world.proofs.Slots.{cut-exchanged}
-use Rattle.air_world.proofs.Tags.{tags-operated}
-use Rattle.air_world.proofs.Writing.{cut-past}
-use Rattle.air_world.specs.History.{operation_reception, past_behind_dialogue}
-use Rattle.air_world.specs.Listing.{reception_of_ack, listed_from, listed_by}
-use Rattle.air_world.specs.Playing.{Origin, RunValue, PlaysAt, StandsAt, IsWritten, IsCutOff, past_text}
-use Rattle.air_world.specs.Report.{past_lines, trace_lines}
-use Rattle.air_world.specs.declared.mode.PlayFault.{PlayFault}
+use Rattle.air_model.specs.Past.{Start, Record, Item, operated, past_behind_command, exchanges_in}
+use Rattle.air_model.specs.AwaitedLaws.{awaited_reception}
+use Rattle.air_model.specs.Channel.{Given, got_of, heard_levels}
+use Rattle.reply_wire.specs.Received.{IsReceived}
+use Rattle.air_model.specs.Reception.{HoldsOfSent, IsUnmistakable, reception_with}
+use Rattle.air_model.specs.declared.got.Got.TheVariants as gots
+use Rattle.runs.proofs.Tags.{tags-operated}
+use Rattle.runs.specs.History.{operation_reception, past_behind_dialogue}
+use Rattle.runs.specs.Listing.{reception_of_ack, listed_from, listed_by}
+use Rattle.air_world.specs.Playing.{RunValue, IsAt, StandsAt}
+use Rattle.air_world.specs.Telling.{lines_behind}
 use Rattle.command_grammar.specs.declared.commands.Command.{Command}
 use Rattle.command_grammar.specs.declared.commands.Command.TheVariants as commands
 use Rattle.line_code.specs.Table.{Table}
@@ -36,7 +30,7 @@ use Rattle.reply_grammar.specs.Reception.{Reception, no_stream}
 use Rattle.reply_grammar.specs.declared.expected.Expect.{Expect}
 use Rattle.reply_grammar.specs.declared.expected.Received.{Received}
 use Rattle.reply_grammar.specs.declared.expected.Received.TheVariants.{Whole, Refused}
-use Rattle.report_lines.specs.ReportLine.{OpLine, report_line_text, report_text}
+use Rattle.report_lines.specs.ReportLine.{ReportLine, OpLine}
 
 -- a whole reply that is received is one that is expected
 pub received-answer : (t : Table) (trext : Bool) (expect : Expect) (levels : List Bool) (received : Received) → IsReceived t trext expect levels received → IsAnswerFor expect (Got received)
@@ -54,26 +48,26 @@ heard-awaited link given air expect extended received link_is stream came is hea
     (subst (λ (levels : List Bool). IsReceived (table_of link.code) (extended || link.trext) expect levels received) stream at_link))
 
 -- between two moves of a dialogue whose end leaves a known past: the past and the moves so far, and how many commands are left
-pub record OperationsUnderway (origin : Origin) (list : OpList) (epc : List ℕ) (rn round slot : ℕ) (first whole : List Item) (operating : OpRunValue) (answer : Option Answer)
-    (index : ℕ) (air : AirValue) (run : RunValue) (written : Option (List ℕ)) (faults : ℕ) : Type 0 where
+pub record OperationsUnderway (Heard : List ReportLine → Type 0) (start : Start) (list : OpList) (epc : List ℕ) (rn round slot : ℕ) (first whole : List Item) (operating : OpRunValue) (answer : Option Answer)
+    (index : ℕ) (air : AirValue) (run : RunValue) : Type 0 where
   pub past : List Item
   pub moves : List Move
   pub left : ℕ
-  pub stands : StandsAt origin past air run written faults
+  pub stands : StandsAt Heard start past air run
   pub goes : OpRunStandsFor operating list epc rn moves
   pub last : answer ≡ last_answer moves
   pub awaits : AwaitsReplies (dialogue_after list epc rn moves)
   pub sends_few : SendsAtMost left (dialogue_after list epc rn moves)
   pub few : exchanges_in past + left ≤ exchanges_in first + 129
-  pub rest : past_behind_dialogue origin.start round slot index (dialogue_after list epc rn moves) past ≡ whole
+  pub rest : past_behind_dialogue start round slot index (dialogue_after list epc rn moves) past ≡ whole
   pub turns : index + turns_left list operating ≤ 163
 
 -- a dialogue begins
-pub operations-begin : (origin : Origin) (list : OpList) (epc : List ℕ) (rn round slot : ℕ) (past : List Item) (operating : OpRunValue) (air : AirValue) (run : RunValue)
-    (written : Option (List ℕ)) (faults : ℕ) → length list.ops ≤ 32 → StandsAt origin past air run written faults → OpRunStandsFor operating list epc rn []
+pub operations-begin : (Heard : List ReportLine → Type 0) (start : Start) (list : OpList) (epc : List ℕ) (rn round slot : ℕ) (past : List Item) (operating : OpRunValue) (air : AirValue) (run : RunValue)
+    → length list.ops ≤ 32 → StandsAt Heard start past air run → OpRunStandsFor operating list epc rn []
     → turns_left list operating ≤ 5 * length list.ops + 2
-    → OperationsUnderway origin list epc rn round slot past (past_behind_dialogue origin.start round slot 1 (dialogue_of list epc rn) past) operating None 1 air run written faults
-operations-begin origin list epc rn round slot past operating air run written faults few stands goes turns = record {
+    → OperationsUnderway Heard start list epc rn round slot past (past_behind_dialogue start round slot 1 (dialogue_of list epc rn) past) operating None 1 air run
+operations-begin Heard start list epc rn round slot past operating air run few stands goes turns = record {
   past = past;
   moves = [];
   left = 4 * length list.ops + 1;
@@ -123,20 +117,20 @@ pub operation-unlisted : (sent : Record) (expect : Expect) (extended : Bool) →
 operation-unlisted sent expect extended is = ap (λ (r : Reception). listed_from sent r) (listless sent sent.command expect extended is)
 
 -- a command was answered
-pub operations-sent : (origin : Origin) (list : OpList) (epc : List ℕ) (rn round slot : ℕ) (first whole : List Item) (operating after : OpRunValue) (was answer : Option Answer) (heard : Answer)
-    (index : ℕ) (air then_air : AirValue) (run then_run : RunValue) (was_written written : Option (List ℕ)) (was_faults faults : ℕ) (command : Command) (expect : Expect) (extended : Bool)
-    → (u : OperationsUnderway origin list epc rn round slot first whole operating was index air run was_written was_faults)
+pub operations-sent : (Heard Later : List ReportLine → Type 0) (start : Start) (list : OpList) (epc : List ℕ) (rn round slot : ℕ) (first whole : List Item) (operating after : OpRunValue) (was answer : Option Answer) (heard : Answer)
+    (index : ℕ) (air then_air : AirValue) (run then_run : RunValue) (command : Command) (expect : Expect) (extended : Bool)
+    → (u : OperationsUnderway Heard start list epc rn round slot first whole operating was index air run)
     → IsNextOperation (nexts.Send command expect extended) after list epc rn u.moves → answer ≡ Some heard → IsAnswerFor expect heard
-    → reception_in heard ≡ operation_reception origin.start round slot command expect extended u.past
-    → StandsAt origin (past_behind_command origin.start round slot command u.past) then_air then_run written faults → turns_left list after + 1 ≤ turns_left list operating
-    → OperationsUnderway origin list epc rn round slot first whole after answer index then_air then_run written faults
-operations-sent origin list epc rn round slot first whole operating after was answer heard index air then_air run then_run was_written written was_faults faults command expect extended
+    → reception_in heard ≡ operation_reception start round slot command expect extended u.past
+    → StandsAt Later start (past_behind_command start round slot command u.past) then_air then_run → turns_left list after + 1 ≤ turns_left list operating
+    → OperationsUnderway Later start list epc rn round slot first whole after answer index then_air then_run
+operations-sent Heard Later start list epc rn round slot first whole operating after was answer heard index air then_air run then_run command expect extended
     u next is expected heard_is stands fewer =
     let sent = sent-of list epc rn u.moves command expect extended after next in
     let behind : dialogue_after list epc rn (answered heard ∷ u.moves) ≡ sent.go_on (reception_in heard) = ap (λ (d : Dialogue). dialogue_behind (answered heard) d) sent.is in
     let few = subst (SendsAtMost u.left) sent.is u.sends_few in
     record {
-      past = past_behind_command origin.start round slot command u.past;
+      past = past_behind_command start round slot command u.past;
       moves = answered heard ∷ u.moves;
       left = u.left - 1;
       stands = stands;
@@ -145,54 +139,30 @@ operations-sent origin list epc rn round slot first whole operating after was an
       awaits = subst AwaitsReplies (sym behind) ((subst AwaitsReplies sent.is u.awaits).1 (reception_in heard));
       sends_few = subst (SendsAtMost (u.left - 1)) (sym behind) (few.1 (reception_in heard));
       few = omega (arith, u.few, few.0);
-      rest = ap (λ (d : Dialogue). past_behind_dialogue origin.start round slot index d (past_behind_command origin.start round slot command u.past))
+      rest = ap (λ (d : Dialogue). past_behind_dialogue start round slot index d (past_behind_command start round slot command u.past))
           (behind ∙ ap (λ (r : Reception). sent.go_on r) heard_is)
-          ∙ sent-rest origin.start list epc rn round slot index u.moves u.past whole command expect extended sent u.rest;
+          ∙ sent-rest start list epc rn round slot index u.moves u.past whole command expect extended sent u.rest;
       turns = omega (arith, u.turns, fewer);
     }
 
--- ... or its lines were cut off
-pub cut-sent : (origin : Origin) (list : OpList) (epc : List ℕ) (rn round slot : ℕ) (first whole : List Item) (operating after : OpRunValue) (was : Option Answer)
-    (index : ℕ) (air : AirValue) (run : RunValue) (was_written written : Option (List ℕ)) (was_faults faults : ℕ) (command : Command) (expect : Expect) (extended : Bool) (fault : PlayFault)
-    → (u : OperationsUnderway origin list epc rn round slot first whole operating was index air run was_written was_faults)
-    → IsNextOperation (nexts.Send command expect extended) after list epc rn u.moves
-    → IsCutOff origin (past_text origin u.past ++ report_text (trace_lines origin.mode origin.start.link (next_record origin.start round slot command u.past))) written faults fault
-    → IsCutOff origin (past_text origin whole) written faults fault
-cut-sent origin list epc rn round slot first whole operating after was index air run was_written written was_faults faults command expect extended fault u next cut =
-    let sent = sent-of list epc rn u.moves command expect extended after next in
-    let between : List Item = past_behind_command origin.start round slot command u.past in
-    let left : Dialogue = sent.go_on (operation_reception origin.start round slot command expect extended u.past) in
-    subst (λ (p : List Item). IsCutOff origin (past_text origin p) written faults fault) (sent-rest origin.start list epc rn round slot index u.moves u.past whole command expect extended sent u.rest)
-    (cut-past origin between (past_behind_dialogue origin.start round slot index left between) written faults fault (dialogue-grows origin.start round slot index left between)
-    (cut-exchanged origin (next_record origin.start round slot command u.past) u.past written faults fault cut))
-
--- the text behind a result
-pub text-operated : (origin : Origin) (past : List Item) (round slot index : ℕ) (result : OpResult)
-    → past_text origin (operated round slot index result ∷ past) ≡ past_text origin past ++ report_line_text (OpLine round slot index result)
-text-operated origin past round slot index result =
-    report_text-append (past_lines origin.mode origin.start.link past) (OpLine round slot index result ∷ [])
-    ∙ ap (λ (t : List ℕ). past_text origin past ++ t) (append-nil (report_line_text (OpLine round slot index result)))
-
 -- what stands behind a result
-stands-operated : (origin : Origin) (past : List Item) (round slot index : ℕ) (result : OpResult) (air : AirValue) (run after : RunValue) (was_written written : Option (List ℕ)) (was_faults faults : ℕ)
-    → StandsAt origin past air run was_written was_faults → after ≡ run → IsWritten origin (past_text origin past ++ report_line_text (OpLine round slot index result)) written faults
-    → StandsAt origin (operated round slot index result ∷ past) air after written faults
-stands-operated origin past round slot index result air run after was_written written was_faults faults stands same written_is = record {
-  plays = subst (λ (r : RunValue). PlaysAt origin (operated round slot index result ∷ past) air r) (sym same) record {
-    names = stands.plays.names;
-    mode = stands.plays.mode;
-    link = stands.plays.link;
-    several = stands.plays.several;
-    tags = stands.plays.tags ∙ sym (tags-operated origin.start round slot index result past);
-    legal = stands.plays.legal;
-    exchanges = stands.plays.exchanges;
-    entries = stands.plays.entries;
-    rounds = stands.plays.rounds;
-    slots = stands.plays.slots;
-    quiet = stands.plays.quiet;
+stands-operated : (Heard : List ReportLine → Type 0) (start : Start) (past : List Item) (round slot index : ℕ) (result : OpResult) (air : AirValue) (run : RunValue)
+    → IsAt start past air run → Heard (lines_behind start past ++ OpLine round slot index result ∷ []) → StandsAt Heard start (operated round slot index result ∷ past) air run
+stands-operated Heard start past round slot index result air run at heard = record {
+  at = record {
+    plays = record {
+      names = at.plays.names;
+      link = at.plays.link;
+      several = at.plays.several;
+      tags = at.plays.tags ∙ sym (tags-operated start round slot index result past);
+      legal = at.plays.legal;
+      exchanges = at.plays.exchanges;
+      entries = at.plays.entries;
+      rounds = at.plays.rounds;
+    };
+    seen = at.seen;
   };
-  seen = ap (λ (r : RunValue). r.seen) same ∙ stands.seen;
-  text = subst (λ (t : List ℕ). IsWritten origin t written faults) (sym (text-operated origin past round slot index result)) written_is;
+  told = heard;
 }
 
 told-rest : (start : Start) (list : OpList) (epc : List ℕ) (rn round slot index : ℕ) (moves : List Move) (past whole : List Item) (result : OpResult) (later : Dialogue)
@@ -201,13 +171,13 @@ told-rest : (start : Start) (list : OpList) (epc : List ℕ) (rn round slot inde
 told-rest start list epc rn round slot index moves past whole result later is rest = sym (ap (λ (d : Dialogue). past_behind_dialogue start round slot index d past) is) ∙ rest
 
 -- a result was told
-pub operations-told : (origin : Origin) (list : OpList) (epc : List ℕ) (rn round slot : ℕ) (first whole : List Item) (operating after : OpRunValue) (was answer : Option Answer)
-    (index : ℕ) (air : AirValue) (run then_run : RunValue) (was_written written : Option (List ℕ)) (was_faults faults : ℕ) (result : OpResult)
-    → (u : OperationsUnderway origin list epc rn round slot first whole operating was index air run was_written was_faults)
-    → IsNextOperation (nexts.Result result) after list epc rn u.moves → answer ≡ None → then_run ≡ run
-    → IsWritten origin (past_text origin u.past ++ report_line_text (OpLine round slot index result)) written faults → turns_left list after + 1 ≤ turns_left list operating
-    → OperationsUnderway origin list epc rn round slot first whole after answer (index + 1) air then_run written faults
-operations-told origin list epc rn round slot first whole operating after was answer index air run then_run was_written written was_faults faults result u next is same written_is fewer =
+pub operations-told : (Heard Later : List ReportLine → Type 0) (start : Start) (list : OpList) (epc : List ℕ) (rn round slot : ℕ) (first whole : List Item) (operating after : OpRunValue) (was answer : Option Answer)
+    (index : ℕ) (air : AirValue) (run : RunValue) (result : OpResult)
+    → (u : OperationsUnderway Heard start list epc rn round slot first whole operating was index air run)
+    → IsNextOperation (nexts.Result result) after list epc rn u.moves → answer ≡ None
+    → Later (lines_behind start u.past ++ OpLine round slot index result ∷ []) → turns_left list after + 1 ≤ turns_left list operating
+    → OperationsUnderway Later start list epc rn round slot first whole after answer (index + 1) air run
+operations-told Heard Later start list epc rn round slot first whole operating after was answer index air run result u next is heard fewer =
     let found = first-tells (dialogue_after list epc rn u.moves) result (sym next.next) in
     let later : Dialogue = found.0 in
     let behind : dialogue_after list epc rn (told ∷ u.moves) ≡ later = ap (λ (d : Dialogue). dialogue_behind told d) found.1 in
@@ -216,39 +186,23 @@ operations-told origin list epc rn round slot first whole operating after was an
       past = past;
       moves = told ∷ u.moves;
       left = u.left;
-      stands = stands-operated origin u.past round slot index result air run then_run was_written written was_faults faults u.stands same written_is;
+      stands = stands-operated Later start u.past round slot index result air run u.stands.at heard;
       goes = next.stands told tt;
       last = is;
       awaits = subst AwaitsReplies (sym behind) (subst AwaitsReplies found.1 u.awaits);
       sends_few = subst (SendsAtMost u.left) (sym behind) (subst (SendsAtMost u.left) found.1 u.sends_few);
       few = u.few;
-      rest = ap (λ (d : Dialogue). past_behind_dialogue origin.start round slot (index + 1) d past) behind
-          ∙ told-rest origin.start list epc rn round slot index u.moves u.past whole result later found.1 u.rest;
+      rest = ap (λ (d : Dialogue). past_behind_dialogue start round slot (index + 1) d past) behind
+          ∙ told-rest start list epc rn round slot index u.moves u.past whole result later found.1 u.rest;
       turns = omega (arith, u.turns, fewer);
     }
 
--- ... or its line was cut off
-pub cut-told : (origin : Origin) (list : OpList) (epc : List ℕ) (rn round slot : ℕ) (first whole : List Item) (operating after : OpRunValue) (was : Option Answer)
-    (index : ℕ) (air : AirValue) (run : RunValue) (was_written written : Option (List ℕ)) (was_faults faults : ℕ) (result : OpResult) (fault : PlayFault)
-    → (u : OperationsUnderway origin list epc rn round slot first whole operating was index air run was_written was_faults)
-    → IsNextOperation (nexts.Result result) after list epc rn u.moves
-    → IsCutOff origin (past_text origin u.past ++ report_line_text (OpLine round slot index result)) written faults fault
-    → IsCutOff origin (past_text origin whole) written faults fault
-cut-told origin list epc rn round slot first whole operating after was index air run was_written written was_faults faults result fault u next cut =
-    let found = first-tells (dialogue_after list epc rn u.moves) result (sym next.next) in
-    let later : Dialogue = found.0 in
-    let past : List Item = operated round slot index result ∷ u.past in
-    let here : IsCutOff origin (past_text origin past) written faults fault =
-    subst (λ (t : List ℕ). IsCutOff origin t written faults fault) (sym (text-operated origin u.past round slot index result)) cut in
-    subst (λ (p : List Item). IsCutOff origin (past_text origin p) written faults fault) (told-rest origin.start list epc rn round slot index u.moves u.past whole result later found.1 u.rest)
-    (cut-past origin past (past_behind_dialogue origin.start round slot (index + 1) later past) written faults fault (dialogue-grows origin.start round slot (index + 1) later past) here)
-
 -- all is done
-pub operations-end : (origin : Origin) (list : OpList) (epc : List ℕ) (rn round slot : ℕ) (first whole : List Item) (operating after : OpRunValue) (was : Option Answer)
-    (index : ℕ) (air : AirValue) (run : RunValue) (written : Option (List ℕ)) (faults : ℕ)
-    → (u : OperationsUnderway origin list epc rn round slot first whole operating was index air run written faults)
-    → IsNextOperation nexts.End after list epc rn u.moves → StandsAt origin whole air run written faults
-operations-end origin list epc rn round slot first whole operating after was index air run written faults u next =
+pub operations-end : (Heard : List ReportLine → Type 0) (start : Start) (list : OpList) (epc : List ℕ) (rn round slot : ℕ) (first whole : List Item) (operating after : OpRunValue) (was : Option Answer)
+    (index : ℕ) (air : AirValue) (run : RunValue)
+    → (u : OperationsUnderway Heard start list epc rn round slot first whole operating was index air run)
+    → IsNextOperation nexts.End after list epc rn u.moves → StandsAt Heard start whole air run
+operations-end Heard start list epc rn round slot first whole operating after was index air run u next =
     let over : dialogue_after list epc rn u.moves ≡ done = first-done (dialogue_after list epc rn u.moves) (sym next.next) in
-    let same : u.past ≡ whole = sym (ap (λ (d : Dialogue). past_behind_dialogue origin.start round slot index d u.past) over) ∙ u.rest in
-    subst (λ (p : List Item). StandsAt origin p air run written faults) same u.stands
+    let same : u.past ≡ whole = sym (ap (λ (d : Dialogue). past_behind_dialogue start round slot index d u.past) over) ∙ u.rest in
+    subst (λ (p : List Item). StandsAt Heard start p air run) same u.stands

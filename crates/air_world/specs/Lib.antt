@@ -1,10 +1,6 @@
-pub mod Heard
-pub mod History
-pub mod Listing
+pub mod NewAir
+pub mod Telling
 pub mod Playing
-pub mod Report
-pub mod EventsAndRecords
-pub mod Headline
-pub mod HistoryLaws
-pub mod ScenarioStart
-pub mod Summary
+pub mod Heard
+pub mod Counting
+pub mod CountingLaws

@@ -1,21 +1,29 @@
 //! A scenario, played.
-ghost use Rattle.std.specs.Prelude.{◌≡◌, ◌≤◌, ◌++◌, ℕ, List, IsErrOf, IfErr, OnErr, OnOk};
-ghost use Rattle.air_channel.specs.Past.{exchanges_in, tags_behind};
+ghost use Rattle.std.specs.Prelude.{◌≡◌, ◌≤◌, ◌++◌, ℕ, List, [], IsErrOf, OnErr, OnOk};
 ghost use Rattle.air_io.specs.Flow.{Adds, FaultsRose};
-ghost use Rattle.air_world.specs.Playing.{IsCutOff, IsPlayed, origin_of};
-ghost use Rattle.air_world.specs.Report.{report_text_of};
-ghost use Rattle.air_world.specs.ScenarioStart.{history, new_air, start_of};
+ghost use Rattle.air_model.specs.Past.{exchanges_in, tags_behind};
+ghost use Rattle.air_world.specs.NewAir.{new_air};
+ghost use Rattle.air_world.specs.Telling.{Ends, IsCutOff, IsPlayed, lines_of_run};
+ghost use Rattle.runs.specs.CompleteRounds.{RoundsAreComplete};
+ghost use Rattle.runs.specs.Headline.{Headline};
+ghost use Rattle.runs.specs.Report.{report_of, report_text_of};
+ghost use Rattle.runs.specs.ScenarioStart.{history, start_of};
 ghost use Rattle.scenario.specs.Limits.{IsScenario};
 
-use crate::mode::{Mode, PlayFault};
-use crate::run::Run;
+use crate::run::{Run, tell_link};
 use air_channel::Air;
+use air_events::{EntryCursor, empty_entry};
 use air_io::Sink;
-use scenario::{EntryCursor, Scenario, empty_entry};
+use report_lines::{Listener, Mode, PlayFault, TextReport};
+use runs::{headline, rounds_are_complete};
+use scenario::Scenario;
 use std::alloc::Global;
 use std::marker::Brand;
 use std::sync::ledger::{Blank, Ledger};
 use tag_machine::Steps;
+
+/// Room for the longest line, which tells of the levels of the longest stream.
+const LINE_ROOM: usize = 132_100;
 
 /// Plays a scenario on its air, to which no command was sent yet, and writes the report. Each command goes over
 /// the air in one exchange.
@@ -41,32 +49,39 @@ pub fn play<O: Sink>(
     ensures write { IsErrOf result PlayFault.Write → FaultsRose (O.faults out.old) (O.faults out.new) }
     ensures part { OnErr result ((front : List ℕ) × (rest : List ℕ) × (report_text_of mode scenario.now ≡ front ++ rest) × Adds (O.written out.old) (O.written out.new) front) }
     ensures count { O.faults out.old ≤ O.faults out.new }
+    ensures headline { OnOk result (Headline (start_of scenario.now) scenario.now.steps (history scenario.now) (report_of mode (start_of scenario.now) scenario.now.steps)) }
+    ensures inventory { OnOk result (RoundsAreComplete scenario.now) }
 {
-    play_counted::<Brand, O>(Blank::new(1), alloc, scenario, air, mode, out)
+    headline();
+    rounds_are_complete();
+    let mut line = String::with_capacity(alloc, LINE_ROOM)?;
+    let mut report = TextReport::new(mode, out, &mut line);
+    tell_run::<Brand, TextReport<'_, Mode, O>>(Blank::new(1), alloc, scenario, air, &mut report)
 }
 
-/// The same, with the ledger of the blank for the counter of steps.
-fn play_counted<L: Ledger, O: Sink>(
+/// Plays a scenario on its air, to which no command was sent yet, and tells a listener all of it. The blank is
+/// for the counter of steps.
+pub(crate) fn tell_run<L: Ledger, R: Listener>(
     blank: Blank,
     alloc: Global,
     scenario: &Scenario,
     air: &mut Air,
-    mode: Mode,
-    out: &mut O,
+    report: &mut R,
 ) -> Result<(), PlayFault>
     requires name { blank.name ≡ L.name }
     requires parts { blank.parts ≡ L.parts }
     requires one { blank.parts ≡ 1 }
     requires scenario { IsScenario scenario.now }
     requires fresh { air.old ≡ new_air (start_of scenario.now) }
-    ensures ok { OnOk result (IsPlayed mode scenario.now (O.written out.old) (O.written out.new) (O.faults out.old) (O.faults out.new) air.new) }
-    ensures err { IfErr result (IsCutOff (origin_of mode scenario.now (O.written out.old) (O.faults out.old)) (report_text_of mode scenario.now) (O.written out.new) (O.faults out.new)) }
+    ensures { Ends result (IsPlayed R.hears R.failed scenario.now report.old report.new air.new)
+        (IsCutOff R.hears R.failed [] report.old report.new (lines_of_run (start_of scenario.now) scenario.now.steps)) }
 {
-    prove!(air.len() <= 256);
+    prove!(air.len() <= 4096);
     let empty = empty_entry(alloc);
     let entries = EntryCursor::new(scenario.entries.as_slice(), &empty);
-    let mut run = Run::<L>::new(alloc, mode, entries, Steps::new(blank))?;
-    run.begin(air, out)?;
-    run.play_steps(air, scenario.steps.as_slice(), out)?;
-    run.finish(air, out)
+    let mut run = Run::<L>::new(alloc, entries, Steps::new(blank))?;
+    tell_link(air, report);
+    run.play_steps(air, scenario.steps.as_slice(), report)?;
+    run.finish(air, report);
+    run.check(report)
 }

@@ -1,34 +1,32 @@
 //! A run that is under way.
-ghost use Rattle.std.specs.Prelude.{◌≡◌, ℕ, ◌+◌, ◌≤◌, ◌<◌, ◌^◌, ◌++◌, ◌||◌, ◌&&◌, length, List, [], ◌∷◌, Some, IfOk, IfErr, OnOk};
-ghost use Rattle.std.specs.String.{string_bytes};
-ghost use Rattle.air_channel.specs.Channel.{got_of, heard_levels};
-ghost use Rattle.air_channel.specs.Past.{Item, next_record, past_behind_command};
-ghost use Rattle.air_channel.specs.Received.{IsReceived};
-ghost use Rattle.air_world.specs.History.{outcome_of, past_behind_ack, past_behind_round, past_behind_slot, slot_reception};
+ghost use Rattle.std.specs.Prelude.{◌≡◌, ℕ, ◌+◌, ◌≤◌, ◌<◌, ◌^◌, ◌++◌, ◌||◌, ◌⊎◌, length, List, [], ◌∷◌, Some, None, false, true, OnOk, IfErr, IfOk};
+ghost use Rattle.air_model.specs.Channel.{got_of, heard_levels};
+ghost use Rattle.air_model.specs.Past.{Item, Start, next_record, past_behind_command};
+ghost use Rattle.air_world.specs.Heard.{rn16_received, pair_received};
+ghost use Rattle.air_world.specs.Playing.{PlaysAt, IsAt, StandsAt, IsBetweenSteps, IsUnderway, last_exchange_lines};
+ghost use Rattle.air_world.specs.Telling.{Ends, IsCutOff, Passes, exchange_lines, lines_behind};
 ghost use Rattle.line_codes.specs.Codes.{table_of};
 ghost use Rattle.reply_grammar.specs.Reception.{reception_from};
+ghost use Rattle.reply_wire.specs.Received.{IsReceived};
+ghost use Rattle.report_lines.specs.ReportLine.{ReportLine, ListLine, RoundLine};
 ghost use Rattle.report_lines.specs.SeenCounts.{count_of, seen_in};
-ghost use Rattle.air_world.specs.Heard.{rn16_received, pair_received};
-ghost use Rattle.air_world.specs.Playing.{Origin, PlaysAt, StandsAt, IsStanding, IsTold, IsUnderway, IsWritten, IsCutOff, past_text, expectation_of, last_exchange_lines};
-ghost use Rattle.air_world.specs.Report.{trace_lines};
-ghost use Rattle.air_world.specs.Summary.{is_quiet};
-ghost use Rattle.report_lines.specs.ReportLine.{ListLine, RoundLine, RxLine, TxLine, report_line_text, report_text};
+ghost use Rattle.runs.specs.History.{outcome_of, past_behind_ack, past_behind_round, past_behind_slot, slot_reception};
+ghost use Rattle.runs.specs.HistoryLaws.{expectation_of};
 
-mod counting;
 mod operating;
 mod report;
 mod steps;
 
-use crate::mode::{Mode, PlayFault};
 use access_ops::OpList;
-use air_channel::{Air, Got, receive};
-use air_io::{Sink, write_all};
+use air_channel::{Air, Got};
+use air_events::{Entry, EntryCursor};
 use bit_strings::{Bits, OutOfMemory};
 use command_grammar::Command;
 use q_round::{Next, Outcome, Round, RoundEnd, RoundSpec, round_laws};
 use reply_grammar::{EpcWords, Expect, Received, Reply};
-use report_lines::{SeenCounts, push_list_line, push_round_line, push_rx_line, push_tx_line};
-use scenario::{Entry, EntryCursor};
+use reply_wire::receive;
+pub(crate) use report::tell_link;
+use report_lines::{Line, Listener, PlayFault, SeenCounts};
 use std::alloc::Global;
 use std::marker::Model;
 use std::sync::ledger::Ledger;
@@ -37,91 +35,69 @@ use tag_machine::{Steps, answers_are_replies, steps_keep_tags_legal};
 /// Room for the bits of a reply: as many as the longest stream has levels.
 const BIT_ROOM: u32 = 131_968;
 
-/// Room for the longest line, which tells of the levels of the longest stream.
-const LINE_ROOM: usize = 132_100;
-
-/// What is kept of a run beside the air.
+/// What is kept of a run beside the air. What it tells, it tells a listener.
 ///
-/// A contract sees it as a record of how much is told, what is said of later exchanges, the counts of
-/// what was listed, the number of rounds and of their slots, and whether each round ended quiet.
+/// A contract sees it as a record of what is said of later exchanges, the counts of what was listed, the
+/// number of rounds, and whether there was no memory for a count.
 #[derive(Drop)]
 pub(crate) struct Run<'a, L: Ledger> {
-    mode: Mode,
     entries: EntryCursor<'a>,
     seen: SeenCounts,
     rounds: u32,
-    slots: u64,
-    quiet: bool,
+    out_of_memory: bool,
     steps: Steps<L>,
     bits: Bits,
-    line: String,
 }
 
 impl<'a, L: Ledger> Model for Run<'a, L> {
     ghost use Rattle.std.specs.Prelude.{◌≤◌};
-    ghost use Rattle.air_channel.specs.Rooms.{longest_stream};
+    ghost use Rattle.air_model.specs.Channel.{longest_stream};
     ghost use Rattle.air_world.specs.Playing.{RunValue};
 
     ghost Value = { RunValue };
 
-    ghost view = { λ a. record { mode = a.mode; entries = a.entries; seen = a.seen; rounds = a.rounds; slots = a.slots; quiet = a.quiet } };
+    ghost view = { λ a. record { entries = a.entries; seen = a.seen; rounds = a.rounds; out_of_memory = a.out_of_memory } };
 
     ghost invariant = { λ a. longest_stream ≤ a.bits.capacity };
 }
 
 impl<'a, L: Ledger> Run<'a, L> {
-    ghost use Rattle.std.specs.Prelude.{[], true};
-
     /// Begins a run on the entries of a scenario: no exchange was made, and nothing was listed.
     pub(crate) fn new(
         alloc: Global,
-        mode: Mode,
         entries: EntryCursor<'a>,
         steps: Steps<L>,
     ) -> Result<Run<'a, L>, OutOfMemory>
-        ensures { IfOk result (λ run. run ≡ record { mode = mode; entries = entries.entry; seen = []; rounds = 0; slots = 0; quiet = true }) }
+        ensures { IfOk result (λ run. run ≡ record { entries = entries.entry; seen = []; rounds = 0; out_of_memory = false }) }
     {
         let bits = Bits::new(alloc, BIT_ROOM)?;
-        let line = String::with_capacity(alloc, LINE_ROOM)?;
         Ok(Run {
-            mode,
             entries,
             seen: SeenCounts::new(alloc),
             rounds: 0,
-            slots: 0,
-            quiet: true,
+            out_of_memory: false,
             steps,
             bits,
-            line,
         })
     }
 
-    /// Sends a command, in one exchange. A trace tells of it.
-    fn send<O: Sink>(
-        &mut self,
-        air: &mut Air,
-        command: &Command,
-        out: &mut O,
-    ) -> Result<Got, PlayFault>
+    /// Sends a command, in one exchange, and tells of it.
+    fn send<R: Listener>(&mut self, air: &mut Air, command: &Command, report: &mut R) -> Got
         requires { IsUnderway 1 air.old self.old }
-        ensures plays { (origin : Origin) (past : List Item) (round slot : ℕ) → PlaysAt origin past air.old self.old
-            → PlaysAt origin (past_behind_command origin.start round slot command.now past) air.new self.new }
-        ensures seen { self.new.seen ≡ self.old.seen }
-        ensures stream { (origin : Origin) (past : List Item) (round slot : ℕ) → PlaysAt origin past air.old self.old
-            → air.new.stream ≡ heard_levels origin.start.link (next_record origin.start round slot command.now past).given }
-        ensures got { (origin : Origin) (past : List Item) (round slot : ℕ) → PlaysAt origin past air.old self.old
-            → IfOk result (λ got. got ≡ got_of (next_record origin.start round slot command.now past).given) }
-        ensures ok { (origin : Origin) (past : List Item) (round slot : ℕ) (before : List ℕ) → PlaysAt origin past air.old self.old
-            → IsWritten origin before (O.written out.old) (O.faults out.old)
-            → IfOk result (λ _. IsWritten origin (before ++ report_text (trace_lines origin.mode origin.start.link (next_record origin.start round slot command.now past))) (O.written out.new) (O.faults out.new)) }
-        ensures err { (origin : Origin) (past : List Item) (round slot : ℕ) (before : List ℕ) → PlaysAt origin past air.old self.old
-            → IsWritten origin before (O.written out.old) (O.faults out.old)
-            → IfErr result (IsCutOff origin (before ++ report_text (trace_lines origin.mode origin.start.link (next_record origin.start round slot command.now past))) (O.written out.new) (O.faults out.new)) }
+        ensures plays { (start : Start) (past : List Item) (round slot : ℕ) → PlaysAt start past air.old self.old
+            → PlaysAt start (past_behind_command start round slot command.now past) air.new self.new }
+        ensures rest { self.new ≡ record self.old { entries = self.new.entries } }
+        ensures stream { (start : Start) (past : List Item) (round slot : ℕ) → PlaysAt start past air.old self.old
+            → air.new.stream ≡ heard_levels start.link (next_record start round slot command.now past).given }
+        ensures got { (start : Start) (past : List Item) (round slot : ℕ) → PlaysAt start past air.old self.old
+            → result ≡ got_of (next_record start round slot command.now past).given }
+        ensures told { (start : Start) (past : List Item) (round slot : ℕ) (before : List ReportLine) → PlaysAt start past air.old self.old
+            → Passes R.hears before report.old report.new (before ++ exchange_lines start (next_record start round slot command.now past)) }
     {
         let entry = self.entries.next_entry(air.exchanges() + 1);
         let got = air.exchange(command, entry, &mut self.steps);
-        self.write_trace(air, out)?;
-        Ok(got)
+        tell_exchange(air, report);
+        got
     }
 
     /// The RN16 of the stream that came last, if it comes whole.
@@ -162,19 +138,20 @@ impl<'a, L: Ledger> Run<'a, L> {
     }
 
     /// Plays a round.
-    fn play_round<O: Sink>(
+    fn play_round<R: Listener>(
         &mut self,
         air: &mut Air,
         spec: &RoundSpec,
         operations: &OpList,
-        out: &mut O,
+        report: &mut R,
     ) -> Result<(), PlayFault>
-        requires told { IsTold 1 air.old self.old (O.written out.old) (O.faults out.old) }
+        requires between { IsBetweenSteps 1 air.old self.old }
+        requires enough { self.old.out_of_memory ≡ false }
         requires few { length operations.now.ops ≤ 32 }
-        ensures ok { (origin : Origin) (past : List Item) → StandsAt origin past air.old self.old (O.written out.old) (O.faults out.old)
-            → OnOk result (StandsAt origin (past_behind_round origin.start operations.now spec.now past) air.new self.new (O.written out.new) (O.faults out.new)) }
-        ensures err { (origin : Origin) (past : List Item) → StandsAt origin past air.old self.old (O.written out.old) (O.faults out.old)
-            → IfErr result (IsCutOff origin (past_text origin (past_behind_round origin.start operations.now spec.now past)) (O.written out.new) (O.faults out.new)) }
+        ensures ends { (start : Start) (past : List Item) → IsAt start past air.old self.old
+            → Ends result (StandsAt (Passes R.hears (lines_behind start past) report.old report.new) start (past_behind_round start operations.now spec.now past) air.new self.new)
+            (IsCutOff R.hears R.failed (lines_behind start past) report.old report.new (lines_behind start (past_behind_round start operations.now spec.now past))) }
+        ensures enough { OnOk result (self.new.out_of_memory ≡ false) }
     {
         round_laws();
         prove!(spec.limit() <= 70000);
@@ -182,184 +159,145 @@ impl<'a, L: Ledger> Run<'a, L> {
         let (mut round, mut command) = Round::start(spec, air.link());
         'slots: loop {
             let slot = round.slots_sent();
-            let outcome = self.play_slot(air, number, slot, &command, operations, out)?;
+            let outcome = self.play_slot(air, number, slot, &command, operations, report);
+            self.check(report)?;
             match round.next(outcome) {
                 Next::Send(next) => command = next,
-                Next::Quiet => return self.end_round(number, RoundEnd::Quiet, slot, out),
-                Next::Limit => return self.end_round(number, RoundEnd::Limit, slot, out),
+                Next::Quiet => {
+                    self.end_round(number, RoundEnd::Quiet, slot, report);
+                    return Ok(());
+                }
+                Next::Limit => {
+                    self.end_round(number, RoundEnd::Limit, slot, report);
+                    return Ok(());
+                }
             }
         }
     }
 
+    /// The run goes on, unless the listener has met a fault or there was no memory for a count.
+    pub(crate) fn check<R: Listener>(&self, report: &R) -> Result<(), PlayFault>
+        ensures enough { OnOk result (self.now.out_of_memory ≡ false) }
+        ensures faultless { OnOk result (R.failed report.now ≡ None) }
+        ensures cause { IfErr result (λ fault. (R.failed report.now ≡ Some fault) ⊎ (fault ≡ PlayFault.OutOfMemory)) }
+    {
+        if let Some(fault) = report.fault() {
+            return Err(fault);
+        }
+        if self.out_of_memory {
+            return Err(PlayFault::OutOfMemory);
+        }
+        Ok(())
+    }
+
     /// Counts the end of a round, and tells of it.
-    fn end_round<O: Sink>(
-        &mut self,
-        number: u32,
-        end: RoundEnd,
-        slots: u32,
-        out: &mut O,
-    ) -> Result<(), PlayFault>
-        requires { self.old.slots < 2 ^ 63 }
-        ensures rest { self.new ≡ record self.old { rounds = number; slots = self.old.slots + slots; quiet = self.old.quiet && is_quiet end } }
-        ensures ok { (origin : Origin) (before : List ℕ) → IsWritten origin before (O.written out.old) (O.faults out.old)
-            → OnOk result (IsWritten origin (before ++ report_line_text (RoundLine number end slots)) (O.written out.new) (O.faults out.new)) }
-        ensures err { (origin : Origin) (before : List ℕ) → IsWritten origin before (O.written out.old) (O.faults out.old)
-            → IfErr result (IsCutOff origin (before ++ report_line_text (RoundLine number end slots)) (O.written out.new) (O.faults out.new)) }
+    fn end_round<R: Listener>(&mut self, number: u32, end: RoundEnd, slots: u32, report: &mut R)
+        ensures rest { self.new ≡ record self.old { rounds = number } }
+        ensures told { (before : List ReportLine) → Passes R.hears before report.old report.new (before ++ RoundLine number end slots ∷ []) }
     {
         self.rounds = number;
-        self.slots += u64::from(slots);
-        self.quiet = self.quiet && matches!(end, RoundEnd::Quiet);
-        self.line.clear();
-        push_round_line(&mut self.line, number, end, slots)?;
-        write_text(&self.line, out)
+        report.tell(&Line::Round {
+            round: number,
+            end,
+            slots,
+        });
     }
 
     /// Plays a slot, which begins with this slot command: after a whole RN16 the interrogator sends an ACK with it,
     /// and does the operations of the round with the tag that it lists.
-    fn play_slot<O: Sink>(
+    fn play_slot<R: Listener>(
         &mut self,
         air: &mut Air,
         round: u32,
         slot: u32,
         command: &Command,
         operations: &OpList,
-        out: &mut O,
-    ) -> Result<Outcome, PlayFault>
-        requires standing { IsStanding 131 air.old self.old (O.written out.old) (O.faults out.old) }
+        report: &mut R,
+    ) -> Outcome
+        requires underway { IsUnderway 131 air.old self.old }
+        requires enough { self.old.out_of_memory ≡ false }
         requires few { length operations.now.ops ≤ 32 }
         requires expects { expectation_of command.now ≡ Some Expect.Rn16 }
-        ensures ok { (origin : Origin) (past : List Item) → StandsAt origin past air.old self.old (O.written out.old) (O.faults out.old)
-            → IfOk result (λ _. StandsAt origin (past_behind_slot origin.start operations.now round slot command.now past) air.new self.new (O.written out.new) (O.faults out.new)) }
-        ensures outcome { (origin : Origin) (past : List Item) → StandsAt origin past air.old self.old (O.written out.old) (O.faults out.old)
-            → IfOk result (λ outcome. outcome ≡ outcome_of (slot_reception origin.start round slot command.now past)) }
-        ensures err { (origin : Origin) (past : List Item) → StandsAt origin past air.old self.old (O.written out.old) (O.faults out.old)
-            → IfErr result (IsCutOff origin (past_text origin (past_behind_slot origin.start operations.now round slot command.now past)) (O.written out.new) (O.faults out.new)) }
+        ensures stands { (start : Start) (past : List Item) → IsAt start past air.old self.old
+            → StandsAt (Passes R.hears (lines_behind start past) report.old report.new) start (past_behind_slot start operations.now round slot command.now past) air.new self.new }
+        ensures outcome { (start : Start) (past : List Item) → IsAt start past air.old self.old
+            → result ≡ outcome_of (slot_reception start round slot command.now past) }
     {
         answers_are_replies();
         steps_keep_tags_legal();
-        match self.send(air, command, out)? {
-            Got::Silence => Ok(Outcome::Silence),
+        match self.send(air, command, report) {
+            Got::Silence => Outcome::Silence,
             Got::Stream => match self.hear_rn16(air) {
-                None => Ok(Outcome::Refused),
+                None => Outcome::Refused,
                 Some(rn) => {
-                    self.acknowledge(air, round, slot, rn, operations, out)?;
-                    Ok(Outcome::Whole)
+                    self.acknowledge(air, round, slot, rn, operations, report);
+                    Outcome::Whole
                 }
             },
         }
     }
 
     /// Sends an ACK, lists the tag whose EPC comes whole, and does the operations of the round with it.
-    fn acknowledge<O: Sink>(
+    fn acknowledge<R: Listener>(
         &mut self,
         air: &mut Air,
         round: u32,
         slot: u32,
         rn: u16,
         operations: &OpList,
-        out: &mut O,
-    ) -> Result<(), PlayFault>
-        requires standing { IsStanding 130 air.old self.old (O.written out.old) (O.faults out.old) }
+        report: &mut R,
+    )
+        requires underway { IsUnderway 130 air.old self.old }
+        requires enough { self.old.out_of_memory ≡ false }
         requires few { length operations.now.ops ≤ 32 }
-        ensures ok { (origin : Origin) (past : List Item) → StandsAt origin past air.old self.old (O.written out.old) (O.faults out.old)
-            → OnOk result (StandsAt origin (past_behind_ack origin.start operations.now round slot rn past) air.new self.new (O.written out.new) (O.faults out.new)) }
-        ensures err { (origin : Origin) (past : List Item) → StandsAt origin past air.old self.old (O.written out.old) (O.faults out.old)
-            → IfErr result (IsCutOff origin (past_text origin (past_behind_ack origin.start operations.now round slot rn past)) (O.written out.new) (O.faults out.new)) }
+        ensures { (start : Start) (past : List Item) → IsAt start past air.old self.old
+            → StandsAt (Passes R.hears (lines_behind start past) report.old report.new) start (past_behind_ack start operations.now round slot rn past) air.new self.new }
     {
         answers_are_replies();
         steps_keep_tags_legal();
         let ack = Command::Ack { rn };
-        match self.send(air, &ack, out)? {
-            Got::Silence => Ok(()),
+        match self.send(air, &ack, report) {
+            Got::Silence => {}
             Got::Stream => match self.hear_epc(air) {
-                None => Ok(()),
+                None => {}
                 Some((pc, epc)) => {
-                    self.list(round, slot, pc, &epc, out)?;
-                    self.operate(air, round, slot, operations, &epc, rn, out)
+                    self.list(round, slot, pc, &epc, report);
+                    self.operate(air, round, slot, operations, &epc, rn, report);
                 }
             },
         }
     }
 
     /// Lists a tag.
-    fn list<O: Sink>(
-        &mut self,
-        round: u32,
-        slot: u32,
-        pc: u16,
-        epc: &EpcWords,
-        out: &mut O,
-    ) -> Result<(), PlayFault>
+    fn list<R: Listener>(&mut self, round: u32, slot: u32, pc: u16, epc: &EpcWords, report: &mut R)
         requires { count_of self.old.seen (pc, epc.now) < 2 ^ 63 }
-        ensures rest { self.new ≡ record self.old { seen = self.new.seen } }
-        ensures seen { (pairs : List (ℕ × List ℕ)) → self.old.seen ≡ seen_in pairs → OnOk result (self.new.seen ≡ seen_in (pairs ++ (pc, epc.now) ∷ [])) }
-        ensures ok { (origin : Origin) (before : List ℕ) → IsWritten origin before (O.written out.old) (O.faults out.old)
-            → OnOk result (IsWritten origin (before ++ report_line_text (ListLine round slot pc epc.now)) (O.written out.new) (O.faults out.new)) }
-        ensures err { (origin : Origin) (before : List ℕ) → IsWritten origin before (O.written out.old) (O.faults out.old)
-            → IfErr result (IsCutOff origin (before ++ report_line_text (ListLine round slot pc epc.now)) (O.written out.new) (O.faults out.new)) }
+        ensures rest { self.new ≡ record self.old { seen = self.new.seen; out_of_memory = self.new.out_of_memory } }
+        ensures seen { (pairs : List (ℕ × List ℕ)) → self.old.seen ≡ seen_in pairs → self.new.out_of_memory ≡ false → self.new.seen ≡ seen_in (pairs ++ (pc, epc.now) ∷ []) }
+        ensures told { (before : List ReportLine) → Passes R.hears before report.old report.new (before ++ ListLine round slot pc epc.now ∷ []) }
     {
-        self.seen.count(pc, epc)?;
-        self.line.clear();
-        push_list_line(&mut self.line, round, slot, pc, epc)?;
-        write_text(&self.line, out)
-    }
-
-    /// In a trace, tells of the last exchange.
-    fn write_trace<O: Sink>(&mut self, air: &Air, out: &mut O) -> Result<(), PlayFault>
-        ensures same { self.new ≡ self.old }
-        ensures ok { (origin : Origin) (before : List ℕ) → IsWritten origin before (O.written out.old) (O.faults out.old)
-            → OnOk result (IsWritten origin (before ++ report_text (last_exchange_lines self.old.mode air.now)) (O.written out.new) (O.faults out.new)) }
-        ensures err { (origin : Origin) (before : List ℕ) → IsWritten origin before (O.written out.old) (O.faults out.old)
-            → IfErr result (IsCutOff origin (before ++ report_text (last_exchange_lines self.old.mode air.now)) (O.written out.new) (O.faults out.new)) }
-    {
-        match self.mode {
-            Mode::Plain => Ok(()),
-            Mode::Trace => {
-                self.write_frame(air, out)?;
-                self.write_stream(air, out)
-            }
+        if self.seen.count(pc, epc).is_err() {
+            self.out_of_memory = true;
         }
-    }
-
-    /// Tells of the frame that was sent last.
-    fn write_frame<O: Sink>(&mut self, air: &Air, out: &mut O) -> Result<(), PlayFault>
-        ensures same { self.new ≡ self.old }
-        ensures ok { (origin : Origin) (before : List ℕ) → IsWritten origin before (O.written out.old) (O.faults out.old)
-            → OnOk result (IsWritten origin (before ++ report_line_text (TxLine air.now.exchanges air.now.frame)) (O.written out.new) (O.faults out.new)) }
-        ensures err { (origin : Origin) (before : List ℕ) → IsWritten origin before (O.written out.old) (O.faults out.old)
-            → IfErr result (IsCutOff origin (before ++ report_line_text (TxLine air.now.exchanges air.now.frame)) (O.written out.new) (O.faults out.new)) }
-    {
-        self.line.clear();
-        push_tx_line(&mut self.line, air.exchanges(), air.intervals().as_slice())?;
-        write_text(&self.line, out)
-    }
-
-    /// Tells of the stream that came last.
-    fn write_stream<O: Sink>(&mut self, air: &Air, out: &mut O) -> Result<(), PlayFault>
-        ensures same { self.new ≡ self.old }
-        ensures ok { (origin : Origin) (before : List ℕ) → IsWritten origin before (O.written out.old) (O.faults out.old)
-            → OnOk result (IsWritten origin (before ++ report_line_text (RxLine air.now.exchanges air.now.replies air.now.stream)) (O.written out.new) (O.faults out.new)) }
-        ensures err { (origin : Origin) (before : List ℕ) → IsWritten origin before (O.written out.old) (O.faults out.old)
-            → IfErr result (IsCutOff origin (before ++ report_line_text (RxLine air.now.exchanges air.now.replies air.now.stream)) (O.written out.new) (O.faults out.new)) }
-    {
-        self.line.clear();
-        push_rx_line(
-            &mut self.line,
-            air.exchanges(),
-            air.replies(),
-            air.stream().as_slice(),
-        )?;
-        write_text(&self.line, out)
+        report.tell(&Line::List {
+            round,
+            slot,
+            pc,
+            epc,
+        });
     }
 }
 
-/// Writes a text, as one piece.
-fn write_text<O: Sink>(text: &String, out: &mut O) -> Result<(), PlayFault>
-    ensures ok { (origin : Origin) (before : List ℕ) → IsWritten origin before (O.written out.old) (O.faults out.old)
-        → OnOk result (IsWritten origin (before ++ string_bytes text.now) (O.written out.new) (O.faults out.new)) }
-    ensures err { (origin : Origin) (before : List ℕ) → IsWritten origin before (O.written out.old) (O.faults out.old)
-        → IfErr result (IsCutOff origin (before ++ string_bytes text.now) (O.written out.new) (O.faults out.new)) }
+/// Tells of the last exchange: the frame that was sent, and the stream that came.
+fn tell_exchange<R: Listener>(air: &Air, report: &mut R)
+    ensures { (before : List ReportLine) → Passes R.hears before report.old report.new (before ++ last_exchange_lines air.now) }
 {
-    write_all(out, text.as_bytes())?;
-    Ok(())
+    report.tell(&Line::Tx {
+        exchange: air.exchanges(),
+        intervals: air.intervals().as_slice(),
+    });
+    report.tell(&Line::Rx {
+        exchange: air.exchanges(),
+        count: air.replies(),
+        levels: air.stream().as_slice(),
+    });
 }

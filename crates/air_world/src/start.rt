@@ -1,6 +1,7 @@
 //! The air of a scenario.
 ghost use Rattle.std.specs.Prelude.{◌≡◌, All, IfOk, map};
-ghost use Rattle.air_world.specs.ScenarioStart.{new_air, start_of, tag_of};
+ghost use Rattle.air_world.specs.NewAir.{new_air};
+ghost use Rattle.runs.specs.ScenarioStart.{start_of, tag_of};
 ghost use Rattle.scenario.specs.Limits.{IsScenario};
 ghost use Rattle.scenario_lines.specs.TagForm.{IsTag};
 ghost use Rattle.tag_machine.specs.Hearing.{tag_value_of};

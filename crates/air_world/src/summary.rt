@@ -1,36 +1,77 @@
 //! What a run counts.
-ghost use Rattle.std.specs.Prelude.{◌≡◌, IfErr, IfOk};
-ghost use Rattle.air_world.specs.ScenarioStart.{new_air, start_of};
-ghost use Rattle.air_world.specs.Summary.{summary_of};
-ghost use Rattle.air_world.specs.declared.mode.PlayFault.TheVariants.{OutOfMemory as NoMemory};
+ghost use Rattle.std.specs.Prelude.{◌≡◌, ◌+◌, ◌-◌, ◌^◌, ◌&&◌, min, IfOk, OnOk};
+ghost use Rattle.air_world.specs.Counting.{nothing_counted};
+ghost use Rattle.runs.specs.CompleteRounds.{RoundsAreComplete};
+ghost use Rattle.runs.specs.Summary.{is_quiet, summary_of};
 ghost use Rattle.scenario.specs.Limits.{IsScenario};
 
-use crate::mode::{Mode, PlayFault};
-use crate::run::Run;
+use crate::playing::tell_run;
 use crate::start::set_up;
-use air_channel::Air;
-use air_io::SureSink;
 use bit_strings::OutOfMemory;
-use q_round::round_laws;
-use scenario::{EntryCursor, Scenario, empty_entry};
+use q_round::{RoundEnd, round_laws};
+use report_lines::{Line, Listener, PlayFault};
+use runs::{Summary, rounds_are_complete};
+use scenario::Scenario;
 use std::alloc::{AllocError, Global};
 use std::marker::Brand;
-use std::sync::ledger::{Blank, Ledger};
-use tag_machine::Steps;
+use std::sync::ledger::Blank;
 
-/// What a run counted.
-#[derive(Clone, Copy, Debug, PartialEq, Eq)]
-pub struct Summary {
-    /// How many tags there are.
-    pub tags: u32,
-    /// How often a tag was listed.
-    pub listed: u64,
-    /// How many different pairs of PC and EPC were listed.
-    pub distinct: u64,
-    /// How many slot commands all rounds had.
-    pub slots: u64,
-    /// Each round ended quiet, none by its limit.
-    pub quiet: bool,
+/// Counts what a run tells. It formats nothing, and meets no fault.
+#[derive(Drop)]
+pub(crate) struct Counting {
+    summary: Summary,
+}
+
+impl Counting {
+    /// Nothing was told yet.
+    fn new() -> Counting
+        ensures { result.summary ≡ nothing_counted }
+    {
+        Counting {
+            summary: Summary {
+                tags: 0,
+                listed: 0,
+                distinct: 0,
+                slots: 0,
+                quiet: true,
+            },
+        }
+    }
+}
+
+/// Counts a round more, which ended so and had so many slots.
+fn count_round(counted: &mut Summary, end: RoundEnd, slots: u32)
+    ensures { counted.new ≡ record counted.old { slots = min (counted.old.slots + slots) (2 ^ 64 - 1); quiet = counted.old.quiet && is_quiet end } }
+{
+    counted.slots = counted.slots.saturating_add(u64::from(slots));
+    counted.quiet = counted.quiet && matches!(end, RoundEnd::Quiet);
+}
+
+impl Listener for Counting {
+    ghost use Rattle.std.specs.Prelude.{None};
+    ghost use Rattle.air_world.specs.Counting.{Counts};
+    ghost use Rattle.air_world.specs.CountingLaws.{counts-nothing};
+
+    ghost hears = { λ first lines later. Counts lines first.summary later.summary };
+
+    ghost failed = { λ counting. None };
+
+    fn tell(&mut self, line: &Line<'_>) {
+        let counted = &mut self.summary;
+        match *line {
+            Line::List { .. } => counted.listed = counted.listed.saturating_add(1),
+            Line::Round { end, slots, .. } => count_round(counted, end, slots),
+            Line::Seen { .. } => counted.distinct = counted.distinct.saturating_add(1),
+            Line::Tag { .. } => counted.tags = counted.tags.saturating_add(1),
+            _ => {}
+        }
+    }
+
+    fn fault(&self) -> Option<PlayFault> {
+        None
+    }
+
+    ghost nothing = { λ counting. counts-nothing counting.summary };
 }
 
 /// Plays a scenario on an air of its own and counts what its report would tell. Nothing is written.
@@ -40,38 +81,17 @@ pub struct Summary {
 /// There was no memory.
 pub fn summarise(alloc: Global, scenario: &Scenario) -> Result<Summary, OutOfMemory>
     requires { IsScenario scenario.now }
-    ensures { IfOk result (λ summary. summary ≡ summary_of scenario.now) }
-{
-    let mut air = set_up(alloc, scenario)?;
-    match count_run::<Brand>(Blank::new(1), alloc, scenario, &mut air) {
-        Ok(summary) => Ok(summary),
-        Err(PlayFault::OutOfMemory) => Err(AllocError),
-        // A sink that takes everything never fails.
-        Err(PlayFault::Write) => unreachable!(),
-    }
-}
-
-/// Plays a scenario on its air, to which no command was sent yet, with the ledger of the blank for the
-/// counter of steps.
-fn count_run<L: Ledger>(
-    blank: Blank,
-    alloc: Global,
-    scenario: &Scenario,
-    air: &mut Air,
-) -> Result<Summary, PlayFault>
-    requires name { blank.name ≡ L.name }
-    requires parts { blank.parts ≡ L.parts }
-    requires one { blank.parts ≡ 1 }
-    requires scenario { IsScenario scenario.now }
-    requires fresh { air.old ≡ new_air (start_of scenario.now) }
-    ensures ok { IfOk result (λ summary. summary ≡ summary_of scenario.now) }
-    ensures err { IfErr result (λ fault. fault ≡ NoMemory) }
+    ensures counts { IfOk result (λ summary. summary ≡ summary_of scenario.now) }
+    ensures inventory { OnOk result (RoundsAreComplete scenario.now) }
 {
     round_laws();
-    let tags = air.len();
-    let empty = empty_entry(alloc);
-    let entries = EntryCursor::new(scenario.entries.as_slice(), &empty);
-    let mut run = Run::<L>::new(alloc, Mode::Plain, entries, Steps::new(blank))?;
-    run.play_steps(air, scenario.steps.as_slice(), &mut SureSink::new())?;
-    Ok(run.summary(tags))
+    rounds_are_complete();
+    let mut air = set_up(alloc, scenario)?;
+    let mut counting = Counting::new();
+    match tell_run::<Brand, Counting>(Blank::new(1), alloc, scenario, &mut air, &mut counting) {
+        Ok(()) => Ok(counting.summary),
+        Err(PlayFault::OutOfMemory) => Err(AllocError),
+        // Who only counts meets no fault.
+        Err(PlayFault::Write) => unreachable!(),
+    }
 }

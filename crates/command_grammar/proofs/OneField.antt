@@ -2,8 +2,8 @@
 use Rattle.std.proofs.Common.{◌≡◌, ℕ, ◌+◌, ◌-◌, ◌<◌, ◌≤◌, Bool, List, [], ◌∷◌, ◌++◌, length, sym, ap, ◌∙◌, length-append, arith}
 use Rattle.std.specs.Prelude.{Some}
 use Rattle.command_grammar.specs.declared.refusal.Reason.{Reason}
-use Rattle.command_grammar.specs.Commands.{Part, bits_of, StandsIn}
-use Rattle.command_grammar.proofs.Behind.{bits_of-append}
+use Rattle.command_grammar.specs.Commands.{Part, bits_of, IsInField}
+use Rattle.command_grammar.proofs.reading.FieldsInOrder.{bits_of-append}
 
 -- two splits of one list of fields, with the place in the field of each
 one_field : (before others : List Part) (field other : Part) (behind more : List Part) (place : ℕ) → (before ++ field ∷ []) ++ behind ≡ (others ++ other ∷ []) ++ more
@@ -24,7 +24,7 @@ one_field (p ∷ before) (q ∷ others) field other behind more place same from 
     one_field before others field other behind more (place - length p.bits) tail (omega arith) (omega arith) (omega arith) (omega arith)
 
 -- so the field there has one name
-pub one_name : (parts : List Part) (place : ℕ) (one other : Reason) → StandsIn parts place one → StandsIn parts place other → one ≡ other
+pub one_name : (parts : List Part) (place : ℕ) (one other : Reason) → IsInField parts place one → IsInField parts place other → one ≡ other
 one_name parts place one other left right =
     let same : left.field ≡ right.field =
     one_field left.before right.before left.field right.field left.behind right.behind place (sym left.whole ∙ right.whole) left.from left.upto right.from right.upto in
@@ -34,7 +34,7 @@ one_name parts place one other left right =
     in_some e = cc
 
 -- ... and is a place of the command
-pub stands_inside : (parts : List Part) (place : ℕ) (reason : Reason) → StandsIn parts place reason → place < length (bits_of parts)
+pub stands_inside : (parts : List Part) (place : ℕ) (reason : Reason) → IsInField parts place reason → place < length (bits_of parts)
 stands_inside parts place reason stands =
     omega (
       arith,

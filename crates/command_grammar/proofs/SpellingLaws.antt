@@ -8,11 +8,11 @@ use Rattle.bit_strings.specs.Family.{Begins, IsBadAt, IsShortAt}
 use Rattle.command_grammar.specs.declared.commands.Command.{Command}
 use Rattle.command_grammar.specs.declared.refusal.CommandRefusal.{CommandRefusal}
 use Rattle.command_grammar.specs.declared.refusal.CommandRefusal.TheVariants as refusals
-use Rattle.command_grammar.specs.Framing.{Keeps}
-use Rattle.command_grammar.specs.declared.state.State.{State}
-use Rattle.command_grammar.specs.Reading.{Stop, Short, Bad, all_of}
+use Rattle.command_grammar.specs.reading.Readers.{Stop, Short, Bad, all_of}
+use Rattle.command_grammar.specs.reading.Framing.{Keeps}
+use Rattle.command_grammar.specs.declared.reader.state.State.{State}
 use Rattle.command_grammar.specs.Commands.{spelling_of, SpellsCommand, Spellings, IsCommandRefusedAt, IsFinishAnswer}
-use Rattle.command_grammar.proofs.Verdict.{same_command, all_whole, all_short, all_bad, all_named}
+use Rattle.command_grammar.proofs.reading.WholeReading.{same_command, all_whole, all_short, all_bad, all_named}
 
 pub one_command : (c d : Command) (bits : List Bool) → SpellsCommand c bits → SpellsCommand d bits → c ≡ d
 one_command c d bits left right =

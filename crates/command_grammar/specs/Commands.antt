@@ -8,8 +8,8 @@ use Rattle.bit_strings.specs.Family.{IsBadAt, IsShortAt}
 use Rattle.bit_strings.specs.declared.code.Code.{Code}
 use Rattle.bit_strings.specs.declared.code.Code.TheVariants.{Fm0, M2, M4, M8}
 use Rattle.gen2_crc.specs.Crc.{crc5_of, crc16_of}
-use Rattle.command_grammar.specs.declared.choices.CommandKind.{CommandKind}
-use Rattle.command_grammar.specs.declared.choices.CommandKind.TheVariants as kinds
+use Rattle.command_grammar.specs.declared.kinds.CommandKind.{CommandKind}
+use Rattle.command_grammar.specs.declared.kinds.CommandKind.TheVariants as kinds
 use Rattle.command_grammar.specs.declared.field_values.Sel.{Sel}
 use Rattle.command_grammar.specs.declared.field_values.Sel.TheVariants as sels
 use Rattle.command_grammar.specs.declared.field_values.Side.{Side}
@@ -61,11 +61,11 @@ abbrev pub digit : Bool → List Bool
 digit bit = bit ∷ []
 
 -- 6.3.2.11.2.1 Query, M
-abbrev pub bits_of_code : Code → List Bool
-bits_of_code Fm0 = false ∷ false ∷ []
-bits_of_code M2 = false ∷ true ∷ []
-bits_of_code M4 = true ∷ false ∷ []
-bits_of_code M8 = true ∷ true ∷ []
+abbrev pub bits_of_m : Code → List Bool
+bits_of_m Fm0 = false ∷ false ∷ []
+bits_of_m M2 = false ∷ true ∷ []
+bits_of_m M4 = true ∷ false ∷ []
+bits_of_m M8 = true ∷ true ∷ []
 
 -- 6.3.2.11.2.1 Query, Sel
 abbrev pub bits_of_sel : Sel → List Bool
@@ -75,9 +75,9 @@ bits_of_sel sels.NotSl = true ∷ false ∷ []
 bits_of_sel sels.Sl = true ∷ true ∷ []
 
 -- 6.3.2.11.2.1 Query, Target
-abbrev pub bits_of_side : Side → List Bool
-bits_of_side A = false ∷ []
-bits_of_side B = true ∷ []
+abbrev pub bits_of_query_target : Side → List Bool
+bits_of_query_target A = false ∷ []
+bits_of_query_target B = true ∷ []
 
 -- 6.3.2.11.2.2 QueryAdjust, UpDn
 abbrev pub bits_of_updn : UpDn → List Bool
@@ -86,12 +86,12 @@ bits_of_updn Same = false ∷ false ∷ false ∷ []
 bits_of_updn Down = false ∷ true ∷ true ∷ []
 
 -- 6.3.2.11.1.1 Select, Target
-abbrev pub bits_of_target : FlagName → List Bool
-bits_of_target flags.S0 = false ∷ false ∷ false ∷ []
-bits_of_target flags.S1 = false ∷ false ∷ true ∷ []
-bits_of_target flags.S2 = false ∷ true ∷ false ∷ []
-bits_of_target flags.S3 = false ∷ true ∷ true ∷ []
-bits_of_target flags.Sl = true ∷ false ∷ false ∷ []
+abbrev pub bits_of_select_target : FlagName → List Bool
+bits_of_select_target flags.S0 = false ∷ false ∷ false ∷ []
+bits_of_select_target flags.S1 = false ∷ false ∷ true ∷ []
+bits_of_select_target flags.S2 = false ∷ true ∷ false ∷ []
+bits_of_select_target flags.S3 = false ∷ true ∷ true ∷ []
+bits_of_select_target flags.Sl = true ∷ false ∷ false ∷ []
 
 -- 6.3.2.11.1.1 Select, MemBank; profile: no mask is compared with the Reserved bank
 abbrev pub bits_of_mask_bank : MaskBank → List Bool
@@ -130,36 +130,37 @@ code_of kinds.Access = binary (codes "11000110")
 code_of kinds.BlockWrite = binary (codes "11000111")
 code_of kinds.BlockErase = binary (codes "11001000")
 
-abbrev pub code : CommandKind → List Part
-code kind = named_field reasons.Code (code_of kind)
+-- ... as the first field of a command
+abbrev pub code_field : CommandKind → List Part
+code_field kind = named_field reasons.Code (code_of kind)
 
 -- 6.3.2.11 Table 6.18 and the table of each command: its fields in order. Profile: Truncate is 0, and the three bits
 -- of a Kill behind the half are 000.
 abbrev pub parts_of : Command → List Part
-parts_of (QueryRep session) = code kinds.QueryRep ++ plain_field (field_of session 2)
-parts_of (Ack rn) = code kinds.Ack ++ plain_field (field_of rn 16)
-parts_of (Query dr line_code trext sel session target q) =
-    with_crc5 (code kinds.Query ++ plain_field (digit dr) ++ plain_field (bits_of_code line_code) ++ plain_field (digit trext) ++ plain_field (bits_of_sel sel)
-    ++ plain_field (field_of session 2) ++ plain_field (bits_of_side target) ++ plain_field (field_of q 4))
-parts_of (QueryAdjust session updn) = code kinds.QueryAdjust ++ plain_field (field_of session 2) ++ named_field reasons.UpDn (bits_of_updn updn)
+parts_of (QueryRep session) = code_field kinds.QueryRep ++ plain_field (field_of session 2)
+parts_of (Ack rn) = code_field kinds.Ack ++ plain_field (field_of rn 16)
+parts_of (Query dr m trext sel session target q) =
+    with_crc5 (code_field kinds.Query ++ plain_field (digit dr) ++ plain_field (bits_of_m m) ++ plain_field (digit trext) ++ plain_field (bits_of_sel sel)
+    ++ plain_field (field_of session 2) ++ plain_field (bits_of_query_target target) ++ plain_field (field_of q 4))
+parts_of (QueryAdjust session updn) = code_field kinds.QueryAdjust ++ plain_field (field_of session 2) ++ named_field reasons.UpDn (bits_of_updn updn)
 parts_of (Select target action bank pointer mask) =
-    with_crc16 (code kinds.Select ++ named_field reasons.Target (bits_of_target target) ++ plain_field (field_of action 3) ++ named_field reasons.Bank (bits_of_mask_bank bank)
+    with_crc16 (code_field kinds.Select ++ named_field reasons.Target (bits_of_select_target target) ++ plain_field (field_of action 3) ++ named_field reasons.Bank (bits_of_mask_bank bank)
     ++ named_field reasons.Ebv (ebv_of pointer) ++ plain_field (field_of (length mask) 8) ++ plain_field mask ++ named_field reasons.Truncate (false ∷ []))
-parts_of Nak = code kinds.Nak
-parts_of (ReqRn rn) = with_crc16 (code kinds.ReqRn ++ plain_field (field_of rn 16))
+parts_of Nak = code_field kinds.Nak
+parts_of (ReqRn rn) = with_crc16 (code_field kinds.ReqRn ++ plain_field (field_of rn 16))
 parts_of (Read bank pointer count rn) =
-    with_crc16 (code kinds.Read ++ plain_field (bits_of_bank bank) ++ named_field reasons.Ebv (ebv_of pointer) ++ plain_field (field_of count 8) ++ plain_field (field_of rn 16))
+    with_crc16 (code_field kinds.Read ++ plain_field (bits_of_bank bank) ++ named_field reasons.Ebv (ebv_of pointer) ++ plain_field (field_of count 8) ++ plain_field (field_of rn 16))
 parts_of (Write bank pointer covered rn) =
-    with_crc16 (code kinds.Write ++ plain_field (bits_of_bank bank) ++ named_field reasons.Ebv (ebv_of pointer) ++ plain_field (field_of covered 16) ++ plain_field (field_of rn 16))
+    with_crc16 (code_field kinds.Write ++ plain_field (bits_of_bank bank) ++ named_field reasons.Ebv (ebv_of pointer) ++ plain_field (field_of covered 16) ++ plain_field (field_of rn 16))
 parts_of (Kill covered rn) =
-    with_crc16 (code kinds.Kill ++ plain_field (field_of covered 16) ++ named_field reasons.KillBits (false ∷ false ∷ false ∷ []) ++ plain_field (field_of rn 16))
-parts_of (Lock payload rn) = with_crc16 (code kinds.Lock ++ plain_field (field_of payload 20) ++ plain_field (field_of rn 16))
-parts_of (Access covered rn) = with_crc16 (code kinds.Access ++ plain_field (field_of covered 16) ++ plain_field (field_of rn 16))
+    with_crc16 (code_field kinds.Kill ++ plain_field (field_of covered 16) ++ named_field reasons.KillBits (false ∷ false ∷ false ∷ []) ++ plain_field (field_of rn 16))
+parts_of (Lock payload rn) = with_crc16 (code_field kinds.Lock ++ plain_field (field_of payload 20) ++ plain_field (field_of rn 16))
+parts_of (Access covered rn) = with_crc16 (code_field kinds.Access ++ plain_field (field_of covered 16) ++ plain_field (field_of rn 16))
 parts_of (BlockWrite bank pointer words rn) =
-    with_crc16 (code kinds.BlockWrite ++ plain_field (bits_of_bank bank) ++ named_field reasons.Ebv (ebv_of pointer) ++ named_field reasons.Count (field_of (length words) 8)
+    with_crc16 (code_field kinds.BlockWrite ++ plain_field (bits_of_bank bank) ++ named_field reasons.Ebv (ebv_of pointer) ++ named_field reasons.Count (field_of (length words) 8)
     ++ plain_field (bits_of_words words) ++ plain_field (field_of rn 16))
 parts_of (BlockErase bank pointer count rn) =
-    with_crc16 (code kinds.BlockErase ++ plain_field (bits_of_bank bank) ++ named_field reasons.Ebv (ebv_of pointer) ++ named_field reasons.Count (field_of count 8) ++ plain_field (field_of rn 16))
+    with_crc16 (code_field kinds.BlockErase ++ plain_field (bits_of_bank bank) ++ named_field reasons.Ebv (ebv_of pointer) ++ named_field reasons.Count (field_of count 8) ++ plain_field (field_of rn 16))
 
 -- the one spelling of a command
 abbrev pub spelling_of : Command → List Bool
@@ -169,11 +170,11 @@ spelling_of command = bits_of (parts_of command)
 abbrev pub IsWord : ℕ → Type 0
 IsWord number = number < 2 ^ 16
 
--- Each number is within its field. A place is below 2 ^ 28, since an extensible bit vector has at most four blocks (profile).
+-- Each number is within its field. A pointer is below 2 ^ 28, since an extensible bit vector has at most four blocks (profile).
 abbrev pub IsLegalCommand : Command → Type 0
 IsLegalCommand (QueryRep session) = session ≤ 3
 IsLegalCommand (Ack rn) = IsWord rn
-IsLegalCommand (Query dr line_code trext sel session target q) = (session ≤ 3) × (q ≤ 15)
+IsLegalCommand (Query dr m trext sel session target q) = (session ≤ 3) × (q ≤ 15)
 IsLegalCommand (QueryAdjust session updn) = session ≤ 3
 IsLegalCommand (Select target action bank pointer mask) = (action ≤ 7) × (pointer < 2 ^ 28) × (length mask ≤ 255)
 IsLegalCommand Nak = Unit {0}
@@ -196,7 +197,7 @@ abbrev pub Spellings : List Bool → Type 0
 Spellings bits = (command : Command) × SpellsCommand command bits
 
 -- the bit at the place stands in a field that may be refused for the reason
-pub record StandsIn (parts : List Part) (place : ℕ) (reason : Reason) : Type 0 where
+pub record IsInField (parts : List Part) (place : ℕ) (reason : Reason) : Type 0 where
   pub before : List Part
   pub field : Part
   pub behind : List Part
@@ -211,7 +212,7 @@ pub record IsField (bits : List Bool) (place : ℕ) (reason : Reason) : Type 0 w
   pub legal : IsLegalCommand command
   pub more : List Bool
   pub begins : spelling_of command ≡ take place bits ++ more
-  pub stands : StandsIn (parts_of command) place reason
+  pub stands : IsInField (parts_of command) place reason
 
 -- The bits are refused at the place, for the reason: it is Extra where the bits before are a whole command, and else the
 -- field in which the bit there stands.

@@ -1,7 +1,6 @@
 pub mod Commands
-pub mod Framing
-pub mod Reading
 pub mod Writing
+pub mod reading
 pub use Rattle.bit_strings.specs.BitString
 pub use Rattle.bit_strings.specs.Ebv
 pub use Rattle.bit_strings.specs.Family

@@ -32,7 +32,7 @@ impl Default for Mask {
 }
 
 impl Mask {
-    /// The empty mask, which every tag matches that has the place it names.
+    /// The empty mask, which every tag matches that has the bit at its pointer.
     #[inline]
     pub fn new() -> Mask
         ensures { result ≡ [] }
@@ -131,7 +131,7 @@ impl BlockWords {
     }
 
     /// Adds a word at the end of a block that has room.
-    pub(crate) fn push_reserved(&mut self, word: u16)
+    pub fn push_reserved(&mut self, word: u16)
         requires { length self.old < 255 }
         ensures { self.new ≡ self.old ++ word ∷ [] }
     {

@@ -66,7 +66,7 @@ pub enum Command {
         action: Action,
         /// The bank that has the mask.
         bank: MaskBank,
-        /// The place of the mask's first bit in the bank, in bits.
+        /// Which bit of the bank the mask's first bit is compared with, counted from 0.
         pointer: Pointer,
         /// The bits.
         mask: Mask,
@@ -82,7 +82,7 @@ pub enum Command {
     Read {
         /// The bank.
         bank: Bank,
-        /// The place of the first word.
+        /// The first word, counted from 0.
         pointer: Pointer,
         /// How many words; 0 is all of them to the bank's end.
         count: u8,
@@ -93,7 +93,7 @@ pub enum Command {
     Write {
         /// The bank.
         bank: Bank,
-        /// The place of the word.
+        /// Which word, counted from 0.
         pointer: Pointer,
         /// The word, covered by the tag's last RN16.
         covered: u16,
@@ -125,7 +125,7 @@ pub enum Command {
     BlockWrite {
         /// The bank.
         bank: Bank,
-        /// The place of the first word.
+        /// The first word, counted from 0.
         pointer: Pointer,
         /// The words, as they are.
         words: BlockWords,
@@ -136,7 +136,7 @@ pub enum Command {
     BlockErase {
         /// The bank.
         bank: Bank,
-        /// The place of the first word.
+        /// The first word, counted from 0.
         pointer: Pointer,
         /// How many words.
         count: Count1,

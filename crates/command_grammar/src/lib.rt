@@ -2,27 +2,23 @@
 //! standard, version 1.2.0).
 #![tactic(auto)]
 
-mod check;
 mod choices;
 mod command_lists;
 mod commands;
-mod decoding;
 mod field_values;
-mod fields;
-mod framer;
+mod kinds;
 mod laws;
+mod reader;
 mod refusal;
 mod spelling;
-mod stage;
-mod state;
 mod writing;
 
 pub use bit_strings::{Action, Code, Count1, Payload, Pointer, QValue, Session};
 pub use command_lists::{BlockWords, Mask};
 pub use commands::Command;
-pub use decoding::{decode_command, decode_command_to};
 pub use field_values::{Bank, FlagName, MaskBank, Sel, Side, UpDn};
-pub use framer::Framer;
+pub use kinds::CommandKind;
 pub use laws::{one_outcome, one_refusal, spelling_laws};
+pub use reader::{Framer, decode_command, decode_command_to};
 pub use refusal::{CommandRefusal, Pushed, Reason};
 pub use spelling::encode_command;

@@ -56,8 +56,8 @@ pub(crate) fn put_words(out: &mut Bits, words: &[u16])
     }
 }
 
-/// Adds a bank, by its bits, and the place in it as an extensible bit vector of at most four blocks.
-pub(crate) fn put_place(out: &mut Bits, bank: [bool; 2], pointer: Pointer)
+/// Adds a bank, by its bits, and a pointer into it as an extensible bit vector of at most four blocks.
+pub(crate) fn put_pointer(out: &mut Bits, bank: [bool; 2], pointer: Pointer)
     requires { length out.old.items + 34 ≤ out.old.capacity }
     ensures items { out.new.items ≡ (out.old.items ++ bank) ++ ebv_of pointer }
     ensures count { length out.new.items ≤ length out.old.items + 34 }

@@ -36,6 +36,11 @@ abbrev pub side_word : Side → List ℕ
 side_word A = codes "a"
 side_word B = codes "b"
 
+-- Profile: ... as a letter, where the flags of a tag are written
+abbrev pub side_letter : Side → List ℕ
+side_letter A = codes "A"
+side_letter B = codes "B"
+
 -- Profile: what becomes of Q
 abbrev pub updn_word : UpDn → List ℕ
 updn_word Up = codes "up"

@@ -1,7 +1,8 @@
-//! The words that stand for the choices in a command, and for the reasons of a refusal.
-ghost use Rattle.std.specs.Prelude.{◌≡◌, [], ◌∷◌};
+//! The words that stand for the choices in a command, written and, where a text is read that has them, read; and those for the
+//! reasons of a refusal.
+ghost use Rattle.std.specs.Prelude.{◌≡◌, [], ◌∷◌, IfSome, Some};
 ghost use Rattle.text_fields.specs.Binary.{binary_digit};
-ghost use Rattle.command_text.specs.CommandText.{bank_word, flag_word, mask_bank_word, reason_word, sel_word, side_word, updn_word};
+ghost use Rattle.command_text.specs.CommandText.{bank_word, flag_word, mask_bank_word, reason_word, sel_word, side_letter, side_word, updn_word};
 
 use command_grammar::{Bank, FlagName, MaskBank, Reason, Sel, Side, UpDn};
 
@@ -34,6 +35,28 @@ pub fn side_name(side: Side) -> &'static str
     }
 }
 
+/// The value of this name of an inventoried flag.
+pub fn side_named(field: &[u8]) -> Option<Side>
+    ensures value { IfSome result (λ side. field.now ≡ side_word side) }
+    ensures only { (side : Side) → field.now ≡ side_word side → result ≡ Some side }
+{
+    match field {
+        b"a" => Some(Side::A),
+        b"b" => Some(Side::B),
+        _ => None,
+    }
+}
+
+/// The letter of an inventoried flag's value, as the flags of a tag are written.
+pub fn side_letter(side: Side) -> &'static str
+    ensures { result.now ≡ side_letter side }
+{
+    match side {
+        Side::A => "A",
+        Side::B => "B",
+    }
+}
+
 /// The name of what becomes of Q.
 pub(crate) fn updn_name(updn: UpDn) -> &'static str
     ensures { result.now ≡ updn_word updn }
@@ -58,6 +81,21 @@ pub fn flag_name(flag: FlagName) -> &'static str
     }
 }
 
+/// The flag of this name.
+pub fn flag_named(field: &[u8]) -> Option<FlagName>
+    ensures value { IfSome result (λ flag. field.now ≡ flag_word flag) }
+    ensures only { (flag : FlagName) → field.now ≡ flag_word flag → result ≡ Some flag }
+{
+    match field {
+        b"s0" => Some(FlagName::S0),
+        b"s1" => Some(FlagName::S1),
+        b"s2" => Some(FlagName::S2),
+        b"s3" => Some(FlagName::S3),
+        b"sl" => Some(FlagName::Sl),
+        _ => None,
+    }
+}
+
 /// The name of a bank that a Select compares its mask with.
 pub(crate) fn mask_bank_name(bank: MaskBank) -> &'static str
     ensures { result.now ≡ mask_bank_word bank }
@@ -66,6 +104,19 @@ pub(crate) fn mask_bank_name(bank: MaskBank) -> &'static str
         MaskBank::Epc => "epc",
         MaskBank::Tid => "tid",
         MaskBank::User => "user",
+    }
+}
+
+/// The bank of this name that a Select compares its mask with.
+pub fn mask_bank_named(field: &[u8]) -> Option<MaskBank>
+    ensures value { IfSome result (λ bank. field.now ≡ mask_bank_word bank) }
+    ensures only { (bank : MaskBank) → field.now ≡ mask_bank_word bank → result ≡ Some bank }
+{
+    match field {
+        b"epc" => Some(MaskBank::Epc),
+        b"tid" => Some(MaskBank::Tid),
+        b"user" => Some(MaskBank::User),
+        _ => None,
     }
 }
 
@@ -78,6 +129,20 @@ pub fn bank_name(bank: Bank) -> &'static str
         Bank::Epc => "epc",
         Bank::Tid => "tid",
         Bank::User => "user",
+    }
+}
+
+/// The bank of this name.
+pub fn bank_named(field: &[u8]) -> Option<Bank>
+    ensures value { IfSome result (λ bank. field.now ≡ bank_word bank) }
+    ensures only { (bank : Bank) → field.now ≡ bank_word bank → result ≡ Some bank }
+{
+    match field {
+        b"res" => Some(Bank::Reserved),
+        b"epc" => Some(Bank::Epc),
+        b"tid" => Some(Bank::Tid),
+        b"user" => Some(Bank::User),
+        _ => None,
     }
 }
 

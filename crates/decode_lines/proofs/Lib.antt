@@ -1,9 +1,10 @@
-pub mod CheckedLines
 pub mod AnsweredLines
-pub mod OneReading
-pub mod RightAnswers
-pub mod OneRequest
+pub mod AskedOrFaulty
+pub mod CheckedLines
 pub mod OneAnswer
+pub mod OneReading
+pub mod OneRequest
 pub mod OneText
+pub mod RightAnswers
 pub mod SomeAnswer
 pub mod SomeText

@@ -12,9 +12,9 @@ use Rattle.reply_grammar.specs.declared.expected.Expect.{Expect}
 use Rattle.reply_grammar.specs.declared.expected.Reply.{Reply}
 use Rattle.reply_grammar.specs.declared.expected.ReplyRefusal.{ReplyRefusal}
 use Rattle.reply_grammar.specs.declared.expected.Received.{Received}
-use Rattle.reply_grammar.specs.PassingLaws.{answers_pass}
-use Rattle.reply_grammar.specs.ReplyLaws.{one_reply, one_fault, passes_apart}
-use Rattle.air_channel.specs.ReceivedLaws.{same_bits, same_received}
+use Rattle.reply_grammar.specs.laws.Passing.{answers_pass}
+use Rattle.reply_grammar.specs.laws.Replies.{one_reply, one_fault, passes_apart}
+use Rattle.reply_wire.specs.ReceivedLaws.{same_bits, same_received}
 use Rattle.pie_line.specs.declared.frame.FrameKind.{FrameKind}
 use Rattle.pie_line.specs.declared.frame.PieRefusal.{PieRefusal}
 use Rattle.pie_line.specs.FrameLaws.{frame-one, refusal-one, refuses-no_frame}

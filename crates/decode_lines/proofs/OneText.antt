@@ -5,7 +5,8 @@ use Rattle.std.proofs.lemmas.List.{append_cancel_right}
 use Rattle.text_fields.specs.Lines.{fields_of}
 use Rattle.decode_lines.specs.Request.{request_word, HasShape, AsksForRequest, IsFaultyRequest}
 use Rattle.decode_lines.specs.Answer.{Answer, IsLineAnswer, answer_line}
-use Rattle.decode_lines.specs.DecodeLines.{IsFaultyBefore, fault_line, Decodes, IsFaultText}
+use Rattle.text_fields.specs.FaultLine.{fault_line}
+use Rattle.decode_lines.specs.DecodeLines.{IsFaultyBefore, reason_word, Decodes, IsFaultText}
 use Rattle.decode_lines.specs.declared.request.RequestKind.{RequestKind}
 use Rattle.decode_lines.specs.declared.request.Request.{Request}
 use Rattle.decode_lines.specs.declared.fault.FaultReason.{FaultReason}
@@ -120,7 +121,8 @@ same_place (l ∷ before) (m ∷ before') (r ∷ asked) (s ∷ asked') line line
     let both = same_place before before' asked asked' line line' behind behind' one other asks.1 asks'.1 rest faulty faulty' in
     (ap suc both.0, both.1)
 
-same_fault_line : (one other : DecodeFault) → one.line ≡ other.line → one.reason ≡ other.reason → fault_line one ≡ fault_line other
+same_fault_line : (one other : DecodeFault) → one.line ≡ other.line → one.reason ≡ other.reason
+    → fault_line one.line (reason_word one.reason) ≡ fault_line other.line (reason_word other.reason)
 same_fault_line one other lines reasons = rw (lines, reasons) refl
 
 -- an input has one fault line

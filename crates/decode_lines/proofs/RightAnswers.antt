@@ -14,7 +14,7 @@ use Rattle.reply_grammar.specs.declared.expected.Expect.{Expect}
 use Rattle.reply_grammar.specs.declared.expected.Reply.{Reply}
 use Rattle.reply_grammar.specs.declared.expected.ReplyRefusal.{ReplyRefusal}
 use Rattle.reply_grammar.specs.declared.expected.Received.{Received}
-use Rattle.air_channel.specs.Received.{IsReceived}
+use Rattle.reply_wire.specs.Received.{IsReceived}
 use Rattle.pie_line.specs.Pie.{IsFrame}
 use Rattle.pie_line.specs.Refusal.{RefusesFrame}
 use Rattle.pie_line.specs.declared.frame.FrameKind.{FrameKind}

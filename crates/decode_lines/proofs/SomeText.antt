@@ -1,10 +1,10 @@
 -- An input has a text: that of its first line and what stands behind it.
-use Rattle.std.proofs.Common.{◌≡◌, ◌⊎◌, ℕ, ◌+◌, List, [], ◌∷◌, ◌++◌, Result, Ok, Err, refl, ◌∙◌, ap, arith, inl, inr}
-use Rattle.std.specs.Prelude.{IfOk, IfErr}
+use Rattle.std.proofs.Common.{◌≡◌, ◌⊎◌, ℕ, ◌+◌, List, [], ◌∷◌, ◌++◌, refl, ◌∙◌, ap, arith, inl, inr}
 use Rattle.text_fields.specs.Lines.{lines_of, fields_of}
 use Rattle.decode_lines.specs.Request.{IsWithinLimits, AsksForRequest, IsFaultyRequest}
 use Rattle.decode_lines.specs.Answer.{Answer, IsLineAnswer, answer_line}
-use Rattle.decode_lines.specs.DecodeLines.{Decodes, IsFaultText, fault_line}
+use Rattle.text_fields.specs.FaultLine.{fault_line}
+use Rattle.decode_lines.specs.DecodeLines.{Decodes, IsFaultText, reason_word}
 use Rattle.decode_lines.specs.declared.fault.DecodeFault.{DecodeFault}
 use Rattle.decode_lines.specs.declared.fault.FaultReason.{FaultReason}
 use Rattle.decode_lines.specs.declared.fault.FaultReason.TheVariants.{End}
@@ -42,7 +42,7 @@ text_behind bytes line behind request answer lines asks right text (inl decodes)
 text_behind bytes line behind request answer lines asks right text (inr refused) =
     let first = refused.first in
     let fault : DecodeFault = record { line = refused.fault.line + 1; reason = refused.fault.reason } in (
-      fault_line fault,
+      fault_line fault.line (reason_word fault.reason),
       inr (record {
         fault = fault;
         first = record {
@@ -60,14 +60,14 @@ text_behind bytes line behind request answer lines asks right text (inr refused)
     )
 
 -- an input whose first line asks for something or is faulty has a text, where what stands behind it has one
-pub some_text : RequestsHaveAnswers → (bytes line behind : List ℕ) (read : Result Request FaultReason) → lines_of bytes ≡ line ∷ lines_of behind
-    → IfOk read (AsksForRequest line) → IfErr read (IsFaultyRequest (fields_of line)) → HasText behind → HasText bytes
-some_text have bytes line behind (Ok request) lines asks faulty others =
-    let found = have request asks.asks.limits in
-    text_behind bytes line behind request found.0 lines asks found.1 others.0 others.1
-some_text have bytes line behind (Err reason) lines asks faulty others =
-    let fault : DecodeFault = record { line = 1; reason = reason } in (
-      fault_line fault,
+pub some_text : RequestsHaveAnswers → (bytes line behind : List ℕ) → lines_of bytes ≡ line ∷ lines_of behind
+    → ((request : Request) × AsksForRequest line request) ⊎ ((reason : FaultReason) × IsFaultyRequest (fields_of line) reason) → HasText behind → HasText bytes
+some_text have bytes line behind lines (inl asked) others =
+    let found = have asked.0 asked.1.asks.limits in
+    text_behind bytes line behind asked.0 found.0 lines asked.1 found.1 others.0 others.1
+some_text have bytes line behind lines (inr faulty) others =
+    let fault : DecodeFault = record { line = 1; reason = faulty.0 } in (
+      fault_line fault.line (reason_word fault.reason),
       inr (record {
         fault = fault;
         first = record {
@@ -78,7 +78,7 @@ some_text have bytes line behind (Err reason) lines asks faulty others =
           cut = lines;
           spelled = tt;
           number = refl;
-          faulty = faulty_before (lines_of behind) line reason (some_line behind) faulty;
+          faulty = faulty_before (lines_of behind) line faulty.0 (some_line behind) faulty.1;
         };
         line = refl;
       }),
@@ -96,7 +96,7 @@ last_text [] lines = (
 )
 last_text (byte ∷ bytes) lines =
     let fault : DecodeFault = record { line = 1; reason = End } in (
-      fault_line fault,
+      fault_line fault.line (reason_word fault.reason),
       inr (record {
         fault = fault;
         first = record {

@@ -19,7 +19,7 @@ use Rattle.reply_grammar.specs.declared.expected.ReplyRefusal.{ReplyRefusal}
 use Rattle.reply_grammar.specs.declared.expected.Received.{Received}
 use Rattle.reply_grammar.specs.declared.expected.Received.TheVariants.{Whole, Refused}
 use Rattle.reply_text.specs.ReplyText.{reply_line, refusal_line}
-use Rattle.air_channel.specs.Received.{IsReceived}
+use Rattle.reply_wire.specs.Received.{IsReceived}
 use Rattle.pie_line.specs.Pie.{IsFrame}
 use Rattle.pie_line.specs.Refusal.{RefusesFrame}
 use Rattle.pie_line.specs.declared.frame.FrameKind.{FrameKind}
@@ -37,8 +37,9 @@ use Rattle.epc_sgtin.specs.UriFaults.{RefusesUri}
 use Rattle.epc_sgtin.specs.declared.encoding.EpcFault.{EpcFault}
 use Rattle.epc_sgtin.specs.declared.tag_uri.UriFault.{UriFault}
 use Rattle.sgtin_text.specs.SgtinText.{name_line, sgtin_words_line, epc_fault_line, uri_fault_line}
-use Rattle.decode_lines.specs.Request.{AsksForRequest}
+use Rattle.decode_lines.specs.Request.{AsksBehind, AsksForRequest}
 use Rattle.decode_lines.specs.declared.request.Request.{Request}
+use Rattle.decode_lines.specs.declared.request.RequestKind.{RequestKind}
 use Rattle.decode_lines.specs.declared.request.Request.TheVariants.{Stream, Samples, Reply as ReplyLine, Heard as HeardLine, Pie as PieLine, Command as CommandLine, Sgtin as SgtinLine, Uri as UriLine}
 
 pub data Answer : Type 0 where
@@ -114,6 +115,12 @@ pub record AddsAnswer (request : Request) (old new : List ℕ) : Type 0 where
   pub answer : Answer
   pub right : IsLineAnswer request answer
   pub line : new ≡ old ++ answer_line answer
+
+-- the text is the one before with the line of the answer to what these fields ask for behind a first field of this kind at its end
+pub record AnswersBehind (kind : RequestKind) (others : List (List ℕ)) (old new : List ℕ) : Type 0 where
+  pub request : Request
+  pub asks : AsksBehind kind others request
+  pub adds : AddsAnswer request old new
 
 -- the text is the one before with the line of the answer to what the line asks for at its end
 pub record AnswersLine (line old new : List ℕ) : Type 0 where

@@ -1,8 +1,8 @@
 -- Profile: what is written for the bytes of decode lines: the answers to all of them, or the line of the first fault.
 use Rattle.std.specs.Prelude.{◌≡◌, ◌≢◌, ℕ, ◌+◌, List, [], ◌∷◌, ◌++◌, length, codes}
 use Rattle.std.specs.List.{AllZip}
-use Rattle.text_fields.specs.Lines.{lines_of, fields_of, line_feed}
-use Rattle.std.specs.Fmt.{decimal}
+use Rattle.text_fields.specs.FaultLine.{fault_line}
+use Rattle.text_fields.specs.Lines.{lines_of, fields_of}
 use Rattle.decode_lines.specs.Request.{AsksForRequest, IsFaultyRequest}
 use Rattle.decode_lines.specs.Answer.{AreAnswers}
 use Rattle.decode_lines.specs.declared.request.Request.{Request}
@@ -36,15 +36,12 @@ pub record IsFirstFault (bytes : List ℕ) (fault : DecodeFault) : Type 0 where
   pub number : fault.line ≡ length before + 1
   pub faulty : IsFaultyBefore behind line fault.reason
 
+-- what a reason is called
 abbrev pub reason_word : FaultReason → List ℕ
 reason_word End = codes "end"
 reason_word Word = codes "word"
 reason_word Shape = codes "shape"
 reason_word Number = codes "number"
-
--- a fault as a line, with its line feed
-abbrev pub fault_line : DecodeFault → List ℕ
-fault_line fault = codes "fault " ++ decimal fault.line ++ codes " " ++ reason_word fault.reason ++ line_feed ∷ []
 
 -- the text is the decoded lines of the bytes
 pub record Decodes (bytes text : List ℕ) : Type 0 where
@@ -56,4 +53,4 @@ pub record Decodes (bytes text : List ℕ) : Type 0 where
 pub record IsFaultText (bytes text : List ℕ) : Type 0 where
   pub fault : DecodeFault
   pub first : IsFirstFault bytes fault
-  pub line : text ≡ fault_line fault
+  pub line : text ≡ fault_line fault.line (reason_word fault.reason)

@@ -1,9 +1,9 @@
 //! The answer to a decode line.
-ghost use Rattle.std.specs.Prelude.{◌≡◌, ◌≢◌, ◌≤◌, ◌++◌, length, IfOk, IfErr, OnOk, IsTrue, IsFalse};
+ghost use Rattle.std.specs.Prelude.{◌≡◌, ◌≢◌, ◌≤◌, ◌++◌, length, IfOk, IfErr, OnOk};
 ghost use Rattle.std.specs.String.{string_bytes};
-ghost use Rattle.decode_lines.specs.Answer.{AddsAnswer, AnswersLine, answer_line, streamed, sliced, replied, heard, framed, commanded, named, worded, with_left};
+ghost use Rattle.decode_lines.specs.Answer.{AddsAnswer, AnswersBehind, AnswersLine, answer_line, streamed, sliced, replied, heard, framed, commanded, named, worded, with_left};
 ghost use Rattle.text_fields.specs.Lines.{fields_of};
-ghost use Rattle.decode_lines.specs.Request.{AsksForRequest, IsFaultyRequest, IsWithinLimits, most_intervals, most_levels, request_kind};
+ghost use Rattle.decode_lines.specs.Request.{AreFaulty, IsFaultyRequest, IsWithinLimits, most_intervals, most_levels};
 ghost use Rattle.decode_lines.specs.declared.request.Request.{Request};
 ghost use Rattle.decode_lines.specs.declared.request.RequestKind.{RequestKind};
 ghost use Rattle.epc_sgtin.specs.SgtinValue.{SgtinValue};
@@ -14,56 +14,38 @@ ghost use Rattle.epc_sgtin.specs.UriFaults.{RefusesUri};
 use crate::fault::FaultReason;
 use crate::raw_field::RawField;
 use crate::request::{
-    MOST_INTERVALS, MOST_LEVELS, MOST_NANOSECONDS, MOST_SAMPLES, MOST_WORDS, Request, pie_fields,
-    request_of,
+    MOST_INTERVALS, MOST_LEVELS, MOST_SAMPLES, MOST_WORDS, Request, RequestKind, kind_of_line,
+    read_intervals, request_of,
 };
-use air_channel::receive;
 use bit_strings::{Bits, Code, Levels, OutOfMemory};
 use command_grammar::{Command, CommandRefusal, decode_command_to};
 use command_text::{push_command, push_command_refusal};
 use epc_sgtin::{EpcFault, Sgtin, UriFault};
 use line_codes::{LineRefusal, decode_levels};
 use pie_line::{FrameKind, Intervals, PieRefusal, decode_frame};
-use pie_text::{push_frame, push_pie_refusal, read_numbers};
+use pie_text::{Numbers, push_frame, push_pie_refusal};
 use reply_grammar::{Expect, Received, Reply, ReplyRefusal, decode_reply};
 use reply_text::{push_reply, push_reply_refusal};
+use reply_wire::receive;
 use sample_slicer::{SliceRefusal, slice_levels};
 use sgtin_text::{push_epc_fault, push_name, push_sgtin_words, push_uri_fault};
 use std::alloc::Global;
-use text_fields::{Digits, HexBytes, Words, push_bits, push_number};
+use text_fields::{Digits, Fields, HexBytes, Words, push_bits, push_number};
 
-/// Room for the levels, bits, intervals, samples, words and the command of the longest line, taken once for all
-/// lines.
+/// Room for the intervals, and for what an answer needs, of the longest line, taken once for all lines.
 #[derive(Drop)]
 pub struct Workspace {
-    levels: Levels,
-    bits: Bits,
     intervals: Intervals,
-    samples: Vec<u8>,
-    words: Vec<u16>,
-    command: Result<Command, CommandRefusal>,
-    ghost levels_room: { levels.capacity ≡ most_levels },
-    ghost bits_room: { bits.capacity ≡ most_levels },
+    rooms: Rooms,
     ghost intervals_room: { intervals.capacity ≡ most_intervals },
 }
 
 impl Workspace {
     /// Takes the room.
     pub fn new(alloc: Global) -> Result<Workspace, OutOfMemory> {
-        let levels = Levels::new(alloc, MOST_LEVELS)?;
-        let bits = Bits::new(alloc, MOST_LEVELS)?;
         let intervals = Intervals::new(alloc, MOST_INTERVALS)?;
-        let samples = Vec::with_capacity(alloc, MOST_SAMPLES as usize)?;
-        let words = Vec::with_capacity(alloc, MOST_WORDS as usize)?;
-        Ok(Workspace {
-            levels,
-            bits,
-            intervals,
-            samples,
-            words,
-            // What no bits are.
-            command: Err(CommandRefusal::Short(0)),
-        })
+        let rooms = Rooms::new(alloc)?;
+        Ok(Workspace { intervals, rooms })
     }
 
     /// Adds the answer to a line at the end of the text, as a line, or gives the first reason for which
@@ -76,21 +58,84 @@ impl Workspace {
         ensures ok { IfOk result (λ answered. OnOk answered (AnswersLine line.now (string_bytes text.old) (string_bytes text.new))) }
         ensures refused { IfOk result (λ answered. IfErr answered (IsFaultyRequest (fields_of line.now))) }
     {
-        if self.answer_pie(line, text)? {
-            return Ok(Ok(()));
+        match kind_of_line(line) {
+            None => Ok(Err(FaultReason::Word)),
+            Some((RequestKind::Pie, others)) => self.answer_pie(others, text),
+            Some((kind, others)) => self.answer_other(kind, others, text),
         }
-        let request = match request_of(line) {
+    }
+
+    /// Adds the answer to a line that begins with `pie`, by its other fields.
+    fn answer_pie(
+        &mut self,
+        others: Fields,
+        text: &mut String,
+    ) -> Result<Result<(), FaultReason>, OutOfMemory>
+        ensures ok { IfOk result (λ answered. OnOk answered (AnswersBehind RequestKind.Pie others.entry (string_bytes text.old) (string_bytes text.new))) }
+        ensures refused { IfOk result (λ answered. IfErr answered (AreFaulty RequestKind.Pie others.entry)) }
+    {
+        if let Err(reason) = read_intervals(others, &mut self.intervals) {
+            return Ok(Err(reason));
+        }
+        let request = Request::Pie {
+            intervals: Numbers::new(&self.intervals),
+        };
+        self.rooms.answer(&request, text)?;
+        Ok(Ok(()))
+    }
+
+    /// Adds the answer to a line of another kind, by its other fields.
+    fn answer_other(
+        &mut self,
+        kind: RequestKind,
+        others: Fields,
+        text: &mut String,
+    ) -> Result<Result<(), FaultReason>, OutOfMemory>
+        requires { kind ≢ RequestKind.Pie }
+        ensures ok { IfOk result (λ answered. OnOk answered (AnswersBehind kind others.entry (string_bytes text.old) (string_bytes text.new))) }
+        ensures refused { IfOk result (λ answered. IfErr answered (AreFaulty kind others.entry)) }
+    {
+        let request = match request_of(kind, others) {
             Ok(request) => request,
             Err(reason) => return Ok(Err(reason)),
         };
-        self.answer(&request, text)?;
+        self.rooms.answer(&request, text)?;
         Ok(Ok(()))
+    }
+}
+
+/// Room for the levels, bits, samples, words and the command of the longest line.
+#[derive(Drop)]
+struct Rooms {
+    levels: Levels,
+    bits: Bits,
+    samples: Vec<u8>,
+    words: Vec<u16>,
+    command: Result<Command, CommandRefusal>,
+    ghost levels_room: { levels.capacity ≡ most_levels },
+    ghost bits_room: { bits.capacity ≡ most_levels },
+}
+
+impl Rooms {
+    /// Takes the room.
+    fn new(alloc: Global) -> Result<Rooms, OutOfMemory> {
+        let levels = Levels::new(alloc, MOST_LEVELS)?;
+        let bits = Bits::new(alloc, MOST_LEVELS)?;
+        let samples = Vec::with_capacity(alloc, MOST_SAMPLES as usize)?;
+        let words = Vec::with_capacity(alloc, MOST_WORDS as usize)?;
+        Ok(Rooms {
+            levels,
+            bits,
+            samples,
+            words,
+            // What no bits are.
+            command: Err(CommandRefusal::Short(0)),
+        })
     }
 
     /// Adds the answer to a request at the end of the text, as a line.
     fn answer(&mut self, request: &Request, text: &mut String) -> Result<(), OutOfMemory>
         requires limits { IsWithinLimits request.now }
-        requires no_pie { request_kind request.now ≢ RequestKind.Pie }
         ensures { OnOk result (AddsAnswer request.now (string_bytes text.old) (string_bytes text.new)) }
     {
         match request {
@@ -111,8 +156,7 @@ impl Workspace {
                 expect,
                 levels,
             } => self.answer_heard(*code, *trext, expect, levels, text),
-            // `answer_pie` has answered each line that asks for a frame.
-            Request::Pie { .. } => unreachable!(),
+            Request::Pie { intervals } => self.answer_frame(intervals, text),
             Request::Command { bits } => self.answer_command(bits, text),
             Request::Sgtin { words } => self.answer_sgtin(words, text),
             Request::Uri { text: uri } => answer_uri(uri, text),
@@ -183,27 +227,13 @@ impl Workspace {
         push_received(text, &received)
     }
 
-    /// Adds the frame of a line that asks for one, or why its intervals are none, and says whether the line
-    /// asks so. The intervals are read straight into their list.
-    fn answer_pie(&mut self, line: &[u8], text: &mut String) -> Result<bool, OutOfMemory>
-        ensures answered { IfOk result (λ asks. IsTrue asks → AnswersLine line.now (string_bytes text.old) (string_bytes text.new)) }
-        ensures other { IfOk result (λ asks. IsFalse asks → (request : Request) → AsksForRequest line.now request → request_kind request ≢ RequestKind.Pie) }
-        ensures same { IfOk result (λ asks. IsFalse asks → text.new ≡ text.old) }
+    /// Adds the frame that intervals are, or why they are none.
+    fn answer_frame(&mut self, intervals: &Numbers, text: &mut String) -> Result<(), OutOfMemory>
+        requires { IsWithinLimits (Request.Pie intervals.now) }
+        ensures { OnOk result (AddsAnswer (Request.Pie intervals.now) (string_bytes text.old) (string_bytes text.new)) }
     {
-        let Some(others) = pie_fields(line) else {
-            return Ok(false);
-        };
-        if !read_numbers(
-            others,
-            MOST_INTERVALS,
-            MOST_NANOSECONDS,
-            &mut self.intervals,
-        ) {
-            return Ok(false);
-        }
-        let outcome = decode_frame(&self.intervals, &mut self.bits);
-        push_framed(text, &outcome, &self.bits)?;
-        Ok(true)
+        let outcome = decode_frame(intervals.list(), &mut self.bits);
+        push_framed(text, &outcome, &self.bits)
     }
 
     /// Adds the command that bits are, or why they are none.

@@ -1,11 +1,10 @@
 //! The faults of lines.
-ghost use Rattle.std.specs.Prelude.{◌≡◌, IfOk};
-ghost use Rattle.std.specs.String.{string_bytes};
-ghost use Rattle.decode_lines.specs.DecodeLines.{fault_line};
+ghost use Rattle.std.specs.Prelude.{◌≡◌, ◌≤◌, length};
+ghost use Rattle.decode_lines.specs.DecodeLines.{reason_word};
+ghost use Rattle.text_fields.specs.FaultLine.{fault_line};
 
-use bit_strings::OutOfMemory;
-use std::alloc::Global;
-use text_fields::push_number;
+use arrayvec::ArrayVec;
+use text_fields::fault_line;
 
 /// Why a line is refused, in the order in which the reasons are looked for.
 #[derive(Clone, Copy, Debug, PartialEq, Eq)]
@@ -29,17 +28,22 @@ pub struct DecodeFault {
     pub reason: FaultReason,
 }
 
-/// The line that reports a fault.
-pub fn fault_text(alloc: Global, fault: DecodeFault) -> Result<String, OutOfMemory>
-    ensures { IfOk result (λ text. string_bytes text ≡ fault_line fault) }
+/// The line that reports a fault. It takes no memory.
+pub fn fault_text(fault: DecodeFault) -> ArrayVec<u8, 32>
+    ensures { result.items ≡ fault_line fault.line (reason_word fault.reason) }
 {
-    let mut text = String::from_str(alloc, "fault ")?;
-    push_number(&mut text, fault.line)?;
-    text.push_str(match fault.reason {
-        FaultReason::End => " end\n",
-        FaultReason::Word => " word\n",
-        FaultReason::Shape => " shape\n",
-        FaultReason::Number => " number\n",
-    })?;
-    Ok(text)
+    fault_line(fault.line, reason_word(fault.reason))
+}
+
+/// What a reason is called.
+fn reason_word(reason: FaultReason) -> &'static str
+    ensures word { result.now ≡ reason_word reason }
+    ensures short { length result.now ≤ 14 }
+{
+    match reason {
+        FaultReason::End => "end",
+        FaultReason::Word => "word",
+        FaultReason::Shape => "shape",
+        FaultReason::Number => "number",
+    }
 }

@@ -2,16 +2,19 @@
 ghost use Rattle.std.specs.Prelude.{◌≡◌, ◌⊎◌, ℕ, List};
 ghost use Rattle.decode_lines.specs.declared.request.Request.{Request};
 ghost use Rattle.decode_lines.specs.declared.fault.DecodeFault.{DecodeFault};
-ghost use Rattle.decode_lines.specs.Request.{IsWithinLimits};
+ghost use Rattle.decode_lines.specs.declared.fault.FaultReason.{FaultReason};
+ghost use Rattle.text_fields.specs.Lines.{fields_of};
+ghost use Rattle.decode_lines.specs.Request.{AsksForRequest, IsFaultyRequest, IsWithinLimits};
 ghost use Rattle.decode_lines.specs.Answer.{Answer, IsLineAnswer};
 ghost use Rattle.decode_lines.specs.DecodeLines.{Decodes, IsFaultText, IsFirstFault, IsGrammatical};
 
-use crate::request::{Request, request_of};
-use air_channel::one_received;
+use crate::request::{RequestKind, kind_of_line, request_of};
 use command_grammar::one_outcome;
 use epc_sgtin::{sgtin_laws, uri_laws};
 use line_codes::code_laws;
+use pie_text::numbers_or_refused;
 use reply_grammar::reply_laws;
+use reply_wire::one_received;
 use text_fields::split_line;
 
 /// Decode lines have at most one text of answers, and at most one fault line.
@@ -45,6 +48,21 @@ pub fn requests_have_an_answer()
     uri_laws();
 }
 
+/// A line asks for something, or is faulty.
+fn lines_ask_or_are_faulty(line: &[u8])
+    ensures { ((request : Request) × AsksForRequest line.now request) ⊎ ((reason : FaultReason) × IsFaultyRequest (fields_of line.now) reason) }
+{
+    // The intervals of a frame are numbers, or are refused.
+    numbers_or_refused();
+    let Some((kind, others)) = kind_of_line(line) else {
+        return;
+    };
+    if let RequestKind::Pie = kind {
+        return;
+    }
+    let _ = request_of(kind, others);
+}
+
 /// An input has a defined text: the answers to its lines, or its fault line.
 pub fn decode_lines_have_a_text(input: &[u8])
     ensures { (text : List ℕ) × (Decodes input.now text ⊎ IsFaultText input.now text) }
@@ -52,7 +70,7 @@ pub fn decode_lines_have_a_text(input: &[u8])
     requests_have_an_answer();
     if let Some((line, behind)) = split_line(input) {
         // The first line asks for something or is faulty, and what stands behind it has a text.
-        let _ = request_of(line);
+        lines_ask_or_are_faulty(line);
         decode_lines_have_a_text(behind);
     }
 }

@@ -1,12 +1,13 @@
 //! A decode line, read.
-ghost use Rattle.std.specs.Prelude.{◌≡◌, ◌≢◌, ℕ, List, ◌∷◌, IfOk, IfErr, IfSome, IfNone};
+ghost use Rattle.std.specs.Prelude.{◌≡◌, ◌≢◌, ◌≤◌, ℕ, List, ◌∷◌, IfOk, IfErr, IfSome, IfNone, IsOk};
 ghost use Rattle.text_fields.specs.Lines.{fields_of};
-ghost use Rattle.decode_lines.specs.Request.{request_word, NamesNoCode, AsksForRequest, AsksBehind, AreFaulty, IsFaultyRequest};
+ghost use Rattle.decode_lines.specs.Request.{request_word, NamesNoCode, AsksBehind, AreFaulty, most_intervals};
 
 use crate::fault::FaultReason;
 use crate::raw_field::RawField;
 use bit_strings::Code;
-use pie_text::{NotNumbers, Numbers};
+use pie_line::Intervals;
+use pie_text::{NotNumbers, Numbers, read_numbers};
 use reply_grammar::Expect;
 use reply_text::expect_of;
 use text_fields::{
@@ -129,38 +130,48 @@ fn other_kind(word: &[u8]) -> Option<RequestKind>
     }
 }
 
-/// The fields behind the first of a line that begins with `pie`; none exactly where it doesn't.
-pub fn pie_fields(line: &[u8]) -> Option<Fields<'_>>
-    ensures some { IfSome result (λ others. fields_of line.now ≡ request_word RequestKind.Pie ∷ others) }
-    ensures none { IfNone result ((others : List (List ℕ)) → fields_of line.now ≢ request_word RequestKind.Pie ∷ others) }
+/// What a line is by its first field, with its other fields; none exactly where no line begins so. The line is given
+/// without its line feed.
+pub fn kind_of_line(line: &[u8]) -> Option<(RequestKind, Fields<'_>)>
+    ensures some { IfSome result (λ it. fields_of line.now ≡ request_word it.0 ∷ it.1) }
+    ensures none { IfNone result ((kind : RequestKind) (others : List (List ℕ)) → fields_of line.now ≢ request_word kind ∷ others) }
 {
     let mut fields = Fields::new(line);
-    match fields.next() {
-        Some(b"pie") => Some(fields),
-        _ => None,
+    let word = fields.next()?;
+    Some((kind_of(word)?, fields))
+}
+
+/// What a line of this kind asks for, by its other fields, or the first reason for which it asks for nothing. The
+/// intervals of a line that begins with `pie` are read by [`read_intervals`], into a list.
+pub fn request_of<'a>(kind: RequestKind, others: Fields<'a>) -> Result<Request<'a>, FaultReason>
+    requires { kind ≢ RequestKind.Pie }
+    ensures ok { IfOk result (AsksBehind kind others.entry) }
+    ensures refused { IfErr result (AreFaulty kind others.entry) }
+{
+    match kind {
+        RequestKind::Stream(code) => stream_of(code, others),
+        RequestKind::Samples => samples_of(others),
+        RequestKind::Reply => reply_of(others),
+        RequestKind::Heard => heard_of(others),
+        RequestKind::Pie => unreachable!(),
+        RequestKind::Command => command_of(others),
+        RequestKind::Sgtin => sgtin_of(others),
+        RequestKind::Uri => uri_of(others),
     }
 }
 
-/// What a line asks for, or the first reason for which it asks for nothing. The line is given without
-/// its line feed.
-pub fn request_of(line: &[u8]) -> Result<Request<'_>, FaultReason>
-    ensures ok { IfOk result (AsksForRequest line.now) }
-    ensures refused { IfErr result (IsFaultyRequest (fields_of line.now)) }
+/// Reads the intervals of a line that begins with `pie`, by its other fields, in place of what the list holds, or gives
+/// the first reason for which the line asks for nothing.
+pub fn read_intervals(others: Fields, out: &mut Intervals) -> Result<(), FaultReason>
+    requires { most_intervals ≤ out.old.capacity }
+    ensures ok { IsOk result → AsksBehind RequestKind.Pie others.entry (Request.Pie out.new.items) }
+    ensures refused { IfErr result (AreFaulty RequestKind.Pie others.entry) }
+    ensures capacity { out.new.capacity ≡ out.old.capacity }
 {
-    let mut fields = Fields::new(line);
-    let Some(word) = fields.next() else {
-        return Err(FaultReason::Word);
-    };
-    match kind_of(word) {
-        Some(RequestKind::Stream(code)) => stream_of(code, fields),
-        Some(RequestKind::Samples) => samples_of(fields),
-        Some(RequestKind::Reply) => reply_of(fields),
-        Some(RequestKind::Heard) => heard_of(fields),
-        Some(RequestKind::Pie) => pie_of(fields),
-        Some(RequestKind::Command) => command_of(fields),
-        Some(RequestKind::Sgtin) => sgtin_of(fields),
-        Some(RequestKind::Uri) => uri_of(fields),
-        None => Err(FaultReason::Word),
+    match read_numbers(others, MOST_INTERVALS, MOST_NANOSECONDS, out) {
+        Ok(()) => Ok(()),
+        Err(NotNumbers::Shape) => Err(FaultReason::Shape),
+        Err(NotNumbers::Number) => Err(FaultReason::Number),
     }
 }
 
@@ -255,18 +266,6 @@ fn heard_of<'a>(others: Fields<'a>) -> Result<Request<'a>, FaultReason>
         expect,
         levels,
     })
-}
-
-/// The request of a line that begins with `pie`, by its other fields.
-fn pie_of<'a>(others: Fields<'a>) -> Result<Request<'a>, FaultReason>
-    ensures ok { IfOk result (AsksBehind RequestKind.Pie others.entry) }
-    ensures refused { IfErr result (AreFaulty RequestKind.Pie others.entry) }
-{
-    match Numbers::new(others, MOST_INTERVALS, MOST_NANOSECONDS) {
-        Ok(intervals) => Ok(Request::Pie { intervals }),
-        Err(NotNumbers::Shape) => Err(FaultReason::Shape),
-        Err(NotNumbers::Number) => Err(FaultReason::Number),
-    }
 }
 
 /// The request of a line that begins with `command`, by its other field.

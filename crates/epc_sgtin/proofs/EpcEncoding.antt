@@ -66,13 +66,6 @@ front_of sgtin = (header * 2 ^ 6 + sgtin.filter * 2 ^ 3 + (12 - sgtin.digits)) *
 abbrev pub back_of : SgtinValue → ℕ
 back_of sgtin = both_parts_of sgtin % 2 ^ 10 * 2 ^ 38 + sgtin.serial
 
--- what stands before the two numbers in the front half
-abbrev pub head_of : SgtinValue → ℕ
-head_of sgtin = header * 2 ^ 6 + sgtin.filter * 2 ^ 3 + (12 - sgtin.digits)
-
-pub head_small : (sgtin : SgtinValue) → IsLegalSgtin sgtin → head_of sgtin < 2 ^ 14
-head_small sgtin legal = omega (arith, legal.filter_range, legal.digits_range)
-
 pub front_small : (sgtin : SgtinValue) → IsLegalSgtin sgtin → front_of sgtin < 2 ^ 48
 front_small sgtin legal = omega (arith, legal.filter_range, legal.digits_range, both_small sgtin legal)
 

@@ -3,7 +3,6 @@ use Rattle.std.proofs.Common.{◌≡◌, ◌≢◌, ℕ, ◌+◌, ◌-◌, ◌^�
 use Rattle.std.specs.Fmt.{decimal}
 use Rattle.std.specs.List.{join_with_byte}
 use Rattle.std.specs.Str.Parse.{digits_value}
-use Rattle.std.proofs.Math.Nat.{pow-le-pow_right}
 use Rattle.std.proofs.lemmas.Fmt.{decimal_digit, decimal_is_IsNumeral, length-decimal-le}
 use Rattle.std.proofs.lemmas.List.Splits.{length-slice_split, join_with_byte-slice_split}
 use Rattle.epc_sgtin.specs.SgtinValue.{SgtinValue, IsLegalSgtin, all_digits}
@@ -43,12 +42,6 @@ serial_number part number is below spelled =
 -- with as many of them as it has
 pub own_width : (part : List ℕ) (number width : ℕ) → part ≡ decimal number → padded number width ≡ decimal number → width ≡ length part
 own_width part number width spelled digits = sym (length-padded number width) ∙ ap length (digits ∙ sym spelled)
-
--- few digits are a small number
-pub below_limit : (number width : ℕ) → number < 10 ^ width → width ≤ 12 → number < 10 ^ 12
-below_limit number width below few =
-    let grows : 10 ^ width ≤ 10 ^ 12 = pow-le-pow_right (omega arith) few in
-    omega arith
 
 -- parts behind a front, joined one by one
 joined : (front a b c d : List ℕ) → (((((((([] ++ front) ++ a) ++ dot ∷ []) ++ b) ++ dot ∷ []) ++ c) ++ dot ∷ []) ++ d) ≡ front ++ join_with_byte dot (a ∷ b ∷ c ∷ d ∷ [])

@@ -11,7 +11,7 @@ use crate::fixed_uri::Uri;
 use crate::partitions::ITEM_AND_COMPANY_DIGITS;
 use crate::value::{SERIALS, Sgtin};
 use arrayvec::ArrayVec;
-use text_fields::number;
+use text_fields::{number, push_bytes};
 use thiserror::Error;
 
 /// What each URI begins with.
@@ -101,16 +101,6 @@ impl Sgtin {
             serial,
         })
     }
-}
-
-/// Adds bytes to a text.
-fn push_bytes(bytes: &mut ArrayVec<u8, 60>, more: &[u8])
-    requires { length bytes.old.items + length more.now ≤ 60 }
-    ensures bytes { bytes.new.items ≡ bytes.old.items ++ more.now }
-    ensures count { length bytes.new.items ≡ length bytes.old.items + length more.now }
-{
-    // There is room.
-    let _ = bytes.try_extend_from_slice(more);
 }
 
 /// Adds the last digits of a value to a text, `width` of them.

@@ -1,3 +1,2 @@
 pub mod Crc
-pub mod CrcLaws
-pub mod Division
+pub mod laws

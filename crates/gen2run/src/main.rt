@@ -1,26 +1,14 @@
 //! The program of Siulanke: what its words ask for, on standard input and output.
 #![tactic(auto)]
 
-mod decode;
-mod ending;
-mod forms;
-mod generated;
-mod laws;
-mod names;
-mod page;
-mod program;
-mod run;
-mod short_text;
-mod status;
 #[cfg(test)]
 mod tests;
 
 use air_io::{StdSink, StdSource};
-pub use program::gen2run;
-pub use status::Status;
 use std::env;
 use std::io::{self, ErrorKind};
 use std::process::ExitCode;
+use top_call::{Status, gen2run};
 
 /// The exit status where the words can't be had for another cause, as where one isn't UTF-8.
 const UNREADABLE_WORDS: u8 = 8;

@@ -1,9 +1,9 @@
 //! The program from its words and input to its status and output, over memory whose calls fail. What it writes where none fails
 //! stands as rows in rows/.
 
-use crate::{Status, gen2run};
-use air_io::{MemSink, MemSource, Source, SureSource};
+use air_io::{MemSink, MemSource, Source, SureSink, SureSource};
 use std::alloc::{AllocError, Global};
+use top_call::{Status, gen2run, gen2run_surely};
 
 /// Room for the defined text of every test.
 const ROOM: u32 = 60_000;
@@ -121,6 +121,31 @@ fn a_source_that_never_fails(rt: HostRuntime) {
     let front = "list 1 1 0800 1234\nround 1 quiet 2\n";
     let cut_off = runs_surely(rt.alloc(), 3, Status::WriteFault, front);
     assert!(rt; cut_off == Ok(true));
+}
+
+/// Words, an input, and how a run ends where neither the source nor the sink can fail.
+const SURE: &[(&[&str], &str, Status)] = &[
+    (&["run"], SCENARIO, Status::Done),
+    (&["run"], "x", Status::BadInput),
+    (&["trace"], SCENARIO, Status::BadWords),
+];
+
+/// How a run over such a source and such a sink ends.
+fn ends_surely(alloc: Global, texts: &[&str], input: &str) -> Result<Status, AllocError> {
+    let words = words(alloc, texts)?;
+    let mut source = SureSource::new(Vec::from_slice(alloc, input.as_bytes())?);
+    let mut sink = SureSink::new();
+    Ok(gen2run_surely(alloc, &words, &mut source, &mut sink))
+}
+
+#[test]
+fn neither_device_fails(rt: HostRuntime) {
+    for &(texts, input, status) in SURE {
+        assert!(rt;
+            ends_surely(rt.alloc(), texts, input) == Ok(status),
+            "{texts:?}"
+        );
+    }
 }
 
 /// A text 300 times.

@@ -1,6 +1,6 @@
 //! What is received of levels, against levels written out by hand.
-use air_channel::{Code, Expect, Received, Reply, receive};
 use bit_strings::Bits;
+use reply_wire::{Code, Expect, Received, Reply, receive};
 use std::alloc::Global;
 
 /// The levels of the RN16 A1B2 hexadecimal, in FM0 with TRext 0: 12 of the lead, 32 of the bits, and 2

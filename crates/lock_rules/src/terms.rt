@@ -1,6 +1,6 @@
 //! The terms in which the standard speaks of permissions.
 ghost use Rattle.std.specs.Prelude.{◌≡◌};
-ghost use Rattle.lock_rules.specs.Codes.{code_of};
+ghost use Rattle.lock_rules.specs.Codes.{error_number};
 
 /// A part of a tag's memory that has a pair of lock bits of its own (6.3.2.11.3.5 Lock). The two
 /// passwords are locked one by one, the other banks as a whole.
@@ -42,7 +42,7 @@ pub enum ErrorCode {
 impl ErrorCode {
     /// The code's eight bits as a number.
     pub fn code(&self) -> u8
-        ensures { result ≡ code_of self.now }
+        ensures { result ≡ error_number self.now }
     {
         match self {
             ErrorCode::Other => 0x00,

@@ -3,10 +3,10 @@ use Rattle.std.proofs.Common.{◌≡◌, ℕ, zero, suc, ◌+◌, ◌*◌, ◌<�
 use Rattle.std.specs.List.{AllByRecursion}
 use Rattle.std.proofs.lemmas.List.{length-map}
 use Rattle.std.proofs.lemmas.List.Elements.{All-from_recursion}
-use Rattle.made_scenario.specs.Made.{made_scenario, made_link, made_round, made_tag, draw_words, drawn_at, generator_of, numbers_below, words_of_tag}
+use Rattle.made_scenario.specs.Made.{made_scenario, made_link, made_round, made_tag, draw_words, drawn_at, generator_of, most_made_tags, numbers_below, words_of_tag}
 use Rattle.pie_line.specs.Link.{IsLegalLink}
-use Rattle.scenario.specs.Limits.{IsScenario, IsEntry, IsStep, IsOpList, most_tags, no_operations}
-use Rattle.access_ops.specs.OperationLaws.{IsLegalOp}
+use Rattle.scenario.specs.Limits.{IsScenario, IsEntry, IsStep, IsOpList, no_operations}
+use Rattle.access_ops.specs.laws.OperationLaws.{IsLegalOp}
 use Rattle.scenario_lines.specs.LineForm.{IsRound}
 use Rattle.value_text.specs.ValueText.{IsWordList}
 use Rattle.scenario_lines.specs.TagForm.{IsTag}
@@ -50,7 +50,7 @@ words-legal seed number =
           (all-map (λ place. place < 64) (λ w. w < 2 ^ 16) word (λ place small. drawn-small seed (words_of_tag * number + place)) (numbers_below words_of_tag) (numbers-small 64 64 (omega arith)));
     }
 
-tag-legal : (seed number : ℕ) → number < 256 → IsTag (made_tag seed number)
+tag-legal : (seed number : ℕ) → number < most_made_tags → IsTag (made_tag seed number)
 tag-legal seed number small = record {
   form = record {
     kill = omega arith;
@@ -89,13 +89,13 @@ round-legal = record {
 no-operations-legal : IsOpList no_operations
 no-operations-legal = record { only = tt; ops = All-from_recursion IsLegalOp [] tt; few = omega arith }
 
-pub made-legal : (seed tags : ℕ) → tags ≤ most_tags → IsScenario (made_scenario seed tags)
+pub made-legal : (seed tags : ℕ) → tags ≤ most_made_tags → IsScenario (made_scenario seed tags)
 made-legal seed tags few =
     let count : length (made_scenario seed tags).tags ≡ tags = length-map (numbers_below tags) (made_tag seed) ∙ numbers-count tags in
     record {
       link = link-legal;
       tags = All-from_recursion IsTag (made_scenario seed tags).tags
-          (all-map (λ number. number < 256) IsTag (made_tag seed) (tag-legal seed) (numbers_below tags) (numbers-small 256 tags few));
+          (all-map (λ number. number < most_made_tags) IsTag (made_tag seed) (tag-legal seed) (numbers_below tags) (numbers-small most_made_tags tags few));
       entries = All-from_recursion (IsEntry (length (made_scenario seed tags).tags)) [] tt;
       rising = tt;
       steps = All-from_recursion (IsStep (length (made_scenario seed tags).tags)) (made_scenario seed tags).steps ((round-legal, no-operations-legal), tt);

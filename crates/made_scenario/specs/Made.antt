@@ -13,6 +13,10 @@ use Rattle.scenario.specs.declared.values.Scenario.{Scenario}
 use Rattle.scenario.specs.declared.values.Step.TheVariants as steps
 use Rattle.scenario_lines.specs.declared.tag.TagSpec.{TagSpec}
 
+-- how many tags are made at most
+abbrev pub most_made_tags : ℕ
+most_made_tags = 256
+
 -- the numbers below a number, in order
 unfoldable pub numbers_below : ℕ → List ℕ
 numbers_below zero = []

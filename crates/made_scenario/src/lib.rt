@@ -5,4 +5,4 @@
 mod making;
 mod parts;
 
-pub use making::made_scenario;
+pub use making::{MOST_MADE_TAGS, made_scenario};

@@ -9,10 +9,11 @@ ghost use Rattle.made_scenario.specs.Made.{
   generator_of,
   generator_after,
   drawn_at,
+  most_made_tags,
   words_of_tag,
 };
 ghost use Rattle.lock_rules.specs.Lock.{locks_of};
-ghost use Rattle.scenario.specs.Limits.{IsScenario, most_tags, no_operations};
+ghost use Rattle.scenario.specs.Limits.{IsScenario, no_operations};
 ghost use Rattle.scenario.specs.declared.values.Step.TheVariants as steps;
 
 use crate::parts::{made_link, made_round};
@@ -25,6 +26,9 @@ use scenario::{Scenario, Step, TagSpec};
 use session_flags::DrawWords;
 use std::alloc::Global;
 use tag_memory::BankImage;
+
+/// How many tags are made at most.
+pub const MOST_MADE_TAGS: u32 = 256;
 
 /// The stream of the generator that the random words are drawn from.
 const DRAW_STREAM: u64 = 54;
@@ -83,7 +87,7 @@ fn numbered_tag(alloc: Global, number: u16, words: DrawWords) -> Result<TagSpec,
 
 /// The tags, in order, with the words of one generator.
 fn made_tags(alloc: Global, seed: u64, count: u32) -> Result<List<TagSpec>, OutOfMemory>
-    requires { count ≤ most_tags }
+    requires { count ≤ most_made_tags }
     ensures { IfOk result (λ tags. tags ≡ map (made_tag seed) (numbers_below count)) }
 {
     let mut generator = Lcg64Xsh32::new(seed, DRAW_STREAM);
@@ -112,7 +116,7 @@ fn made_steps(alloc: Global) -> Result<List<Step>, OutOfMemory>
 /// `3074257BF7194E400000` and the four hexadecimal digits of its number, and the next 64 words of the
 /// generator. One round is run over them, without operations, and nothing is said of any exchange.
 pub fn made_scenario(alloc: Global, seed: u64, tags: u32) -> Result<Scenario, OutOfMemory>
-    requires { tags ≤ most_tags }
+    requires { tags ≤ most_made_tags }
     ensures scenario { IfOk result (λ scenario. scenario ≡ made_scenario seed tags) }
     ensures legal { IfOk result IsScenario }
 {

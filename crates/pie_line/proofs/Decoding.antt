@@ -2,7 +2,7 @@
 use Rattle.std.proofs.Common.{◌≡◌, ℕ, ◌+◌, ◌-◌, ◌<◌, ◌≤◌, true, Result, Ok, Err, List, [], ◌∷◌, ◌++◌, length, get_or, take, drop, sym, subst, ap, inl, arith, ◌∙◌, append_assoc, length-append}
 use Rattle.std.specs.Prelude.{All}
 use Rattle.std.specs.Result.{MatchResult, IfErr, is_err}
-use Rattle.std.proofs.lemmas.List.{append-nil, take_all}
+use Rattle.std.proofs.lemmas.List.{append-nil}
 use Rattle.std.proofs.lemmas.Bool.{false≢true}
 use Rattle.std.proofs.lemmas.Result.{MatchResult-weaker}
 use Rattle.bit_strings.specs.BitString.{BitString}
@@ -14,9 +14,9 @@ use Rattle.pie_line.specs.Refusal.{IsFrameRefusedAt, RefusesFrame}
 use Rattle.pie_line.specs.Edges.{EdgesValue, EdgesStandFor, IsEdgesAnswer}
 use Rattle.pie_line.specs.declared.edges.Edge.TheVariants.{Refused}
 use Rattle.pie_line.specs.DataSymbols.{GoesOver}
-use Rattle.pie_line.proofs.TakenSymbols.{left_all}
+use Rattle.pie_line.proofs.IntervalsLeft.{behind_one, left_all}
 use Rattle.pie_line.proofs.Leads.{refused-more}
-use Rattle.pie_line.proofs.Standings.{stands-refused}
+use Rattle.pie_line.proofs.DecoderStandsFor.{stands-refused}
 
 -- the decoder was given the intervals before the rest, and the buffer has the bits that were read from them
 pub record IsDecoding (edges : EdgesValue) (out : BitString) (capacity : ℕ) (intervals rest : List ℕ) : Type 0 where
@@ -27,11 +27,6 @@ pub record IsDecoding (edges : EdgesValue) (out : BitString) (capacity : ℕ) (i
   pub read : length out.items ≤ length taken
   pub room : out.capacity ≡ capacity
   pub each : All (λ interval. interval ≤ longest_interval) rest
-
--- what a slice's pattern leaves behind its first item
-behind_one : (rest : List ℕ) → 1 ≤ length rest → rest ≡ get_or rest 0 0 ∷ take (length rest - 1) (drop 1 rest)
-behind_one [] one = absurd (omega (arith, one))
-behind_one (interval ∷ behind) one = ap (λ (list : List ℕ). interval ∷ list) (sym (take_all (length (interval ∷ behind) - 1) behind (omega arith)))
 
 -- the next interval was given too
 pub given_more : (edges edges' : EdgesValue) (out out' : BitString) (capacity : ℕ) (intervals rest : List ℕ) → 1 ≤ length rest

@@ -1,30 +1,13 @@
 -- A decoder goes over data symbols.
-use Rattle.std.proofs.Common.{◌≡◌, ℕ, ◌+◌, ◌-◌, ◌≤◌, Bool, Ok, List, [], ◌∷◌, ◌++◌, length, refl, sym, subst, ap, arith, ◌∙◌, length-append}
-use Rattle.std.proofs.lemmas.List.{append-nil}
+use Rattle.std.proofs.Common.{◌≡◌, ℕ, ◌+◌, ◌-◌, ◌≤◌, Bool, Ok, List, [], ◌∷◌, ◌++◌, length, ap, arith, ◌∙◌, length-append}
 use Rattle.pie_line.specs.declared.frame.FrameKind.{FrameKind}
-use Rattle.pie_line.specs.declared.frame.FrameKind.TheVariants.{Preamble, FrameSync}
 use Rattle.pie_line.specs.declared.frame_state.FrameState.TheVariants.{High}
 use Rattle.pie_line.specs.Pie.{bit_of}
-use Rattle.pie_line.specs.FrameState.{IsHeader, rtcal_of}
+use Rattle.pie_line.specs.FrameState.{rtcal_of}
 use Rattle.pie_line.specs.Edges.{EdgesValue, EdgesStandFor}
 use Rattle.pie_line.specs.DataSymbols.{IsDataSymbol, TakesSymbols, GoesOver}
 use Rattle.pie_line.proofs.TakenSymbols.{leads-symbol}
-use Rattle.pie_line.proofs.Standings.{stands-at, standing-so}
-
--- the longest RTcal
-pub header_rtcal : (kind : FrameKind) → IsHeader kind → rtcal_of kind ≤ 75000
-header_rtcal (FrameSync tari rtcal) header = omega (arith, header.0, header.1)
-header_rtcal (Preamble tari rtcal trcal) header = omega (arith, header.0, header.1)
-
--- it goes over none
-pub goes_nowhere : (edges : EdgesValue) (bits : List Bool) (intervals : List ℕ) → GoesOver edges edges bits bits intervals intervals
-goes_nowhere edges bits intervals = record {
-  taken = [];
-  cut = refl;
-  few = omega arith;
-  counted = omega arith;
-  stands = λ came stands. subst (EdgesStandFor edges bits) (sym (append-nil came)) stands;
-}
+use Rattle.pie_line.proofs.DecoderStandsFor.{stands-at, standing-so}
 
 -- it goes over those that are taken
 pub goes_over : (old new : EdgesValue) (kind : FrameKind) (before after : List Bool) (intervals rest : List ℕ) → old.standing ≡ Ok (High kind)

@@ -1,11 +1,12 @@
 pub mod Bounds
 pub mod Completions
 pub mod Decisions
+pub mod DecoderStandsFor
 pub mod Decoding
 pub mod FrameAnswers
 pub mod GoneOver
+pub mod IntervalsLeft
 pub mod Leads
-pub mod Standings
 pub mod Symbols
 pub mod TakenSymbols
 pub mod Writing

@@ -1,8 +1,6 @@
 -- Data symbols that are taken a pair of intervals at a time.
 use Rattle.std.proofs.Common.{◌≡◌, ℕ, ◌+◌, ◌*◌, ◌≤◌, ◌<◌, Bool, Some, None, List, [], ◌∷◌, ◌++◌, ◌-◌, length, take, drop, get_or, refl, sym, ◌∙◌, ap, subst, arith, append_assoc, length-append}
-use Rattle.std.specs.Prelude.{All}
-use Rattle.std.proofs.lemmas.List.{append-nil, take_all}
-use Rattle.std.proofs.lemmas.List.Elements.{All-take, All-drop}
+use Rattle.std.proofs.lemmas.List.{append-nil}
 use Rattle.pie_line.specs.declared.frame.FrameKind.{FrameKind}
 use Rattle.pie_line.specs.declared.frame_state.FrameState.TheVariants.{High, Low}
 use Rattle.pie_line.specs.Pie.{bit_of}
@@ -11,6 +9,7 @@ use Rattle.pie_line.specs.Edges.{LeadsToState}
 use Rattle.pie_line.specs.DataSymbols.{IsDataSymbol, TakesSymbols}
 use Rattle.pie_line.proofs.Leads.{leads-moves}
 use Rattle.pie_line.proofs.Symbols.{symbol-moves}
+use Rattle.pie_line.proofs.IntervalsLeft.{behind_two}
 
 -- the high of a data symbol
 high-moves : (kind : FrameKind) (high : ℕ) → IsHeader kind → 1 ≤ high → high < 4 * rtcal_of kind → Moves (High kind) high (Low kind high) None
@@ -43,12 +42,6 @@ takes_none kind bits intervals = record {
   leads = λ came leads. subst (LeadsToState (High kind) bits) (sym (append-nil came)) leads;
 }
 
--- what a slice's pattern leaves behind its first two items
-behind_two : (rest : List ℕ) → 2 ≤ length rest → rest ≡ get_or rest 0 0 ∷ get_or rest 1 0 ∷ take (length rest - 2) (drop 2 rest)
-behind_two [] two = absurd (omega (arith, two))
-behind_two (high ∷ []) two = absurd (omega (arith, two))
-behind_two (high ∷ low ∷ behind) two = ap (λ (list : List ℕ). high ∷ low ∷ list) (sym (take_all (length (high ∷ low ∷ behind) - 2) behind (omega arith)))
-
 -- one symbol more is taken
 pub takes_more : (kind : FrameKind) (before after after' : List Bool) (intervals rest : List ℕ) → 2 ≤ length rest
     → IsDataSymbol (rtcal_of kind) (get_or rest 0 0) (get_or rest 1 0) → after' ≡ after ++ bit_of (rtcal_of kind) (get_or rest 0 0 + get_or rest 1 0) ∷ []
@@ -67,10 +60,6 @@ takes_more kind before after after' intervals rest two symbol read so_far =
           subst (λ all. LeadsToState (High kind) all (came ++ (so_far.taken ++ pair))) (sym read)
           (subst (λ ys. LeadsToState (High kind) (after ++ bit ∷ []) ys) (append_assoc came so_far.taken pair) more);
     }
-
--- of what the intervals are, so are those that are left
-pub left_all : (P : ℕ → Type 0) (rest : List ℕ) (n m : ℕ) → All P rest → All P (take n (drop m rest))
-left_all P rest n m all = All-take P n (drop m rest) (All-drop P m rest all)
 
 -- there is room for one more bit
 pub room_left : (kind : FrameKind) (before after : List Bool) (intervals rest : List ℕ) (capacity capacity' : ℕ) → 2 ≤ length rest

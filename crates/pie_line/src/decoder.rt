@@ -1,5 +1,5 @@
 //! Frames to bits.
-ghost use Rattle.std.specs.Prelude.{◌≡◌, ◌≤◌, ℕ, Bool, List, [], All, IfOk, IfErr, OnErr, Ok, length};
+ghost use Rattle.std.specs.Prelude.{◌≡◌, ◌≤◌, Bool, List, [], All, IfOk, IfErr, OnErr, Ok, length};
 ghost use Rattle.pie_line.specs.Pie.{IsFrame, longest_interval};
 ghost use Rattle.pie_line.specs.declared.frame.FrameKind.{FrameKind};
 ghost use Rattle.pie_line.specs.Refusal.{RefusesFrame};

@@ -10,7 +10,7 @@ use bit_strings::Bits;
 const DELIMITER: u32 = 12_500;
 
 /// How many intervals the longest header has: the delimiter, and a pair each for Tari, RTcal and TRcal (6.3.1.2.8).
-pub const LONGEST_HEADER: u32 = 7;
+const LONGEST_HEADER: u32 = 7;
 
 /// Writes the one frame of these bits (6.3.1.2.3, 6.3.1.2.8) in place of what `out` had: the delimiter,
 /// the header, and a symbol for each bit. Each low lasts PW.
@@ -34,7 +34,7 @@ pub fn encode_frame(link: &Link, lead: Lead, bits: &Bits, out: &mut Intervals)
 /// The interval of the header at a place, counted from 0, in nanoseconds (6.3.1.2.8): the delimiter at
 /// place 0, and then the highs and lows of the data-0, of RTcal, and in a preamble of TRcal. None behind
 /// the header.
-pub fn header_interval(link: &Link, lead: Lead, place: u32) -> Option<u32>
+fn header_interval(link: &Link, lead: Lead, place: u32) -> Option<u32>
     ensures interval { result ≡ slice_get (12500 ∷ header_of link.now lead) place }
     ensures bounded { IfSome result (λ interval. interval ≤ longest_interval) }
     ensures legal { IsLegalLink link.now }
@@ -52,7 +52,7 @@ pub fn header_interval(link: &Link, lead: Lead, place: u32) -> Option<u32>
 }
 
 /// The high and the low of the symbol of a bit, in nanoseconds (6.3.1.2.3).
-pub fn symbol_intervals(link: &Link, bit: bool) -> (u32, u32)
+fn symbol_intervals(link: &Link, bit: bool) -> (u32, u32)
     ensures pair { result.0 ∷ result.1 ∷ [] ≡ pair_of link.now (sum_of link.now bit) }
     ensures bounded { (result.0 ≤ longest_interval) × (result.1 ≤ longest_interval) }
 {

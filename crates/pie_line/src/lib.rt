@@ -16,7 +16,7 @@ mod symbol_pairs;
 pub use bit_strings::Code;
 pub use decoder::decode_frame;
 pub use edges::{Edge, Edges};
-pub use encoder::{LONGEST_HEADER, encode_frame, header_interval, symbol_intervals};
+pub use encoder::encode_frame;
 pub use frame::{FrameKind, Lead, PieRefusal};
 pub use intervals::Intervals;
 pub use laws::{one_answer, standing_decoders_begin_frames, written_frame};

@@ -17,7 +17,7 @@ use Rattle.std.proofs.lemmas.Str.Parse.{numerals_by_value, tells_digits, digit_a
 use Rattle.text_fields.specs.Lines.{Lacks, fields_of, space}
 use Rattle.text_fields.specs.LineLaws.{pieces_between-cut, whole_piece}
 use Rattle.pie_text.specs.FieldEnd.{IsFieldEnd}
-use Rattle.pie_text.specs.Spelling.{IsNumber, number_of}
+use Rattle.pie_text.specs.Spelling.{IsNumber, decimal_value}
 
 -- an item of a front
 front_item : (text : List ℕ) (end i : ℕ) → i < end → get_or (take end text) i 0 ≡ get_or text i 0
@@ -39,8 +39,8 @@ no_digit byte is least most = grind (arith, nat_tests)
 
 -- one digit more
 pub digit_more : (text : List ℕ) (i number : ℕ) → i < length text → 48 ≤ get_or text i 0 → get_or text i 0 ≤ 57
-    → AllDigits 10 (take i text) → number ≡ number_of (take i text)
-    → AllDigits 10 (take (i + 1) text) × (10 * number + (get_or text i 0 - 48) ≡ number_of (take (i + 1) text))
+    → AllDigits 10 (take i text) → number ≡ decimal_value (take i text)
+    → AllDigits 10 (take (i + 1) text) × (10 * number + (get_or text i 0 - 48) ≡ decimal_value (take (i + 1) text))
 digit_more text i number within least most digits value =
     let digit : digit_value (get_or text i 0) + 48 ≡ get_or text i 0 = digit_value_digit (get_or text i 0) (least, most) in (
       digits_more 10 text i within digits (omega (arith, digit)),
@@ -64,7 +64,7 @@ digits_before text i end within digits ends =
 -- the digits of a number are digits
 number_digits : (most : ℕ) (field : List ℕ) → most < 2 ^ 32 → IsNumber most field → AllDigits 10 field
 number_digits most field small is =
-    let digits = (decimal_is_IsNumeral (number_of field) (omega (arith, is.within))).0.1 in
+    let digits = (decimal_is_IsNumeral (decimal_value field) (omega (arith, is.within))).0.1 in
     subst (AllDigits 10) (sym is.spelling) digits
 
 -- where the loop stands inside a field that spells a number there is a digit more, and the number so far is not too great
@@ -91,11 +91,11 @@ no_digit_here most i end text small within digits no_space is ends number =
     no_digit (get_or text i 0) is (omega (arith, digit, same)) (omega (arith, digit, same))
 
 pub too_great : (most i end next : ℕ) (text : List ℕ) → most < 2 ^ 32 → i < length text → AllDigits 10 (take (i + 1) text)
-    → next ≡ number_of (take (i + 1) text) → most < next → IsFieldEnd text end → IsNumber most (take end text) → ⊥
+    → next ≡ decimal_value (take (i + 1) text) → most < next → IsFieldEnd text end → IsNumber most (take end text) → ⊥
 too_great most i end next text small within digits value great ends number =
     let before = digits_before text (i + 1) end (omega (arith, within)) digits ends in
-    let front : number_of (take (i + 1) (take end text)) ≤ number_of (take end text) = digits_value-take-le 10 (take end text) (i + 1) (omega arith) in
-    let same : number_of (take (i + 1) (take end text)) ≡ number_of (take (i + 1) text) = ap number_of (take-take (i + 1) end text before) in
+    let front : decimal_value (take (i + 1) (take end text)) ≤ decimal_value (take end text) = digits_value-take-le 10 (take end text) (i + 1) (omega arith) in
+    let same : decimal_value (take (i + 1) (take end text)) ≡ decimal_value (take (i + 1) text) = ap decimal_value (take-take (i + 1) end text before) in
     omega (arith, front, same, value, great, number.within)
 
 -- behind the last digit stands the end of the field
@@ -114,13 +114,13 @@ one_zero (suc n) small zeros = absurd (omega (arith, zeros, first_decimal (suc n
 -- a number has a digit, and no leading zeros
 pub number_form : (most : ℕ) (field : List ℕ) → most < 2 ^ 32 → IsNumber most field → (0 < length field) × (get_or field 0 0 ≡ 48 → length field ≡ 1)
 number_form most field small is = (
-  subst (λ (list : List ℕ). 0 < length list) (sym is.spelling) (decimal_is_IsNumeral (number_of field) (omega (arith, is.within))).0.0,
-  λ zeros. subst (λ (list : List ℕ). length list ≡ 1) (sym is.spelling) (one_zero (number_of field) (omega (arith, is.within)) (subst (λ (list : List ℕ). get_or list 0 0 ≡ 48) is.spelling zeros)),
+  subst (λ (list : List ℕ). 0 < length list) (sym is.spelling) (decimal_is_IsNumeral (decimal_value field) (omega (arith, is.within))).0.0,
+  λ zeros. subst (λ (list : List ℕ). length list ≡ 1) (sym is.spelling) (one_zero (decimal_value field) (omega (arith, is.within)) (subst (λ (list : List ℕ). get_or list 0 0 ≡ 48) is.spelling zeros)),
 )
 
 -- digits that have the form of a number are one
 pub digits_are_number : (most : ℕ) (field : List ℕ) → most < 2 ^ 32 → AllDigits 10 field → 0 < length field → (get_or field 0 0 ≡ 48 → length field ≡ 1)
-    → number_of field ≤ most → IsNumber most field
+    → decimal_value field ≤ most → IsNumber most field
 digits_are_number most field small digits some zeros within = record {
   spelling = sym (decimal-digits_value (numerals_by_value _ tells_digits) field digits some zeros (omega (arith, within)));
   within = within;

@@ -1,11 +1,13 @@
 -- Lists of numbers and their fields.
-use Rattle.std.proofs.Common.{◌≡◌, ◌≢◌, ◌<◌, ◌≤◌, ◌^◌, ℕ, List, [], ◌∷◌, ◌++◌, length, map, Option, Some, None, IsSome, IfSome, All, ap, arith, refl, sym, ◌∙◌, append_assoc}
+use Rattle.std.proofs.Common.{◌≡◌, ◌≢◌, ◌↔◌, ◌+◌, ◌-◌, ◌<◌, ◌≤◌, ◌^◌, ℕ, List, [], ◌∷◌, ◌++◌, length, map, All, ap, arith, refl, sym, ◌∙◌, append_assoc}
 use Rattle.std.specs.Fmt.{decimal}
 use Rattle.std.proofs.lemmas.Fmt.{decimal_is_IsNumeral}
 use Rattle.std.proofs.lemmas.List.{length-map}
 use Rattle.std.proofs.lemmas.List.Elements.{All-nil, All-cons, All-head, All-tail}
-use Rattle.pie_text.specs.Numbers.{HasShape, SpellsNumbers}
-use Rattle.pie_text.specs.Spelling.{IsNumber, number_of}
+use Rattle.pie_text.specs.declared.numbers.NotNumbers.{NotNumbers}
+use Rattle.pie_text.specs.declared.numbers.NotNumbers.TheVariants.{Shape, Number}
+use Rattle.pie_text.specs.Numbers.{HasShape, RefusesNumbers, SpellsNumbers}
+use Rattle.pie_text.specs.Spelling.{IsNumber, decimal_value}
 
 -- the fact of `within`
 abbrev IsWithin : ℕ → ℕ → Type 0
@@ -15,8 +17,14 @@ IsWithin most number = number ≤ most
 abbrev IsFilled : List ℕ → Type 0
 IsFilled field = field ≢ []
 
+-- a number has a digit
+pub number_is_filled : (most : ℕ) (field : List ℕ) → most < 2 ^ 32 → IsNumber most field → field ≢ []
+number_is_filled most field small is none =
+    let some : 0 < length (decimal (decimal_value field)) = (decimal_is_IsNumeral (decimal_value field) (omega (arith, is.within))).0.0 in
+    omega (arith, some, ap length is.spelling, ap length none)
+
 -- the number of a number's digits
-number_back : (most number : ℕ) → most < 2 ^ 32 → number ≤ most → number_of (decimal number) ≡ number
+number_back : (most number : ℕ) → most < 2 ^ 32 → number ≤ most → decimal_value (decimal number) ≡ number
 number_back most number small within = (decimal_is_IsNumeral number (omega arith)).1
 
 decimal_is_filled : (most number : ℕ) → most < 2 ^ 32 → number ≤ most → decimal number ≢ []
@@ -28,14 +36,8 @@ decimal_is_filled most number small within none =
 -- a number's digits are a number's spelling
 pub spelling_is_number : (most number : ℕ) (field : List ℕ) → most < 2 ^ 32 → number ≤ most → field ≡ decimal number → IsNumber most field
 spelling_is_number most number field small within spells =
-    let back : number_of field ≡ number = ap number_of spells ∙ number_back most number small within in
+    let back : decimal_value field ≡ number = ap decimal_value spells ∙ number_back most number small within in
     record { spelling = spells ∙ ap decimal (sym back); within = omega arith }
-
--- a field of which a number is read spells a number
-pub read_is_number : (most : ℕ) (field : List ℕ) (answer : Option ℕ) → most < 2 ^ 32
-    → IfSome answer (λ number. (field ≡ decimal number) × (number ≤ most)) → IsSome answer → IsNumber most field
-read_is_number most field (Some number) small reads some = spelling_is_number most number field small reads.1 reads.0
-read_is_number most field None small reads some = cc
 
 digits_are_numbers : (most : ℕ) (numbers : List ℕ) → most < 2 ^ 32 → All (IsWithin most) numbers → All (IsNumber most) (map decimal numbers)
 digits_are_numbers most [] small within = All-nil (IsNumber most)
@@ -51,7 +53,7 @@ digits_are_filled most (number ∷ numbers) small within =
     (decimal_is_filled most number small (All-head (IsWithin most) number numbers within))
     (digits_are_filled most numbers small (All-tail (IsWithin most) number numbers within))
 
-values_back : (most : ℕ) (numbers : List ℕ) → most < 2 ^ 32 → All (IsWithin most) numbers → map number_of (map decimal numbers) ≡ numbers
+values_back : (most : ℕ) (numbers : List ℕ) → most < 2 ^ 32 → All (IsWithin most) numbers → map decimal_value (map decimal numbers) ≡ numbers
 values_back most [] small within = refl
 values_back most (number ∷ numbers) small within =
     rw (
@@ -59,17 +61,17 @@ values_back most (number ∷ numbers) small within =
       values_back most numbers small (All-tail (IsWithin most) number numbers within),
     ) refl
 
-digits_of_values : (most : ℕ) (fields : List (List ℕ)) → All (IsNumber most) fields → fields ≡ map decimal (map number_of fields)
+digits_of_values : (most : ℕ) (fields : List (List ℕ)) → All (IsNumber most) fields → fields ≡ map decimal (map decimal_value fields)
 digits_of_values most [] are = refl
 digits_of_values most (field ∷ fields) are =
     let first = (All-head (IsNumber most) field fields are).spelling in
     let others = digits_of_values most fields (All-tail (IsNumber most) field fields are) in
-    ap (λ (f : List ℕ). f ∷ fields) first ∙ ap (λ (fs : List (List ℕ)). decimal (number_of field) ∷ fs) others
+    ap (λ (f : List ℕ). f ∷ fields) first ∙ ap (λ (fs : List (List ℕ)). decimal (decimal_value field) ∷ fs) others
 
-values_within : (most : ℕ) (fields : List (List ℕ)) → All (IsNumber most) fields → All (IsWithin most) (map number_of fields)
+values_within : (most : ℕ) (fields : List (List ℕ)) → All (IsNumber most) fields → All (IsWithin most) (map decimal_value fields)
 values_within most [] are = All-nil (IsWithin most)
 values_within most (field ∷ fields) are =
-    All-cons (IsWithin most) (number_of field) (map number_of fields) (All-head (IsNumber most) field fields are).within
+    All-cons (IsWithin most) (decimal_value field) (map decimal_value fields) (All-head (IsNumber most) field fields are).within
     (values_within most fields (All-tail (IsNumber most) field fields are))
 
 -- fields that spell numbers have their shape
@@ -92,9 +94,9 @@ spelled_numbers most fields numbers small within spells = rw spells (digits_are_
 
 -- fields spell the numbers of the fields
 pub fields_spell : (most_items most : ℕ) (fields : List (List ℕ)) → 1 ≤ length fields → length fields ≤ most_items → All (IsNumber most) fields
-    → SpellsNumbers most_items most fields (map number_of fields)
+    → SpellsNumbers most_items most fields (map decimal_value fields)
 fields_spell most_items most fields some room are =
-    let count : length (map number_of fields) ≡ length fields = rw length-map refl in
+    let count : length (map decimal_value fields) ≡ length fields = rw length-map refl in
     record {
       spelling = digits_of_values most fields are;
       some = omega arith;
@@ -102,21 +104,29 @@ fields_spell most_items most fields some room are =
       within = values_within most fields are;
     }
 
-pub numbers_spelled : (most_items most : ℕ) (fields : List (List ℕ)) → HasShape most_items fields → All (IsNumber most) fields
-    → SpellsNumbers most_items most fields (map number_of fields)
-numbers_spelled most_items most fields shape are = fields_spell most_items most fields shape.some shape.room are
-
 -- fields spell no other numbers
 pub one_spelling : (most_items most : ℕ) (fields : List (List ℕ)) (numbers : List ℕ) → most < 2 ^ 32
-    → SpellsNumbers most_items most fields numbers → map number_of fields ≡ numbers
+    → SpellsNumbers most_items most fields numbers → map decimal_value fields ≡ numbers
 one_spelling most_items most fields numbers small spells =
-    ap (λ (fs : List (List ℕ)). map number_of fs) spells.spelling ∙ values_back most numbers small spells.within
+    ap (λ (fs : List (List ℕ)). map decimal_value fs) spells.spelling ∙ values_back most numbers small spells.within
 
 -- a list that holds the numbers of the fields before these then holds the number of the next field as well
-pub holds_next : (all items items' field : List ℕ) (fields rest : List (List ℕ)) (number : ℕ) → all ≡ items ++ map number_of fields
-    → fields ≡ field ∷ rest → number ≡ number_of field → items' ≡ items ++ number ∷ [] → all ≡ items' ++ map number_of rest
+pub holds_next : (all items items' field : List ℕ) (fields rest : List (List ℕ)) (number : ℕ) → all ≡ items ++ map decimal_value fields
+    → fields ≡ field ∷ rest → number ≡ decimal_value field → items' ≡ items ++ number ∷ [] → all ≡ items' ++ map decimal_value rest
 holds_next all items items' field fields rest number so_far next is pushed =
-    let whole : all ≡ items ++ number_of field ∷ map number_of rest = so_far ∙ ap (λ (fs : List (List ℕ)). items ++ map number_of fs) next in
-    let then : items' ++ map number_of rest ≡ items ++ number_of field ∷ map number_of rest =
-    rw (pushed, is) (append_assoc items (number_of field ∷ []) (map number_of rest)) in
+    let whole : all ≡ items ++ decimal_value field ∷ map decimal_value rest = so_far ∙ ap (λ (fs : List (List ℕ)). items ++ map decimal_value fs) next in
+    let then : items' ++ map decimal_value rest ≡ items ++ decimal_value field ∷ map decimal_value rest =
+    rw (pushed, is) (append_assoc items (decimal_value field ∷ []) (map decimal_value rest)) in
     whole ∙ sym then
+
+-- where the fields before are numbers, and what is left has one that is none, the fields are refused as what is left is
+pub refused_behind : (most_items most done left : ℕ) (fields rest : List (List ℕ)) (reason : NotNumbers) → most < 2 ^ 32
+    → length fields ≡ done + length rest → done ≤ most_items → 1 ≤ length rest → left ≡ most_items - done
+    → All IsFilled fields ↔ All IsFilled rest → ¬ All (IsNumber most) fields
+    → (reason ≡ Shape → ¬ HasShape left rest) → (reason ≡ Number → HasShape left rest) → RefusesNumbers reason most_items most fields
+refused_behind most_items most done left fields rest Shape small count few some left_is filled none shape number = λ has.
+    shape refl (record { some = some; room = omega (arith, has.room, count, left_is, few); filled = filled.0 has.filled })
+refused_behind most_items most done left fields rest Number small count few some left_is filled none shape number = (
+  let has = number refl in record { some = omega (arith, count, some); room = omega (arith, has.room, count, left_is, few); filled = filled.1 has.filled },
+  λ numbers within spells. none (spelled_numbers most fields numbers small within spells),
+)

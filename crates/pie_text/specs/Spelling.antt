@@ -4,10 +4,10 @@ use Rattle.std.specs.Fmt.{decimal}
 use Rattle.std.specs.Str.Parse.{digits_value}
 
 -- the number that a field of decimal digits stands for
-abbrev pub number_of : List ℕ → ℕ
-number_of field = digits_value 10 field
+abbrev pub decimal_value : List ℕ → ℕ
+decimal_value field = digits_value 10 field
 
 -- the field spells a number up to most
 pub record IsNumber (most : ℕ) (field : List ℕ) : Type 0 where
-  pub spelling : field ≡ decimal (number_of field)
-  pub within : number_of field ≤ most
+  pub spelling : field ≡ decimal (decimal_value field)
+  pub within : decimal_value field ≤ most

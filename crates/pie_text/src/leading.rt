@@ -3,7 +3,7 @@ ghost use Rattle.std.specs.Prelude.{◌≡◌, ◌<◌, ◌≤◌, ◌↔◌, �
 ghost use Rattle.std.specs.Option.{option_map_or};
 ghost use Rattle.text_fields.specs.Lines.{Lacks, fields_of, space};
 ghost use Rattle.pie_text.specs.FieldEnd.{IsFieldEnd};
-ghost use Rattle.pie_text.specs.Spelling.{IsNumber, number_of};
+ghost use Rattle.pie_text.specs.Spelling.{IsNumber, decimal_value};
 
 /// The byte that separates two fields.
 const SPACE: u8 = b' ';
@@ -33,7 +33,7 @@ fn is_field_end(text: &[u8], end: usize) -> bool
 /// none exactly where it spells no such number.
 pub(crate) fn leading_number(text: &[u8], most: u32) -> Option<(u32, usize)>
     ensures end { IfSome result (λ it. IsFieldEnd text.now it.1) }
-    ensures number { IfSome result (λ it. IsNumber most (take it.1 text.now) × (it.0 ≡ number_of (take it.1 text.now))) }
+    ensures number { IfSome result (λ it. IsNumber most (take it.1 text.now) × (it.0 ≡ decimal_value (take it.1 text.now))) }
     ensures none { IfNone result ((end : ℕ) → IsFieldEnd text.now end → ¬ IsNumber most (take end text.now)) }
 {
     let mut number = 0;

@@ -3,8 +3,10 @@
 #![tactic(auto)]
 
 mod frames;
+mod laws;
 mod leading;
 mod numbers;
 
 pub use frames::{push_frame, push_pie_refusal};
+pub use laws::numbers_or_refused;
 pub use numbers::{NotNumbers, Numbers, read_numbers};

@@ -1,13 +1,13 @@
 //! A list of numbers that the fields of a line spell.
-ghost use Rattle.std.specs.Prelude.{◌≡◌, ◌≢◌, ◌≤◌, ◌↔◌, ℕ, List, [], length, map, All, IfOk, IfErr, IsOkAnd, IsTrue};
+ghost use Rattle.std.specs.Prelude.{◌≡◌, ◌≢◌, ◌≤◌, ◌↔◌, ℕ, List, [], length, map, All, IfErr, IsOk, IsTrue};
 ghost use Rattle.text_fields.specs.Lines.{fields_of};
 ghost use Rattle.pie_text.specs.Numbers.{HasShape, RefusesNumbers, SpellsNumbers};
-ghost use Rattle.pie_text.specs.Spelling.{IsNumber, number_of};
+ghost use Rattle.pie_text.specs.Spelling.{IsNumber, decimal_value};
 
 use crate::leading::{behind_field, leading_number};
 use pie_line::Intervals;
 use std::marker::Model;
-use text_fields::{Fields, number};
+use text_fields::Fields;
 use thiserror::Error;
 
 /// Why fields are no list of numbers, in the order in which the reasons are looked for.
@@ -21,23 +21,34 @@ pub enum NotNumbers {
     Number,
 }
 
-/// A list of numbers that fields of a line spell. It holds the line's text alone. A contract sees it as
-/// the list of these numbers.
+/// Numbers that were read into a list, as one value. A contract sees it as the list of these numbers.
 #[derive(Drop)]
 pub struct Numbers<'a> {
-    line: &'a [u8],
+    list: &'a Intervals,
 }
 
 impl<'a> Model for Numbers<'a> {
-    ghost use Rattle.std.specs.Prelude.{List, ℕ, map, All};
-    ghost use Rattle.text_fields.specs.Lines.{fields_of};
-    ghost use Rattle.pie_text.specs.Spelling.{IsNumber, number_of};
+    ghost use Rattle.std.specs.Prelude.{List, ℕ};
 
     ghost Value = { List ℕ };
 
-    ghost view = { λ a. map number_of (fields_of a.line.now) };
+    ghost view = { λ a. a.list.now.items };
+}
 
-    ghost invariant = { λ a. All (IsNumber 4294967295) (fields_of a.line.now) };
+impl<'a> Numbers<'a> {
+    /// The numbers of a list.
+    pub fn new(list: &'a Intervals) -> Numbers<'a>
+        ensures { result ≡ list.now.items }
+    {
+        Numbers { list }
+    }
+
+    /// The list that has the numbers.
+    pub fn list(&self) -> &Intervals
+        ensures { result.now.items ≡ self.now }
+    {
+        self.list
+    }
 }
 
 /// How many fields a line has.
@@ -69,80 +80,68 @@ fn has_shape(line: &[u8], most_items: u32) -> bool
     1 <= count && count <= most_items as usize && are_filled(line)
 }
 
-/// Whether a field spells a number up to `most`.
-fn is_number(field: &[u8], most: u32) -> bool
-    ensures { IsTrue result ↔ IsNumber most field.now }
+/// Why fields of a line that are no numbers are no list of numbers, where at most `most_items` numbers may stand there.
+fn reason_of(line: &[u8], most_items: u32) -> NotNumbers
+    ensures shape { result ≡ NotNumbers.Shape → ¬ HasShape most_items (fields_of line.now) }
+    ensures number { result ≡ NotNumbers.Number → HasShape most_items (fields_of line.now) }
 {
-    number(field, most).is_some()
+    if has_shape(line, most_items) {
+        NotNumbers::Number
+    } else {
+        NotNumbers::Shape
+    }
 }
 
-/// Whether each field of a line spells a number up to `most`.
-fn are_numbers(line: &[u8], most: u32) -> bool
-    ensures { IsTrue result ↔ All (IsNumber most) (fields_of line.now) }
-{
-    Fields::new(line).all(|field| is_number(field, most))
-}
-
-/// Adds the numbers that the fields of a line spell to an empty list, up to the first field that spells
-/// no number up to `most` or for which the list has `most_items` numbers already. Whether there is none
-/// such.
-fn push_numbers(line: &[u8], most_items: u32, most: u32, out: &mut Intervals) -> bool
+/// Adds the numbers that the fields of a line spell to an empty list, from 1 to `most_items` numbers, none of them greater
+/// than `most`. At the first field for which there is no room or which spells no such number, what is left of the line
+/// tells why.
+fn push_numbers(
+    line: &[u8],
+    most_items: u32,
+    most: u32,
+    out: &mut Intervals,
+) -> Result<(), NotNumbers>
     requires empty { out.old.items ≡ [] }
     requires room { most_items ≤ out.old.capacity }
-    ensures all { IsTrue result ↔ ((length (fields_of line.now) ≤ most_items) × All (IsNumber most) (fields_of line.now)) }
-    ensures values { IsTrue result → out.new.items ≡ map number_of (fields_of line.now) }
+    ensures all { IsOk result ↔ ((length (fields_of line.now) ≤ most_items) × All (IsNumber most) (fields_of line.now)) }
+    ensures values { IsOk result → out.new.items ≡ map decimal_value (fields_of line.now) }
+    ensures refused { IfErr result (λ reason. RefusesNumbers reason most_items most (fields_of line.now)) }
     ensures capacity { out.new.capacity ≡ out.old.capacity }
 {
     let mut rest = Some(line);
     while let Some(text) = rest {
         if out.len() == most_items {
-            return false;
+            return Err(NotNumbers::Shape);
         }
         let Some((number, end)) = leading_number(text, most) else {
-            return false;
+            return Err(reason_of(text, most_items - out.len()));
         };
         out.push_reserved(number);
         rest = behind_field(text, end);
     }
-    true
+    Ok(())
 }
 
 /// Reads the numbers that all the fields that are left spell, from 1 to `most_items` numbers, none of them
-/// greater than `most`, in place of what the list holds. Whether they spell such numbers: where they don't the
-/// list holds some of them, and `Numbers::new` says why.
-pub fn read_numbers(fields: Fields, most_items: u32, most: u32, out: &mut Intervals) -> bool
+/// greater than `most`, in place of what the list holds; after a refusal it holds some of them.
+///
+/// `Shape` comes exactly where the number of fields isn't from 1 to `most_items` or a field is empty,
+/// and `Number` exactly where they have this shape and a field is no number up to `most`.
+pub fn read_numbers(
+    fields: Fields,
+    most_items: u32,
+    most: u32,
+    out: &mut Intervals,
+) -> Result<(), NotNumbers>
     requires { most_items ≤ out.old.capacity }
-    ensures read { IsTrue result → SpellsNumbers most_items most fields.entry out.new.items }
-    ensures only { (numbers : List ℕ) → SpellsNumbers most_items most fields.entry numbers → IsTrue result × (out.new.items ≡ numbers) }
+    ensures ok { IsOk result → SpellsNumbers most_items most fields.entry out.new.items }
+    ensures refused { IfErr result (λ reason. RefusesNumbers reason most_items most fields.entry) }
+    ensures only { (numbers : List ℕ) → SpellsNumbers most_items most fields.entry numbers → IsOk result × (out.new.items ≡ numbers) }
     ensures capacity { out.new.capacity ≡ out.old.capacity }
 {
     out.clear();
     match fields.into_rest() {
         Some(line) => push_numbers(line, most_items, most, out),
-        None => false,
-    }
-}
-
-impl<'a> Numbers<'a> {
-    /// The numbers that all the fields that are left spell: from 1 to `most_items` numbers, none of them
-    /// greater than `most`.
-    ///
-    /// `Shape` comes exactly where the number of fields isn't from 1 to `most_items` or a field is empty,
-    /// and `Number` exactly where they have this shape and a field is no number up to `most`.
-    pub fn new(fields: Fields<'a>, most_items: u32, most: u32) -> Result<Numbers<'a>, NotNumbers>
-        ensures ok { IfOk result (SpellsNumbers most_items most fields.entry) }
-        ensures refused { IfErr result (λ reason. RefusesNumbers reason most_items most fields.entry) }
-        ensures only { (numbers : List ℕ) → SpellsNumbers most_items most fields.entry numbers → IsOkAnd result (λ it. it ≡ numbers) }
-    {
-        let Some(line) = fields.into_rest() else {
-            return Err(NotNumbers::Shape);
-        };
-        if !has_shape(line, most_items) {
-            return Err(NotNumbers::Shape);
-        }
-        if !are_numbers(line, most) {
-            return Err(NotNumbers::Number);
-        }
-        Ok(Numbers { line })
+        None => Err(NotNumbers::Shape),
     }
 }

@@ -1,4 +1,4 @@
-pub mod Courses
-pub mod Facts
-pub mod Table
-pub mod Turns
+pub mod RoundLaws
+pub mod RoundFacts
+pub mod TurnFacts
+pub mod RoundAnswers

@@ -1,6 +1,4 @@
-pub mod RoundFacts
-pub mod RoundLaws
 pub mod Rounds
-pub mod SlotLaws
 pub mod SpecValue
-pub mod Standing
+pub mod RoundValue
+pub mod laws

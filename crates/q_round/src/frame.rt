@@ -1,7 +1,7 @@
 //! Q, and the slots since the command that set it.
 ghost use Rattle.std.specs.Prelude.{◌≡◌, ◌==◌, ◌^◌, ◌*◌, ◌≤◌, ◌&&◌, true};
 ghost use Rattle.q_round.specs.SpecValue.{IsStep};
-ghost use Rattle.q_round.specs.Standing.{IsSoundFrame, IsCounted, frame_after_outcome, change_of, frame_begun_by};
+ghost use Rattle.q_round.specs.RoundValue.{IsSoundFrame, IsCounted, frame_after_outcome, change_of, frame_begun_by};
 
 use crate::{QValue, UpDn};
 

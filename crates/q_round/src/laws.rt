@@ -6,8 +6,8 @@ ghost use Rattle.q_round.specs.declared.frame.Outcome.{Outcome};
 ghost use Rattle.q_round.specs.declared.round.Next.TheVariants.{Send, Quiet};
 ghost use Rattle.q_round.specs.SpecValue.{SpecValue, IsLegalSpec};
 ghost use Rattle.q_round.specs.Rounds.{AreOutcomes, is_over, slots_of, next_command, q_of, frame_of};
-ghost use Rattle.q_round.specs.RoundFacts.{RoundFacts};
-ghost use Rattle.q_round.specs.RoundLaws.{MovesQ, IsSilentFrame, IsLegalNext, IsEnd, SendsSlotCommand};
+ghost use Rattle.q_round.specs.laws.RoundFacts.{RoundFacts};
+ghost use Rattle.q_round.specs.laws.RoundLaws.{MovesQ, IsSilentFrame, IsLegalNext, IsEnd, SendsSlotCommand};
 
 /// No round gives more slot commands than its limit. Q is from 0 to 15; each QueryAdjust moves it by
 /// what it says, and nothing else does. The round ends quiet only after a whole frame of silent slots,

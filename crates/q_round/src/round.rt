@@ -47,7 +47,7 @@ pub struct Round {
 }
 
 impl Model for Round {
-    ghost use Rattle.q_round.specs.Standing.{RoundValue, IsSoundRound};
+    ghost use Rattle.q_round.specs.RoundValue.{RoundValue, IsSoundRound};
 
     ghost Value = { RoundValue };
 
@@ -61,7 +61,7 @@ impl Round {
     ghost use Rattle.q_round.specs.declared.round.Next.TheVariants.{Send};
     ghost use Rattle.q_round.specs.SpecValue.{SpecValue};
     ghost use Rattle.q_round.specs.Rounds.{next_command, is_over, slots_of};
-    ghost use Rattle.q_round.specs.Standing.{RoundStandsFor, IsNextAnswer, slots_in};
+    ghost use Rattle.q_round.specs.RoundValue.{RoundStandsFor, IsNextAnswer, slots_in};
 
     /// A round with these parameters, and the Query that begins it, which asks for replies as the link
     /// has them.

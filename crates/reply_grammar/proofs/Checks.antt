@@ -3,7 +3,7 @@ use Rattle.std.proofs.Common.{◌≡◌, ℕ, ◌-◌, ◌≤◌, Bool, List, �
 use Rattle.std.specs.Prelude.{◌↔◌}
 use Rattle.std.proofs.lemmas.List.{take-append-drop}
 use Rattle.gen2_crc.specs.Crc.{crc16_of}
-use Rattle.gen2_crc.specs.CrcLaws.{length-crc16_of}
+use Rattle.gen2_crc.specs.laws.CheckNumbers.{length-crc16_of}
 use Rattle.reply_grammar.specs.Refusals.{EndsWithCheck}
 
 -- what the register says of a message is what the last 16 bits say

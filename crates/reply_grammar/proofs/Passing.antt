@@ -12,7 +12,7 @@ use Rattle.reply_grammar.specs.declared.expected.Expect.TheVariants.{Rn16 as One
 use Rattle.reply_grammar.specs.declared.expected.Reply.TheVariants.{Rn16, Epc, Handle, Words, Header, Error}
 use Rattle.reply_grammar.specs.Table.{AnswersExpected, Suits, AreWords, handle_of, spelling, with_check}
 use Rattle.reply_grammar.specs.Refusals.{FitsLength, EndsWithCheck, HasHeader, HasHandle, Passes}
-use Rattle.reply_grammar.specs.PassingLaws.{length-with_check, first-five}
+use Rattle.reply_grammar.specs.laws.Passing.{length-with_check, first-five}
 use Rattle.reply_grammar.proofs.Reading.{part-field, value_of-part, part-add}
 
 -- a part of the front of a list

@@ -7,7 +7,7 @@ use Rattle.bit_strings.specs.Numbers.{value_of, part_of}
 use Rattle.bit_strings.specs.NumberLaws.{same_from_value}
 use Rattle.bit_strings.specs.EbvLaws.{append_apart}
 use Rattle.gen2_crc.specs.Crc.{crc16_of}
-use Rattle.gen2_crc.specs.CrcLaws.{length-crc16_of}
+use Rattle.gen2_crc.specs.laws.CheckNumbers.{length-crc16_of}
 use Rattle.reply_grammar.specs.declared.expected.Expect.{Expect}
 use Rattle.reply_grammar.specs.declared.expected.Expect.TheVariants.{Rn16 as OneRn16, Epc as OneEpc, Handle as OneHandle, Same, Words as SomeWords, AnyWords, Header as OneHeader}
 use Rattle.reply_grammar.specs.declared.expected.Reply.{Reply}

@@ -4,7 +4,7 @@ use Rattle.bit_strings.specs.BitString.{BitString}
 use Rattle.bit_strings.specs.Numbers.{value_of, field_of}
 use Rattle.bit_strings.specs.Words.{bits_of_words}
 use Rattle.gen2_crc.specs.Crc.{crc16_of}
-use Rattle.gen2_crc.specs.CrcLaws.{field_of-crc16}
+use Rattle.gen2_crc.specs.laws.CheckNumbers.{field_of-crc16}
 use Rattle.reply_grammar.specs.Table.{with_check}
 
 -- a part more behind what was written

@@ -1,7 +1,5 @@
 pub mod Reception
 pub mod Refusals
-pub mod PassingLaws
-pub mod ReplyLaws
-pub mod SuitingLaws
 pub mod Table
+pub mod laws
 pub use Rattle.bit_strings.specs.Words

@@ -1,2 +1,5 @@
+pub mod Adding
 pub mod Pieces
 pub mod Raising
+pub mod OneName
+pub mod SomeName

@@ -1,4 +1,9 @@
 pub mod ReportLine
+pub mod Line
+pub mod Names
+pub mod Kept
+pub mod TextReport
+pub mod TextReportLaws
 pub mod SeenCounts
 pub mod Entries
 pub mod SeenLaws

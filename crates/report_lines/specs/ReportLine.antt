@@ -7,8 +7,7 @@ use Rattle.text_fields.specs.Hexadecimal.{hex_byte, hex_word, hex_words}
 use Rattle.access_ops.specs.declared.op_next.OpResult.{OpResult}
 use Rattle.access_ops.specs.declared.op_next.OpResult.TheVariants as results
 use Rattle.text_fields.specs.Lines.{line_feed, line_with}
-use Rattle.command_grammar.specs.declared.field_values.Side.{Side}
-use Rattle.command_grammar.specs.declared.field_values.Side.TheVariants.{A, B}
+use Rattle.command_text.specs.CommandText.{side_letter}
 use Rattle.q_round.specs.declared.round.RoundEnd.{RoundEnd}
 use Rattle.q_round.specs.declared.round.RoundEnd.TheVariants as ends
 use Rattle.value_text.specs.ValueText.{locks_text}
@@ -52,10 +51,6 @@ state_word names.Secured = codes "secured"
 state_word names.Killed = codes "killed"
 state_word names.Unpowered = codes "off"
 
-abbrev pub side_letter : Side → List ℕ
-side_letter A = codes "A"
-side_letter B = codes "B"
-
 -- the inventoried flags of S0 to S3, and SL as a binary digit
 abbrev pub flags_word : Flags → List ℕ
 flags_word flags =
@@ -93,6 +88,10 @@ report_fields DoneLine = codes "done" ∷ []
 abbrev pub report_line_text : ReportLine → List ℕ
 report_line_text line = line_with (report_fields line) ++ line_feed ∷ []
 
--- lines as text
+-- lines as text, each spelled so
+abbrev pub text_by : (ReportLine → List ℕ) → List ReportLine → List ℕ
+text_by text_of lines = flat_map text_of lines
+
+-- ... as lines of a report
 abbrev pub report_text : List ReportLine → List ℕ
-report_text lines = flat_map report_line_text lines
+report_text lines = text_by report_line_text lines

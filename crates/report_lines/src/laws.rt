@@ -1,7 +1,9 @@
-//! What holds of the counts of what was listed. The function here states it by its contract, and does
-//! nothing.
+//! What holds of the counts of what was listed, and of the names of lines. The functions here state it by their contracts.
 ghost use Rattle.std.specs.Prelude.{◌≡◌, ◌≤◌, ◌++◌, ℕ, List, [], ◌∷◌, length};
+ghost use Rattle.report_lines.specs.Names.{AreWithNames, BecomesLines};
 ghost use Rattle.report_lines.specs.SeenCounts.{count_of, seen_in, seen_more};
+
+use epc_sgtin::sgtin_laws;
 
 /// With one pair more the count of this pair rises, or it stands last with the count 1. No pair has a
 /// greater count than pairs were listed.
@@ -9,3 +11,12 @@ pub fn seen_laws()
     ensures more { (pairs : List (ℕ × List ℕ)) (pair : ℕ × List ℕ) → seen_in (pairs ++ pair ∷ []) ≡ seen_more (seen_in pairs) pair }
     ensures few { (pairs : List (ℕ × List ℕ)) (pair : ℕ × List ℕ) → count_of (seen_in pairs) pair ≤ length pairs }
 {}
+
+/// Each line becomes some lines, and lines become one text with their names.
+pub fn lines_have_names()
+    ensures some { (line : List ℕ) → (lines : List (List ℕ)) × BecomesLines line lines }
+    ensures one { (lines : List (List ℕ)) (one other : List ℕ) → AreWithNames lines one → AreWithNames lines other → one ≡ other }
+{
+    // Words are those of one SGTIN, or are refused.
+    sgtin_laws();
+}

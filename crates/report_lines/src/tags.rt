@@ -6,11 +6,12 @@ ghost use Rattle.text_fields.specs.Hexadecimal.{hex_words};
 ghost use Rattle.text_fields.specs.Lines.{line_with, space};
 ghost use Rattle.value_text.specs.ValueText.{locks_text};
 ghost use Rattle.tag_machine.specs.Hearing.{tag_value_of};
-ghost use Rattle.report_lines.specs.ReportLine.{TagLine, flags_word, report_line_text, side_letter, state_word};
+ghost use Rattle.report_lines.specs.ReportLine.{TagLine, flags_word, report_line_text, state_word};
 
 use crate::lines::end_line;
 use bit_strings::OutOfMemory;
-use command_grammar::{Bank, Side};
+use command_grammar::Bank;
+use command_text::side_letter;
 use lock_rules::Locks;
 use session_flags::Flags;
 use tag_machine::{AnyTag, StateName};
@@ -34,25 +35,15 @@ fn state_text(state: StateName) -> &'static str
     }
 }
 
-/// The letter of a side of an inventoried flag.
-fn letter_of(side: Side) -> &'static str
-    ensures { result.now ≡ side_letter side }
-{
-    match side {
-        Side::A => "A",
-        Side::B => "B",
-    }
-}
-
 /// Writes the inventoried flags of S0 to S3 and the selected flag as the next field.
 fn next_flags(text: &mut String, flags: &Flags) -> Result<(), OutOfMemory>
     ensures { OnOk result (string_bytes text.new ≡ string_bytes text.old ++ space ∷ flags_word flags.now) }
 {
     text.push(' ')?;
-    text.push_str(letter_of(flags.s0))?;
-    text.push_str(letter_of(flags.s1))?;
-    text.push_str(letter_of(flags.s2))?;
-    text.push_str(letter_of(flags.s3))?;
+    text.push_str(side_letter(flags.s0))?;
+    text.push_str(side_letter(flags.s1))?;
+    text.push_str(side_letter(flags.s2))?;
+    text.push_str(side_letter(flags.s3))?;
     text.push(if flags.sl { '1' } else { '0' })
 }
 

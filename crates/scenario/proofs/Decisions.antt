@@ -9,7 +9,10 @@ use Rattle.scenario_lines.specs.declared.line.Happening.TheVariants as happening
 use Rattle.scenario_lines.specs.declared.line.Line.{Line}
 use Rattle.scenario_lines.specs.declared.line.Line.TheVariants as lines
 use Rattle.scenario.specs.Limits.{most_air_lines, most_ops, most_steps, most_tags}
-use Rattle.scenario.specs.Standing.{ChoosesOnce, DraftValue, HasRoom, IsBareRound, KeepsOrder, MayFollow, MayStand, NamesTag, Standing, begun, start, steps_of, within}
+use Rattle.scenario.specs.AirLines.{ChoosesOnce, KeepsOrder, MayFollow}
+use Rattle.scenario.specs.Draft.{DraftValue}
+use Rattle.scenario.specs.Standing.{HasRoom, MayStand, NamesTag, Standing, begun, start, within}
+use Rattle.scenario.specs.StepLines.{IsBareRound, steps_of}
 
 -- a fact holds, or it doesn't
 abbrev pub Decided : Type 0 → Type 0
@@ -47,8 +50,8 @@ some_decided : {A : Type 0} → (option : Option A) → Decided (option ≢ None
 some_decided None = inr (λ some. some refl)
 some_decided (Some value) = inl (λ same. cc)
 
-bare_decided : (draft : DraftValue) → Decided (IsBareRound draft)
-bare_decided draft = elim (both (some_decided draft.round) (both (none_decided draft.operations.only) (empty_decided draft.operations.ops))) [
+bare_decided : (draft : DraftValue) → Decided (IsBareRound draft.steps)
+bare_decided draft = elim (both (some_decided draft.steps.round) (both (none_decided draft.steps.operations.only) (empty_decided draft.steps.operations.ops))) [
   | inl bare ↦ inl (record { round = bare.0; only = bare.1.0; ops = bare.1.1 })
   | inr never ↦ inr (λ bare. never (bare.round, (bare.only, bare.ops)))
 ]
@@ -57,26 +60,26 @@ bare_decided draft = elim (both (some_decided draft.round) (both (none_decided d
 pub may_stand_decided : (standing : Standing) (word : Word) → Decided (MayStand standing word)
 may_stand_decided start words.Version = inl tt
 may_stand_decided begun words.Link = inl tt
-may_stand_decided (within draft) words.Tag = both (number_decided draft.airs 0) (empty_decided (steps_of draft))
-may_stand_decided (within draft) words.Air = empty_decided (steps_of draft)
+may_stand_decided (within draft) words.Tag = both (number_decided draft.air.count 0) (empty_decided (steps_of draft.steps))
+may_stand_decided (within draft) words.Air = empty_decided (steps_of draft.steps)
 may_stand_decided (within draft) words.Select = inl tt
 may_stand_decided (within draft) words.Nak = inl tt
 may_stand_decided (within draft) words.Event = inl tt
 may_stand_decided (within draft) words.Round = inl tt
 may_stand_decided (within draft) words.Only = bare_decided draft
-may_stand_decided (within draft) words.Op = some_decided draft.round
+may_stand_decided (within draft) words.Op = some_decided draft.steps.round
 may_stand_decided (within draft) words.End = inl tt
 may_stand_decided standing word = inr (λ stands. stands)
 
 -- ... and there is room for it, or there is none
 pub has_room_decided : (standing : Standing) (word : Word) → Decided (HasRoom standing word)
 has_room_decided (within draft) words.Tag = lt_decided (length draft.tags) most_tags
-has_room_decided (within draft) words.Air = lt_decided draft.airs most_air_lines
-has_room_decided (within draft) words.Select = lt_decided (length (steps_of draft)) most_steps
-has_room_decided (within draft) words.Nak = lt_decided (length (steps_of draft)) most_steps
-has_room_decided (within draft) words.Event = lt_decided (length (steps_of draft)) most_steps
-has_room_decided (within draft) words.Round = lt_decided (length (steps_of draft)) most_steps
-has_room_decided (within draft) words.Op = lt_decided (length draft.operations.ops) most_ops
+has_room_decided (within draft) words.Air = lt_decided draft.air.count most_air_lines
+has_room_decided (within draft) words.Select = lt_decided (length (steps_of draft.steps)) most_steps
+has_room_decided (within draft) words.Nak = lt_decided (length (steps_of draft.steps)) most_steps
+has_room_decided (within draft) words.Event = lt_decided (length (steps_of draft.steps)) most_steps
+has_room_decided (within draft) words.Round = lt_decided (length (steps_of draft.steps)) most_steps
+has_room_decided (within draft) words.Op = lt_decided (length draft.steps.operations.ops) most_ops
 has_room_decided standing word = inl tt
 
 -- the tag that a line names is there, or isn't
@@ -92,15 +95,15 @@ may_follow_decided entry (happenings.Miss tag) = none_decided entry.choice
 may_follow_decided entry (happenings.Choice choice) = inl tt
 
 -- it comes in order, or it doesn't
-pub keeps_order_decided : (draft : DraftValue) (line : Line) → Decided (KeepsOrder draft line)
+pub keeps_order_decided : (draft : DraftValue) (line : Line) → Decided (KeepsOrder draft.air line)
 keeps_order_decided draft (lines.Air exchange happening) =
-    both (le_decided draft.exchange exchange) (in_case (number_decided exchange draft.exchange) (may_follow_decided draft.latest happening))
+    both (le_decided draft.air.exchange exchange) (in_case (number_decided exchange draft.air.exchange) (may_follow_decided draft.air.latest happening))
 keeps_order_decided draft line = inl tt
 
 -- it is no second choice, or it is one
-pub chooses_once_decided : (draft : DraftValue) (line : Line) → Decided (ChoosesOnce draft line)
+pub chooses_once_decided : (draft : DraftValue) (line : Line) → Decided (ChoosesOnce draft.air line)
 chooses_once_decided draft (lines.Air exchange (happenings.Choice choice)) =
-    in_case (number_decided exchange draft.exchange) (none_decided draft.latest.choice)
+    in_case (number_decided exchange draft.air.exchange) (none_decided draft.air.latest.choice)
 chooses_once_decided draft line = inl tt
 
 -- a text is this one, or another

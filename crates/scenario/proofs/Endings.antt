@@ -5,7 +5,8 @@ use Rattle.pie_line.specs.Link.{LinkValue, IsLegalLink}
 use Rattle.scenario_lines.specs.declared.line.Line.{Line}
 use Rattle.scenario_lines.specs.declared.line.Line.TheVariants as lines
 use Rattle.scenario_lines.specs.LineForm.{IsLine}
-use Rattle.scenario.specs.Standing.{DraftValue, Follows, Leads, Standing, begun, ended, new_draft, start, within}
+use Rattle.scenario.specs.Draft.{DraftValue, new_draft}
+use Rattle.scenario.specs.Standing.{Follows, Leads, Standing, begun, ended, start, within}
 
 -- some link
 some_link : LinkValue

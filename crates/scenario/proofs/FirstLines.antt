@@ -6,7 +6,8 @@ use Rattle.scenario_lines.specs.declared.line.Line.{Line}
 use Rattle.scenario_lines.specs.Spelling.{line_text}
 use Rattle.scenario.specs.declared.fault.Fault.{Fault}
 use Rattle.scenario.specs.ScenarioText.{scenario_lines}
-use Rattle.scenario.specs.Standing.{Leads, Standing, ended, scenario_of, start}
+use Rattle.scenario.specs.Standing.{Leads, Standing, ended, start}
+use Rattle.scenario.specs.Draft.{scenario_of}
 use Rattle.scenario.specs.Faults.{IsFirstFault, Settles}
 use Rattle.scenario.specs.LineLaws.{LineLaws}
 use Rattle.scenario.specs.Beginnings.{BeginsScenario, BeginsText, FirstLinesBegin}

@@ -1,13 +1,11 @@
 pub mod PrintedLines
 pub mod Leading
-pub mod StepLines
+pub mod Counts
 pub mod Settled
 pub mod Spoken
-pub mod Cursors
 pub mod Taken
 pub mod Texts
 pub mod Reader
-pub mod Whole
 pub mod Endings
 pub mod ToldApart
 pub mod Places

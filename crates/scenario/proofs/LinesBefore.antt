@@ -19,7 +19,10 @@ use Rattle.scenario.specs.declared.fault.Fault.{Fault}
 use Rattle.scenario.specs.declared.fault.Fault.TheVariants as faults
 use Rattle.scenario.specs.declared.values.Step.{Step}
 use Rattle.scenario.specs.Limits.{most_tags, most_air_lines, most_ops, most_steps}
-use Rattle.scenario.specs.Standing.{DraftValue, Standing, start, begun, within, ended, new_draft, after, draft_after, draft_at_exchange, with_said, with_happening, with_last, steps_of, Follows, Leads, HasRoom, NamesTag, MayFollow, KeepsOrder, ChoosesOnce}
+use Rattle.scenario.specs.Draft.{DraftValue, new_draft, draft_after}
+use Rattle.scenario.specs.Standing.{Standing, start, begun, within, ended, after, Follows, Leads, HasRoom, NamesTag}
+use Rattle.scenario.specs.AirLines.{at_exchange, with_said, with_happening, MayFollow, KeepsOrder, ChoosesOnce}
+use Rattle.scenario.specs.StepLines.{with_last, steps_of}
 use Rattle.scenario.specs.Faults.{DisagreesBy}
 use Rattle.scenario.specs.LinesBefore.{is_tag, is_air, is_step, tags_in, airs_in, steps_in, ops_behind, IsFullBefore, turn_of, ComesBefore, ChoosesOther, KeepsOrderBehind, ChoosesFirst, DisagreesWith}
 
@@ -200,10 +203,10 @@ airs-next before last next latest said later told =
 -- What a draft tells of the next line, and what the lines before it do.
 record Tells (before : List Line) (draft : DraftValue) : Type 0 where
   tags : length draft.tags ≡ tags_in before
-  airs : draft.airs ≡ airs_in before
-  steps : length (steps_of draft) ≡ steps_in before
-  ops : length draft.operations.ops ≡ ops_behind 0 before
-  exchanges : TellsAirs before draft.exchange draft.latest
+  airs : draft.air.count ≡ airs_in before
+  steps : length (steps_of draft.steps) ≡ steps_in before
+  ops : length draft.steps.operations.ops ≡ ops_behind 0 before
+  exchanges : TellsAirs before draft.air.exchange draft.air.latest
 
 length-push : {A : Type 0} (xs : List A) (x : A) → length (xs ++ x ∷ []) ≡ length xs + 1
 length-push [] x = refl
@@ -218,18 +221,18 @@ ops-same : (before : List Line) (line : Line) (count : ℕ) → count ≡ ops_be
 ops-same before line count so_far same = so_far ∙ sym same ∙ sym (ops-push 0 before line)
 
 tells-tag : (before : List Line) (draft : DraftValue) (line : Line) (grows : DraftValue) → Tells before draft → tags_one line ≡ 1 → airs_one line ≡ 0 → steps_one line ≡ 0
-    → ops_behind (ops_behind 0 before) (line ∷ []) ≡ ops_behind 0 before → length grows.tags ≡ length draft.tags + 1 → grows.airs ≡ draft.airs → steps_of grows ≡ steps_of draft
-    → grows.operations ≡ draft.operations → TellsAirs (before ++ line ∷ []) grows.exchange grows.latest → Tells (before ++ line ∷ []) grows
+    → ops_behind (ops_behind 0 before) (line ∷ []) ≡ ops_behind 0 before → length grows.tags ≡ length draft.tags + 1 → grows.air.count ≡ draft.air.count → steps_of grows.steps ≡ steps_of draft.steps
+    → grows.steps.operations ≡ draft.steps.operations → TellsAirs (before ++ line ∷ []) grows.air.exchange grows.air.latest → Tells (before ++ line ∷ []) grows
 tells-tag before draft line grows told tag no_air no_step no_op tags airs steps operations exchanges = record {
   tags = omega (arith, tags, told.tags, tags-push before line, tag);
   airs = omega (arith, airs, told.airs, airs-push before line, no_air);
   steps = omega (arith, ap length steps, told.steps, steps-push before line, no_step);
-  ops = ops-same before line (length grows.operations.ops) (ap (λ (o : OpList). length o.ops) operations ∙ told.ops) no_op;
+  ops = ops-same before line (length grows.steps.operations.ops) (ap (λ (o : OpList). length o.ops) operations ∙ told.ops) no_op;
   exchanges = exchanges;
 }
 
-tells-air : (before : List Line) (draft : DraftValue) (exchange : ℕ) (said : Happening) (grows : DraftValue) → Tells before draft → grows.tags ≡ draft.tags → grows.airs ≡ draft.airs + 1
-    → steps_of grows ≡ steps_of draft → grows.operations ≡ draft.operations → TellsAirs (before ++ lines.Air exchange said ∷ []) grows.exchange grows.latest
+tells-air : (before : List Line) (draft : DraftValue) (exchange : ℕ) (said : Happening) (grows : DraftValue) → Tells before draft → grows.tags ≡ draft.tags → grows.air.count ≡ draft.air.count + 1
+    → steps_of grows.steps ≡ steps_of draft.steps → grows.steps.operations ≡ draft.steps.operations → TellsAirs (before ++ lines.Air exchange said ∷ []) grows.air.exchange grows.air.latest
     → Tells (before ++ lines.Air exchange said ∷ []) grows
 tells-air before draft exchange said grows told tags airs steps operations exchanges =
     let line = lines.Air exchange said in
@@ -237,7 +240,7 @@ tells-air before draft exchange said grows told tags airs steps operations excha
       tags = omega (arith, ap length tags, told.tags, tags-push before line);
       airs = omega (arith, airs, told.airs, airs-push before line);
       steps = omega (arith, ap length steps, told.steps, steps-push before line);
-      ops = ops-same before line (length grows.operations.ops) (ap (λ (o : OpList). length o.ops) operations ∙ told.ops) refl;
+      ops = ops-same before line (length grows.steps.operations.ops) (ap (λ (o : OpList). length o.ops) operations ∙ told.ops) refl;
       exchanges = exchanges;
     }
 
@@ -248,24 +251,24 @@ above-not (suc last) zero above differs = absurd (omega (arith, above))
 above-not (suc last) (suc next) above differs =
     let less = above-not last next (omega (arith, above)) (λ same. differs (ap suc same)) in omega (arith, less)
 
-air-draft_after : (before : List Line) (draft : DraftValue) (exchange : ℕ) (said : Happening) (same : Bool) → (exchange == draft.exchange) ≡ same → draft.exchange ≤ exchange → Tells before draft
-    → let counted = record draft { airs = draft.airs + 1 } in
-    Tells (before ++ lines.Air exchange said ∷ []) (if same then with_said counted said else with_said (draft_at_exchange counted exchange) said)
+air-draft_after : (before : List Line) (draft : DraftValue) (exchange : ℕ) (said : Happening) (same : Bool) → (exchange == draft.air.exchange) ≡ same → draft.air.exchange ≤ exchange → Tells before draft
+    → let counted = record draft.air { count = draft.air.count + 1 } in
+    Tells (before ++ lines.Air exchange said ∷ []) (record draft { air = if same then with_said counted said else with_said (at_exchange counted exchange) said })
 air-draft_after before draft exchange said true is above told =
-    let counted = record draft { airs = draft.airs + 1 } in
-    tells-air before draft exchange said (with_said counted said) told refl refl refl refl
-    (subst (λ (n : ℕ). TellsAirs (before ++ lines.Air n said ∷ []) draft.exchange (with_happening draft.latest said)) (sym (eqb-true exchange draft.exchange is))
-    (airs-same before draft.exchange draft.latest said told.exchanges))
+    let counted = record draft.air { count = draft.air.count + 1 } in
+    tells-air before draft exchange said (record draft { air = with_said counted said }) told refl refl refl refl
+    (subst (λ (n : ℕ). TellsAirs (before ++ lines.Air n said ∷ []) draft.air.exchange (with_happening draft.air.latest said)) (sym (eqb-true exchange draft.air.exchange is))
+    (airs-same before draft.air.exchange draft.air.latest said told.exchanges))
 air-draft_after before draft exchange said false is above told =
-    let counted = record draft { airs = draft.airs + 1 } in
-    let differs : exchange ≢ draft.exchange = eqb-false exchange draft.exchange is in
-    tells-air before draft exchange said (with_said (draft_at_exchange counted exchange) said) told refl refl refl refl
-    (airs-next before draft.exchange exchange draft.latest said (above-not draft.exchange exchange above differs) told.exchanges)
+    let counted = record draft.air { count = draft.air.count + 1 } in
+    let differs : exchange ≢ draft.air.exchange = eqb-false exchange draft.air.exchange is in
+    tells-air before draft exchange said (record draft { air = with_said (at_exchange counted exchange) said }) told refl refl refl refl
+    (airs-next before draft.air.exchange exchange draft.air.latest said (above-not draft.air.exchange exchange above differs) told.exchanges)
 
 -- a step, behind which no operation stands yet
 tells-step : (before : List Line) (draft : DraftValue) (line : Line) (grows : DraftValue) → Tells before draft → tags_one line ≡ 0 → airs_one line ≡ 0 → steps_one line ≡ 1
-    → ops_behind (ops_behind 0 before) (line ∷ []) ≡ 0 → grows.tags ≡ draft.tags → grows.airs ≡ draft.airs → length (steps_of grows) ≡ length (steps_of draft) + 1
-    → grows.operations.ops ≡ [] → TellsAirs (before ++ line ∷ []) grows.exchange grows.latest → Tells (before ++ line ∷ []) grows
+    → ops_behind (ops_behind 0 before) (line ∷ []) ≡ 0 → grows.tags ≡ draft.tags → grows.air.count ≡ draft.air.count → length (steps_of grows.steps) ≡ length (steps_of draft.steps) + 1
+    → grows.steps.operations.ops ≡ [] → TellsAirs (before ++ line ∷ []) grows.air.exchange grows.air.latest → Tells (before ++ line ∷ []) grows
 tells-step before draft line grows told no_tag no_air step no_op tags airs steps operations exchanges = record {
   tags = omega (arith, ap length tags, told.tags, tags-push before line, no_tag);
   airs = omega (arith, airs, told.airs, airs-push before line, no_air);
@@ -276,12 +279,12 @@ tells-step before draft line grows told no_tag no_air step no_op tags airs steps
 
 -- what is said of the operations of the last step
 tells-operations : (before : List Line) (draft : DraftValue) (line : Line) (operations : OpList) → Tells before draft → tags_one line ≡ 0 → airs_one line ≡ 0 → steps_one line ≡ 0
-    → length operations.ops ≡ ops_behind (ops_behind 0 before) (line ∷ []) → TellsAirs (before ++ line ∷ []) draft.exchange draft.latest
-    → Tells (before ++ line ∷ []) (record draft { operations = operations })
+    → length operations.ops ≡ ops_behind (ops_behind 0 before) (line ∷ []) → TellsAirs (before ++ line ∷ []) draft.air.exchange draft.air.latest
+    → Tells (before ++ line ∷ []) (record draft { steps = record draft.steps { operations = operations } })
 tells-operations before draft line operations told no_tag no_air no_step ops exchanges = record {
   tags = omega (arith, told.tags, tags-push before line, no_tag);
   airs = omega (arith, told.airs, airs-push before line, no_air);
-  steps = omega (arith, last-same draft.steps draft.round operations draft.operations, told.steps, steps-push before line, no_step);
+  steps = omega (arith, last-same draft.steps.closed draft.steps.round operations draft.steps.operations, told.steps, steps-push before line, no_step);
   ops = ops ∙ sym (ops-push 0 before line);
   exchanges = exchanges;
 }
@@ -300,33 +303,33 @@ tells-one before draft (lines.Link link) follows told = absurd follows.stands
 tells-one before draft (lines.Tag tag) follows told =
     let line = lines.Tag tag in
     tells-tag before draft line (draft_after draft line) told refl refl refl refl (length-push draft.tags tag) refl refl refl
-    (airs-kept before draft.exchange draft.latest line (λ exchange happening. tt) (λ exchange. tt) told.exchanges)
-tells-one before draft (lines.Air exchange said) follows told = air-draft_after before draft exchange said (exchange == draft.exchange) refl follows.agrees.order.0 told
+    (airs-kept before draft.air.exchange draft.air.latest line (λ exchange happening. tt) (λ exchange. tt) told.exchanges)
+tells-one before draft (lines.Air exchange said) follows told = air-draft_after before draft exchange said (exchange == draft.air.exchange) refl follows.agrees.order.0 told
 tells-one before draft (lines.Select selection) follows told =
     let line = lines.Select selection in
-    tells-step before draft line (draft_after draft line) told refl refl refl refl refl refl (length-push (steps_of draft) _) refl
-    (airs-kept before draft.exchange draft.latest line (λ exchange happening. tt) (λ exchange. tt) told.exchanges)
+    tells-step before draft line (draft_after draft line) told refl refl refl refl refl refl (length-push (steps_of draft.steps) _) refl
+    (airs-kept before draft.air.exchange draft.air.latest line (λ exchange happening. tt) (λ exchange. tt) told.exchanges)
 tells-one before draft lines.Nak follows told =
     let line = lines.Nak in
-    tells-step before draft line (draft_after draft line) told refl refl refl refl refl refl (length-push (steps_of draft) _) refl
-    (airs-kept before draft.exchange draft.latest line (λ exchange happening. tt) (λ exchange. tt) told.exchanges)
+    tells-step before draft line (draft_after draft line) told refl refl refl refl refl refl (length-push (steps_of draft.steps) _) refl
+    (airs-kept before draft.air.exchange draft.air.latest line (λ exchange happening. tt) (λ exchange. tt) told.exchanges)
 tells-one before draft (lines.Event event tag) follows told =
     let line = lines.Event event tag in
-    tells-step before draft line (draft_after draft line) told refl refl refl refl refl refl (length-push (steps_of draft) _) refl
-    (airs-kept before draft.exchange draft.latest line (λ exchange happening. tt) (λ exchange. tt) told.exchanges)
+    tells-step before draft line (draft_after draft line) told refl refl refl refl refl refl (length-push (steps_of draft.steps) _) refl
+    (airs-kept before draft.air.exchange draft.air.latest line (λ exchange happening. tt) (λ exchange. tt) told.exchanges)
 tells-one before draft (lines.Round spec) follows told =
     let line = lines.Round spec in
-    tells-step before draft line (draft_after draft line) told refl refl refl refl refl refl (length-push (steps_of draft) _) refl
-    (airs-kept before draft.exchange draft.latest line (λ exchange happening. tt) (λ exchange. tt) told.exchanges)
+    tells-step before draft line (draft_after draft line) told refl refl refl refl refl refl (length-push (steps_of draft.steps) _) refl
+    (airs-kept before draft.air.exchange draft.air.latest line (λ exchange happening. tt) (λ exchange. tt) told.exchanges)
 tells-one before draft (lines.Only epc) follows told =
     let line = lines.Only epc in
-    tells-operations before draft line (record { only = Some epc; ops = draft.operations.ops }) told refl refl refl told.ops
-    (airs-kept before draft.exchange draft.latest line (λ exchange happening. tt) (λ exchange. tt) told.exchanges)
+    tells-operations before draft line (record { only = Some epc; ops = draft.steps.operations.ops }) told refl refl refl told.ops
+    (airs-kept before draft.air.exchange draft.air.latest line (λ exchange happening. tt) (λ exchange. tt) told.exchanges)
 tells-one before draft (lines.Op op) follows told =
     let line = lines.Op op in
-    let more : length (draft.operations.ops ++ op ∷ []) ≡ ops_behind 0 before + 1 = length-push draft.operations.ops op ∙ ap (λ n. n + 1) told.ops in
-    tells-operations before draft line (record { only = draft.operations.only; ops = draft.operations.ops ++ op ∷ [] }) told refl refl refl more
-    (airs-kept before draft.exchange draft.latest line (λ exchange happening. tt) (λ exchange. tt) told.exchanges)
+    let more : length (draft.steps.operations.ops ++ op ∷ []) ≡ ops_behind 0 before + 1 = length-push draft.steps.operations.ops op ∙ ap (λ n. n + 1) told.ops in
+    tells-operations before draft line (record { only = draft.steps.operations.only; ops = draft.steps.operations.ops ++ op ∷ [] }) told refl refl refl more
+    (airs-kept before draft.air.exchange draft.air.latest line (λ exchange happening. tt) (λ exchange. tt) told.exchanges)
 tells-one before draft lines.End follows told = tt
 
 stands-first : (before : List Line) (line : Line) → Follows start line → before ≡ [] → before ++ line ∷ [] ≡ lines.Version ∷ []
@@ -405,16 +408,16 @@ pub has-room : (said : List Line) (draft : DraftValue) (word : Word) → Leads s
 has-room said draft words.Version leads = always tt
 has-room said draft words.Link leads = always tt
 has-room said draft words.Tag leads = room-or-full (length draft.tags) (tags_in said) most_tags (tells said draft leads).tags
-has-room said draft words.Air leads = room-or-full draft.airs (airs_in said) most_air_lines (tells said draft leads).airs
-has-room said draft words.Select leads = room-or-full (length (steps_of draft)) (steps_in said) most_steps (tells said draft leads).steps
-has-room said draft words.Nak leads = room-or-full (length (steps_of draft)) (steps_in said) most_steps (tells said draft leads).steps
-has-room said draft words.Event leads = room-or-full (length (steps_of draft)) (steps_in said) most_steps (tells said draft leads).steps
-has-room said draft words.Round leads = room-or-full (length (steps_of draft)) (steps_in said) most_steps (tells said draft leads).steps
+has-room said draft words.Air leads = room-or-full draft.air.count (airs_in said) most_air_lines (tells said draft leads).airs
+has-room said draft words.Select leads = room-or-full (length (steps_of draft.steps)) (steps_in said) most_steps (tells said draft leads).steps
+has-room said draft words.Nak leads = room-or-full (length (steps_of draft.steps)) (steps_in said) most_steps (tells said draft leads).steps
+has-room said draft words.Event leads = room-or-full (length (steps_of draft.steps)) (steps_in said) most_steps (tells said draft leads).steps
+has-room said draft words.Round leads = room-or-full (length (steps_of draft.steps)) (steps_in said) most_steps (tells said draft leads).steps
 has-room said draft words.Only leads = always tt
-has-room said draft words.Op leads = room-or-full (length draft.operations.ops) (ops_behind 0 said) most_ops (tells said draft leads).ops
+has-room said draft words.Op leads = room-or-full (length draft.steps.operations.ops) (ops_behind 0 said) most_ops (tells said draft leads).ops
 has-room said draft words.End leads = always tt
 
-keeps-order : (said : List Line) (draft : DraftValue) (line : Line) → Tells said draft → KeepsOrder draft line ↔ KeepsOrderBehind said line
+keeps-order : (said : List Line) (draft : DraftValue) (line : Line) → Tells said draft → KeepsOrder draft.air line ↔ KeepsOrderBehind said line
 keeps-order said draft lines.Version told = (λ k. k, λ k. k)
 keeps-order said draft (lines.Link link) told = (λ k. k, λ k. k)
 keeps-order said draft (lines.Tag tag) told = (λ k. k, λ k. k)
@@ -428,7 +431,7 @@ keeps-order said draft (lines.Only epc) told = (λ k. k, λ k. k)
 keeps-order said draft (lines.Op op) told = (λ k. k, λ k. k)
 keeps-order said draft lines.End told = (λ k. k, λ k. k)
 
-chooses-once : (said : List Line) (draft : DraftValue) (line : Line) → Tells said draft → KeepsOrder draft line → ChoosesOnce draft line ↔ ChoosesFirst said line
+chooses-once : (said : List Line) (draft : DraftValue) (line : Line) → Tells said draft → KeepsOrder draft.air line → ChoosesOnce draft.air line ↔ ChoosesFirst said line
 chooses-once said draft lines.Version told keeps = (λ k. k, λ k. k)
 chooses-once said draft (lines.Link link) told keeps = (λ k. k, λ k. k)
 chooses-once said draft (lines.Tag tag) told keeps = (λ k. k, λ k. k)
@@ -461,7 +464,7 @@ by-choice said draft line told =
     let order = keeps-order said draft line told in (
       λ by. (names.0 by.0, order.0 by.1, (neither (chooses-once said draft line told by.1)).0 by.2),
       λ with_lines.
-          let keeps : KeepsOrder draft line = order.1 with_lines.1 in
+          let keeps : KeepsOrder draft.air line = order.1 with_lines.1 in
           (names.1 with_lines.0, keeps, (neither (chooses-once said draft line told keeps)).1 with_lines.2),
     )
 
@@ -469,15 +472,4 @@ pub disagrees-with : (said : List Line) (draft : DraftValue) (line : Line) (faul
 disagrees-with said draft line faults.Tag leads = neither (names-tag said draft line (tells said draft leads))
 disagrees-with said draft line faults.Order leads = by-order said draft line (tells said draft leads)
 disagrees-with said draft line faults.Twice leads = by-choice said draft line (tells said draft leads)
-disagrees-with said draft line faults.Extra leads = (λ none. none, λ none. none)
-disagrees-with said draft line faults.End leads = (λ none. none, λ none. none)
-disagrees-with said draft line faults.Version leads = (λ none. none, λ none. none)
-disagrees-with said draft line faults.Word leads = (λ none. none, λ none. none)
-disagrees-with said draft line faults.Limit leads = (λ none. none, λ none. none)
-disagrees-with said draft line faults.Shape leads = (λ none. none, λ none. none)
-disagrees-with said draft line faults.Number leads = (λ none. none, λ none. none)
-disagrees-with said draft line faults.Tari leads = (λ none. none, λ none. none)
-disagrees-with said draft line faults.RtCal leads = (λ none. none, λ none. none)
-disagrees-with said draft line faults.TrCal leads = (λ none. none, λ none. none)
-disagrees-with said draft line faults.Pw leads = (λ none. none, λ none. none)
-disagrees-with said draft line faults.Pc leads = (λ none. none, λ none. none)
+disagrees-with said draft line fault leads = (λ none. none, λ none. none)

@@ -10,7 +10,8 @@ use Rattle.scenario.specs.declared.fault.ScenarioFault.TheVariants as faults
 use Rattle.scenario.specs.ScenarioText.{scenario_lines, scenario_text}
 use Rattle.scenario.specs.Limits.{IsScenario}
 use Rattle.scenario.specs.LineLaws.{LineLaws}
-use Rattle.scenario.specs.Standing.{DraftValue, Standing, ended, start}
+use Rattle.scenario.specs.Draft.{DraftValue}
+use Rattle.scenario.specs.Standing.{Standing, ended, start}
 use Rattle.scenario.specs.Faults.{IsFaultyBefore, IsFirstFault, IsRefused}
 use Rattle.scenario.proofs.Places.{IsOnePlace, compare}
 use Rattle.scenario.proofs.Reasons.{not_faulty, one_reason}

@@ -1,13 +1,13 @@
--- How far the lines behind a link are read.
+-- How far the lines of a text are read.
 use Rattle.std.proofs.Common.{◌≡◌, ◌≢◌, ℕ, ◌+◌, ◌≤◌, List, [], ◌∷◌, ◌++◌, length, map, None, Some, inl, inr, refl, sym, ◌∙◌, ap, subst, arith, append_assoc}
+use Rattle.std.specs.Prelude.{Result, IfOk, IfErr}
 use Rattle.std.proofs.lemmas.Bool.Decides.{eqb_tells}
 use Rattle.std.specs.List.{flat_map}
-use Rattle.std.proofs.lemmas.List.{length-append}
-use Rattle.text_fields.specs.Lines.{fields_of, lines_of}
+use Rattle.std.proofs.lemmas.List.{length-append, length-map, map-append}
+use Rattle.text_fields.specs.Lines.{fields_of, lines_of, text_with}
 use Rattle.access_ops.specs.declared.Op.{Op}
 use Rattle.access_ops.specs.declared.OpList.{OpList}
 use Rattle.q_round.specs.SpecValue.{SpecValue}
-use Rattle.pie_line.specs.Link.{LinkValue}
 use Rattle.scenario_lines.specs.declared.line.Line.{Line}
 use Rattle.scenario_lines.specs.declared.line.Line.TheVariants as lines
 use Rattle.scenario_lines.specs.declared.line.Happening.{Happening}
@@ -15,135 +15,147 @@ use Rattle.scenario_lines.specs.Spelling.{line_text}
 use Rattle.scenario_lines.specs.LineFaults.{SpellsLine}
 use Rattle.scenario.specs.declared.fault.Fault.{Fault}
 use Rattle.scenario.specs.declared.fault.Fault.TheVariants.{Extra, End}
-use Rattle.scenario.specs.ScenarioText.{operation_lines, step_lines}
-use Rattle.scenario.specs.Standing.{DraftValue, Follows, IsBareRound, Leads, Standing, after, ended, draft_after, new_draft, scenario_of, size, steps_of, with_air, with_last, with_only, with_op, with_round, with_step, within}
-use Rattle.scenario.specs.Faults.{IsFaultyAt, IsFaultyBefore}
-use Rattle.scenario.specs.Limits.{no_operations}
+use Rattle.scenario.specs.ScenarioText.{operation_lines, scenario_lines, scenario_text, step_lines}
+use Rattle.scenario.specs.Draft.{DraftValue, draft_after, draft_with_step, scenario_of, size}
+use Rattle.scenario.specs.Standing.{Follows, Leads, Standing, after, begun, ended, lines_before, start, within}
+use Rattle.scenario.specs.StepLines.{IsBareRound, steps_of, with_last}
+use Rattle.scenario.specs.Faults.{IsFaultyBefore, IsFaultyHere, IsFirstFault, IsRefused}
+use Rattle.scenario.specs.Limits.{IsScenario, no_operations}
 use Rattle.scenario.specs.LineLaws.{LineLaws}
 use Rattle.scenario.specs.declared.values.Step.{Step}
 use Rattle.scenario.specs.declared.values.Step.TheVariants as steps
 use Rattle.command_grammar.specs.declared.commands.Command.TheVariants as commands
-use Rattle.scenario.specs.Taking.{LeadsBy, LeadsTo, Takes}
-use Rattle.scenario.specs.declared.draft.Taken.{Taken}
+use Rattle.scenario.specs.Taking.{LeadsBy, LeadsTo, Takes, standing_of}
+use Rattle.scenario.specs.declared.progress.Progress.{Progress}
+use Rattle.scenario.specs.declared.progress.Progress.TheVariants.{Start, Begun, Within}
+use Rattle.scenario.specs.declared.progress.Taken.{Taken}
 use Rattle.scenario.specs.declared.values.Scenario.{Scenario}
 use Rattle.scenario.specs.declared.fault.ScenarioFault.{ScenarioFault}
 use Rattle.scenario.specs.declared.fault.ScenarioFault.TheVariants as scenario_faults
-use Rattle.scenario.specs.Rest.{AreLeft, FinishesScenario, IsExtra, IsFirstFaultBehind, IsRefusedBehind}
+use Rattle.scenario.specs.Rest.{AreLeft, IsExtra, SaysScenario}
 use Rattle.scenario.proofs.Leading.{leads_one}
-use Rattle.scenario.proofs.StepLines.{one_step_more}
-use Rattle.scenario.proofs.Settled.{more_operations, only_first, op_more}
-use Rattle.scenario.proofs.Texts.{nothing_left, spells_text, text_spelled}
+use Rattle.scenario.proofs.Counts.{one_step_more}
+use Rattle.scenario.proofs.Settled.{more_operations, only_first, op_more, said_scenario}
+use Rattle.scenario.proofs.Spoken.{scenario_is_said}
+use Rattle.scenario.proofs.Texts.{lines_said, nothing_left, spells_text, text_of_lines, text_spelled}
 use Rattle.text_fields.specs.LineLaws.{some_line}
 
--- the lines before what is left lead to the draft
-pub record SoFar (link : LinkValue) (text rest : List ℕ) (draft : DraftValue) : Type 0 where
+-- the lines before what is left lead there
+pub record SoFar (text rest : List ℕ) (standing : Standing) : Type 0 where
   pub said : List Line
   pub cut : lines_of text ≡ map line_text said ++ lines_of rest
-  pub leads : Leads (within (new_draft link)) said (within draft)
+  pub leads : Leads start said standing
 
 -- where the whole text says something, what is left says the rest of it
-abbrev pub StillSays : LinkValue → List ℕ → List ℕ → DraftValue → Type 0
-StillSays link text rest draft =
-    (whole : List Line) (last : DraftValue) → AreLeft text (within (new_draft link)) whole last
-    → (todo : List Line) × AreLeft rest (within draft) todo last
+abbrev pub StillSays : List ℕ → List ℕ → Standing → Type 0
+StillSays text rest standing =
+    (whole : List Line) (last : DraftValue) → AreLeft text start whole last
+    → (todo : List Line) × AreLeft rest standing todo last
 
-size_air : (draft : DraftValue) (number : ℕ) (happening : Happening) → size (with_air draft number happening) ≡ size draft + 1
+size_air : (draft : DraftValue) (number : ℕ) (happening : Happening) → size (draft_after draft (lines.Air number happening)) ≡ size draft + 1
 size_air draft number happening =
-    elim (eqb_tells number draft.exchange) [
+    elim (eqb_tells number draft.air.exchange) [
       | inl same ↦ rw same.0 (omega arith)
       | inr other ↦ rw other.0 (omega arith)
     ]
 
-size_step : (draft : DraftValue) (step : Step) → length (step_lines step) ≡ 1 → size (with_step draft step) ≡ size draft + 1
-size_step draft step one = omega (arith, one, one_step_more (steps_of draft) step)
+size_step : (draft : DraftValue) (step : Step) → length (step_lines step) ≡ 1 → size (draft_with_step draft step) ≡ size draft + 1
+size_step draft step one = omega (arith, one, one_step_more (steps_of draft.steps) step)
 
-size_round : (draft : DraftValue) (spec : SpecValue) → size (with_round draft spec) ≡ size draft + 1
-size_round draft spec = omega (arith, one_step_more (steps_of draft) (steps.Round spec no_operations))
+size_round : (draft : DraftValue) (spec : SpecValue) → size (draft_after draft (lines.Round spec)) ≡ size draft + 1
+size_round draft spec = omega (arith, one_step_more (steps_of draft.steps) (steps.Round spec no_operations))
 
 -- the lines of the operations of the last round, with one line more
-operations_count : (draft : DraftValue) (operations : OpList) (line : Line) → draft.round ≢ None
-    → operation_lines operations ≡ operation_lines draft.operations ++ line ∷ []
-    → length (flat_map step_lines (with_last draft.steps draft.round operations)) ≡ length (flat_map step_lines (steps_of draft)) + 1
+operations_count : (draft : DraftValue) (operations : OpList) (line : Line) → draft.steps.round ≢ None
+    → operation_lines operations ≡ operation_lines draft.steps.operations ++ line ∷ []
+    → length (flat_map step_lines (with_last draft.steps.closed draft.steps.round operations)) ≡ length (flat_map step_lines (steps_of draft.steps)) + 1
 operations_count draft operations line some more =
-    ap length (more_operations draft.steps draft.round draft.operations operations line some more)
-    ∙ length-append (flat_map step_lines (steps_of draft)) (line ∷ [])
+    ap length (more_operations draft.steps.closed draft.steps.round draft.steps.operations operations line some more)
+    ∙ length-append (flat_map step_lines (steps_of draft.steps)) (line ∷ [])
 
-size_only : (draft : DraftValue) (epc : List ℕ) → IsBareRound draft → size (with_only draft epc) ≡ size draft + 1
+size_only : (draft : DraftValue) (epc : List ℕ) → IsBareRound draft.steps → size (draft_after draft (lines.Only epc)) ≡ size draft + 1
 size_only draft epc bare =
     omega (
       arith,
-      operations_count draft (record { only = Some epc; ops = draft.operations.ops }) (lines.Only epc) bare.round
-          (only_first draft.operations epc bare.only bare.ops),
+      operations_count draft (record { only = Some epc; ops = draft.steps.operations.ops }) (lines.Only epc) bare.round
+          (only_first draft.steps.operations epc bare.only bare.ops),
     )
 
-size_op : (draft : DraftValue) (op : Op) → draft.round ≢ None → size (with_op draft op) ≡ size draft + 1
+size_op : (draft : DraftValue) (op : Op) → draft.steps.round ≢ None → size (draft_after draft (lines.Op op)) ≡ size draft + 1
 size_op draft op some =
     omega (
       arith,
-      operations_count draft (record { only = draft.operations.only; ops = draft.operations.ops ++ op ∷ [] }) (lines.Op op) some
-          (op_more draft.operations op),
+      operations_count draft (record { only = draft.steps.operations.only; ops = draft.steps.operations.ops ++ op ∷ [] }) (lines.Op op) some
+          (op_more draft.steps.operations op),
     )
 
-map-push : (said : List Line) (next : Line) → map line_text (said ++ next ∷ []) ≡ map line_text said ++ line_text next ∷ []
-map-push [] next = refl
-map-push (line ∷ said) next = ap (λ (list : List (List ℕ)). line_text line ∷ list) (map-push said next)
+-- each line is one more
+after_count : (from : Standing) (line : Line) → Follows from line → lines_before (after from line) ≡ lines_before from + 1
+after_count start line follows = refl
+after_count begun lines.Version follows = absurd follows.stands
+after_count begun (lines.Link link) follows = refl
+after_count begun (lines.Tag tag) follows = absurd follows.stands
+after_count begun (lines.Air number happening) follows = absurd follows.stands
+after_count begun (lines.Select selection) follows = absurd follows.stands
+after_count begun lines.Nak follows = absurd follows.stands
+after_count begun (lines.Event event tag) follows = absurd follows.stands
+after_count begun (lines.Round spec) follows = absurd follows.stands
+after_count begun (lines.Only epc) follows = absurd follows.stands
+after_count begun (lines.Op op) follows = absurd follows.stands
+after_count begun lines.End follows = absurd follows.stands
+after_count (within draft) lines.Version follows = absurd follows.stands
+after_count (within draft) (lines.Link link) follows = absurd follows.stands
+after_count (within draft) (lines.Tag tag) follows = omega (arith, length-append draft.tags (tag ∷ []))
+after_count (within draft) (lines.Air number happening) follows = omega (arith, size_air draft number happening)
+after_count (within draft) (lines.Select selection) follows =
+    omega (arith, size_step draft (steps.Select (commands.Select selection.target selection.action selection.bank selection.pointer selection.mask)) refl)
+after_count (within draft) lines.Nak follows = omega (arith, size_step draft steps.Nak refl)
+after_count (within draft) (lines.Event event tag) follows = omega (arith, size_step draft (steps.Event event tag) refl)
+after_count (within draft) (lines.Round spec) follows = omega (arith, size_round draft spec)
+after_count (within draft) (lines.Only epc) follows = omega (arith, size_only draft epc follows.stands)
+after_count (within draft) (lines.Op op) follows = omega (arith, size_op draft op follows.stands)
+after_count (within draft) lines.End follows = omega arith
+after_count (ended draft) line follows = absurd follows.stands
 
--- each line lets a draft grow by one
-leads_size : (from to : DraftValue) (said : List Line) → Leads (within from) said (within to) → size to ≡ size from + length said
-leads_size from to [] leads = let same : from ≡ to = cc in rw same (omega arith)
-leads_size from to (lines.Version ∷ said) leads = absurd leads.0.stands
-leads_size from to (lines.Link link ∷ said) leads = absurd leads.0.stands
-leads_size from to (lines.Tag tag ∷ said) leads =
-    omega (arith, leads_size (draft_after from (lines.Tag tag)) to said leads.1, length-append from.tags (tag ∷ []))
-leads_size from to (lines.Air number happening ∷ said) leads =
-    omega (arith, leads_size (with_air from number happening) to said leads.1, size_air from number happening)
-leads_size from to (lines.Select selection ∷ said) leads =
-    omega (arith, leads_size (draft_after from (lines.Select selection)) to said leads.1, size_step from (steps.Select (commands.Select selection.target selection.action selection.bank selection.pointer selection.mask)) refl)
-leads_size from to (lines.Nak ∷ said) leads = omega (arith, leads_size (draft_after from lines.Nak) to said leads.1, size_step from steps.Nak refl)
-leads_size from to (lines.Event event tag ∷ said) leads =
-    omega (arith, leads_size (draft_after from (lines.Event event tag)) to said leads.1, size_step from (steps.Event event tag) refl)
-leads_size from to (lines.Round spec ∷ said) leads =
-    omega (arith, leads_size (with_round from spec) to said leads.1, size_round from spec)
-leads_size from to (lines.Only epc ∷ said) leads = omega (arith, leads_size (with_only from epc) to said leads.1, size_only from epc leads.0.stands)
-leads_size from to (lines.Op op ∷ said) leads = omega (arith, leads_size (with_op from op) to said leads.1, size_op from op leads.0.stands)
-leads_size from to (lines.End ∷ []) leads = cc
-leads_size from to (lines.End ∷ line ∷ said) leads = absurd leads.1.0.stands
-
--- as many lines were read as the draft's size
-pub read_count : (link : LinkValue) (text rest : List ℕ) (draft : DraftValue) (so_far : SoFar link text rest draft) → size draft ≡ length so_far.said
-read_count link text rest draft so_far = omega (arith, leads_size (new_draft link) draft so_far.said so_far.leads)
+leads_count : (from to : Standing) (said : List Line) → Leads from said to → lines_before to ≡ lines_before from + length said
+leads_count from to [] leads = ap lines_before (sym leads) ∙ omega arith
+leads_count from to (line ∷ said) leads = omega (arith, leads_count (after from line) to said leads.1, after_count from line leads.0)
 
 said_more : (text rest line behind : List ℕ) (said : List Line) (next : Line) → lines_of text ≡ map line_text said ++ lines_of rest
     → lines_of rest ≡ line ∷ lines_of behind → line ≡ line_text next → lines_of text ≡ map line_text (said ++ next ∷ []) ++ lines_of behind
 said_more text rest line behind said next cut first same =
     cut ∙ ap (λ (list : List (List ℕ)). map line_text said ++ list) (first ∙ ap (λ (l : List ℕ). l ∷ lines_of behind) same)
     ∙ sym (append_assoc (map line_text said) (line_text next ∷ []) (lines_of behind))
-    ∙ ap (λ (list : List (List ℕ)). list ++ lines_of behind) (sym (map-push said next))
+    ∙ ap (λ (list : List (List ℕ)). list ++ lines_of behind) (sym (map-append line_text said (next ∷ [])))
+
+-- nothing is read yet
+pub read_none : (text : List ℕ) → SoFar text text start
+read_none text = record { said = []; cut = refl; leads = refl }
 
 -- one line more is read
-pub read_more : (link : LinkValue) (text rest line behind : List ℕ) (draft draft' : DraftValue) → SoFar link text rest draft
-    → lines_of rest ≡ line ∷ lines_of behind → LeadsBy (fields_of line) (within draft) (within draft') → SoFar link text behind draft'
-read_more link text rest line behind draft draft' so_far first by = record {
-  said = so_far.said ++ by.line ∷ [];
-  cut = said_more text rest line behind so_far.said by.line so_far.cut first (text_spelled line by.line by.spelling);
-  leads = leads_one (within (new_draft link)) (within draft) (within draft') so_far.said by.line so_far.leads by.follows by.leads;
+pub read_more : (text rest line behind : List ℕ) (from to : Standing) → SoFar text rest from → lines_of rest ≡ line ∷ lines_of behind
+    → LeadsBy line from to → SoFar text behind to
+read_more text rest line behind from to so_far first by = record {
+  said = so_far.said ++ by.said ∷ [];
+  cut = said_more text rest line behind so_far.said by.said so_far.cut first (text_spelled line by.said by.spelling);
+  leads = leads_one start from to so_far.said by.said so_far.leads by.follows by.leads;
 }
 
 -- the first of the lines that are left
-pub record NextLeft (line behind : List ℕ) (draft last : DraftValue) : Type 0 where
+pub record NextLeft (line behind : List ℕ) (from : Standing) (last : DraftValue) : Type 0 where
   pub next : Line
   pub todo : List Line
   pub spells : SpellsLine (fields_of line) next
-  pub follows : Follows (within draft) next
-  pub leads : Leads (after (within draft) next) todo (ended last)
+  pub follows : Follows from next
+  pub leads : Leads (after from next) todo (ended last)
   pub cut : lines_of behind ≡ map line_text todo ++ [] ∷ []
 
-pub next_left : LineLaws → (rest line behind : List ℕ) (draft last : DraftValue) (todo : List Line) → lines_of rest ≡ line ∷ lines_of behind
-    → AreLeft rest (within draft) todo last → NextLeft line behind draft last
-next_left laws rest line behind draft last [] first left =
+next_left : LineLaws → (rest line behind : List ℕ) (from : Standing) (last : DraftValue) (todo : List Line) → lines_of rest ≡ line ∷ lines_of behind
+    → AreLeft rest from todo last → NextLeft line behind from last
+next_left laws rest line behind from last [] first left =
     let none : lines_of behind ≡ [] = let same = sym first ∙ left.cut in cc in
     absurd (omega (arith, some_line behind, ap length none))
-next_left laws rest line behind draft last (next ∷ todo) first left =
+next_left laws rest line behind from last (next ∷ todo) first left =
     let same = sym first ∙ left.cut in
     let text : line ≡ line_text next = cc in
     let others : lines_of behind ≡ map line_text todo ++ [] ∷ [] = cc in
@@ -157,127 +169,103 @@ next_left laws rest line behind draft last (next ∷ todo) first left =
     }
 
 -- behind the end nothing is left to say
-pub ended_left : (draft last : DraftValue) (todo : List Line) → Leads (ended draft) todo (ended last) → (draft ≡ last) × (todo ≡ [])
+ended_left : (draft last : DraftValue) (todo : List Line) → Leads (ended draft) todo (ended last) → (draft ≡ last) × (todo ≡ [])
 ended_left draft last [] leads = (cc, refl)
 ended_left draft last (next ∷ todo) leads = absurd leads.0.stands
 
-pub says_more : LineLaws → (link : LinkValue) (text rest line behind : List ℕ) (draft draft' : DraftValue) → StillSays link text rest draft
-    → lines_of rest ≡ line ∷ lines_of behind
-    → ((said : Line) → SpellsLine (fields_of line) said → Follows (within draft) said → after (within draft) said ≡ within draft')
-    → StillSays link text behind draft'
-says_more laws link text rest line behind draft draft' still_says first only = λ whole last left.
+pub says_more : LineLaws → (text rest line behind : List ℕ) (from to : Standing) → StillSays text rest from → lines_of rest ≡ line ∷ lines_of behind
+    → ((said : Line) → SpellsLine (fields_of line) said → Follows from said → after from said ≡ to) → StillSays text behind to
+says_more laws text rest line behind from to still_says first only = λ whole last left.
     let here = still_says whole last left in
-    let next = next_left laws rest line behind draft last here.0 first here.1 in
+    let next = next_left laws rest line behind from last here.0 first here.1 in
     let leads = subst (λ (s : Standing). Leads s next.todo (ended last)) (only next.next next.spells next.follows) next.leads in
     (next.todo, record { cut = next.cut; leads = leads })
 
-faulty_before : (behind : List (List ℕ)) (draft : DraftValue) (line : List ℕ) (fault : Fault) → 1 ≤ length behind
-    → IsFaultyAt (within draft) (fields_of line) fault → IsFaultyBefore behind (within draft) line fault
-faulty_before [] draft line fault some faulty = absurd (omega arith)
-faulty_before (next ∷ more) draft line fault some faulty = faulty
+faulty_before : (behind : List (List ℕ)) (progress : Progress) (line : List ℕ) (fault : Fault) → 1 ≤ length behind
+    → IsFaultyHere (standing_of progress) line fault → IsFaultyBefore behind (standing_of progress) line fault
+faulty_before [] progress line fault some faulty = absurd (omega arith)
+faulty_before (next ∷ more) Start line fault some faulty = faulty
+faulty_before (next ∷ more) Begun line fault some faulty = faulty
+faulty_before (next ∷ more) (Within draft) line fault some faulty = faulty
+
+needs_line : (progress : Progress) (line : List ℕ) → IsFaultyBefore [] (standing_of progress) line End
+needs_line Start line = refl
+needs_line Begun line = refl
+needs_line (Within draft) line = refl
+
+place_here : (text rest : List ℕ) (standing : Standing) (so_far : SoFar text rest standing)
+    → 1 + lines_before standing ≡ length (map line_text so_far.said) + 1
+place_here text rest standing so_far =
+    omega (arith, leads_count start standing so_far.said so_far.leads, length-map so_far.said line_text)
 
 -- the next line is the first faulty one
-pub fault_here : (link : LinkValue) (text rest line behind : List ℕ) (draft : DraftValue) (number : ℕ) (fault : Fault) → SoFar link text rest draft
-    → lines_of rest ≡ line ∷ lines_of behind → number ≡ 3 + size draft → IsFaultyAt (within draft) (fields_of line) fault
-    → IsFirstFaultBehind link text number fault
-fault_here link text rest line behind draft number fault so_far first count faulty = record {
-  said = so_far.said;
+pub fault_here : (text rest line behind : List ℕ) (progress : Progress) (number : ℕ) (fault : Fault) → SoFar text rest (standing_of progress)
+    → lines_of rest ≡ line ∷ lines_of behind → number ≡ 1 + lines_before (standing_of progress) → IsFaultyHere (standing_of progress) line fault
+    → IsFirstFault text number fault
+fault_here text rest line behind progress number fault so_far first count faulty = record {
+  before = map line_text so_far.said;
   line = line;
   behind = lines_of behind;
-  standing = within draft;
+  standing = standing_of progress;
   cut = so_far.cut ∙ ap (λ (list : List (List ℕ)). map line_text so_far.said ++ list) first;
-  leads = so_far.leads;
-  place = count ∙ ap (λ n. 3 + n) (read_count link text rest draft so_far);
-  faulty = faulty_before (lines_of behind) draft line fault (some_line behind) faulty;
+  settles = record { said = so_far.said; spelling = refl; leads = so_far.leads };
+  place = count ∙ place_here text rest (standing_of progress) so_far;
+  faulty = faulty_before (lines_of behind) progress line fault (some_line behind) faulty;
 }
 
 -- the next line has no line feed, or isn't there
-pub fault_last : (link : LinkValue) (text rest : List ℕ) (draft : DraftValue) (number : ℕ) → SoFar link text rest draft → lines_of rest ≡ rest ∷ []
-    → number ≡ 3 + size draft → IsFirstFaultBehind link text number End
-fault_last link text rest draft number so_far one count = record {
-  said = so_far.said;
+pub fault_last : (text rest : List ℕ) (progress : Progress) (number : ℕ) → SoFar text rest (standing_of progress) → lines_of rest ≡ rest ∷ []
+    → number ≡ 1 + lines_before (standing_of progress) → IsFirstFault text number End
+fault_last text rest progress number so_far one count = record {
+  before = map line_text so_far.said;
   line = rest;
   behind = [];
-  standing = within draft;
+  standing = standing_of progress;
   cut = so_far.cut ∙ ap (λ (list : List (List ℕ)). map line_text so_far.said ++ list) one;
-  leads = so_far.leads;
-  place = count ∙ ap (λ n. 3 + n) (read_count link text rest draft so_far);
-  faulty = refl;
+  settles = record { said = so_far.said; spelling = refl; leads = so_far.leads };
+  place = count ∙ place_here text rest (standing_of progress) so_far;
+  faulty = needs_line progress rest;
 }
 
 -- what is known of a line by what it did
-pub takes_as : (fields : List (List ℕ)) (old new : DraftValue) (taken as_this : Taken) → taken ≡ as_this → Takes old fields new taken
-    → Takes old fields new as_this
-takes_as fields old new taken as_this same takes = subst (λ (t : Taken). Takes old fields new t) same takes
+pub takes_as : (line : List ℕ) (old : Standing) (taken as_this : Taken) → taken ≡ as_this → Takes old line taken → Takes old line as_this
+takes_as line old taken as_this same takes = subst (λ (t : Taken). Takes old line t) same takes
 
-pub leads_as : (standing : Standing) (new : DraftValue) (taken as_this : Taken) → taken ≡ as_this → LeadsTo standing new taken → LeadsTo standing new as_this
-leads_as standing new taken as_this same leads = subst (λ (t : Taken). LeadsTo standing new t) same leads
-
--- the end leaves a draft as it is
-ended_same : (draft draft' : DraftValue) (line : Line) → after (within draft) line ≡ ended draft' → draft ≡ draft'
-ended_same draft draft' lines.Version same = cc
-ended_same draft draft' (lines.Link link) same = cc
-ended_same draft draft' (lines.Tag tag) same = cc
-ended_same draft draft' (lines.Air number happening) same = cc
-ended_same draft draft' (lines.Select selection) same = cc
-ended_same draft draft' lines.Nak same = cc
-ended_same draft draft' (lines.Event event tag) same = cc
-ended_same draft draft' (lines.Round spec) same = cc
-ended_same draft draft' (lines.Only epc) same = cc
-ended_same draft draft' (lines.Op op) same = cc
-ended_same draft draft' lines.End same = cc
-
--- the end is read
-pub record EndRead (link : LinkValue) (text behind : List ℕ) (draft : DraftValue) : Type 0 where
-  pub said : List Line
-  pub cut : lines_of text ≡ map line_text said ++ lines_of behind
-  pub leads : Leads (within (new_draft link)) said (ended draft)
-  pub count : length said ≡ size draft + 1
-
-pub read_end : (link : LinkValue) (text rest line behind : List ℕ) (draft draft' : DraftValue) → SoFar link text rest draft
-    → lines_of rest ≡ line ∷ lines_of behind → LeadsBy (fields_of line) (within draft) (ended draft') → EndRead link text behind draft'
-read_end link text rest line behind draft draft' so_far first by =
-    let same = ended_same draft draft' by.line by.leads in
-    let count : size draft' ≡ length so_far.said = rw (← same) (read_count link text rest draft so_far) in
-    record {
-      said = so_far.said ++ by.line ∷ [];
-      cut = said_more text rest line behind so_far.said by.line so_far.cut first (text_spelled line by.line by.spelling);
-      leads = leads_one (within (new_draft link)) (within draft) (ended draft') so_far.said by.line so_far.leads by.follows by.leads;
-      count = omega (arith, length-append so_far.said (by.line ∷ []));
-    }
+pub leads_as : (standing : Standing) (taken as_this : Taken) → taken ≡ as_this → LeadsTo standing taken → LeadsTo standing as_this
+leads_as standing taken as_this same leads = subst (λ (t : Taken). LeadsTo standing t) same leads
 
 -- where nothing stands behind the end, the lines say the scenario
-pub end_finishes : (link : LinkValue) (text behind : List ℕ) (draft : DraftValue) (scenario : Scenario) → EndRead link text behind draft
-    → scenario ≡ scenario_of draft → behind ≡ [] → FinishesScenario link text scenario
-end_finishes link text behind draft scenario read says nothing = record {
+pub end_finishes : (text behind : List ℕ) (draft : DraftValue) (scenario : Scenario) → SoFar text behind (ended draft) → scenario ≡ scenario_of draft
+    → behind ≡ [] → SaysScenario text scenario
+end_finishes text behind draft scenario read says nothing = record {
   said = read.said;
   draft = draft;
-  left = record { cut = read.cut ∙ ap (λ (list : List ℕ). map line_text read.said ++ lines_of list) nothing; leads = read.leads };
+  all = record { cut = read.cut ∙ ap (λ (list : List ℕ). map line_text read.said ++ lines_of list) nothing; leads = read.leads };
   says = sym says;
 }
 
-extra_at : (link : LinkValue) (text : List ℕ) (number : ℕ) (fault : Fault) (draft : DraftValue) (pieces : List (List ℕ)) (said : List Line)
-    → lines_of text ≡ map line_text said ++ pieces → Leads (within (new_draft link)) said (ended draft) → length said ≡ size draft + 1
-    → number ≡ 4 + size draft → fault ≡ Extra → pieces ≢ [] ∷ [] → 1 ≤ length pieces → IsFirstFaultBehind link text number fault
-extra_at link text number fault draft [] said cut leads count place extra some any = absurd (omega arith)
-extra_at link text number fault draft (line ∷ behind) said cut leads count place extra some any = record {
-  said = said;
+extra_at : (text : List ℕ) (number : ℕ) (draft : DraftValue) (pieces : List (List ℕ)) (said : List Line) → lines_of text ≡ map line_text said ++ pieces
+    → Leads start said (ended draft) → number ≡ length (map line_text said) + 1 → pieces ≢ [] ∷ [] → 1 ≤ length pieces → IsFirstFault text number Extra
+extra_at text number draft [] said cut leads place some any = absurd (omega arith)
+extra_at text number draft (line ∷ behind) said cut leads place some any = record {
+  before = map line_text said;
   line = line;
   behind = behind;
   standing = ended draft;
   cut = cut;
-  leads = leads;
-  place = omega arith;
-  faulty = (extra, some);
+  settles = record { said = said; spelling = refl; leads = leads };
+  place = place;
+  faulty = (refl, some);
 }
 
 -- what stands behind the end is the first fault
-pub extra_behind : (link : LinkValue) (text behind : List ℕ) (draft : DraftValue) (fault : ScenarioFault) → EndRead link text behind draft
-    → IsExtra draft behind fault → IsRefusedBehind link text fault
-extra_behind link text behind draft (scenario_faults.Line number fault) read extra =
-    extra_at link text number fault draft (lines_of behind) read.said read.cut read.leads read.count extra.1 extra.0
-    (λ none. extra.2 (nothing_left behind none)) (some_line behind)
-extra_behind link text behind draft scenario_faults.OutOfMemory read extra = tt
+pub extra_behind : (text behind : List ℕ) (draft : DraftValue) (fault : ScenarioFault) → SoFar text behind (ended draft) → IsExtra draft behind fault
+    → IsRefused text fault
+extra_behind text behind draft (scenario_faults.Line number fault) read extra =
+    subst (λ (f : Fault). IsFirstFault text number f) (sym extra.0)
+    (extra_at text number draft (lines_of behind) read.said read.cut read.leads (extra.1 ∙ place_here text behind (ended draft) read)
+    (λ none. extra.2 (nothing_left behind none)) (some_line behind))
+extra_behind text behind draft scenario_faults.OutOfMemory read extra = tt
 
 -- where nothing stands behind the end, only memory can be wanting
 pub no_extra : (behind : List ℕ) (draft : DraftValue) (fault : ScenarioFault) → behind ≡ [] → IsExtra draft behind fault
@@ -286,22 +274,40 @@ no_extra behind draft (scenario_faults.Line number fault) nothing extra = absurd
 no_extra behind draft scenario_faults.OutOfMemory nothing extra = refl
 
 -- where what is left ends here, it says this draft, and nothing stands behind
-pub end_said : LineLaws → (link : LinkValue) (text rest line behind : List ℕ) (draft draft' last : DraftValue) (whole : List Line)
-    → StillSays link text rest draft → lines_of rest ≡ line ∷ lines_of behind → AreLeft text (within (new_draft link)) whole last
-    → ((said : Line) → SpellsLine (fields_of line) said → Follows (within draft) said → after (within draft) said ≡ ended draft')
-    → (draft' ≡ last) × (behind ≡ [])
-end_said laws link text rest line behind draft draft' last whole still_says first left only =
+pub end_said : LineLaws → (text rest line behind : List ℕ) (from : Standing) (draft last : DraftValue) (whole : List Line) → StillSays text rest from
+    → lines_of rest ≡ line ∷ lines_of behind → AreLeft text start whole last
+    → ((said : Line) → SpellsLine (fields_of line) said → Follows from said → after from said ≡ ended draft) → (draft ≡ last) × (behind ≡ [])
+end_said laws text rest line behind from draft last whole still_says first left only =
     let here = still_says whole last left in
-    let next = next_left laws rest line behind draft last here.0 first here.1 in
+    let next = next_left laws rest line behind from last here.0 first here.1 in
     let leads = subst (λ (s : Standing). Leads s next.todo (ended last)) (only next.next next.spells next.follows) next.leads in
-    let both = ended_left draft' last next.todo leads in
+    let both = ended_left draft last next.todo leads in
     (both.0, nothing_left behind (next.cut ∙ ap (λ (list : List Line). map line_text list ++ [] ∷ []) both.1))
 
 -- where what is left says something, the next line is not faulty
-pub not_faulty : LineLaws → (link : LinkValue) (text rest line behind : List ℕ) (draft last : DraftValue) (whole : List Line) → StillSays link text rest draft
-    → lines_of rest ≡ line ∷ lines_of behind → AreLeft text (within (new_draft link)) whole last
-    → ((said : Line) → SpellsLine (fields_of line) said → Follows (within draft) said → ⊥) → ⊥
-not_faulty laws link text rest line behind draft last whole still_says first left none =
+pub not_faulty : LineLaws → (text rest line behind : List ℕ) (from : Standing) (last : DraftValue) (whole : List Line) → StillSays text rest from
+    → lines_of rest ≡ line ∷ lines_of behind → AreLeft text start whole last
+    → ((said : Line) → SpellsLine (fields_of line) said → Follows from said → ⊥) → ⊥
+not_faulty laws text rest line behind from last whole still_says first left none =
     let here = still_says whole last left in
-    let next = next_left laws rest line behind draft last here.0 first here.1 in
+    let next = next_left laws rest line behind from last here.0 first here.1 in
     none next.next next.spells next.follows
+
+-- what is read is spelled so
+pub read_is_spelled : (text : List ℕ) (scenario : Scenario) → SaysScenario text scenario → IsScenario scenario × (text ≡ scenario_text scenario)
+read_is_spelled text scenario read =
+    let whole = said_scenario read.draft read.said read.all.leads in
+    let text_is : text ≡ scenario_text (scenario_of read.draft) =
+    text_of_lines text (map line_text read.said) read.all.cut ∙ ap (λ (list : List Line). text_with (map line_text list)) whole.0 in
+    subst (λ (it : Scenario). IsScenario it × (text ≡ scenario_text it)) read.says (whole.1, text_is)
+
+-- the one scenario that is read, or no memory
+pub is_the_one : LineLaws → (text : List ℕ) (result : Result Scenario ScenarioFault) (scenario : Scenario) → IsScenario scenario → text ≡ scenario_text scenario
+    → ((said : List Line) (draft : DraftValue) → AreLeft text start said draft
+    → IfOk result (λ it. it ≡ scenario_of draft) × IfErr result (λ fault. fault ≡ scenario_faults.OutOfMemory))
+    → IfOk result (λ it. it ≡ scenario) × IfErr result (λ fault. fault ≡ scenario_faults.OutOfMemory)
+is_the_one laws text result scenario is same only =
+    let spoken = scenario_is_said scenario is in
+    let cut = ap lines_of same ∙ lines_said laws start (ended spoken.draft) (scenario_lines scenario) spoken.leads in
+    subst (λ (s : Scenario). IfOk result (λ it. it ≡ s) × IfErr result (λ fault. fault ≡ scenario_faults.OutOfMemory)) spoken.says
+    (only (scenario_lines scenario) spoken.draft (record { cut = cut; leads = spoken.leads }))

@@ -3,26 +3,27 @@ use Rattle.std.proofs.Common.{◌≡◌, ℕ, List, [], ◌∷◌, length, refl,
 use Rattle.text_fields.specs.Lines.{fields_of}
 use Rattle.scenario_lines.specs.declared.first_fields.Word.{Word}
 use Rattle.scenario_lines.specs.declared.line.Line.{Line}
-use Rattle.scenario_lines.specs.declared.line.Line.TheVariants as lines
 use Rattle.scenario_lines.specs.declared.fault.LineFault.{LineFault}
 use Rattle.scenario_lines.specs.declared.fault.LineFault.TheVariants as line_faults
 use Rattle.scenario_lines.specs.Spelling.{line_text, word_of_line}
 use Rattle.scenario_lines.specs.LineFaults.{BeginsWith, SpellsLine}
 use Rattle.scenario.specs.declared.fault.Fault.{Fault}
-use Rattle.scenario.specs.declared.fault.Fault.TheVariants.{Word as WordFault, Limit, Shape, Number, Tari, RtCal, TrCal, Pw, Pc, Tag, Order, Twice}
-use Rattle.scenario.specs.Standing.{AgreesWith, DraftValue, Follows, HasRoom, KeepsOrder, MayStand, NamesTag, Standing, begun, ended, start, within}
+use Rattle.scenario.specs.declared.fault.Fault.TheVariants.{Line as LineReason, Limit, Tag, Order, Twice}
+use Rattle.scenario.specs.Standing.{AgreesWith, Follows, HasRoom, MayStand, NamesTag, Standing, begun, ended, start, within}
+use Rattle.scenario.specs.Draft.{DraftValue}
+use Rattle.scenario.specs.AirLines.{KeepsOrder}
 use Rattle.scenario.specs.LineLaws.{LineLaws}
-use Rattle.scenario.specs.Faults.{Disagrees, DisagreesBy, HasPlace, IsFaultyAt, IsFaultyBefore, IsTooMuch, SaysNothing, fault_of_line}
+use Rattle.scenario.specs.Faults.{Disagrees, DisagreesAt, DisagreesBy, HasPlace, IsFaultyAt, IsFaultyBefore, IsTooMuch, SaysNothing}
 use Rattle.scenario.proofs.Places.{GoesOn}
 use Rattle.scenario_lines.specs.LineBeginnings.{spelled_begins}
-use Rattle.scenario.proofs.Taken.{no_disagreement}
+use Rattle.scenario.proofs.Taken.{no_disagreement_here, version_alone}
 use Rattle.scenario.proofs.Texts.{spells_text}
 
 -- the reason for which a line doesn't agree with the lines before it, with all that is known then
 data Disagreement (draft : DraftValue) (line : Line) (fault : Fault) : Type 0 where
   no_tag : fault ≡ Tag → (¬ NamesTag (length draft.tags) line) → Disagreement draft line fault
-  no_order : fault ≡ Order → NamesTag (length draft.tags) line → (¬ KeepsOrder draft line) → Disagreement draft line fault
-  twice : fault ≡ Twice → NamesTag (length draft.tags) line → KeepsOrder draft line → Disagreement draft line fault
+  no_order : fault ≡ Order → NamesTag (length draft.tags) line → (¬ KeepsOrder draft.air line) → Disagreement draft line fault
+  twice : fault ≡ Twice → NamesTag (length draft.tags) line → KeepsOrder draft.air line → Disagreement draft line fault
 
 disagreement_of : (draft : DraftValue) (line : Line) (fault : Fault) → DisagreesBy draft line fault → Disagreement draft line fault
 disagreement_of draft line Tag disagrees = no_tag refl disagrees
@@ -41,16 +42,19 @@ one_disagreement (twice is names keeps) (no_tag is' none) = absurd (none names)
 one_disagreement (twice is names keeps) (no_order is' names' falls) = absurd (falls keeps)
 one_disagreement (twice is names keeps) (twice is' names' keeps') = is ∙ sym is'
 
-same_draft : {draft other : DraftValue} → within draft ≡ within other → draft ≡ other
-same_draft same = cc
+one_disagreement_here : (standing : Standing) (line : Line) (fault reason : Fault) → DisagreesAt standing line fault → DisagreesAt standing line reason
+    → fault ≡ reason
+one_disagreement_here start line fault reason one other = absurd one
+one_disagreement_here begun line fault reason one other = absurd one
+one_disagreement_here (within draft) line fault reason one other =
+    one_disagreement (disagreement_of draft line fault one) (disagreement_of draft line reason other)
+one_disagreement_here (ended draft) line fault reason one other = absurd one
 
 one_disagreement_at : LineLaws → (standing : Standing) (fields : List (List ℕ)) (fault reason : Fault) → Disagrees standing fields fault
     → Disagrees standing fields reason → fault ≡ reason
 one_disagreement_at laws standing fields fault reason one other =
-    let draft : one.draft ≡ other.draft = same_draft (sym one.here ∙ other.here) in
     let line = laws.lines_are_told_apart fields one.line other.line one.spells other.spells in
-    let disagrees = subst (λ (l : Line). DisagreesBy other.draft l fault) line (subst (λ (d : DraftValue). DisagreesBy d one.line fault) draft one.disagrees) in
-    one_disagreement (disagreement_of other.draft other.line fault disagrees) (disagreement_of other.draft other.line reason other.disagrees)
+    one_disagreement_here standing other.line fault reason (subst (λ (l : Line). DisagreesAt standing l fault) line one.disagrees) other.disagrees
 
 -- a line that disagrees has its place
 disagreement_place : (standing : Standing) (fields : List (List ℕ)) (fault : Fault) → Disagrees standing fields fault → HasPlace standing fields
@@ -59,25 +63,22 @@ disagreement_place standing fields fault disagrees =
 
 -- the stage at which a line is refused
 data Stage (standing : Standing) (fields : List (List ℕ)) (fault : Fault) : Type 0 where
-  no_place : fault ≡ WordFault → ((word : Word) → BeginsWith fields word → ¬ MayStand standing word) → Stage standing fields fault
+  no_place : fault ≡ LineReason line_faults.Word → ((word : Word) → BeginsWith fields word → ¬ MayStand standing word) → Stage standing fields fault
   too_much : fault ≡ Limit → IsTooMuch standing fields → Stage standing fields fault
-  nothing : (line_fault : LineFault) → fault ≡ fault_of_line line_fault → SaysNothing standing fields line_fault → Stage standing fields fault
+  nothing : (line_fault : LineFault) → fault ≡ LineReason line_fault → SaysNothing standing fields line_fault → Stage standing fields fault
   disagreeing : Disagrees standing fields fault → Stage standing fields fault
 
 stage_of : (standing : Standing) (fields : List (List ℕ)) (fault : Fault) → IsFaultyAt standing fields fault → Stage standing fields fault
-stage_of standing fields WordFault faulty = no_place refl faulty
+stage_of standing fields (LineReason line_faults.Word) faulty = no_place refl faulty
+stage_of standing fields (LineReason line_faults.Shape) faulty = nothing line_faults.Shape refl faulty
+stage_of standing fields (LineReason line_faults.Number) faulty = nothing line_faults.Number refl faulty
+stage_of standing fields (LineReason line_faults.Tari) faulty = nothing line_faults.Tari refl faulty
+stage_of standing fields (LineReason line_faults.RtCal) faulty = nothing line_faults.RtCal refl faulty
+stage_of standing fields (LineReason line_faults.TrCal) faulty = nothing line_faults.TrCal refl faulty
+stage_of standing fields (LineReason line_faults.Pw) faulty = nothing line_faults.Pw refl faulty
+stage_of standing fields (LineReason line_faults.Pc) faulty = nothing line_faults.Pc refl faulty
 stage_of standing fields Limit faulty = too_much refl faulty
-stage_of standing fields Shape faulty = nothing line_faults.Shape refl faulty
-stage_of standing fields Number faulty = nothing line_faults.Number refl faulty
-stage_of standing fields Tari faulty = nothing line_faults.Tari refl faulty
-stage_of standing fields RtCal faulty = nothing line_faults.RtCal refl faulty
-stage_of standing fields TrCal faulty = nothing line_faults.TrCal refl faulty
-stage_of standing fields Pw faulty = nothing line_faults.Pw refl faulty
-stage_of standing fields Pc faulty = nothing line_faults.Pc refl faulty
-stage_of standing fields Tag faulty = disagreeing faulty
-stage_of standing fields Order faulty = disagreeing faulty
-stage_of standing fields Twice faulty = disagreeing faulty
-stage_of standing fields fault faulty = absurd faulty
+stage_of standing fields fault faulty = disagreeing faulty
 
 too_much_or_place : LineLaws → (standing : Standing) (fields : List (List ℕ)) → IsTooMuch standing fields → HasPlace standing fields → ⊥
 too_much_or_place laws standing fields much place =
@@ -98,7 +99,7 @@ one_stage laws standing fields fault reason (too_much is much) (disagreeing disa
 one_stage laws standing fields fault reason (nothing line_fault is says) (no_place is' none) = absurd (none says.place.word says.place.begins says.place.stands)
 one_stage laws standing fields fault reason (nothing line_fault is says) (too_much is' much) = absurd (too_much_or_place laws standing fields much says.place)
 one_stage laws standing fields fault reason (nothing line_fault is says) (nothing line_fault' is' says') =
-    is ∙ ap fault_of_line (laws.lines_have_one_fault fields line_fault line_fault' says.faulty says'.faulty) ∙ sym is'
+    is ∙ ap LineReason (laws.lines_have_one_fault fields line_fault line_fault' says.faulty says'.faulty) ∙ sym is'
 one_stage laws standing fields fault reason (nothing line_fault is says) (disagreeing disagrees) =
     absurd (laws.spelled_lines_are_not_faulty fields disagrees.line line_fault disagrees.spells says.faulty)
 one_stage laws standing fields fault reason (disagreeing disagrees) (no_place is none) =
@@ -126,14 +127,11 @@ one_reason laws (next ∷ more) start line fault reason faulty faulty' = faulty.
 one_reason laws (next ∷ more) begun line fault reason faulty faulty' = one_reason_at laws begun (fields_of line) fault reason faulty faulty'
 one_reason laws (next ∷ more) (within draft) line fault reason faulty faulty' = one_reason_at laws (within draft) (fields_of line) fault reason faulty faulty'
 
--- a line that may follow doesn't disagree with the lines before it
 no_disagreement_at : LineLaws → (standing : Standing) (fields : List (List ℕ)) (line : Line) (fault : Fault) → Follows standing line → SpellsLine fields line
     → Disagrees standing fields fault → ⊥
 no_disagreement_at laws standing fields line fault follows spells disagrees =
     let same = laws.lines_are_told_apart fields line disagrees.line spells disagrees.spells in
-    let agrees : AgreesWith (within disagrees.draft) disagrees.line =
-    subst (λ (l : Line). AgreesWith (within disagrees.draft) l) same (subst (λ (s : Standing). AgreesWith s line) disagrees.here follows.agrees) in
-    no_disagreement disagrees.draft disagrees.line fault agrees disagrees.disagrees
+    no_disagreement_here standing disagrees.line fault (subst (λ (l : Line). AgreesWith standing l) same follows.agrees) disagrees.disagrees
 
 follows_at_no_stage : LineLaws → (standing : Standing) (fields : List (List ℕ)) (line : Line) (fault : Fault) → Follows standing line → SpellsLine fields line
     → Stage standing fields fault → ⊥
@@ -146,20 +144,6 @@ follows_at_no_stage laws standing fields line fault follows spells (nothing line
     laws.spelled_lines_are_not_faulty fields line line_fault spells says.faulty
 follows_at_no_stage laws standing fields line fault follows spells (disagreeing disagrees) =
     no_disagreement_at laws standing fields line fault follows spells disagrees
-
--- the first line is the version
-version_alone : (line : Line) → MayStand start (word_of_line line) → line ≡ lines.Version
-version_alone lines.Version stands = refl
-version_alone (lines.Link link) stands = absurd stands
-version_alone (lines.Tag tag) stands = absurd stands
-version_alone (lines.Air exchange happening) stands = absurd stands
-version_alone (lines.Select selection) stands = absurd stands
-version_alone lines.Nak stands = absurd stands
-version_alone (lines.Event event tag) stands = absurd stands
-version_alone (lines.Round spec) stands = absurd stands
-version_alone (lines.Only epc) stands = absurd stands
-version_alone (lines.Op op) stands = absurd stands
-version_alone lines.End stands = absurd stands
 
 -- where the text goes on, the line is not faulty
 pub not_faulty : LineLaws → (behind : List (List ℕ)) (standing : Standing) (line : List ℕ) (fault : Fault) → GoesOn standing line behind

@@ -19,20 +19,23 @@ use Rattle.scenario_lines.specs.declared.line.Happening.TheVariants as happening
 use Rattle.scenario_lines.specs.declared.line.Line.{Line}
 use Rattle.scenario_lines.specs.declared.line.Line.TheVariants as lines
 use Rattle.scenario_lines.specs.TagForm.{IsTag}
-use Rattle.access_ops.specs.OperationLaws.{IsLegalOp}
+use Rattle.access_ops.specs.laws.OperationLaws.{IsLegalOp}
 use Rattle.scenario_lines.specs.LineForm.{IsChoice, IsEpc, IsEvent, IsExchange, IsHappening, IsPlace, IsRound}
 use Rattle.scenario.specs.declared.values.Step.{Step}
 use Rattle.scenario.specs.declared.values.Step.TheVariants as steps
 use Rattle.scenario.specs.ScenarioText.{air_lines, entry_lines, only_lines, operation_lines, scenario_lines, step_lines}
-use Rattle.scenario.specs.Limits.{IsEntry, IsOpList, IsScenario, IsStep, Rises, most_air_lines, most_ops, most_steps, most_tags, no_operations}
-use Rattle.air_events.specs.Entries.{no_entry}
-use Rattle.scenario.specs.Standing.{ChoosesOnce, DraftValue, Follows, Leads, MayFollow, NamesTag, Standing, after, begun, ended, entries_of, last_entry, new_draft, scenario_of, start, draft_at_exchange, steps_of, with_air, with_happening, with_last, with_only, with_op, with_round, with_said, with_step, within}
+use Rattle.scenario.specs.Limits.{IsEntry, IsOpList, IsScenario, IsStep, most_air_lines, most_ops, most_steps, most_tags, no_operations}
+use Rattle.air_events.specs.Entries.{Rises, no_entry}
+use Rattle.scenario.specs.Draft.{draft_after, DraftValue, new_draft, scenario_of, draft_with_step}
+use Rattle.scenario.specs.AirLines.{ChoosesOnce, MayFollow, entries_of, last_entry, at_exchange, with_happening, with_said}
+use Rattle.scenario.specs.Standing.{Follows, Leads, NamesTag, Standing, after, begun, ended, start, within}
+use Rattle.scenario.specs.StepLines.{steps_of, with_last}
 
 -- the lines of a draft, without the end
 abbrev pub draft_lines : DraftValue → List Line
 draft_lines draft =
-    lines.Version ∷ lines.Link draft.link ∷ map lines.Tag draft.tags ++ air_lines (entries_of draft)
-    ++ flat_map step_lines (steps_of draft)
+    lines.Version ∷ lines.Link draft.head.link ∷ map lines.Tag draft.tags ++ air_lines (entries_of draft.air)
+    ++ flat_map step_lines (steps_of draft.steps)
 
 -- the lines of what stands
 abbrev pub standing_lines : Standing → List Line
@@ -51,20 +54,20 @@ IsBelow exchange entry = entry.0 < exchange
 
 -- a draft that keeps the limits
 pub record Keeps (draft : DraftValue) : Type 0 where
-  pub link : IsLegalLink draft.link
+  pub link : IsLegalLink draft.head.link
   pub tags : All IsTag draft.tags
-  pub closed : All (IsEntry (length draft.tags)) draft.closed
-  pub last : IsLast (length draft.tags) draft.exchange draft.latest
-  pub rising : Rises 0 draft.closed
-  pub below : All (IsBelow draft.exchange) draft.closed
-  pub steps : All (IsStep (length draft.tags)) draft.steps
-  pub round : IfSome draft.round IsRound
-  pub operations : IsOpList draft.operations
+  pub closed : All (IsEntry (length draft.tags)) draft.air.closed
+  pub last : IsLast (length draft.tags) draft.air.exchange draft.air.latest
+  pub rising : Rises 0 draft.air.closed
+  pub below : All (IsBelow draft.air.exchange) draft.air.closed
+  pub steps : All (IsStep (length draft.tags)) draft.steps.closed
+  pub round : IfSome draft.steps.round IsRound
+  pub operations : IsOpList draft.steps.operations
   pub few_tags : length draft.tags ≤ most_tags
-  pub few_airs : draft.airs ≤ most_air_lines
-  pub few_steps : length (steps_of draft) ≤ most_steps
-  pub count : length (air_lines (entries_of draft)) ≡ draft.airs
-  pub none : draft.airs ≡ 0 → entries_of draft ≡ []
+  pub few_airs : draft.air.count ≤ most_air_lines
+  pub few_steps : length (steps_of draft.steps) ≤ most_steps
+  pub count : length (air_lines (entries_of draft.air)) ≡ draft.air.count
+  pub none : draft.air.count ≡ 0 → entries_of draft.air ≡ []
 
 abbrev pub StandingKeeps : Standing → Type 0
 StandingKeeps start = Unit {0}
@@ -111,11 +114,11 @@ last_below closed (suc before) above latest less below =
     (All-weaker (IsBelow (suc before)) (IsBelow above) (λ entry small. omega arith) closed below) less
 
 -- the entries of a draft that keeps the limits
-pub entries_keep : (draft : DraftValue) → Keeps draft → All (IsEntry (length draft.tags)) (entries_of draft) × Rises 0 (entries_of draft)
+pub entries_keep : (draft : DraftValue) → Keeps draft → All (IsEntry (length draft.tags)) (entries_of draft.air) × Rises 0 (entries_of draft.air)
 entries_keep draft keeps = (
-  All-append (IsEntry (length draft.tags)) draft.closed (last_entry draft.exchange draft.latest) keeps.closed
-      (last_all (length draft.tags) draft.exchange draft.latest keeps.last),
-  last_rises draft.closed draft.exchange draft.latest keeps.rising keeps.below,
+  All-append (IsEntry (length draft.tags)) draft.air.closed (last_entry draft.air.exchange draft.air.latest) keeps.closed
+      (last_all (length draft.tags) draft.air.exchange draft.air.latest keeps.last),
+  last_rises draft.air.closed draft.air.exchange draft.air.latest keeps.rising keeps.below,
 )
 
 -- a choice stands alone
@@ -187,8 +190,8 @@ last_keeps : (tags : ℕ) (before : List Step) (round : Option SpecValue) (opera
 last_keeps tags before None operations are is list = are
 last_keeps tags before (Some spec) operations are is list = All-push (IsStep tags) before (steps.Round spec operations) are (is, list)
 
-steps_keep : (draft : DraftValue) → Keeps draft → All (IsStep (length draft.tags)) (steps_of draft)
-steps_keep draft keeps = last_keeps (length draft.tags) draft.steps draft.round draft.operations keeps.steps keeps.round keeps.operations
+steps_keep : (draft : DraftValue) → Keeps draft → All (IsStep (length draft.tags)) (steps_of draft.steps)
+steps_keep draft keeps = last_keeps (length draft.tags) draft.steps.closed draft.steps.round draft.steps.operations keeps.steps keeps.round keeps.operations
 
 -- how many steps there are doesn't hang on the operations of the last one
 pub same_count : (before : List Step) (round : Option SpecValue) (operations operations' : OpList)
@@ -215,20 +218,20 @@ new_draft_keeps link legal = record {
   none = λ zero. refl;
 }
 
-tag_keeps : (draft : DraftValue) (tag : TagSpec) → Keeps draft → IsTag tag → draft.airs ≡ 0 → steps_of draft ≡ []
+tag_keeps : (draft : DraftValue) (tag : TagSpec) → Keeps draft → IsTag tag → draft.air.count ≡ 0 → steps_of draft.steps ≡ []
     → length draft.tags < most_tags
     → Keeps (record draft { tags = draft.tags ++ tag ∷ [] })
 tag_keeps draft tag keeps is no_airs no_steps room =
-    let none = no_entries draft.closed draft.exchange draft.latest (keeps.none no_airs) in
+    let none = no_entries draft.air.closed draft.air.exchange draft.air.latest (keeps.none no_airs) in
     let tags = length (draft.tags ++ tag ∷ []) in
     record {
       link = keeps.link;
       tags = All-push IsTag draft.tags tag keeps.tags is;
       closed = rw none.0 (All-nil (IsEntry tags));
-      last = last_none tags draft.exchange draft.latest none.1;
+      last = last_none tags draft.air.exchange draft.air.latest none.1;
       rising = keeps.rising;
       below = keeps.below;
-      steps = rw (no_step_before draft.steps draft.round draft.operations no_steps) (All-nil (IsStep tags));
+      steps = rw (no_step_before draft.steps.closed draft.steps.round draft.steps.operations no_steps) (All-nil (IsStep tags));
       round = keeps.round;
       operations = keeps.operations;
       few_tags = omega (arith, length-append draft.tags (tag ∷ []));
@@ -246,15 +249,15 @@ air_shape : (tags airs airs' : List Line) (line : Line) → airs' ≡ airs ++ li
 air_shape tags airs airs' line more =
     simp append-nil (ap (λ (list : List Line). tags ++ list) more ∙ sym (append_assoc tags airs (line ∷ [])))
 
-tag_lines : (draft : DraftValue) (tag : TagSpec) → entries_of draft ≡ [] → steps_of draft ≡ []
+tag_lines : (draft : DraftValue) (tag : TagSpec) → entries_of draft.air ≡ [] → steps_of draft.steps ≡ []
     → draft_lines (record draft { tags = draft.tags ++ tag ∷ [] }) ≡ draft_lines draft ++ lines.Tag tag ∷ []
 tag_lines draft tag no_entries no_steps =
     rw (no_entries, no_steps)
-    (ap (λ (list : List Line). lines.Version ∷ lines.Link draft.link ∷ list)
+    (ap (λ (list : List Line). lines.Version ∷ lines.Link draft.head.link ∷ list)
     (tag_shape (map lines.Tag draft.tags) (map lines.Tag (draft.tags ++ tag ∷ [])) (lines.Tag tag) (map-append lines.Tag draft.tags (tag ∷ []))))
 
-step_keeps : (draft : DraftValue) (step : Step) → Keeps draft → IsStep (length draft.tags) step → length (steps_of draft) < most_steps
-    → Keeps (with_step draft step)
+step_keeps : (draft : DraftValue) (step : Step) → Keeps draft → IsStep (length draft.tags) step → length (steps_of draft.steps) < most_steps
+    → Keeps (draft_with_step draft step)
 step_keeps draft step keeps is room = record {
   link = keeps.link;
   tags = keeps.tags;
@@ -262,17 +265,17 @@ step_keeps draft step keeps is room = record {
   last = keeps.last;
   rising = keeps.rising;
   below = keeps.below;
-  steps = All-push (IsStep (length draft.tags)) (steps_of draft) step (steps_keep draft keeps) is;
+  steps = All-push (IsStep (length draft.tags)) (steps_of draft.steps) step (steps_keep draft keeps) is;
   round = tt;
   operations = no_operations_keep;
   few_tags = keeps.few_tags;
   few_airs = keeps.few_airs;
-  few_steps = omega (arith, length-append (steps_of draft) (step ∷ []));
+  few_steps = omega (arith, length-append (steps_of draft.steps) (step ∷ []));
   count = keeps.count;
   none = keeps.none;
 }
 
-round_keeps : (draft : DraftValue) (spec : SpecValue) → Keeps draft → IsRound spec → length (steps_of draft) < most_steps → Keeps (with_round draft spec)
+round_keeps : (draft : DraftValue) (spec : SpecValue) → Keeps draft → IsRound spec → length (steps_of draft.steps) < most_steps → Keeps (draft_after draft (lines.Round spec))
 round_keeps draft spec keeps is room = record {
   link = keeps.link;
   tags = keeps.tags;
@@ -285,13 +288,13 @@ round_keeps draft spec keeps is room = record {
   operations = no_operations_keep;
   few_tags = keeps.few_tags;
   few_airs = keeps.few_airs;
-  few_steps = omega (arith, length-append (steps_of draft) (steps.Round spec no_operations ∷ []));
+  few_steps = omega (arith, length-append (steps_of draft.steps) (steps.Round spec no_operations ∷ []));
   count = keeps.count;
   none = keeps.none;
 }
 
 -- the draft with other operations of the last round
-operations_keep : (draft : DraftValue) (operations : OpList) → Keeps draft → IsOpList operations → Keeps (record draft { operations = operations })
+operations_keep : (draft : DraftValue) (operations : OpList) → Keeps draft → IsOpList operations → Keeps (record draft { steps = record draft.steps { operations = operations } })
 operations_keep draft operations keeps are = record {
   link = keeps.link;
   tags = keeps.tags;
@@ -304,37 +307,37 @@ operations_keep draft operations keeps are = record {
   operations = are;
   few_tags = keeps.few_tags;
   few_airs = keeps.few_airs;
-  few_steps = rw (same_count draft.steps draft.round draft.operations operations) keeps.few_steps;
+  few_steps = rw (same_count draft.steps.closed draft.steps.round draft.steps.operations operations) keeps.few_steps;
   count = keeps.count;
   none = keeps.none;
 }
 
-only_keeps : (draft : DraftValue) (epc : List ℕ) → Keeps draft → IsEpc epc → Keeps (with_only draft epc)
+only_keeps : (draft : DraftValue) (epc : List ℕ) → Keeps draft → IsEpc epc → Keeps (draft_after draft (lines.Only epc))
 only_keeps draft epc keeps is =
-    operations_keep draft (record { only = Some epc; ops = draft.operations.ops }) keeps
+    operations_keep draft (record { only = Some epc; ops = draft.steps.operations.ops }) keeps
     (record { only = is; ops = keeps.operations.ops; few = keeps.operations.few })
 
-op_keeps : (draft : DraftValue) (op : Op) → Keeps draft → IsLegalOp op → length draft.operations.ops < most_ops → Keeps (with_op draft op)
+op_keeps : (draft : DraftValue) (op : Op) → Keeps draft → IsLegalOp op → length draft.steps.operations.ops < most_ops → Keeps (draft_after draft (lines.Op op))
 op_keeps draft op keeps is room =
-    operations_keep draft (record { only = draft.operations.only; ops = draft.operations.ops ++ op ∷ [] }) keeps
+    operations_keep draft (record { only = draft.steps.operations.only; ops = draft.steps.operations.ops ++ op ∷ [] }) keeps
     (record {
       only = keeps.operations.only;
-      ops = All-push IsLegalOp draft.operations.ops op keeps.operations.ops is;
-      few = omega (arith, length-append draft.operations.ops (op ∷ []));
+      ops = All-push IsLegalOp draft.steps.operations.ops op keeps.operations.ops is;
+      few = omega (arith, length-append draft.steps.operations.ops (op ∷ []));
     })
 
 -- the lines of a draft before its steps
 abbrev front_lines : DraftValue → List Line
-front_lines draft = lines.Version ∷ lines.Link draft.link ∷ map lines.Tag draft.tags ++ air_lines (entries_of draft)
+front_lines draft = lines.Version ∷ lines.Link draft.head.link ∷ map lines.Tag draft.tags ++ air_lines (entries_of draft.air)
 
 -- one step more
 more_step : (draft : DraftValue) (step : Step)
-    → front_lines draft ++ flat_map step_lines (steps_of draft ++ step ∷ []) ≡ draft_lines draft ++ step_lines step
+    → front_lines draft ++ flat_map step_lines (steps_of draft.steps ++ step ∷ []) ≡ draft_lines draft ++ step_lines step
 more_step draft step =
     ap (λ (list : List Line). front_lines draft ++ list)
-    (flat_map-append step_lines (steps_of draft) (step ∷ [])
-    ∙ ap (λ (list : List Line). flat_map step_lines (steps_of draft) ++ list) (append-nil (step_lines step)))
-    ∙ sym (append_assoc (front_lines draft) (flat_map step_lines (steps_of draft)) (step_lines step))
+    (flat_map-append step_lines (steps_of draft.steps) (step ∷ [])
+    ∙ ap (λ (list : List Line). flat_map step_lines (steps_of draft.steps) ++ list) (append-nil (step_lines step)))
+    ∙ sym (append_assoc (front_lines draft) (flat_map step_lines (steps_of draft.steps)) (step_lines step))
 
 -- one line more of the operations of the last round
 pub more_operations : (before : List Step) (round : Option SpecValue) (operations operations' : OpList) (line : Line) → round ≢ None
@@ -348,12 +351,12 @@ more_operations before (Some spec) operations operations' line some more =
     ∙ sym (append_assoc (flat_map step_lines before) (lines.Round spec ∷ operation_lines operations ++ []) (line ∷ []))
     ∙ ap (λ (list : List Line). list ++ line ∷ []) (sym (flat_map-append step_lines before (steps.Round spec operations ∷ [])))
 
-more_operation_lines : (draft : DraftValue) (operations : OpList) (line : Line) → draft.round ≢ None
-    → operation_lines operations ≡ operation_lines draft.operations ++ line ∷ []
-    → front_lines draft ++ flat_map step_lines (with_last draft.steps draft.round operations) ≡ draft_lines draft ++ line ∷ []
+more_operation_lines : (draft : DraftValue) (operations : OpList) (line : Line) → draft.steps.round ≢ None
+    → operation_lines operations ≡ operation_lines draft.steps.operations ++ line ∷ []
+    → front_lines draft ++ flat_map step_lines (with_last draft.steps.closed draft.steps.round operations) ≡ draft_lines draft ++ line ∷ []
 more_operation_lines draft operations line some more =
-    ap (λ (list : List Line). front_lines draft ++ list) (more_operations draft.steps draft.round draft.operations operations line some more)
-    ∙ sym (append_assoc (front_lines draft) (flat_map step_lines (steps_of draft)) (line ∷ []))
+    ap (λ (list : List Line). front_lines draft ++ list) (more_operations draft.steps.closed draft.steps.round draft.steps.operations operations line some more)
+    ∙ sym (append_assoc (front_lines draft) (flat_map step_lines (steps_of draft.steps)) (line ∷ []))
 
 -- the EPC is named first
 pub only_first : (operations : OpList) (epc : List ℕ) → operations.only ≡ None → operations.ops ≡ []
@@ -369,14 +372,14 @@ op_more operations op =
 
 -- the rules that an air line keeps where it may follow
 record AirFollows (draft : DraftValue) (number : ℕ) (happening : Happening) : Type 0 where
-  no_steps : steps_of draft ≡ []
-  room : draft.airs < most_air_lines
+  no_steps : steps_of draft.steps ≡ []
+  room : draft.air.count < most_air_lines
   is_exchange : IsExchange number
   is : IsHappening happening
   names : NamesTagOf (length draft.tags) happening
-  order : draft.exchange ≤ number
-  follows : number ≡ draft.exchange → MayFollow draft.latest happening
-  alone : number ≡ draft.exchange → MayChoose draft.latest happening
+  order : draft.air.exchange ≤ number
+  follows : number ≡ draft.air.exchange → MayFollow draft.air.latest happening
+  alone : number ≡ draft.air.exchange → MayChoose draft.air.latest happening
 
 -- what is said of the last exchange, in a draft that keeps the limits
 last_said : (tags exchange : ℕ) (latest : Entry) → 0 < exchange → IsLast tags exchange latest → IsEntry tags (exchange, latest)
@@ -397,45 +400,46 @@ air_lines_one entries entry =
 
 -- one thing more is said of the last exchange
 abbrev said_more : DraftValue → Happening → DraftValue
-said_more draft happening = with_said (record draft { airs = draft.airs + 1 }) happening
+said_more draft happening = record draft { air = with_said (record draft.air { count = draft.air.count + 1 }) happening }
 
-more_air_lines : (draft : DraftValue) (happening : Happening) → 0 < draft.exchange → MayFollow draft.latest happening → MayChoose draft.latest happening
-    → air_lines (entries_of (said_more draft happening)) ≡ air_lines (entries_of draft) ++ lines.Air draft.exchange happening ∷ []
+more_air_lines : (draft : DraftValue) (happening : Happening) → 0 < draft.air.exchange → MayFollow draft.air.latest happening → MayChoose draft.air.latest happening
+    → air_lines (entries_of (said_more draft happening).air) ≡ air_lines (entries_of draft.air) ++ lines.Air draft.air.exchange happening ∷ []
 more_air_lines draft happening some follows alone =
-    let exchange = draft.exchange in
-    let closed = draft.closed in
-    ap (λ (last : List (ℕ × Entry)). air_lines (closed ++ last)) (last_one exchange (with_happening draft.latest happening) some)
-    ∙ air_lines_one closed (exchange, with_happening draft.latest happening)
-    ∙ ap (λ (list : List Line). air_lines closed ++ list) (entry_more exchange draft.latest happening follows alone)
-    ∙ sym (append_assoc (air_lines closed) (entry_lines (exchange, draft.latest)) (lines.Air exchange happening ∷ []))
-    ∙ ap (λ (list : List Line). list ++ lines.Air exchange happening ∷ []) (sym (air_lines_one closed (exchange, draft.latest)))
-    ∙ ap (λ (last : List (ℕ × Entry)). air_lines (closed ++ last) ++ lines.Air exchange happening ∷ []) (sym (last_one exchange draft.latest some))
+    let exchange = draft.air.exchange in
+    let closed = draft.air.closed in
+    ap (λ (last : List (ℕ × Entry)). air_lines (closed ++ last)) (last_one exchange (with_happening draft.air.latest happening) some)
+    ∙ air_lines_one closed (exchange, with_happening draft.air.latest happening)
+    ∙ ap (λ (list : List Line). air_lines closed ++ list) (entry_more exchange draft.air.latest happening follows alone)
+    ∙ sym (append_assoc (air_lines closed) (entry_lines (exchange, draft.air.latest)) (lines.Air exchange happening ∷ []))
+    ∙ ap (λ (list : List Line). list ++ lines.Air exchange happening ∷ []) (sym (air_lines_one closed (exchange, draft.air.latest)))
+    ∙ ap (λ (last : List (ℕ × Entry)). air_lines (closed ++ last) ++ lines.Air exchange happening ∷ []) (sym (last_one exchange draft.air.latest some))
 
 -- the first thing is said of another exchange
 abbrev said_first : DraftValue → ℕ → Happening → DraftValue
-said_first draft number happening = with_said (draft_at_exchange (record draft { airs = draft.airs + 1 }) number) happening
+said_first draft number happening =
+    record draft { air = with_said (at_exchange (record draft.air { count = draft.air.count + 1 }) number) happening }
 
 first_air_lines : (draft : DraftValue) (number : ℕ) (happening : Happening) → 0 < number
-    → air_lines (entries_of (said_first draft number happening)) ≡ air_lines (entries_of draft) ++ lines.Air number happening ∷ []
+    → air_lines (entries_of (said_first draft number happening).air) ≡ air_lines (entries_of draft.air) ++ lines.Air number happening ∷ []
 first_air_lines draft number happening some =
-    ap (λ (last : List (ℕ × Entry)). air_lines (entries_of draft ++ last)) (last_one number (with_happening no_entry happening) some)
-    ∙ air_lines_one (entries_of draft) (number, with_happening no_entry happening)
-    ∙ ap (λ (list : List Line). air_lines (entries_of draft) ++ list) (entry_first number happening)
+    ap (λ (last : List (ℕ × Entry)). air_lines (entries_of draft.air ++ last)) (last_one number (with_happening no_entry happening) some)
+    ∙ air_lines_one (entries_of draft.air) (number, with_happening no_entry happening)
+    ∙ ap (λ (list : List Line). air_lines (entries_of draft.air) ++ list) (entry_first number happening)
 
 not_none : {A : Type 0} (n : ℕ) → n + 1 ≡ 0 → A
 not_none n none = absurd (omega arith)
 
-more_keeps : (draft : DraftValue) (happening : Happening) → Keeps draft → AirFollows draft draft.exchange happening → Keeps (said_more draft happening)
+more_keeps : (draft : DraftValue) (happening : Happening) → Keeps draft → AirFollows draft draft.air.exchange happening → Keeps (said_more draft happening)
 more_keeps draft happening keeps air =
-    let some : 0 < draft.exchange = omega (arith, air.is_exchange) in
+    let some : 0 < draft.air.exchange = omega (arith, air.is_exchange) in
     let tags = length draft.tags in
-    let last = last_said tags draft.exchange draft.latest some keeps.last in
+    let last = last_said tags draft.air.exchange draft.air.latest some keeps.last in
     record {
       link = keeps.link;
       tags = keeps.tags;
       closed = keeps.closed;
-      last = last_is_said tags draft.exchange (with_happening draft.latest happening)
-          (happening_keeps tags draft.exchange draft.latest happening air.is_exchange air.is air.names last.events last.missed last.choice);
+      last = last_is_said tags draft.air.exchange (with_happening draft.air.latest happening)
+          (happening_keeps tags draft.air.exchange draft.air.latest happening air.is_exchange air.is air.names last.events last.missed last.choice);
       rising = keeps.rising;
       below = keeps.below;
       steps = keeps.steps;
@@ -445,11 +449,11 @@ more_keeps draft happening keeps air =
       few_airs = omega (arith, air.room);
       few_steps = keeps.few_steps;
       count = ap length (more_air_lines draft happening some (air.follows refl) (air.alone refl))
-          ∙ length-append (air_lines (entries_of draft)) (lines.Air draft.exchange happening ∷ []) ∙ ap (λ n. n + 1) keeps.count;
-      none = λ zero. not_none draft.airs zero;
+          ∙ length-append (air_lines (entries_of draft.air)) (lines.Air draft.air.exchange happening ∷ []) ∙ ap (λ n. n + 1) keeps.count;
+      none = λ zero. not_none draft.air.count zero;
     }
 
-first_keeps : (draft : DraftValue) (number : ℕ) (happening : Happening) → Keeps draft → draft.exchange < number → AirFollows draft number happening
+first_keeps : (draft : DraftValue) (number : ℕ) (happening : Happening) → Keeps draft → draft.air.exchange < number → AirFollows draft number happening
     → Keeps (said_first draft number happening)
 first_keeps draft number happening keeps above air =
     let some : 0 < number = omega arith in
@@ -464,7 +468,7 @@ first_keeps draft number happening keeps above air =
       closed = entries.0;
       last = last_is_said tags number (with_happening no_entry happening) nothing;
       rising = entries.1;
-      below = last_below draft.closed draft.exchange number draft.latest above keeps.below;
+      below = last_below draft.air.closed draft.air.exchange number draft.air.latest above keeps.below;
       steps = keeps.steps;
       round = keeps.round;
       operations = keeps.operations;
@@ -472,39 +476,39 @@ first_keeps draft number happening keeps above air =
       few_airs = omega (arith, air.room);
       few_steps = keeps.few_steps;
       count = ap length (first_air_lines draft number happening some)
-          ∙ length-append (air_lines (entries_of draft)) (lines.Air number happening ∷ []) ∙ ap (λ n. n + 1) keeps.count;
-      none = λ zero. not_none draft.airs zero;
+          ∙ length-append (air_lines (entries_of draft.air)) (lines.Air number happening ∷ []) ∙ ap (λ n. n + 1) keeps.count;
+      none = λ zero. not_none draft.air.count zero;
     }
 
 -- the lines of a draft without steps, with one air line more
-lines_with_air : (draft : DraftValue) (entries : List (ℕ × Entry)) (line : Line) → steps_of draft ≡ [] → air_lines entries ≡ air_lines (entries_of draft) ++ line ∷ []
-    → lines.Version ∷ lines.Link draft.link ∷ map lines.Tag draft.tags ++ air_lines entries ++ flat_map step_lines (steps_of draft)
+lines_with_air : (draft : DraftValue) (entries : List (ℕ × Entry)) (line : Line) → steps_of draft.steps ≡ [] → air_lines entries ≡ air_lines (entries_of draft.air) ++ line ∷ []
+    → lines.Version ∷ lines.Link draft.head.link ∷ map lines.Tag draft.tags ++ air_lines entries ++ flat_map step_lines (steps_of draft.steps)
     ≡ draft_lines draft ++ line ∷ []
 lines_with_air draft entries line no_steps more =
     rw no_steps
-    (ap (λ (list : List Line). lines.Version ∷ lines.Link draft.link ∷ list)
-    (air_shape (map lines.Tag draft.tags) (air_lines (entries_of draft)) (air_lines entries) line more))
+    (ap (λ (list : List Line). lines.Version ∷ lines.Link draft.head.link ∷ list)
+    (air_shape (map lines.Tag draft.tags) (air_lines (entries_of draft.air)) (air_lines entries) line more))
 
 -- what an air line does to a draft that it may follow
 air_settles : (draft : DraftValue) (number : ℕ) (happening : Happening) → Keeps draft → AirFollows draft number happening
-    → (draft_lines (with_air draft number happening) ≡ draft_lines draft ++ lines.Air number happening ∷ []) × Keeps (with_air draft number happening)
+    → (draft_lines (draft_after draft (lines.Air number happening)) ≡ draft_lines draft ++ lines.Air number happening ∷ []) × Keeps (draft_after draft (lines.Air number happening))
 air_settles draft number happening keeps air =
-    elim (eqb_tells number draft.exchange) [
+    elim (eqb_tells number draft.air.exchange) [
       | inl same ↦
-          let is : number ≡ draft.exchange = same.1 in
-          let air' : AirFollows draft draft.exchange happening = subst (λ (n : ℕ). AirFollows draft n happening) is air in
-          let some : 0 < draft.exchange = omega (arith, air'.is_exchange) in
+          let is : number ≡ draft.air.exchange = same.1 in
+          let air' : AirFollows draft draft.air.exchange happening = subst (λ (n : ℕ). AirFollows draft n happening) is air in
+          let some : 0 < draft.air.exchange = omega (arith, air'.is_exchange) in
           let more : draft_lines (said_more draft happening) ≡ draft_lines draft ++ lines.Air number happening ∷ [] =
-          rw is (lines_with_air draft (entries_of (said_more draft happening)) (lines.Air draft.exchange happening) air.no_steps
+          rw is (lines_with_air draft (entries_of (said_more draft happening).air) (lines.Air draft.air.exchange happening) air.no_steps
           (more_air_lines draft happening some (air'.follows refl) (air'.alone refl))) in
           rw same.0 (more, more_keeps draft happening keeps air')
       | inr other ↦
           let order = air.order in
-          let differs : number ≢ draft.exchange = other.1 in
-          let above : draft.exchange < number = omega arith in
+          let differs : number ≢ draft.air.exchange = other.1 in
+          let above : draft.air.exchange < number = omega arith in
           let some : 0 < number = omega arith in
           rw other.0 (
-            lines_with_air draft (entries_of (said_first draft number happening)) (lines.Air number happening) air.no_steps (first_air_lines draft number happening some),
+            lines_with_air draft (entries_of (said_first draft number happening).air) (lines.Air number happening) air.no_steps (first_air_lines draft number happening some),
             first_keeps draft number happening keeps above air,
           )
     ]
@@ -514,8 +518,8 @@ names_tag_of tags number (happenings.Event event tag) names = names
 names_tag_of tags number (happenings.Miss tag) names = names
 names_tag_of tags number (happenings.Choice choice) names = tt
 
-chooses_once : (draft : DraftValue) (number : ℕ) (happening : Happening) → ChoosesOnce draft (lines.Air number happening) → number ≡ draft.exchange
-    → MayChoose draft.latest happening
+chooses_once : (draft : DraftValue) (number : ℕ) (happening : Happening) → ChoosesOnce draft.air (lines.Air number happening) → number ≡ draft.air.exchange
+    → MayChoose draft.air.latest happening
 chooses_once draft number (happenings.Event event tag) once is = tt
 chooses_once draft number (happenings.Miss tag) once is = tt
 chooses_once draft number (happenings.Choice choice) once is = once is
@@ -573,14 +577,14 @@ settles_one (within draft) (lines.Event event tag) keeps follows =
 settles_one (within draft) (lines.Round spec) keeps follows =
     (more_step draft (steps.Round spec no_operations), round_keeps draft spec keeps follows.is.form follows.room)
 settles_one (within draft) (lines.Only epc) keeps follows =
-    let operations : OpList = record { only = Some epc; ops = draft.operations.ops } in (
+    let operations : OpList = record { only = Some epc; ops = draft.steps.operations.ops } in (
       more_operation_lines draft operations (lines.Only epc) follows.stands.round
-          (only_first draft.operations epc follows.stands.only follows.stands.ops),
+          (only_first draft.steps.operations epc follows.stands.only follows.stands.ops),
       only_keeps draft epc keeps follows.is.form,
     )
 settles_one (within draft) (lines.Op op) keeps follows =
-    let operations : OpList = record { only = draft.operations.only; ops = draft.operations.ops ++ op ∷ [] } in (
-      more_operation_lines draft operations (lines.Op op) follows.stands (op_more draft.operations op),
+    let operations : OpList = record { only = draft.steps.operations.only; ops = draft.steps.operations.ops ++ op ∷ [] } in (
+      more_operation_lines draft operations (lines.Op op) follows.stands (op_more draft.steps.operations op),
       op_keeps draft op keeps follows.is.form follows.room,
     )
 settles_one (within draft) lines.End keeps follows = (refl, keeps)

@@ -4,19 +4,20 @@ use Rattle.std.proofs.lemmas.List.{map-append}
 use Rattle.text_fields.specs.Lines.{fields_of, lines_of, text_with}
 use Rattle.scenario_lines.specs.declared.line.Line.{Line}
 use Rattle.scenario_lines.specs.declared.line.Line.TheVariants as lines
-use Rattle.scenario_lines.specs.declared.fault.LineFault.{LineFault}
 use Rattle.scenario_lines.specs.declared.fault.LineFault.TheVariants as line_faults
 use Rattle.scenario_lines.specs.Spelling.{line_text, word_of_line}
-use Rattle.scenario_lines.specs.LineFaults.{IsFaultyLine, SpellsLine}
+use Rattle.scenario_lines.specs.LineFaults.{SpellsLine}
 use Rattle.scenario.specs.declared.fault.Fault.{Fault}
-use Rattle.scenario.specs.declared.fault.Fault.TheVariants.{Extra, End, Version, Word as WordFault, Limit, Tag, Order, Twice}
+use Rattle.scenario.specs.declared.fault.Fault.TheVariants.{Extra, End, Version, Line as LineReason, Limit, Tag, Order, Twice}
 use Rattle.scenario.specs.Limits.{IsText}
 use Rattle.scenario.specs.LineLaws.{LineLaws}
-use Rattle.scenario.specs.Standing.{Agrees, DraftValue, Follows, HasRoom, Leads, MayStand, Standing, after, begun, ended, scenario_of, start, within}
-use Rattle.scenario.specs.Faults.{DisagreesBy, HasPlace, IsFaultyAt, IsFaultyBefore, IsFirstFault, Settles, fault_of_line}
+use Rattle.scenario.specs.Standing.{Agrees, Follows, HasRoom, Leads, MayStand, Standing, after, begun, ended, start, within}
+use Rattle.scenario.specs.Draft.{DraftValue, scenario_of}
+use Rattle.scenario.specs.Faults.{DisagreesBy, HasPlace, IsFaultyAt, IsFaultyBefore, IsFirstFault, Settles}
 use Rattle.scenario.proofs.Decisions.{chooses_once_decided, has_room_decided, keeps_order_decided, may_stand_decided, names_tag_decided, text_decided}
 use Rattle.scenario.proofs.Leading.{leads_one}
 use Rattle.scenario.proofs.Settled.{said_scenario}
+use Rattle.scenario.proofs.Taken.{no_line, unfit, version_follows}
 use Rattle.scenario_lines.specs.LineBeginnings.{spelled_begins}
 use Rattle.scenario.proofs.Texts.{text_of_lines, text_spelled}
 use Rattle.text_fields.specs.LineLaws.{some_line}
@@ -44,17 +45,6 @@ agrees_or_not draft line = elim (names_tag_decided (length draft.tags) line) [
   ]
 ]
 
-disagrees_at : (standing : Standing) (fields : List (List ℕ)) (draft : DraftValue) (fault : Fault) (line : Line) → standing ≡ within draft
-    → SpellsLine fields line → MayStand standing (word_of_line line) → HasRoom standing (word_of_line line) → DisagreesBy draft line fault
-    → IsFaultyAt standing fields fault
-disagrees_at standing fields draft Tag line here spells stands room disagrees =
-    record { draft = draft; here = here; line = line; spells = spells; stands = stands; room = room; disagrees = disagrees }
-disagrees_at standing fields draft Order line here spells stands room disagrees =
-    record { draft = draft; here = here; line = line; spells = spells; stands = stands; room = room; disagrees = disagrees }
-disagrees_at standing fields draft Twice line here spells stands room disagrees =
-    record { draft = draft; here = here; line = line; spells = spells; stands = stands; room = room; disagrees = disagrees }
-disagrees_at standing fields draft fault line here spells stands room disagrees = absurd disagrees
-
 said_line : (standing : Standing) (fields : List (List ℕ)) (line : Line) → SpellsLine fields line → MayStand standing (word_of_line line)
     → HasRoom standing (word_of_line line) → IsOneOf standing fields
 said_line start fields line spells stands room =
@@ -65,20 +55,8 @@ said_line (ended draft) fields line spells stands room =
     inl (record { line = line; spells = spells; follows = record { is = spells.is; stands = stands; room = room; agrees = tt } })
 said_line (within draft) fields line spells stands room = elim (agrees_or_not draft line) [
   | inl agrees ↦ inl (record { line = line; spells = spells; follows = record { is = spells.is; stands = stands; room = room; agrees = agrees } })
-  | inr not_so ↦ inr (not_so.0, disagrees_at (within draft) fields draft not_so.0 line refl spells stands room not_so.1)
+  | inr not_so ↦ inr (not_so.0, unfit (within draft) fields line spells stands room not_so.0 not_so.1)
 ]
-
--- a line that says nothing, where it has its place
-nothing_said : (standing : Standing) (fields : List (List ℕ)) (fault : LineFault) → HasPlace standing fields → IsFaultyLine fields fault
-    → IsFaultyAt standing fields (fault_of_line fault)
-nothing_said standing fields line_faults.Word place faulty = absurd (faulty place.word place.begins)
-nothing_said standing fields line_faults.Shape place faulty = record { place = place; faulty = faulty }
-nothing_said standing fields line_faults.Number place faulty = record { place = place; faulty = faulty }
-nothing_said standing fields line_faults.Tari place faulty = record { place = place; faulty = faulty }
-nothing_said standing fields line_faults.RtCal place faulty = record { place = place; faulty = faulty }
-nothing_said standing fields line_faults.TrCal place faulty = record { place = place; faulty = faulty }
-nothing_said standing fields line_faults.Pw place faulty = record { place = place; faulty = faulty }
-nothing_said standing fields line_faults.Pc place faulty = record { place = place; faulty = faulty }
 
 -- a line that has its place
 placed : LineLaws → (standing : Standing) (fields : List (List ℕ)) → HasPlace standing fields → IsOneOf standing fields
@@ -86,16 +64,16 @@ placed laws standing fields place = elim (laws.lines_say_something_or_are_faulty
   | inl said ↦
       let word = laws.lines_begin_with_one_word fields place.word (word_of_line said.0) place.begins (spelled_begins fields said.0 said.1) in
       said_line standing fields said.0 said.1 (subst (MayStand standing) word place.stands) (subst (HasRoom standing) word place.room)
-  | inr faulty ↦ inr (fault_of_line faulty.0, nothing_said standing fields faulty.0 place faulty.1)
+  | inr faulty ↦ inr (LineReason faulty.0, no_line standing fields place faulty.0 faulty.1)
 ]
 
 -- a line is one that may follow, or is faulty for some reason
 one_of : LineLaws → (standing : Standing) (fields : List (List ℕ)) → IsOneOf standing fields
 one_of laws standing fields = elim (laws.lines_begin_or_are_faulty fields) [
-  | inr none ↦ inr (WordFault, λ word begins. absurd (none word begins))
+  | inr none ↦ inr (LineReason line_faults.Word, λ word begins. absurd (none word begins))
   | inl found ↦ elim (may_stand_decided standing found.0) [
     | inr never ↦ inr (
-      WordFault,
+      LineReason line_faults.Word,
       λ word begins.
           λ stands. never (subst (MayStand standing) (laws.lines_begin_with_one_word fields word found.0 begins found.1) stands),
     )
@@ -131,10 +109,6 @@ at_end : (texts : List (List ℕ)) (said : List Line) (draft : DraftValue) (line
 at_end texts said draft [] [] cut leads = whole said draft leads cut
 at_end texts said draft (byte ∷ line) behind cut leads = stops texts said (ended draft) (byte ∷ line) behind Extra cut leads (refl, λ same. cc)
 at_end texts said draft [] (next ∷ behind) cut leads = stops texts said (ended draft) [] (next ∷ behind) Extra cut leads (refl, λ same. cc)
-
--- the version follows at the start
-version_follows : Follows start lines.Version
-version_follows = record { is = record { form = tt; coherent = tt }; stands = tt; room = tt; agrees = tt }
 
 ends : LineLaws → (texts : List (List ℕ)) (said : List Line) (standing : Standing) (line : List ℕ) (behind : List (List ℕ))
     → texts ≡ map line_text said ++ line ∷ behind → Leads start said standing → Ends texts

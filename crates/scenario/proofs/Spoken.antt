@@ -16,7 +16,7 @@ use Rattle.scenario_lines.specs.declared.line.Happening.TheVariants as happening
 use Rattle.scenario_lines.specs.declared.line.Line.{Line}
 use Rattle.scenario_lines.specs.declared.line.Line.TheVariants as lines
 use Rattle.scenario_lines.specs.TagForm.{IsTag}
-use Rattle.access_ops.specs.OperationLaws.{IsLegalOp}
+use Rattle.access_ops.specs.laws.OperationLaws.{IsLegalOp}
 use Rattle.scenario_lines.specs.LineForm.{IsChoice, IsEpc, IsEvent, IsExchange, IsLinkForm, IsPlace, IsRound}
 use Rattle.access_ops.specs.declared.Op.{Op}
 use Rattle.access_ops.specs.declared.OpList.{OpList}
@@ -25,8 +25,12 @@ use Rattle.scenario.specs.declared.values.Step.{Step}
 use Rattle.scenario.specs.declared.values.Step.TheVariants as steps
 use Rattle.scenario.specs.declared.values.Scenario.{Scenario}
 use Rattle.scenario.specs.ScenarioText.{air_lines, choice_lines, entry_lines, only_lines, operation_lines, scenario_lines, step_lines}
-use Rattle.scenario.specs.Limits.{IsEntry, IsOpList, IsScenario, IsStep, Rises, SaysSomething, most_air_lines, most_ops, most_steps, most_tags}
-use Rattle.scenario.specs.Standing.{ChoosesOnce, DraftValue, Follows, IsSaid, Leads, Standing, after, begun, draft_of, ended, entries_of, last_entry, start, steps_of, with_said, with_step, within}
+use Rattle.scenario.specs.Limits.{IsEntry, IsOpList, IsScenario, IsStep, SaysSomething, most_air_lines, most_ops, most_steps, most_tags}
+use Rattle.air_events.specs.Entries.{Rises, no_entry}
+use Rattle.scenario.specs.AirLines.{ChoosesOnce, entries_of, last_entry, with_said}
+use Rattle.scenario.specs.Draft.{DraftValue, draft_with_step, new_draft}
+use Rattle.scenario.specs.Standing.{Follows, IsSaid, Leads, Standing, after, begun, ended, start, within}
+use Rattle.scenario.specs.StepLines.{steps_of}
 use Rattle.scenario.proofs.Leading.{leads_on}
 
 -- a link that keeps its ranges has the form of a line's
@@ -40,7 +44,7 @@ legal_form link legal =
 
 -- a draft with these tags alone
 abbrev tags_draft : LinkValue → List TagSpec → DraftValue
-tags_draft link tags = draft_of link tags 0 [] 0 [] [] None [] None None []
+tags_draft link tags = record (new_draft link) { tags = tags }
 
 speak_tags : (link : LinkValue) (before todo : List TagSpec) → All IsTag todo → length before + length todo ≤ most_tags
     → Leads (within (tags_draft link before)) (map lines.Tag todo) (within (tags_draft link (before ++ todo)))
@@ -60,10 +64,17 @@ speak_tags link before (tag ∷ todo) are few =
     )
 
 -- a draft to which so many lines on another exchange were added
+abbrev with_airs : DraftValue → ℕ → ℕ → Entry → DraftValue
+with_airs draft airs number latest =
+    record draft { air = record { count = airs; closed = entries_of draft.air; exchange = number; latest = latest } }
+
 abbrev on_exchange : DraftValue → ℕ → List (Event × ℕ) → List ℕ → Option Choice → ℕ → DraftValue
 on_exchange draft number events missed choice added =
-    draft_of draft.link draft.tags (draft.airs + added) (entries_of draft) number events missed choice draft.steps draft.round draft.operations.only
-    draft.operations.ops
+    with_airs draft (draft.air.count + added) number (record { events = events; missed = missed; choice = choice })
+
+-- one thing more is said of the last exchange of a draft
+abbrev saying : DraftValue → Happening → DraftValue
+saying draft happening = record draft { air = with_said draft.air happening }
 
 same_exchange : (number : ℕ) → (number == number) ≡ true
 same_exchange number = eq-eqb number number refl
@@ -71,12 +82,11 @@ same_exchange number = eq-eqb number number refl
 -- one line more on the exchange
 air_again : (draft : DraftValue) (number : ℕ) (events : List (Event × ℕ)) (missed : List ℕ) (choice : Option Choice) (added : ℕ) (happening : Happening)
     → after (within (on_exchange draft number events missed choice added)) (lines.Air number happening)
-    ≡ within (with_said (on_exchange draft number events missed choice (added + 1)) happening)
+    ≡ within (saying (on_exchange draft number events missed choice (added + 1)) happening)
 air_again draft number events missed choice added happening =
-    let count : draft.airs + added + 1 ≡ draft.airs + (added + 1) = omega arith in
+    let count : draft.air.count + added + 1 ≡ draft.air.count + (added + 1) = omega arith in
     rw (same_exchange number)
-    (ap (λ (airs : ℕ). within (with_said (draft_of draft.link draft.tags airs (entries_of draft) number events missed choice draft.steps draft.round draft.operations.only
-    draft.operations.ops) happening)) count)
+    (ap (λ (airs : ℕ). within (saying (with_airs draft airs number (record { events = events; missed = missed; choice = choice })) happening)) count)
 
 -- where lines lead, by another name
 leads_to : (from to to' : Standing) (said : List Line) → to ≡ to' → Leads from said to → Leads from said to'
@@ -85,13 +95,13 @@ leads_to from to to' said same leads = subst (λ (s : Standing). Leads from said
 -- one line on the exchange, and then others
 air_then : (draft : DraftValue) (number : ℕ) (events : List (Event × ℕ)) (missed : List ℕ) (choice : Option Choice) (added : ℕ) (happening : Happening)
     (said : List Line) (to : Standing) → Follows (within (on_exchange draft number events missed choice added)) (lines.Air number happening)
-    → Leads (within (with_said (on_exchange draft number events missed choice (added + 1)) happening)) said to
+    → Leads (within (saying (on_exchange draft number events missed choice (added + 1)) happening)) said to
     → Leads (within (on_exchange draft number events missed choice added)) (lines.Air number happening ∷ said) to
 air_then draft number events missed choice added happening said to follows leads =
     (follows, subst (λ (s : Standing). Leads s said to) (sym (air_again draft number events missed choice added happening)) leads)
 
-speak_events : (draft : DraftValue) (number : ℕ) (before todo : List (Event × ℕ)) (added : ℕ) → steps_of draft ≡ [] → IsExchange number
-    → All (λ (event : Event × ℕ). IsEvent event.0 event.1 × (event.1 < length draft.tags)) todo → draft.airs + added + length todo ≤ most_air_lines
+speak_events : (draft : DraftValue) (number : ℕ) (before todo : List (Event × ℕ)) (added : ℕ) → steps_of draft.steps ≡ [] → IsExchange number
+    → All (λ (event : Event × ℕ). IsEvent event.0 event.1 × (event.1 < length draft.tags)) todo → draft.air.count + added + length todo ≤ most_air_lines
     → Leads (within (on_exchange draft number before [] None added)) (map (λ (event : Event × ℕ). lines.Air number (happenings.Event event.0 event.1)) todo)
     (within (on_exchange draft number (before ++ todo) [] None (added + length todo)))
 speak_events draft number before [] added no_steps is are few = rw (append-nil, add-zero) refl
@@ -111,8 +121,8 @@ speak_events draft number before (event ∷ todo) added no_steps is are few =
     rw (append_assoc before (event ∷ []) todo, count) refl in
     air_then draft number before [] None added (happenings.Event event.0 event.1) _ _ follows (leads_to _ _ _ _ same others)
 
-speak_misses : (draft : DraftValue) (number : ℕ) (events : List (Event × ℕ)) (before todo : List ℕ) (added : ℕ) → steps_of draft ≡ [] → IsExchange number
-    → All (λ tag. IsPlace tag × (tag < length draft.tags)) todo → draft.airs + added + length todo ≤ most_air_lines
+speak_misses : (draft : DraftValue) (number : ℕ) (events : List (Event × ℕ)) (before todo : List ℕ) (added : ℕ) → steps_of draft.steps ≡ [] → IsExchange number
+    → All (λ tag. IsPlace tag × (tag < length draft.tags)) todo → draft.air.count + added + length todo ≤ most_air_lines
     → Leads (within (on_exchange draft number events before None added)) (map (λ tag. lines.Air number (happenings.Miss tag)) todo)
     (within (on_exchange draft number events (before ++ todo) None (added + length todo)))
 speak_misses draft number events before [] added no_steps is are few = rw (append-nil, add-zero) refl
@@ -132,8 +142,8 @@ speak_misses draft number events before (tag ∷ todo) added no_steps is are few
     rw (append_assoc before (tag ∷ []) todo, count) refl in
     air_then draft number events before None added (happenings.Miss tag) _ _ follows (leads_to _ _ _ _ same others)
 
-speak_choice : (draft : DraftValue) (number : ℕ) (events : List (Event × ℕ)) (missed : List ℕ) (choice : Option Choice) (added : ℕ) → steps_of draft ≡ []
-    → IsExchange number → IfSome choice IsChoice → draft.airs + added + length (choice_lines number choice) ≤ most_air_lines
+speak_choice : (draft : DraftValue) (number : ℕ) (events : List (Event × ℕ)) (missed : List ℕ) (choice : Option Choice) (added : ℕ) → steps_of draft.steps ≡ []
+    → IsExchange number → IfSome choice IsChoice → draft.air.count + added + length (choice_lines number choice) ≤ most_air_lines
     → Leads (within (on_exchange draft number events missed None added)) (choice_lines number choice)
     (within (on_exchange draft number events missed choice (added + length (choice_lines number choice))))
 speak_choice draft number events missed None added no_steps is chosen few = rw add-zero refl
@@ -147,8 +157,8 @@ speak_choice draft number events missed (Some choice) added no_steps is chosen f
     air_then draft number events missed None added (happenings.Choice choice) [] _ follows refl
 
 -- what is said of one exchange
-speak_on_exchange : (draft : DraftValue) (entry : ℕ × Entry) → steps_of draft ≡ [] → IsEntry (length draft.tags) entry
-    → draft.airs + length (entry_lines entry) ≤ most_air_lines
+speak_on_exchange : (draft : DraftValue) (entry : ℕ × Entry) → steps_of draft.steps ≡ [] → IsEntry (length draft.tags) entry
+    → draft.air.count + length (entry_lines entry) ≤ most_air_lines
     → Leads (within (on_exchange draft entry.0 [] [] None 0)) (entry_lines entry)
     (within (on_exchange draft entry.0 entry.1.events entry.1.missed entry.1.choice (length (entry_lines entry))))
 speak_on_exchange draft entry no_steps is few =
@@ -168,28 +178,27 @@ speak_on_exchange draft entry no_steps is few =
     leads_to _ _ _ _ (ap (λ n. within (on_exchange draft entry.0 events missed choice n)) count)
     (leads_on _ _ _ (event_lines ++ miss_lines) (choice_lines entry.0 choice) (leads_on _ _ _ event_lines miss_lines first second) third)
 
-chooses_other : (draft : DraftValue) (number : ℕ) (happening : Happening) → number ≢ draft.exchange → ChoosesOnce draft (lines.Air number happening)
+chooses_other : (draft : DraftValue) (number : ℕ) (happening : Happening) → number ≢ draft.air.exchange → ChoosesOnce draft.air (lines.Air number happening)
 chooses_other draft number (happenings.Event event tag) differs = tt
 chooses_other draft number (happenings.Miss tag) differs = tt
 chooses_other draft number (happenings.Choice choice) differs = λ same. absurd (differs same)
 
 -- the first line on another exchange than the last one
-air_turns : (draft : DraftValue) (number : ℕ) (happening : Happening) (said : List Line) (to : Standing) → draft.exchange < number
+air_turns : (draft : DraftValue) (number : ℕ) (happening : Happening) (said : List Line) (to : Standing) → draft.air.exchange < number
     → Leads (within (on_exchange draft number [] [] None 0)) (lines.Air number happening ∷ said) to → Leads (within draft) (lines.Air number happening ∷ said) to
 air_turns draft number happening said to above leads =
     let old = leads.0 in
-    let differs : number ≢ draft.exchange = λ same. omega (arith, same) in
-    let other : (number == draft.exchange) ≡ false = ne_eqb number draft.exchange differs in
+    let differs : number ≢ draft.air.exchange = λ same. omega (arith, same) in
+    let other : (number == draft.air.exchange) ≡ false = ne_eqb number draft.air.exchange differs in
     let follows : Follows (within draft) (lines.Air number happening) = record {
       is = old.is;
       stands = old.stands;
       room = omega (arith, old.room);
       agrees = record { names = old.agrees.names; order = (omega arith, λ same. absurd (differs same)); once = chooses_other draft number happening differs };
     } in
-    let counted : draft.airs + 1 ≡ draft.airs + (0 + 1) = omega arith in
+    let counted : draft.air.count + 1 ≡ draft.air.count + (0 + 1) = omega arith in
     let same : after (within draft) (lines.Air number happening) ≡ after (within (on_exchange draft number [] [] None 0)) (lines.Air number happening) =
-    rw other (ap (λ (airs : ℕ). within (with_said (draft_of draft.link draft.tags airs (entries_of draft) number [] [] None draft.steps draft.round draft.operations.only
-    draft.operations.ops) happening)) counted)
+    rw other (ap (λ (airs : ℕ). within (saying (with_airs draft airs number no_entry) happening)) counted)
     ∙ sym (air_again draft number [] [] None 0 happening) in
     (follows, subst (λ (s : Standing). Leads s said to) (sym same) leads.1)
 
@@ -205,8 +214,8 @@ first_line number [] [] None (inl some) = absurd (some refl)
 first_line number [] [] None (inr (inl some)) = absurd (some refl)
 first_line number [] [] None (inr (inr some)) = absurd (some refl)
 
-speak_entry : (draft : DraftValue) (entry : ℕ × Entry) → steps_of draft ≡ [] → IsEntry (length draft.tags) entry → draft.exchange < entry.0
-    → draft.airs + length (entry_lines entry) ≤ most_air_lines
+speak_entry : (draft : DraftValue) (entry : ℕ × Entry) → steps_of draft.steps ≡ [] → IsEntry (length draft.tags) entry → draft.air.exchange < entry.0
+    → draft.air.count + length (entry_lines entry) ≤ most_air_lines
     → Leads (within draft) (entry_lines entry)
     (within (on_exchange draft entry.0 entry.1.events entry.1.missed entry.1.choice (length (entry_lines entry))))
 speak_entry draft entry no_steps is above few =
@@ -225,20 +234,20 @@ last_entry_one (suc before) entry some = refl
 record SpokenEntries (draft : DraftValue) (todo : List (ℕ × Entry)) : Type 0 where
   to : DraftValue
   leads : Leads (within draft) (air_lines todo) (within to)
-  link : to.link ≡ draft.link
+  link : to.head.link ≡ draft.head.link
   tags : to.tags ≡ draft.tags
-  no_steps : steps_of to ≡ []
-  entries : entries_of to ≡ entries_of draft ++ todo
+  no_steps : steps_of to.steps ≡ []
+  entries : entries_of to.air ≡ entries_of draft.air ++ todo
 
-speak_entries : (draft : DraftValue) (todo : List (ℕ × Entry)) → steps_of draft ≡ [] → All (IsEntry (length draft.tags)) todo → Rises draft.exchange todo
-    → draft.airs + length (air_lines todo) ≤ most_air_lines → SpokenEntries draft todo
+speak_entries : (draft : DraftValue) (todo : List (ℕ × Entry)) → steps_of draft.steps ≡ [] → All (IsEntry (length draft.tags)) todo → Rises draft.air.exchange todo
+    → draft.air.count + length (air_lines todo) ≤ most_air_lines → SpokenEntries draft todo
 speak_entries draft [] no_steps are rising few = record {
   to = draft;
   leads = refl;
   link = refl;
   tags = refl;
   no_steps = no_steps;
-  entries = sym (append-nil (entries_of draft));
+  entries = sym (append-nil (entries_of draft.air));
 }
 speak_entries draft (entry ∷ todo) no_steps are rising few =
     let IsIt : ℕ × Entry → Type 0 = IsEntry (length draft.tags) in
@@ -248,30 +257,29 @@ speak_entries draft (entry ∷ todo) no_steps are rising few =
     let some : 0 < entry.0 = omega (arith, is.exchange.0) in
     let first = speak_entry draft entry no_steps is rising.0 (omega arith) in
     let others = speak_entries one todo no_steps (All-tail IsIt entry todo are) rising.1 (omega arith) in
-    let added : entries_of one ≡ entries_of draft ++ entry ∷ [] = ap (λ (last : List (ℕ × Entry)). entries_of draft ++ last) (last_entry_one entry.0 entry.1 some) in
+    let added : entries_of one.air ≡ entries_of draft.air ++ entry ∷ [] = ap (λ (last : List (ℕ × Entry)). entries_of draft.air ++ last) (last_entry_one entry.0 entry.1 some) in
     record {
       to = others.to;
       leads = leads_on _ _ _ (entry_lines entry) (air_lines todo) first others.leads;
       link = others.link;
       tags = others.tags;
       no_steps = others.no_steps;
-      entries = others.entries ∙ ap (λ (list : List (ℕ × Entry)). list ++ todo) added ∙ append_assoc (entries_of draft) (entry ∷ []) todo;
+      entries = others.entries ∙ ap (λ (list : List (ℕ × Entry)). list ++ todo) added ∙ append_assoc (entries_of draft.air) (entry ∷ []) todo;
     }
 
 -- a draft to which these steps were added
 record SpokenSteps (draft : DraftValue) (todo : List Step) : Type 0 where
   to : DraftValue
   leads : Leads (within draft) (flat_map step_lines todo) (within to)
-  link : to.link ≡ draft.link
+  link : to.head.link ≡ draft.head.link
   tags : to.tags ≡ draft.tags
-  entries : entries_of to ≡ entries_of draft
-  steps : steps_of to ≡ steps_of draft ++ todo
+  entries : entries_of to.air ≡ entries_of draft.air
+  steps : steps_of to.steps ≡ steps_of draft.steps ++ todo
 
 -- a draft whose last step is a round, of whose operations so much is said
 abbrev on_round : DraftValue → SpecValue → Option (List ℕ) → List Op → DraftValue
 on_round draft spec only ops =
-    draft_of draft.link draft.tags draft.airs draft.closed draft.exchange draft.latest.events draft.latest.missed draft.latest.choice (steps_of draft)
-    (Some spec) only ops
+    record draft { steps = record { closed = steps_of draft.steps; round = Some spec; operations = record { only = only; ops = ops } } }
 
 speak_only : (draft : DraftValue) (spec : SpecValue) (only : Option (List ℕ)) → IfSome only IsEpc
     → Leads (within (on_round draft spec None [])) (only_lines only) (within (on_round draft spec only []))
@@ -303,7 +311,7 @@ speak_ops draft spec only before (op ∷ todo) are few =
     )
 
 -- a round and its operations
-speak_round : (draft : DraftValue) (spec : SpecValue) (operations : OpList) → IsRound spec → IsOpList operations → length (steps_of draft) < most_steps
+speak_round : (draft : DraftValue) (spec : SpecValue) (operations : OpList) → IsRound spec → IsOpList operations → length (steps_of draft.steps) < most_steps
     → SpokenSteps draft (steps.Round spec operations ∷ [])
 speak_round draft spec operations is are room =
     let only = operations.only in
@@ -325,10 +333,10 @@ speak_round draft spec operations is are room =
 
 -- a step that is no round
 speak_plain : (draft : DraftValue) (step : Step) (line : Line) → step_lines step ≡ line ∷ [] → Follows (within draft) line
-    → after (within draft) line ≡ within (with_step draft step) → SpokenSteps draft (step ∷ [])
+    → after (within draft) line ≡ within (draft_with_step draft step) → SpokenSteps draft (step ∷ [])
 speak_plain draft step line one follows leads = record {
-  to = with_step draft step;
-  leads = subst (λ (said : List Line). Leads (within draft) said (within (with_step draft step))) (sym (append-nil (step_lines step) ∙ one))
+  to = draft_with_step draft step;
+  leads = subst (λ (said : List Line). Leads (within draft) said (within (draft_with_step draft step))) (sym (append-nil (step_lines step) ∙ one))
       (follows, leads);
   link = refl;
   tags = refl;
@@ -337,7 +345,7 @@ speak_plain draft step line one follows leads = record {
 }
 
 -- one step
-speak_step : (draft : DraftValue) (step : Step) → IsStep (length draft.tags) step → length (steps_of draft) < most_steps → SpokenSteps draft (step ∷ [])
+speak_step : (draft : DraftValue) (step : Step) → IsStep (length draft.tags) step → length (steps_of draft.steps) < most_steps → SpokenSteps draft (step ∷ [])
 speak_step draft (steps.Select (commands.Select target action bank pointer mask)) is room =
     speak_plain draft _ _ refl
     (record { is = record { form = is; coherent = tt }; stands = tt; room = room; agrees = record { names = tt; order = tt; once = tt } }) refl
@@ -362,7 +370,7 @@ speak_step draft (steps.Event event tag) is room =
     (record { is = record { form = is.0; coherent = tt }; stands = tt; room = room; agrees = record { names = is.1; order = tt; once = tt } }) refl
 speak_step draft (steps.Round spec operations) is room = speak_round draft spec operations is.0 is.1 room
 
-speak_steps : (draft : DraftValue) (todo : List Step) → All (IsStep (length draft.tags)) todo → length (steps_of draft) + length todo ≤ most_steps
+speak_steps : (draft : DraftValue) (todo : List Step) → All (IsStep (length draft.tags)) todo → length (steps_of draft.steps) + length todo ≤ most_steps
     → SpokenSteps draft todo
 speak_steps draft [] are few = record {
   to = draft;
@@ -370,13 +378,13 @@ speak_steps draft [] are few = record {
   link = refl;
   tags = refl;
   entries = refl;
-  steps = sym (append-nil (steps_of draft));
+  steps = sym (append-nil (steps_of draft.steps));
 }
 speak_steps draft (step ∷ todo) are few =
     let IsIt : Step → Type 0 = IsStep (length draft.tags) in
     let one = speak_step draft step (All-head IsIt step todo are) (omega (arith, few)) in
     let tail : All (IsStep (length one.to.tags)) todo = rw one.tags (All-tail IsIt step todo are) in
-    let count = ap length one.steps ∙ length-append (steps_of draft) (step ∷ []) in
+    let count = ap length one.steps ∙ length-append (steps_of draft.steps) (step ∷ []) in
     let others = speak_steps one.to todo tail (omega (arith, few, count)) in
     let first : Leads (within draft) (step_lines step) (within one.to) =
     subst (λ (said : List Line). Leads (within draft) said (within one.to)) (append-nil (step_lines step)) one.leads in
@@ -386,7 +394,7 @@ speak_steps draft (step ∷ todo) are few =
       link = others.link ∙ one.link;
       tags = others.tags ∙ one.tags;
       entries = others.entries ∙ one.entries;
-      steps = others.steps ∙ ap (λ (list : List Step). list ++ todo) one.steps ∙ append_assoc (steps_of draft) (step ∷ []) todo;
+      steps = others.steps ∙ ap (λ (list : List Step). list ++ todo) one.steps ∙ append_assoc (steps_of draft.steps) (step ∷ []) todo;
     }
 
 same_scenario : (link link' : LinkValue) (tags tags' : List TagSpec) (entries entries' : List (ℕ × Entry)) (steps steps' : List Step) → link ≡ link'
@@ -422,7 +430,7 @@ scenario_is_said scenario is =
       leads = leads_on start (within third.to) (ended third.to)
           (lines.Version ∷ lines.Link link ∷ map lines.Tag tags ++ air_lines scenario.entries ++ flat_map step_lines scenario.steps) (lines.End ∷ []) all
           (last, refl);
-      says = same_scenario third.to.link link third.to.tags tags (entries_of third.to) scenario.entries (steps_of third.to) scenario.steps
+      says = same_scenario third.to.head.link link third.to.tags tags (entries_of third.to.air) scenario.entries (steps_of third.to.steps) scenario.steps
           (third.link ∙ second.link) (third.tags ∙ second.tags) (third.entries ∙ second.entries)
           (third.steps ∙ ap (λ (list : List Step). list ++ scenario.steps) second.no_steps);
     }

@@ -9,7 +9,8 @@ use Rattle.scenario.specs.declared.values.Scenario.{Scenario}
 use Rattle.scenario.specs.ScenarioText.{scenario_lines, scenario_text}
 use Rattle.scenario.specs.Limits.{IsScenario}
 use Rattle.scenario.specs.LineLaws.{LineLaws}
-use Rattle.scenario.specs.Standing.{DraftValue, Leads, Standing, after, ended, scenario_of, start}
+use Rattle.scenario.specs.Draft.{DraftValue, scenario_of}
+use Rattle.scenario.specs.Standing.{Leads, Standing, after, ended, start}
 use Rattle.scenario.proofs.Spoken.{scenario_is_said}
 use Rattle.scenario.proofs.Texts.{lines_said, spells_text}
 

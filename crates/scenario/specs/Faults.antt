@@ -9,21 +9,12 @@ use Rattle.scenario_lines.specs.declared.fault.LineFault.TheVariants as line_fau
 use Rattle.scenario_lines.specs.Spelling.{line_text, word_of_line}
 use Rattle.scenario_lines.specs.LineFaults.{BeginsWith, IsFaultyLine, SpellsLine}
 use Rattle.scenario.specs.declared.fault.Fault.{Fault}
-use Rattle.scenario.specs.declared.fault.Fault.TheVariants.{Extra, End, Version, Word as WordFault, Limit, Shape, Number, Tari, RtCal, TrCal, Pw, Pc, Tag, Order, Twice}
+use Rattle.scenario.specs.declared.fault.Fault.TheVariants.{Extra, End, Version, Line as LineReason, Limit, Tag, Order, Twice}
 use Rattle.scenario.specs.declared.fault.ScenarioFault.{ScenarioFault}
 use Rattle.scenario.specs.declared.fault.ScenarioFault.TheVariants as faults
-use Rattle.scenario.specs.Standing.{DraftValue, Standing, start, within, ended, MayStand, HasRoom, NamesTag, KeepsOrder, ChoosesOnce, Leads}
-
--- the reason for a line that says nothing, whatever the lines before it say
-abbrev pub fault_of_line : LineFault → Fault
-fault_of_line line_faults.Word = WordFault
-fault_of_line line_faults.Shape = Shape
-fault_of_line line_faults.Number = Number
-fault_of_line line_faults.Tari = Tari
-fault_of_line line_faults.RtCal = RtCal
-fault_of_line line_faults.TrCal = TrCal
-fault_of_line line_faults.Pw = Pw
-fault_of_line line_faults.Pc = Pc
+use Rattle.scenario.specs.AirLines.{ChoosesOnce, KeepsOrder}
+use Rattle.scenario.specs.Draft.{DraftValue}
+use Rattle.scenario.specs.Standing.{Standing, start, within, ended, MayStand, HasRoom, NamesTag, Leads}
 
 -- the line begins with a word that may stand here, and is not one too many
 pub record HasPlace (standing : Standing) (fields : List (List ℕ)) : Type 0 where
@@ -47,35 +38,34 @@ pub record SaysNothing (standing : Standing) (fields : List (List ℕ)) (fault :
 -- the first reason for which a line that may stand here doesn't agree with the lines before it
 abbrev pub DisagreesBy : DraftValue → Line → Fault → Type 0
 DisagreesBy draft line Tag = ¬ NamesTag (length draft.tags) line
-DisagreesBy draft line Order = NamesTag (length draft.tags) line × (¬ KeepsOrder draft line)
-DisagreesBy draft line Twice = NamesTag (length draft.tags) line × KeepsOrder draft line × (¬ ChoosesOnce draft line)
+DisagreesBy draft line Order = NamesTag (length draft.tags) line × (¬ KeepsOrder draft.air line)
+DisagreesBy draft line Twice = NamesTag (length draft.tags) line × KeepsOrder draft.air line × (¬ ChoosesOnce draft.air line)
 DisagreesBy draft line fault = ⊥
+
+abbrev pub DisagreesAt : Standing → Line → Fault → Type 0
+DisagreesAt (within draft) line fault = DisagreesBy draft line fault
+DisagreesAt standing line fault = ⊥
 
 -- the line has its place and says something, which doesn't agree with the lines before it
 pub record Disagrees (standing : Standing) (fields : List (List ℕ)) (fault : Fault) : Type 0 where
-  pub draft : DraftValue
-  pub here : standing ≡ within draft
   pub line : Line
   pub spells : SpellsLine fields line
   pub stands : MayStand standing (word_of_line line)
   pub room : HasRoom standing (word_of_line line)
-  pub disagrees : DisagreesBy draft line fault
+  pub disagrees : DisagreesAt standing line fault
 
 -- the first reason for which a line with its line feed is faulty, where another than the first is needed
 abbrev pub IsFaultyAt : Standing → List (List ℕ) → Fault → Type 0
-IsFaultyAt standing fields WordFault = (word : Word) → BeginsWith fields word → ¬ MayStand standing word
+IsFaultyAt standing fields (LineReason line_faults.Word) = (word : Word) → BeginsWith fields word → ¬ MayStand standing word
 IsFaultyAt standing fields Limit = IsTooMuch standing fields
-IsFaultyAt standing fields Shape = SaysNothing standing fields line_faults.Shape
-IsFaultyAt standing fields Number = SaysNothing standing fields line_faults.Number
-IsFaultyAt standing fields Tari = SaysNothing standing fields line_faults.Tari
-IsFaultyAt standing fields RtCal = SaysNothing standing fields line_faults.RtCal
-IsFaultyAt standing fields TrCal = SaysNothing standing fields line_faults.TrCal
-IsFaultyAt standing fields Pw = SaysNothing standing fields line_faults.Pw
-IsFaultyAt standing fields Pc = SaysNothing standing fields line_faults.Pc
-IsFaultyAt standing fields Tag = Disagrees standing fields Tag
-IsFaultyAt standing fields Order = Disagrees standing fields Order
-IsFaultyAt standing fields Twice = Disagrees standing fields Twice
-IsFaultyAt standing fields fault = ⊥
+IsFaultyAt standing fields (LineReason fault) = SaysNothing standing fields fault
+IsFaultyAt standing fields fault = Disagrees standing fields fault
+
+-- the first reason for which a line with its line feed is faulty
+abbrev pub IsFaultyHere : Standing → List ℕ → Fault → Type 0
+-- the first line is the version
+IsFaultyHere start line fault = (fault ≡ Version) × (line ≢ line_text lines.Version)
+IsFaultyHere standing line fault = IsFaultyAt standing (fields_of line) fault
 
 -- The first reason for which a line is faulty, by the lines behind it: a line with none behind it has no line feed, and is
 -- missing where it is empty.
@@ -84,9 +74,7 @@ abbrev pub IsFaultyBefore : List (List ℕ) → Standing → List ℕ → Fault 
 IsFaultyBefore behind (ended draft) line fault = (fault ≡ Extra) × (line ∷ behind ≢ [] ∷ [])
 -- a line is needed, and isn't there or has no line feed
 IsFaultyBefore [] standing line fault = fault ≡ End
--- the first line is the version
-IsFaultyBefore (next ∷ more) start line fault = (fault ≡ Version) × (line ≢ line_text lines.Version)
-IsFaultyBefore (next ∷ more) standing line fault = IsFaultyAt standing (fields_of line) fault
+IsFaultyBefore (next ∷ more) standing line fault = IsFaultyHere standing line fault
 
 -- the lines are the spellings of lines that follow one another from the start, and lead there
 pub record Settles (before : List (List ℕ)) (standing : Standing) : Type 0 where

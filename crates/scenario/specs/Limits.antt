@@ -1,11 +1,12 @@
 -- Profile: which scenarios have a text.
-use Rattle.std.specs.Prelude.{◌≡◌, ◌≢◌, ℕ, ◌<◌, ◌≤◌, List, [], ◌∷◌, length, All, None, IfSome, ◌⊎◌}
+use Rattle.std.specs.Prelude.{◌≡◌, ◌≢◌, ℕ, ◌<◌, ◌≤◌, List, [], length, All, None, IfSome, ◌⊎◌}
 use Rattle.air_events.specs.declared.Entry.{Entry}
+use Rattle.air_events.specs.Entries.{Rises}
 use Rattle.access_ops.specs.declared.OpList.{OpList}
 use Rattle.command_grammar.specs.declared.commands.Command.TheVariants as commands
 use Rattle.pie_line.specs.Link.{IsLegalLink}
 use Rattle.scenario_lines.specs.TagForm.{IsTag}
-use Rattle.access_ops.specs.OperationLaws.{IsLegalOp}
+use Rattle.access_ops.specs.laws.OperationLaws.{IsLegalOp}
 use Rattle.scenario_lines.specs.LineForm.{IsEvent, IsPlace, IsChoice, IsExchange, IsRound, IsSelection, IsEpc}
 use Rattle.scenario.specs.declared.values.Step.{Step}
 use Rattle.scenario.specs.declared.values.Step.TheVariants as steps
@@ -40,11 +41,6 @@ pub record IsEntry (tags : ℕ) (entry : ℕ × Entry) : Type 0 where
   pub missed : All (λ tag. IsPlace tag × (tag < tags)) entry.1.missed
   pub choice : IfSome entry.1.choice IsChoice
   pub something : SaysSomething entry.1
-
--- the numbers of the exchanges rise, from above the number before
-abbrev pub Rises : ℕ → List (ℕ × Entry) → Type 0
-Rises before [] = Unit {0}
-Rises before (entry ∷ entries) = (before < entry.0) × Rises entry.0 entries
 
 -- the operations of a round, and the one EPC that they are for, where one is named
 pub record IsOpList (operations : OpList) : Type 0 where

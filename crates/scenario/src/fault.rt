@@ -16,33 +16,13 @@ pub enum Fault {
     /// Line 1 isn't `gen2 1`.
     #[error("line 1 is not `gen2 1`")]
     Version,
-    /// The first field may not stand here, or a kind is there and is none of its kinds.
-    #[error("the first field may not stand here, or there is no such kind")]
-    Word,
+    /// The line says nothing, whatever the lines before it say; `Word` also where its first field may not
+    /// stand here. `Limit` comes behind `Word` and before all other reasons of the line.
+    #[error("{0}")]
+    Line(LineFault),
     /// It is one tag, air line, step or operation too many.
     #[error("it is one too many")]
     Limit,
-    /// The number of fields is wrong, or a field is empty.
-    #[error("the number of fields is wrong, or a field is empty")]
-    Shape,
-    /// A field isn't of its form or range.
-    #[error("a field is not of its form or range")]
-    Number,
-    /// The Tari of the link is out of its range.
-    #[error("the Tari of the link is out of its range")]
-    Tari,
-    /// The RTcal of the link is out of its range.
-    #[error("the RTcal of the link is out of its range")]
-    RtCal,
-    /// The TRcal of the link is out of its range.
-    #[error("the TRcal of the link is out of its range")]
-    TrCal,
-    /// The PW of the link is out of its range.
-    #[error("the PW of the link is out of its range")]
-    Pw,
-    /// The EPC that the PC of a tag announces passes its bank.
-    #[error("the EPC that the PC announces passes its bank")]
-    Pc,
     /// There is no tag of the number that is named.
     #[error("there is no tag of this number")]
     Tag,
@@ -57,21 +37,12 @@ pub enum Fault {
 
 impl From<LineFault> for Fault {
     ghost use Rattle.std.specs.Prelude.{◌≡◌};
-    ghost use Rattle.scenario.specs.Faults.{fault_of_line};
+    ghost use Rattle.scenario.specs.declared.fault.Fault.TheVariants as faults;
 
-    ghost from_gives = { λ reason fault. fault ≡ fault_of_line reason };
+    ghost from_gives = { λ reason fault. fault ≡ faults.Line reason };
 
     fn from(reason: LineFault) -> Fault {
-        match reason {
-            LineFault::Word => Fault::Word,
-            LineFault::Shape => Fault::Shape,
-            LineFault::Number => Fault::Number,
-            LineFault::Tari => Fault::Tari,
-            LineFault::RtCal => Fault::RtCal,
-            LineFault::TrCal => Fault::TrCal,
-            LineFault::Pw => Fault::Pw,
-            LineFault::Pc => Fault::Pc,
-        }
+        Fault::Line(reason)
     }
 }
 

@@ -11,7 +11,8 @@ ghost use Rattle.scenario.specs.LineLaws.{LineLaws};
 ghost use Rattle.scenario.specs.Faults.{DisagreesBy, IsFirstFault};
 ghost use Rattle.scenario.specs.LinesBefore.{DisagreesWith, IsFullBefore};
 ghost use Rattle.scenario.specs.Beginnings.{BeginsScenario, FirstLinesBegin};
-ghost use Rattle.scenario.specs.Standing.{DraftValue, HasRoom, IsSaid, Leads, ended, Standing, scenario_of, start, within};
+ghost use Rattle.scenario.specs.Draft.{DraftValue, scenario_of};
+ghost use Rattle.scenario.specs.Standing.{HasRoom, IsSaid, Leads, ended, Standing, start, within};
 
 use scenario_lines::{
     lines_are_field_texts, lines_are_told_apart, lines_begin_or_are_faulty,

@@ -5,11 +5,11 @@
 //! scenario can have there, with the first reason that applies.
 #![tactic(auto)]
 
-mod cursor;
 mod draft;
 mod fault;
 mod laws;
 mod printing;
+mod progress;
 mod reading;
 mod report;
 mod round_trip;
@@ -17,7 +17,6 @@ mod values;
 
 pub use access_ops::{Op, OpList};
 pub use air_events::{Choice, Entry, Event};
-pub use cursor::{EntryCursor, empty_entry};
 pub use fault::{Fault, ScenarioFault};
 pub use laws::{
     faulty_lines_begin_no_text, lines_begin_a_scenario, lines_say_a_scenario,
@@ -29,5 +28,5 @@ pub use q_round::RoundSpec;
 pub use reading::read_scenario;
 pub use report::fault_text;
 pub use round_trip::{print_and_read, read_and_print};
-pub use scenario_lines::TagSpec;
+pub use scenario_lines::{LineFault, TagSpec};
 pub use values::{Scenario, Step};

@@ -2,7 +2,7 @@
 ghost use Rattle.std.specs.Prelude.{◌≡◌, ◌++◌, ℕ, [], ◌∷◌, map, All, Option, OnOk, IfOk};
 ghost use Rattle.std.specs.List.{flat_map};
 ghost use Rattle.std.specs.String.{string_bytes};
-ghost use Rattle.text_fields.specs.Lines.{line_feed, text_with};
+ghost use Rattle.text_fields.specs.Lines.{text_with};
 ghost use Rattle.scenario_lines.specs.declared.line.Happening.TheVariants as happenings;
 ghost use Rattle.scenario_lines.specs.declared.line.Line.TheVariants as lines;
 ghost use Rattle.scenario_lines.specs.Spelling.{line_text};

@@ -1,35 +1,40 @@
 //! The line that reports the first faulty line of a text.
-ghost use Rattle.std.specs.Prelude.{◌≡◌, IfOk};
-ghost use Rattle.std.specs.String.{string_bytes};
-ghost use Rattle.scenario.specs.FaultLine.{fault_line};
+ghost use Rattle.std.specs.Prelude.{◌≡◌, ◌≤◌, length};
+ghost use Rattle.scenario.specs.FaultWords.{fault_word};
+ghost use Rattle.text_fields.specs.FaultLine.{fault_line};
 
 use crate::Fault;
-use bit_strings::OutOfMemory;
-use std::alloc::Global;
-use text_fields::push_number;
+use arrayvec::ArrayVec;
+use scenario_lines::LineFault;
+use text_fields::fault_line;
 
-/// The line that reports a fault: the number of the faulty line, counted from 1, and the reason.
-pub fn fault_text(alloc: Global, number: u32, fault: Fault) -> Result<String, OutOfMemory>
-    ensures { IfOk result (λ text. string_bytes text ≡ fault_line number fault) }
+/// The line that reports a fault: the number of the faulty line, counted from 1, and the reason. It takes no memory.
+pub fn fault_text(number: u32, fault: Fault) -> ArrayVec<u8, 32>
+    ensures { result.items ≡ fault_line number (fault_word fault) }
 {
-    let mut text = String::from_str(alloc, "fault ")?;
-    push_number(&mut text, number)?;
-    text.push_str(match fault {
-        Fault::Extra => " extra\n",
-        Fault::End => " end\n",
-        Fault::Version => " version\n",
-        Fault::Word => " word\n",
-        Fault::Limit => " limit\n",
-        Fault::Shape => " shape\n",
-        Fault::Number => " number\n",
-        Fault::Tari => " tari\n",
-        Fault::RtCal => " rtcal\n",
-        Fault::TrCal => " trcal\n",
-        Fault::Pw => " pw\n",
-        Fault::Pc => " pc\n",
-        Fault::Tag => " tag\n",
-        Fault::Order => " order\n",
-        Fault::Twice => " twice\n",
-    })?;
-    Ok(text)
+    fault_line(number, fault_word(fault))
+}
+
+/// What a reason is called.
+fn fault_word(fault: Fault) -> &'static str
+    ensures word { result.now ≡ fault_word fault }
+    ensures short { length result.now ≤ 14 }
+{
+    match fault {
+        Fault::Extra => "extra",
+        Fault::End => "end",
+        Fault::Version => "version",
+        Fault::Line(LineFault::Word) => "word",
+        Fault::Limit => "limit",
+        Fault::Line(LineFault::Shape) => "shape",
+        Fault::Line(LineFault::Number) => "number",
+        Fault::Line(LineFault::Tari) => "tari",
+        Fault::Line(LineFault::RtCal) => "rtcal",
+        Fault::Line(LineFault::TrCal) => "trcal",
+        Fault::Line(LineFault::Pw) => "pw",
+        Fault::Line(LineFault::Pc) => "pc",
+        Fault::Tag => "tag",
+        Fault::Order => "order",
+        Fault::Twice => "twice",
+    }
 }

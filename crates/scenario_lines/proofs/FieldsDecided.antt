@@ -23,9 +23,8 @@ use Rattle.command_grammar.specs.declared.field_values.Side.{Side}
 use Rattle.command_grammar.specs.declared.field_values.Side.TheVariants as sides
 use Rattle.lock_rules.specs.declared.locks.Pair.{Pair}
 use Rattle.scenario_lines.specs.Names.{sel_text}
-use Rattle.value_text.specs.ValueText.{locks_text, password_text}
+use Rattle.value_text.specs.ValueText.{locks_text, password_text, IsWordList}
 use Rattle.scenario_lines.specs.Spelling.{flag_text}
-use Rattle.value_text.specs.ValueText.{IsWordList}
 use Rattle.scenario_lines.proofs.Decisions.{Any, Behind, Decided, Spelled, behind_decided, below_decided, both, either, le_decided, nothing_decided, number_decided, same_answer, text_decided}
 
 -- a number in a range

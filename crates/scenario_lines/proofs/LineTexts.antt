@@ -4,7 +4,7 @@ use Rattle.std.specs.Prelude.{All, codes}
 use Rattle.std.proofs.lemmas.List.Elements.{All-cons, All-nil}
 use Rattle.access_ops.specs.declared.Op.{Op}
 use Rattle.access_ops.specs.declared.Op.TheVariants as ops
-use Rattle.access_ops.specs.OperationLaws.{IsLegalOp}
+use Rattle.access_ops.specs.laws.OperationLaws.{IsLegalOp}
 use Rattle.air_events.specs.declared.Event.{Event}
 use Rattle.air_events.specs.declared.Event.TheVariants as events
 use Rattle.air_events.specs.declared.Choice.TheVariants as choices

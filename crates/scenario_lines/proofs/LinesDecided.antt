@@ -7,7 +7,7 @@ use Rattle.command_text.specs.CommandText.{bank_word, flag_word, payload_digits}
 use Rattle.command_grammar.specs.declared.field_values.Bank.{Bank}
 use Rattle.access_ops.specs.declared.Op.{Op}
 use Rattle.access_ops.specs.declared.Op.TheVariants as ops
-use Rattle.access_ops.specs.OperationLaws.{IsLegalOp}
+use Rattle.access_ops.specs.laws.OperationLaws.{IsLegalOp}
 use Rattle.air_events.specs.declared.Event.{Event}
 use Rattle.air_events.specs.declared.Event.TheVariants as events
 use Rattle.air_events.specs.declared.Choice.TheVariants as choices
@@ -26,10 +26,9 @@ use Rattle.scenario_lines.specs.declared.line.Happening.TheVariants as happening
 use Rattle.scenario_lines.specs.declared.line.Line.{Line}
 use Rattle.scenario_lines.specs.declared.line.Line.TheVariants as lines
 use Rattle.scenario_lines.specs.Names.{air_kind, air_word, event_kind, event_word, op_kind, op_word}
-use Rattle.value_text.specs.ValueText.{IsWordList}
+use Rattle.value_text.specs.ValueText.{IsWordList, password_text}
 use Rattle.scenario_lines.specs.TagForm.{IsTagForm, tag_of}
 use Rattle.scenario_lines.specs.LineForm.{HasForm, IsEvent, IsHappening, IsLinkForm, IsPlace, IsRound, IsSelection, most_level, most_nanoseconds}
-use Rattle.value_text.specs.ValueText.{password_text}
 use Rattle.scenario_lines.specs.Spelling.{event_fields, happening_fields, link_fields, op_fields, other_fields, round_fields, select_fields, tag_fields, word_of_line}
 use Rattle.scenario_lines.specs.Reading.{IsEventText, IsHappeningText, IsOpText}
 use Rattle.scenario_lines.proofs.Decisions.{Any, Decided, Only, Spelled, behind_decided, list_decided, nothing_decided, only_decided, same_answer, text_decided}

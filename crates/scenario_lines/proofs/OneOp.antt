@@ -2,7 +2,7 @@
 use Rattle.std.proofs.Common.{◌≡◌, ℕ, List, [], ◌∷◌, ap, sym, ◌∙◌}
 use Rattle.std.specs.Fmt.{decimal}
 use Rattle.access_ops.specs.declared.Op.{Op}
-use Rattle.access_ops.specs.OperationLaws.{IsLegalOp}
+use Rattle.access_ops.specs.laws.OperationLaws.{IsLegalOp}
 use Rattle.command_grammar.specs.declared.field_values.Bank.{Bank}
 use Rattle.command_text.specs.CommandText.{bank_word}
 use Rattle.scenario_lines.specs.declared.first_fields.OpKind.{OpKind}

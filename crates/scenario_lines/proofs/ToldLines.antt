@@ -8,7 +8,7 @@ use Rattle.text_fields.specs.CodeNames.{code_word}
 use Rattle.command_text.specs.CommandText.{bank_word, flag_word, mask_bank_word, payload_digits, side_word}
 use Rattle.access_ops.specs.declared.Op.{Op}
 use Rattle.access_ops.specs.declared.Op.TheVariants as ops
-use Rattle.access_ops.specs.OperationLaws.{IsLegalOp}
+use Rattle.access_ops.specs.laws.OperationLaws.{IsLegalOp}
 use Rattle.air_events.specs.declared.Event.{Event}
 use Rattle.air_events.specs.declared.Event.TheVariants as events
 use Rattle.air_events.specs.declared.Choice.TheVariants as choices

@@ -1,6 +1,6 @@
 -- Profile: what a line of a scenario may say.
 use Rattle.std.specs.Prelude.{◌≡◌, ◌≢◌, ℕ, ◌≤◌, true, List, length}
-use Rattle.access_ops.specs.OperationLaws.{IsLegalOp}
+use Rattle.access_ops.specs.laws.OperationLaws.{IsLegalOp}
 use Rattle.command_grammar.specs.declared.field_values.FlagName.TheVariants.{S0}
 use Rattle.command_grammar.specs.declared.field_values.Sel.TheVariants.{All01}
 use Rattle.air_events.specs.declared.Event.{Event}

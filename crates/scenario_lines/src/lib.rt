@@ -6,6 +6,7 @@ mod fault;
 mod first_fields;
 mod laws;
 mod line;
+mod names;
 mod printing;
 mod reading;
 mod tag;

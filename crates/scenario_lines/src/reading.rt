@@ -10,17 +10,16 @@ ghost use Rattle.scenario_lines.specs.LineFaults.{AreFilled, BeginsWith, HasKnow
 mod air;
 mod event;
 mod link;
-mod names;
 mod op;
 mod round;
 mod select;
 mod tag;
 
+use crate::names::{air_kind_named, event_kind_named, op_kind_named, word_named};
 use crate::{Line, LineFault, Word};
 use air::read_air;
 use event::read_event;
 use link::read_link;
-use names::{air_kind_named, event_kind_named, op_kind_named, word_named};
 use op::{read_only, read_op};
 use round::read_round;
 use select::read_select;

@@ -1,5 +1,5 @@
 pub mod Actions
 pub mod Flags
-pub mod FlagLaws
 pub mod MaskMatch
 pub mod DrawList
+pub mod laws

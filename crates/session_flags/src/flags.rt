@@ -77,14 +77,6 @@ impl Effect {
     }
 }
 
-impl Default for Flags {
-    fn default() -> Flags
-        ensures { result ≡ new_flags }
-    {
-        Flags::new()
-    }
-}
-
 impl Flags {
     /// The flags of a new tag: A in every session, SL deasserted.
     pub fn new() -> Flags

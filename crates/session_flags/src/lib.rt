@@ -8,5 +8,5 @@ mod flags;
 mod mask;
 
 pub use draw_words::DrawWords;
-pub use flags::Flags;
+pub use flags::{Effect, Flags};
 pub use mask::mask_matches;

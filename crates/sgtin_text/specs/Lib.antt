@@ -1,2 +1,1 @@
 pub mod SgtinText
-pub mod Names

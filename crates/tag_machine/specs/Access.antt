@@ -2,14 +2,12 @@
 -- Access ends, and what becomes of a cover, is profile.
 use Rattle.std.specs.Prelude.{ℕ, ◌+◌, ◌*◌, ◌^◌, ◌==◌, nat_lt, Bool, true, false, List, [], ◌∷◌, length, Option, Some, None, Result, Ok, Err, bit_xor, if◌then◌else◌}
 use Rattle.command_grammar.specs.declared.field_values.Bank.{Bank}
-use Rattle.tag_machine.specs.declared.access.AccessCommand.{AccessCommand}
-use Rattle.tag_machine.specs.declared.access.AccessCommand.TheVariants as commands
 use Rattle.lock_rules.specs.declared.locks.Locks.{Locks}
 use Rattle.lock_rules.specs.declared.terms.ErrorCode.{ErrorCode}
 use Rattle.lock_rules.specs.declared.terms.ErrorCode.TheVariants as errors
 use Rattle.lock_rules.specs.declared.terms.Level.{Level}
 use Rattle.lock_rules.specs.declared.terms.Level.TheVariants as levels
-use Rattle.lock_rules.specs.Codes.{code_of}
+use Rattle.lock_rules.specs.Codes.{error_number}
 use Rattle.lock_rules.specs.Lock.{locks_after}
 use Rattle.reply_grammar.specs.declared.expected.Reply.{Reply}
 use Rattle.reply_grammar.specs.declared.expected.Reply.TheVariants.{Handle, Words, Header, Error}
@@ -19,8 +17,6 @@ use Rattle.tag_machine.specs.declared.states.Half.{Half}
 use Rattle.tag_machine.specs.declared.states.Password.{Password}
 use Rattle.tag_machine.specs.declared.states.Password.TheVariants as passwords
 use Rattle.tag_machine.specs.declared.states.Held.{Held}
-use Rattle.tag_machine.specs.declared.access.rules.Follows.{Follows}
-use Rattle.tag_machine.specs.declared.access.rules.Follows.TheVariants.{AnyHalf, HalfOf, NoHalf}
 use Rattle.tag_machine.specs.TagValue.{StateValue, ReadyState, ArbitrateState, ReplyState, AcknowledgedState, OpenState, SecuredState, KilledState, UnpoweredState, BodyValue}
 use Rattle.tag_machine.specs.Answers.{Outcome, silent, plain_answer, extended_answer}
 use Rattle.tag_machine.specs.Draws.{draw_of, body_after_draw, back}
@@ -31,8 +27,8 @@ abbrev pub held_state : Level → Held → StateValue
 held_state levels.Opened held = OpenState held
 held_state levels.Secured held = SecuredState held
 
--- The rules that stand before an access command, in their order.
--- 1. It comes to a tag in open or secured. In reply and acknowledged the tag goes back, and in the other states nothing changes.
+-- An access command comes to a tag in open or secured, the level of which tells its permissions. In reply and acknowledged the tag
+-- goes back, whatever the number; in the other states nothing changes.
 abbrev pub with_level : (Level → Held → BodyValue → Outcome) → StateValue → BodyValue → Outcome
 with_level acts ReadyState body = silent ReadyState body
 with_level acts (ArbitrateState session q slot) body = silent (ArbitrateState session q slot) body
@@ -43,46 +39,10 @@ with_level acts (SecuredState held) body = acts levels.Secured held body
 with_level acts KilledState body = silent KilledState body
 with_level acts UnpoweredState body = silent UnpoweredState body
 
--- 2. Its number is the handle; else nothing changes.
+-- Its number is the handle; else nothing changes.
 abbrev pub with_handle : Level → ℕ → Held → BodyValue → Outcome → Outcome
 with_handle level rn held body outcome =
     (if held.handle == rn then outcome else silent (held_state level held) body)
-
--- 3. It may follow the first half that the tag holds: a Req_RN follows each, a Kill one of the kill password, an Access one of
--- the access password, and each other command none. Else the tag goes back, without a reply.
-abbrev pub unless_any_half : Held → BodyValue → Outcome → Outcome
-unless_any_half held body outcome = unless_half held.half (back held.session held.q body) outcome
-
-abbrev pub is_password : Password → Password → Bool
-is_password passwords.Kill passwords.Kill = true
-is_password passwords.Kill passwords.Access = false
-is_password passwords.Access passwords.Kill = false
-is_password passwords.Access passwords.Access = true
-
-abbrev pub unless_other_half : Password → Option Half → Outcome → Outcome → Outcome
-unless_other_half password None instead outcome = outcome
-unless_other_half password (Some half) instead outcome = (if is_password password half.password then outcome else instead)
-
-abbrev pub unless_ended : Follows → Held → BodyValue → Outcome → Outcome
-unless_ended AnyHalf held body outcome = outcome
-unless_ended (HalfOf password) held body outcome = unless_other_half password held.half (back held.session held.q body) outcome
-unless_ended NoHalf held body outcome = unless_any_half held body outcome
-
-abbrev pub outcome_where_heeded : ℕ → Follows → Level → Held → BodyValue → Outcome → Outcome
-outcome_where_heeded rn follows level held body outcome = with_handle level rn held body (unless_ended follows held body outcome)
-
-abbrev pub in_access : ℕ → Follows → (Level → Held → BodyValue → Outcome) → StateValue → BodyValue → Outcome
-in_access rn follows acts state body = with_level (λ level held rest. outcome_where_heeded rn follows level held rest (acts level held rest)) state body
-
--- 4. A Write, Kill or Access has a cover; without one nothing changes, and there is no reply. With one, the cover is used up,
--- whatever follows, and the value is the covered number XOR the cover.
-abbrev pub uncover : Level → Held → BodyValue → ℕ → Option ℕ → (Held → ℕ → Outcome) → Outcome
-uncover level held body covered None follows = silent (held_state level held) body
-uncover level held body covered (Some cover) follows = follows (record held { cover = None }) (bit_xor covered cover)
-
--- the error that a tag answers in place of a delayed reply, and nothing else changes
-abbrev pub refuse : Level → Held → BodyValue → ErrorCode → Outcome
-refuse level held body code = extended_answer (held_state level held) body (Error (code_of code)) held.handle
 
 -- 6.3.2.11.3.1 Req_RN in acknowledged: what is drawn is the handle; secured where the access password is 0, else open
 abbrev pub new_held : ℕ → ℕ → ℕ → Held
@@ -101,7 +61,7 @@ give_cover level held body =
     plain_answer (held_state level (record held { cover = Some (draw_of body) })) (body_after_draw body) (Handle (draw_of body)) 0
 
 abbrev pub req_rn_outcome : Level → ℕ → Held → BodyValue → Outcome
-req_rn_outcome level rn held body = outcome_where_heeded rn AnyHalf level held body (give_cover level held body)
+req_rn_outcome level rn held body = with_handle level rn held body (give_cover level held body)
 
 abbrev pub req_rn : ℕ → StateValue → BodyValue → Outcome
 req_rn rn ReadyState body = silent ReadyState body
@@ -114,28 +74,58 @@ req_rn rn (SecuredState held) body = req_rn_outcome levels.Secured rn held body
 req_rn rn KilledState body = silent KilledState body
 req_rn rn UnpoweredState body = silent UnpoweredState body
 
--- 6.3.2.11.3.2 Read: the words, or an error
+-- The rules of open and secured for the seven commands behind Req_RN, where they carry the handle.
+
+-- 1. With a first half, a command that brings no half of the same password ends it: the tag goes back, without a reply. This goes
+-- before all rules below. A Kill brings a half of the kill password, an Access one of the access password, each other command none.
+abbrev pub is_password : Password → Password → Bool
+is_password passwords.Kill passwords.Kill = true
+is_password passwords.Kill passwords.Access = false
+is_password passwords.Access passwords.Kill = false
+is_password passwords.Access passwords.Access = true
+
+abbrev pub unless_other_half : Password → Option Half → Outcome → Outcome → Outcome
+unless_other_half password None instead outcome = outcome
+unless_other_half password (Some half) instead outcome = (if is_password password half.password then outcome else instead)
+
+abbrev pub unless_ended : Option Password → Held → BodyValue → Outcome → Outcome
+unless_ended None held body outcome = unless_half held.half (back held.session held.q body) outcome
+unless_ended (Some password) held body outcome = unless_other_half password held.half (back held.session held.q body) outcome
+
+abbrev pub outcome_where_heeded : ℕ → Option Password → Level → Held → BodyValue → Outcome → Outcome
+outcome_where_heeded rn brought level held body outcome = with_handle level rn held body (unless_ended brought held body outcome)
+
+abbrev pub in_access : ℕ → Option Password → (Level → Held → BodyValue → Outcome) → StateValue → BodyValue → Outcome
+in_access rn brought acts state body = with_level (λ level held rest. outcome_where_heeded rn brought level held rest (acts level held rest)) state body
+
+-- 2. 6.3.2.11.3.2 Read: the words, or an error
 abbrev pub read_answer : Result (List ℕ) ErrorCode → Reply
 read_answer (Ok words) = Words words
-read_answer (Err code) = Error (code_of code)
+read_answer (Err code) = Error (error_number code)
 
 abbrev pub read_outcome : Bank → ℕ → ℕ → Level → Held → BodyValue → Outcome
 read_outcome bank pointer count level held body =
     plain_answer (held_state level held) body (read_answer (words_read body.memory body.locks level bank pointer count)) held.handle
 
 abbrev pub read : Bank → ℕ → ℕ → ℕ → StateValue → BodyValue → Outcome
-read bank pointer count rn state body = in_access rn NoHalf (read_outcome bank pointer count) state body
+read bank pointer count rn state body = in_access rn None (read_outcome bank pointer count) state body
 
--- what is asked to change is changed, and the answer is the header; or it is refused, and the answer is an error
+-- 3. A Write, Kill or Access without a cover changes nothing and gets no reply. With one, the cover is used up, whatever follows,
+-- and the value is the covered number XOR the cover.
+abbrev pub uncover : Level → Held → BodyValue → ℕ → Option ℕ → (Held → ℕ → Outcome) → Outcome
+uncover level held body covered None acts = silent (held_state level held) body
+uncover level held body covered (Some cover) acts = acts (record held { cover = None }) (bit_xor covered cover)
+
+-- What is asked to change is changed, and the answer is the header; or it is refused, and the answer is an error.
 abbrev pub change_answer : {T : Type 0} → Result T ErrorCode → Reply
 change_answer (Ok new) = Header
-change_answer (Err code) = Error (code_of code)
+change_answer (Err code) = Error (error_number code)
 
 abbrev pub changed_or : {T : Type 0} → T → Result T ErrorCode → T
 changed_or old (Ok new) = new
 changed_or old (Err code) = old
 
--- what a change of the memory gives: the new memory and the header, or an error and the memory as it was
+-- 4. Write, BlockWrite and BlockErase: the new memory and the header, or an error and the memory as it was
 abbrev pub memory_outcome : Level → Held → BodyValue → Result Banks ErrorCode → Outcome
 memory_outcome level held body change =
     extended_answer (held_state level held) (record body { memory = changed_or body.memory change }) (change_answer change) held.handle
@@ -147,7 +137,7 @@ write_outcome bank pointer covered level held body =
     (λ bare word. memory_outcome level bare body (banks_after_write body.memory body.locks level bank pointer (word ∷ [])))
 
 abbrev pub write : Bank → ℕ → ℕ → ℕ → StateValue → BodyValue → Outcome
-write bank pointer covered rn state body = in_access rn NoHalf (write_outcome bank pointer covered) state body
+write bank pointer covered rn state body = in_access rn None (write_outcome bank pointer covered) state body
 
 -- 6.3.2.11.3.7 BlockWrite
 abbrev pub block_write_outcome : Bank → ℕ → List ℕ → Level → Held → BodyValue → Outcome
@@ -155,7 +145,7 @@ block_write_outcome bank pointer words level held body =
     memory_outcome level held body (banks_after_write body.memory body.locks level bank pointer words)
 
 abbrev pub block_write : Bank → ℕ → List ℕ → ℕ → StateValue → BodyValue → Outcome
-block_write bank pointer words rn state body = in_access rn NoHalf (block_write_outcome bank pointer words) state body
+block_write bank pointer words rn state body = in_access rn None (block_write_outcome bank pointer words) state body
 
 -- 6.3.2.11.3.8 BlockErase
 abbrev pub block_erase_outcome : Bank → ℕ → ℕ → Level → Held → BodyValue → Outcome
@@ -163,27 +153,10 @@ block_erase_outcome bank pointer count level held body =
     memory_outcome level held body (banks_after_erase body.memory body.locks level bank pointer count)
 
 abbrev pub block_erase : Bank → ℕ → ℕ → ℕ → StateValue → BodyValue → Outcome
-block_erase bank pointer count rn state body = in_access rn NoHalf (block_erase_outcome bank pointer count) state body
+block_erase bank pointer count rn state body = in_access rn None (block_erase_outcome bank pointer count) state body
 
--- both halves of a password, the upper one first
-abbrev pub whole_of : ℕ → ℕ → ℕ
-whole_of upper lower = upper * 2 ^ 16 + lower
-
--- the first half is kept, and the handle answered
-abbrev pub keep_half : Level → Password → ℕ → Held → BodyValue → Outcome
-keep_half level password value held body =
-    plain_answer (held_state level (record held { half = Some (record { password = password; value = value }) })) body (Handle held.handle) held.handle
-
--- 6.3.2.11.3.4 Kill: what both halves give. With the kill password 0 the answer is an error (its code is profile), the
--- first half is forgotten, and the state stays. With the kill password the tag is killed. With another value it goes
--- back, without a reply.
-abbrev pub kill_whole : Level → ℕ → Held → BodyValue → Outcome
-kill_whole level value held body =
-    (if kill_word_of body.memory == 0 then refuse level (record held { half = None }) body errors.Other
-    else (if kill_word_of body.memory == value then extended_answer KilledState body Header held.handle
-    else back held.session held.q body))
-
--- 6.3.2.11.3.5 Lock: in open nothing changes, and there is no reply. In secured: the new pairs and the header, or an error.
+-- 5. 6.3.2.11.3.5 Lock: in open nothing changes, and there is no reply. In secured: the new pairs and the header, or an error and
+-- the pairs as they were.
 abbrev pub has_user : BodyValue → Bool
 has_user body = nat_lt 0 (length body.memory.user)
 
@@ -196,17 +169,39 @@ lock_outcome payload levels.Opened held body = silent (OpenState held) body
 lock_outcome payload levels.Secured held body = locks_outcome held body (locks_after body.locks payload (has_user body))
 
 abbrev pub lock : ℕ → ℕ → StateValue → BodyValue → Outcome
-lock payload rn state body = in_access rn NoHalf (lock_outcome payload) state body
+lock payload rn state body = in_access rn None (lock_outcome payload) state body
 
--- 6.3.2.11.3.6 Access: what both halves give. With the access password the tag is secured; with another value it goes
--- back, without a reply.
+-- 6. Kill or Access without a first half: the value is kept as one, and the handle is answered.
+abbrev pub keep_half : Level → Password → ℕ → Held → BodyValue → Outcome
+keep_half level password value held body =
+    plain_answer (held_state level (record held { half = Some (record { password = password; value = value }) })) body (Handle held.handle) held.handle
+
+-- both halves of a password, the upper one first
+abbrev pub whole_of : ℕ → ℕ → ℕ
+whole_of upper lower = upper * 2 ^ 16 + lower
+
+-- 7. 6.3.2.11.3.6 Access with a first half: where both halves are the access password the tag is in secured without a first half,
+-- and the handle is answered. With another value the tag goes back, without a reply.
 abbrev pub access_whole : ℕ → Held → BodyValue → Outcome
 access_whole value held body =
     (if access_word_of body.memory == value
     then plain_answer (SecuredState (record held { half = None })) body (Handle held.handle) held.handle
     else back held.session held.q body)
 
--- Kill and Access: a first half is kept, and with a second one the password is whole.
+-- the error that a tag answers in place of the header, and nothing else changes
+abbrev pub refuse : Level → Held → BodyValue → ErrorCode → Outcome
+refuse level held body code = extended_answer (held_state level held) body (Error (error_number code)) held.handle
+
+-- 8. 6.3.2.11.3.4 Kill with a first half: where the kill password is 0 the answer is an error (its code is profile), the first half
+-- is forgotten, and the state stays. Where both halves are the kill password the header is answered, and the tag is killed. With
+-- another value the tag goes back, without a reply.
+abbrev pub kill_whole : Level → ℕ → Held → BodyValue → Outcome
+kill_whole level value held body =
+    (if kill_word_of body.memory == 0 then refuse level (record held { half = None }) body errors.Other
+    else (if kill_word_of body.memory == value then extended_answer KilledState body Header held.handle
+    else back held.session held.q body))
+
+-- Kill and Access by rules 3 and 6 to 8
 abbrev pub whole_outcome : Password → Level → ℕ → Held → BodyValue → Outcome
 whole_outcome passwords.Kill level value held body = kill_whole level value held body
 whole_outcome passwords.Access level value held body = access_whole value held body
@@ -220,24 +215,7 @@ password_outcome password covered level held body =
     uncover level held body covered held.cover (λ bare value. half_outcome password level bare.half value bare body)
 
 abbrev pub kill : ℕ → ℕ → StateValue → BodyValue → Outcome
-kill covered rn state body = in_access rn (HalfOf passwords.Kill) (password_outcome passwords.Kill covered) state body
+kill covered rn state body = in_access rn (Some passwords.Kill) (password_outcome passwords.Kill covered) state body
 
 abbrev pub access : ℕ → ℕ → StateValue → BodyValue → Outcome
-access covered rn state body = in_access rn (HalfOf passwords.Access) (password_outcome passwords.Access covered) state body
-
--- the half that each access command may follow, and what it does where the rules before it let it act
-abbrev pub follows_of : AccessCommand → Follows
-follows_of (commands.Read bank pointer count) = NoHalf
-follows_of (commands.Write bank pointer covered) = NoHalf
-follows_of (commands.Kill covered) = HalfOf passwords.Kill
-follows_of (commands.Lock payload) = NoHalf
-follows_of (commands.Access covered) = HalfOf passwords.Access
-follows_of (commands.BlockErase bank pointer count) = NoHalf
-
-abbrev pub act_of : AccessCommand → Level → Held → BodyValue → Outcome
-act_of (commands.Read bank pointer count) = read_outcome bank pointer count
-act_of (commands.Write bank pointer covered) = write_outcome bank pointer covered
-act_of (commands.Kill covered) = password_outcome passwords.Kill covered
-act_of (commands.Lock payload) = lock_outcome payload
-act_of (commands.Access covered) = password_outcome passwords.Access covered
-act_of (commands.BlockErase bank pointer count) = block_erase_outcome bank pointer count
+access covered rn state body = in_access rn (Some passwords.Access) (password_outcome passwords.Access covered) state body

@@ -6,19 +6,19 @@ use Rattle.session_flags.specs.Flags.{flags_after_inversion}
 use Rattle.tag_machine.specs.TagValue.{StateValue, ReadyState, ArbitrateState, ReplyState, AcknowledgedState, OpenState, SecuredState, KilledState, UnpoweredState, BodyValue, TagValue}
 use Rattle.tag_machine.specs.Answers.{Outcome, silent, plain_answer}
 
--- a draw is the word at the tag's place
+-- a draw is the word at the place of the next draw
 abbrev pub draw_of : BodyValue → ℕ
-draw_of body = slice_index body.words body.place
+draw_of body = slice_index body.words body.next_draw
 
--- the place rises by one, and is 0 again where it reaches the number of words
+-- the place behind one among so many words: it rises by one, and is 0 again where it reaches their number
 abbrev pub place_behind : ℕ → ℕ → ℕ
 place_behind count place = (if place + 1 == count then 0 else place + 1)
 
 abbrev pub place_after : BodyValue → ℕ
-place_after body = place_behind (length body.words) body.place
+place_after body = place_behind (length body.words) body.next_draw
 
 abbrev pub body_after_draw : BodyValue → BodyValue
-body_after_draw body = record body { place = place_after body }
+body_after_draw body = record body { next_draw = place_after body }
 
 -- the body after so many draws
 abbrev pub body_after_draws : ℕ → BodyValue → BodyValue

@@ -72,4 +72,4 @@ tag_after_event (events.Expire flag) state body = after_expiry flag state body
 
 -- a tag as it is when it is made: powered, in ready, with new flags and no draw made
 abbrev pub new_tag : Banks → Locks → List ℕ → TagValue
-new_tag memory locks words = tag_at ReadyState (record { memory = memory; locks = locks; flags = new_flags; words = words; place = 0 })
+new_tag memory locks words = tag_at ReadyState (record { memory = memory; locks = locks; flags = new_flags; words = words; next_draw = 0 })

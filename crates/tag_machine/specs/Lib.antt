@@ -5,12 +5,9 @@ pub mod Inventory
 pub mod Access
 pub mod Step
 pub mod Events
-pub mod Isolation
 pub mod States
 pub mod Names
 pub mod Hearing
-pub mod Extended
-pub mod Replies
-pub mod DrawCounts
 pub mod Slots
 pub mod Reach
+pub mod laws

@@ -27,7 +27,7 @@ pub record BodyValue : Type 0 where
   pub locks : Locks
   pub flags : Flags
   pub words : List ℕ
-  pub place : ℕ
+  pub next_draw : ℕ
 
 pub record TagValue : Type 0 where
   pub state : StateValue
@@ -66,7 +66,7 @@ pub record IsLegalBody (body : BodyValue) : Type 0 where
   pub memory : IsLegalMemory body.memory
   pub memory_words : AreBanksOfWords body.memory
   pub words : IsDrawList body.words
-  pub place : body.place < length body.words
+  pub next_draw : body.next_draw < length body.words
 
 pub record IsLegalTag (tag : TagValue) : Type 0 where
   pub state : IsLegalState tag.state

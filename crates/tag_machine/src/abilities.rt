@@ -1,5 +1,5 @@
 //! Which states hear which commands. A command that a state doesn't hear is no call of a tag in it.
-ghost use Rattle.std.specs.Prelude.{◌≡◌, ◌+◌};
+ghost use Rattle.std.specs.Prelude.{◌≡◌, ◌+◌, true};
 ghost use Rattle.tag_machine.specs.Hearing.{tag_value_of};
 
 use crate::any_tag::AnyTag;
@@ -7,7 +7,6 @@ use crate::body::Body;
 use crate::states::{Acknowledged, Arbitrate, InReply, Opened, Ready, Secured, State};
 use crate::steps::Steps;
 use crate::tag::Tag;
-use bit_strings::{QValue, Session};
 use std::sync::ledger::Ledger;
 
 /// A state that hears Query and Select: each but killed and without power.
@@ -24,12 +23,9 @@ pub trait InRound: Present {}
 
 /// A state in which a tag's slot has come, and it hears ACK and Req_RN: reply, acknowledged, open and secured.
 pub trait InTurn: InRound {
-    ghost use Rattle.tag_machine.specs.TagValue.{BodyValue};
-    ghost use Rattle.tag_machine.specs.Draws.{tag_back, tag_gone_back};
+    ghost use Rattle.tag_machine.specs.Slots.{is_beyond_arbitrate};
 
-    /// The session and Q of the round.
-    fn round(&self) -> (Session, QValue)
-        ensures { (body : BodyValue) → tag_gone_back (Self.value self.now) body ≡ tag_back result.0 result.1 body };
+    ghost in_turn: { (state : Self) → is_beyond_arbitrate (Self.value state) ≡ true };
 }
 
 /// A state with a handle, in which a tag hears the access commands: open or secured.
@@ -94,27 +90,27 @@ impl InRound for Opened {}
 impl InRound for Secured {}
 
 impl InTurn for InReply {
-    fn round(&self) -> (Session, QValue) {
-        (self.session, self.q)
-    }
+    ghost use Rattle.std.specs.Prelude.{refl};
+
+    ghost in_turn = { λ state. refl };
 }
 
 impl InTurn for Acknowledged {
-    fn round(&self) -> (Session, QValue) {
-        (self.session, self.q)
-    }
+    ghost use Rattle.std.specs.Prelude.{refl};
+
+    ghost in_turn = { λ state. refl };
 }
 
 impl InTurn for Opened {
-    fn round(&self) -> (Session, QValue) {
-        (self.held.session, self.held.q)
-    }
+    ghost use Rattle.std.specs.Prelude.{refl};
+
+    ghost in_turn = { λ state. refl };
 }
 
 impl InTurn for Secured {
-    fn round(&self) -> (Session, QValue) {
-        (self.held.session, self.held.q)
-    }
+    ghost use Rattle.std.specs.Prelude.{refl};
+
+    ghost in_turn = { λ state. refl };
 }
 
 impl WithHandle for Opened {}

@@ -7,7 +7,7 @@ ghost use Rattle.tag_machine.specs.Hearing.{tag_value_of, typed_name_of};
 
 use crate::body::Body;
 use crate::states::{
-    Acknowledged, Arbitrate, InReply, Killed, Opened, Ready, Secured, State, StateName, Unpowered,
+    Acknowledged, Arbitrate, InReply, Killed, Opened, Ready, Secured, StateName, Unpowered,
 };
 use crate::tag::Tag;
 use lock_rules::Locks;
@@ -73,14 +73,14 @@ impl AnyTag {
         ensures legal { IsLegalTag (tag_value_of self.now) }
     {
         match self {
-            AnyTag::Ready(tag) => tag.state.name(),
-            AnyTag::Arbitrate(tag) => tag.state.name(),
-            AnyTag::InReply(tag) => tag.state.name(),
-            AnyTag::Acknowledged(tag) => tag.state.name(),
-            AnyTag::Opened(tag) => tag.state.name(),
-            AnyTag::Secured(tag) => tag.state.name(),
-            AnyTag::Killed(tag) => tag.state.name(),
-            AnyTag::Unpowered(tag) => tag.state.name(),
+            AnyTag::Ready(Tag { state: _state, .. }) => StateName::Ready,
+            AnyTag::Arbitrate(Tag { state: _state, .. }) => StateName::Arbitrate,
+            AnyTag::InReply(Tag { state: _state, .. }) => StateName::InReply,
+            AnyTag::Acknowledged(Tag { state: _state, .. }) => StateName::Acknowledged,
+            AnyTag::Opened(Tag { state: _state, .. }) => StateName::Opened,
+            AnyTag::Secured(Tag { state: _state, .. }) => StateName::Secured,
+            AnyTag::Killed(Tag { state: _state, .. }) => StateName::Killed,
+            AnyTag::Unpowered(Tag { state: _state, .. }) => StateName::Unpowered,
         }
     }
 

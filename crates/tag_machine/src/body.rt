@@ -1,16 +1,13 @@
 //! What a tag holds in every state.
 ghost use Rattle.std.specs.Prelude.{◌≡◌, ◌+◌, ◌^◌, ◌==◌, ◌<◌, if◌then◌else◌};
-ghost use Rattle.session_flags.specs.Flags.{new_flags, matches, flags_after_power_loss};
-ghost use Rattle.tag_memory.specs.Memory.{with_stored_crc};
-ghost use Rattle.tag_machine.specs.TagValue.{IsLegalBody};
-ghost use Rattle.tag_machine.specs.Draws.{draw_of, place_behind, slot_of_draw, body_after_draw, body_after_inversion};
+ghost use Rattle.session_flags.specs.Flags.{new_flags};
+ghost use Rattle.tag_machine.specs.Draws.{draw_of, place_behind, slot_of_draw, body_after_draw};
 ghost use Rattle.tag_machine.specs.Inventory.{selected_body};
-ghost use Rattle.tag_machine.specs.Events.{body_after_expiry};
 
 mod access;
 
-use bit_strings::{Action, Pointer, QValue, Session};
-use command_grammar::{FlagName, Mask, MaskBank, Sel, Side};
+use bit_strings::{Action, Pointer, QValue};
+use command_grammar::{FlagName, Mask, MaskBank};
 use lock_rules::Locks;
 use session_flags::{DrawWords, Flags, mask_matches};
 use std::marker::Model;
@@ -20,7 +17,7 @@ use tag_memory::Memory;
 #[derive(Drop)]
 pub struct Body {
     words: DrawWords,
-    place: usize,
+    next_draw: usize,
     /// The inventoried flags and the selected flag.
     pub flags: Flags,
     /// The pairs of lock bits.
@@ -34,13 +31,13 @@ impl Model for Body {
 
     ghost Value = { BodyValue };
 
-    ghost view = { λ body. record { memory = body.memory; locks = body.locks; flags = body.flags; words = body.words; place = body.place } };
+    ghost view = { λ body. record { memory = body.memory; locks = body.locks; flags = body.flags; words = body.words; next_draw = body.next_draw } };
 
-    ghost invariant = { λ body. IsLegalBody (record { memory = body.memory; locks = body.locks; flags = body.flags; words = body.words; place = body.place }) };
+    ghost invariant = { λ body. IsLegalBody (record { memory = body.memory; locks = body.locks; flags = body.flags; words = body.words; next_draw = body.next_draw }) };
 }
 
 /// The place behind this one, among so many.
-fn next_place(place: usize, count: usize) -> usize
+fn place_behind(place: usize, count: usize) -> usize
     requires { place < count }
     ensures value { result ≡ place_behind count place }
     ensures inside { result < count }
@@ -51,14 +48,14 @@ fn next_place(place: usize, count: usize) -> usize
 impl Body {
     /// The body of a new tag.
     pub fn new(memory: Memory, locks: Locks, words: DrawWords) -> Body
-        ensures { result ≡ record { memory = memory; locks = locks; flags = new_flags; words = words; place = 0 } }
+        ensures { result ≡ record { memory = memory; locks = locks; flags = new_flags; words = words; next_draw = 0 } }
     {
         Body {
             memory,
             locks,
             flags: Flags::new(),
             words,
-            place: 0,
+            next_draw: 0,
         }
     }
 
@@ -74,7 +71,7 @@ impl Body {
     fn next_word(&self) -> u16
         ensures { result ≡ draw_of self.now }
     {
-        self.words.words()[self.place]
+        self.words.words()[self.next_draw]
     }
 
     /// Draws a word (6.3.2.5 Tag random or pseudo-random number generator).
@@ -83,22 +80,8 @@ impl Body {
         ensures after { self.new ≡ body_after_draw self.old }
     {
         let word = self.next_word();
-        self.place = next_place(self.place, self.words.words().len());
+        self.next_draw = place_behind(self.next_draw, self.words.words().len());
         word
-    }
-
-    /// Whether a Query with these fields speaks to the tag.
-    pub fn matches(&self, sel: Sel, session: Session, target: Side) -> bool
-        ensures { result ≡ matches sel session target self.now.flags }
-    {
-        self.flags.matches(sel, session, target)
-    }
-
-    /// Inverts the inventoried flag of a session.
-    pub fn invert(&mut self, session: Session)
-        ensures { self.new ≡ body_after_inversion session self.old }
-    {
-        self.flags.invert(session);
     }
 
     /// Lets a Select change its flag.
@@ -114,27 +97,5 @@ impl Body {
     {
         let matching = mask_matches(self.memory.words(bank), pointer, mask);
         self.flags.select(target, action, matching);
-    }
-
-    /// Sets the inventoried flag of S0 to A, as a loss of power does.
-    pub fn lose_power(&mut self)
-        ensures { self.new ≡ record self.old { flags = flags_after_power_loss self.old.flags } }
-    {
-        self.flags.lose_power();
-    }
-
-    /// Computes StoredCRC again, as power-on does.
-    pub fn power_on(&mut self)
-        ensures value { self.new ≡ record self.old { memory = with_stored_crc self.old.memory } }
-        ensures legal { IsLegalBody self.new }
-    {
-        self.memory.power_on();
-    }
-
-    /// Ends the persistence of a flag.
-    pub fn expire(&mut self, flag: FlagName, powered: bool, takes_part: bool)
-        ensures { self.new ≡ body_after_expiry flag powered takes_part self.old }
-    {
-        self.flags.expire(flag, powered, takes_part);
     }
 }

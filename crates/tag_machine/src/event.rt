@@ -1,30 +1,14 @@
 //! What befalls a tag besides commands.
 ghost use Rattle.std.specs.Prelude.{◌≡◌};
-ghost use Rattle.tag_machine.specs.Events.{tag_after_event, after_timeout, after_off, after_on, after_expiry, tag_without_power};
+ghost use Rattle.tag_machine.specs.Events.{tag_after_event, after_timeout, after_off, after_on, after_expiry, body_after_expiry};
 ghost use Rattle.tag_machine.specs.TagValue.{UnpoweredState, IsLegalTag};
-ghost use Rattle.tag_machine.specs.Events.{body_after_expiry};
 ghost use Rattle.tag_machine.specs.Hearing.{tag_value_of};
 
 use crate::any_tag::AnyTag;
-use crate::body::Body;
 use crate::states::{Ready, State, Unpowered};
 use crate::tag::Tag;
 use air_events::Event;
 use command_grammar::FlagName;
-
-impl Body {
-    /// The tag without power, which loses the inventoried flag of S0.
-    fn without_power(self) -> AnyTag
-        ensures { tag_value_of result ≡ tag_without_power self }
-    {
-        let mut body = self;
-        body.lose_power();
-        AnyTag::Unpowered(Tag {
-            state: Unpowered,
-            body,
-        })
-    }
-}
 
 impl<S: State> Tag<S> {
     /// The tag after the persistence of a flag ended.
@@ -32,7 +16,7 @@ impl<S: State> Tag<S> {
         ensures { result ≡ record self { body = body_after_expiry flag powered takes_part self.body } }
     {
         let Tag { state, mut body } = self;
-        body.expire(flag, powered, takes_part);
+        body.flags.expire(flag, powered, takes_part);
         Tag { state, body }
     }
 }
@@ -65,7 +49,14 @@ impl AnyTag {
             | AnyTag::Acknowledged(Tag { state: _, body })
             | AnyTag::Opened(Tag { state: _, body })
             | AnyTag::Secured(Tag { state: _, body })
-            | AnyTag::Unpowered(Tag { state: _, body }) => body.without_power(),
+            | AnyTag::Unpowered(Tag { state: _, body }) => {
+                let mut body = body;
+                body.flags.lose_power();
+                AnyTag::Unpowered(Tag {
+                    state: Unpowered,
+                    body,
+                })
+            }
         }
     }
 
@@ -75,7 +66,7 @@ impl AnyTag {
     {
         match self {
             AnyTag::Unpowered(Tag { state: _, mut body }) => {
-                body.power_on();
+                body.memory.power_on();
                 AnyTag::Ready(Tag { state: Ready, body })
             }
             other => other,

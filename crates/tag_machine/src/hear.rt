@@ -3,14 +3,14 @@ ghost use Rattle.std.specs.Prelude.{◌≡◌, ◌≢◌, ◌+◌, ◌≤◌, �
 ghost use Rattle.reply_grammar.specs.declared.expected.Reply.TheVariants as replies;
 ghost use Rattle.tag_machine.specs.TagValue.{IsLegalTag, is_present};
 ghost use Rattle.tag_machine.specs.Answers.{Sent};
-ghost use Rattle.tag_machine.specs.Extended.{is_extended};
+ghost use Rattle.tag_machine.specs.laws.Extended.{is_extended};
 ghost use Rattle.tag_machine.specs.Hearing.{GivesOutcome, tag_value_of};
 ghost use Rattle.tag_machine.specs.Step.{step};
-ghost use Rattle.tag_machine.specs.Isolation.{IsIsolated};
+ghost use Rattle.tag_machine.specs.laws.Isolation.{IsIsolated};
 ghost use Rattle.reply_grammar.specs.Table.{reply_room};
 
-use crate::access::AccessCommand;
 use crate::any_tag::{Answered, AnyTag, Heard};
+use crate::states::Password;
 use crate::steps::Steps;
 use bit_strings::Bits;
 use command_grammar::Command;
@@ -49,17 +49,17 @@ impl AnyTag {
                 pointer,
                 count,
                 rn,
-            } => self.access(AccessCommand::Read(*bank, *pointer, *count), *rn, out),
+            } => self.read(*bank, *pointer, *count, *rn, out),
             Command::Write {
                 bank,
                 pointer,
                 covered,
                 rn,
-            } => self.access(AccessCommand::Write(*bank, *pointer, *covered), *rn, out),
-            Command::Kill { covered, rn } => self.access(AccessCommand::Kill(*covered), *rn, out),
-            Command::Lock { payload, rn } => self.access(AccessCommand::Lock(*payload), *rn, out),
+            } => self.write(*bank, *pointer, *covered, *rn, out),
+            Command::Kill { covered, rn } => self.take_half(Password::Kill, *covered, *rn, out),
+            Command::Lock { payload, rn } => self.lock(*payload, *rn, out),
             Command::Access { covered, rn } => {
-                self.access(AccessCommand::Access(*covered), *rn, out)
+                self.take_half(Password::Access, *covered, *rn, out)
             }
             Command::BlockWrite {
                 bank,
@@ -72,7 +72,7 @@ impl AnyTag {
                 pointer,
                 count,
                 rn,
-            } => self.access(AccessCommand::BlockErase(*bank, *pointer, *count), *rn, out),
+            } => self.block_erase(*bank, *pointer, *count, *rn, out),
         }
     }
 

@@ -45,7 +45,7 @@ pub fn reaches_waiting(command: &Command) -> bool
 
 impl Tag<Ready> {
     /// Hears a command that leaves the tag in ready, and answers whether it did: each but a Query that speaks to the tag.
-    fn waits(&mut self, command: &Command) -> bool
+    fn hear_in_ready(&mut self, command: &Command) -> bool
         ensures heard { result ≡ true → step command.now self.old.state self.old.body ≡ silent self.new.state self.new.body }
         ensures left { result ≡ false → self.new ≡ self.old }
         ensures legal { IsLegalTag self.new }
@@ -56,7 +56,7 @@ impl Tag<Ready> {
                 session,
                 target,
                 ..
-            } => !self.body.matches(*sel, *session, *target),
+            } => !self.body.flags.matches(*sel, *session, *target),
             Command::Select {
                 target,
                 action,
@@ -77,7 +77,7 @@ impl Tag<Arbitrate> {
     /// Hears a command that leaves the tag in arbitrate, and answers whether it did: one that reaches no waiting tag, a
     /// QueryRep or QueryAdjust of another session, a QueryRep by which the slot counter falls and doesn't become 0, or a
     /// QueryAdjust, or a Query that speaks to the tag, at which it draws another slot than 0.
-    fn waits(&mut self, command: &Command) -> bool
+    fn hear_in_arbitrate(&mut self, command: &Command) -> bool
         ensures heard { result ≡ true → step command.now self.old.state self.old.body ≡ silent self.new.state self.new.body }
         ensures left { result ≡ false → self.new ≡ self.old }
         ensures legal { IsLegalTag self.new }
@@ -85,9 +85,12 @@ impl Tag<Arbitrate> {
         let own = self.state.session;
         let own_q = self.state.q;
         match command {
-            Command::QueryRep { session } => self.counts_down(*session),
+            Command::QueryRep { session } => self.count_down(*session),
             Command::QueryAdjust { session, updn } => {
-                own != *session || self.enters(*session, adjusted(*updn, own_q))
+                if own != *session {
+                    return true;
+                }
+                self.draw_slot(*session, adjusted(*updn, own_q))
             }
             Command::Query {
                 sel,
@@ -95,14 +98,19 @@ impl Tag<Arbitrate> {
                 target,
                 q,
                 ..
-            } => self.body.matches(*sel, *session, *target) && self.enters(*session, *q),
+            } => {
+                if !self.body.flags.matches(*sel, *session, *target) {
+                    return false;
+                }
+                self.draw_slot(*session, *q)
+            }
             Command::Select { .. } => false,
             _ => !reaches_waiting(command),
         }
     }
 
     /// Draws a slot in a round, unless it is 0, and answers whether it did.
-    fn enters(&mut self, session: Session, q: QValue) -> bool
+    fn draw_slot(&mut self, session: Session, q: QValue) -> bool
         ensures heard { result ≡ true → enter session q self.old.body ≡ silent self.new.state self.new.body }
         ensures left { result ≡ false → self.new ≡ self.old }
         ensures legal { IsLegalTag self.new }
@@ -118,7 +126,7 @@ impl Tag<Arbitrate> {
     }
 
     /// Hears a QueryRep that leaves the tag in arbitrate, and answers whether it did.
-    fn counts_down(&mut self, session: Session) -> bool
+    fn count_down(&mut self, session: Session) -> bool
         ensures heard { result ≡ true → query_rep session self.old.state self.old.body ≡ silent self.new.state self.new.body }
         ensures left { result ≡ false → self.new ≡ self.old }
         ensures legal { IsLegalTag self.new }
@@ -139,7 +147,7 @@ impl AnyTag {
     /// killed or without power. Answers whether it did; else the tag is left as it was, with no word drawn, and has heard nothing.
     ///
     /// Most tags only wait at most commands of a round, and a tag that is not moved is heard much faster.
-    #[tactic(auto, using(crate::proofs::Absent::absent))]
+    #[tactic(auto, using(crate::proofs::AbsentTags::absent))]
     pub fn hear_in_place<L: Ledger>(&mut self, command: &Command, steps: &mut Steps<L>) -> bool
         ensures heard { result ≡ true → step command.now (tag_value_of self.old).state (tag_value_of self.old).body ≡ silent (tag_value_of self.new).state (tag_value_of self.new).body }
         ensures left { result ≡ false → self.new ≡ self.old }
@@ -147,8 +155,8 @@ impl AnyTag {
         ensures legal { IsLegalTag (tag_value_of self.new) }
     {
         let heard = match self {
-            AnyTag::Ready(tag) => tag.waits(command),
-            AnyTag::Arbitrate(tag) => tag.waits(command),
+            AnyTag::Ready(tag) => tag.hear_in_ready(command),
+            AnyTag::Arbitrate(tag) => tag.hear_in_arbitrate(command),
             other => !other.present(),
         };
         if heard {

@@ -11,11 +11,11 @@ ghost use Rattle.reply_grammar.specs.Table.{AnswersExpected, Carries, Suits};
 ghost use Rattle.tag_machine.specs.TagValue.{StateValue, ArbitrateState, BodyValue, IsLegalTag, is_present};
 ghost use Rattle.tag_machine.specs.Answers.{Sent, IsSent, bits_sent, silent};
 ghost use Rattle.tag_machine.specs.Draws.{draw_of, body_after_draws};
-ghost use Rattle.tag_machine.specs.DrawCounts.{draws_in};
+ghost use Rattle.tag_machine.specs.laws.DrawCounts.{draws_in};
 ghost use Rattle.tag_machine.specs.Events.{tag_after_event};
-ghost use Rattle.tag_machine.specs.Extended.{is_extended};
+ghost use Rattle.tag_machine.specs.laws.Extended.{is_extended};
 ghost use Rattle.tag_machine.specs.Inventory.{slot_below};
-ghost use Rattle.tag_machine.specs.Replies.{IsAnswerTo, expect_of};
+ghost use Rattle.tag_machine.specs.laws.Replies.{IsAnswerTo, expect_of};
 ghost use Rattle.tag_machine.specs.Slots.{session_of, slot_of, is_beyond_arbitrate};
 ghost use Rattle.tag_machine.specs.Step.{step};
 
@@ -23,9 +23,9 @@ ghost use Rattle.tag_machine.specs.Step.{step};
 /// behind the tag's place, modulo the number of words, and a draw changes the place alone. When it hears a command, a legal
 /// tag is as many draws further as the command lets it make, and keeps its words.
 pub fn draw_laws()
-    ensures word { (draws : ℕ) (body : BodyValue) → body.place < length body.words → draw_of (body_after_draws draws body) ≡ slice_index body.words ((body.place + draws) % length body.words) }
-    ensures after { (draws : ℕ) (body : BodyValue) → body.place < length body.words → body_after_draws draws body ≡ record body { place = (body.place + draws) % length body.words } }
-    ensures place { (command : Command) (state : StateValue) (body : BodyValue) → (step command state body).tag.body.place ≡ (body_after_draws (draws_in command state body) body).place }
+    ensures word { (draws : ℕ) (body : BodyValue) → body.next_draw < length body.words → draw_of (body_after_draws draws body) ≡ slice_index body.words ((body.next_draw + draws) % length body.words) }
+    ensures after { (draws : ℕ) (body : BodyValue) → body.next_draw < length body.words → body_after_draws draws body ≡ record body { next_draw = (body.next_draw + draws) % length body.words } }
+    ensures place { (command : Command) (state : StateValue) (body : BodyValue) → (step command state body).tag.body.next_draw ≡ (body_after_draws (draws_in command state body) body).next_draw }
     ensures words { (command : Command) (state : StateValue) (body : BodyValue) → (step command state body).tag.body.words ≡ body.words }
 {}
 

@@ -26,7 +26,8 @@ pub use laws::{
 };
 pub use session_flags::DrawWords;
 pub use states::{
-    Acknowledged, Arbitrate, InReply, Killed, Opened, Ready, Secured, State, StateName, Unpowered,
+    Acknowledged, Arbitrate, Half, Held, InReply, Killed, Opened, Password, Ready, Secured, State,
+    StateName, Unpowered,
 };
 pub use steps::Steps;
 pub use tag::Tag;

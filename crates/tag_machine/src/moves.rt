@@ -79,7 +79,7 @@ impl Body {
         ensures { GivesOutcome (close session self) result out.old out.new }
     {
         let mut body = self;
-        body.invert(session);
+        body.flags.invert(session);
         unanswered(AnyTag::Ready(Tag { state: Ready, body }), out)
     }
 

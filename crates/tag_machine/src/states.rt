@@ -28,31 +28,22 @@ pub enum StateName {
 /// A state of a tag.
 pub trait State: Copy {
     ghost use Rattle.tag_machine.specs.TagValue.{StateValue};
-    ghost use Rattle.tag_machine.specs.Names.{name_of};
 
     ghost value: { Self → StateValue };
-
-    /// The name of the state.
-    fn name(&self) -> StateName
-        ensures { result ≡ name_of (value self.now) };
 }
 
 /// Powered, and in no round (6.3.2.4.1 Ready state).
-#[derive(Clone, Copy, Debug, PartialEq, Eq)]
+#[derive(Clone, Copy)]
 pub struct Ready;
 
 impl State for Ready {
     ghost use Rattle.tag_machine.specs.States.{ready_state};
 
     ghost value = { ready_state };
-
-    fn name(&self) -> StateName {
-        StateName::Ready
-    }
 }
 
 /// In a round, and waiting for its slot (6.3.2.4.2 Arbitrate state).
-#[derive(Clone, Copy, Debug, PartialEq, Eq)]
+#[derive(Clone, Copy)]
 pub struct Arbitrate {
     pub(crate) session: Session,
     pub(crate) q: QValue,
@@ -63,14 +54,10 @@ impl State for Arbitrate {
     ghost use Rattle.tag_machine.specs.States.{arbitrate_state};
 
     ghost value = { arbitrate_state };
-
-    fn name(&self) -> StateName {
-        StateName::Arbitrate
-    }
 }
 
 /// A slot counter: 15 bits (6.3.2.4.8 Slot counter). A contract sees its number.
-#[derive(Clone, Copy, Debug, PartialEq, Eq)]
+#[derive(Clone, Copy)]
 pub struct Slot {
     number: u16,
 }
@@ -106,7 +93,7 @@ impl Slot {
 }
 
 /// An RN16 was sent, and the tag waits for it to be acknowledged (6.3.2.4.3 Reply state).
-#[derive(Clone, Copy, Debug, PartialEq, Eq)]
+#[derive(Clone, Copy)]
 pub struct InReply {
     pub(crate) session: Session,
     pub(crate) q: QValue,
@@ -115,7 +102,7 @@ pub struct InReply {
 }
 
 /// The EPC was sent (6.3.2.4.4 Acknowledged state).
-#[derive(Clone, Copy, Debug, PartialEq, Eq)]
+#[derive(Clone, Copy)]
 pub struct Acknowledged {
     pub(crate) session: Session,
     pub(crate) q: QValue,
@@ -127,24 +114,16 @@ impl State for InReply {
     ghost use Rattle.tag_machine.specs.States.{reply_state};
 
     ghost value = { reply_state };
-
-    fn name(&self) -> StateName {
-        StateName::InReply
-    }
 }
 
 impl State for Acknowledged {
     ghost use Rattle.tag_machine.specs.States.{acknowledged_state};
 
     ghost value = { acknowledged_state };
-
-    fn name(&self) -> StateName {
-        StateName::Acknowledged
-    }
 }
 
 /// What open and secured hold.
-#[derive(Clone, Copy, Debug, PartialEq, Eq)]
+#[derive(Clone, Copy)]
 pub struct Held {
     /// The session of the round.
     pub session: Session,
@@ -159,7 +138,7 @@ pub struct Held {
 }
 
 /// The first half of a password, which came with a Kill or an Access.
-#[derive(Clone, Copy, Debug, PartialEq, Eq)]
+#[derive(Clone, Copy)]
 pub struct Half {
     /// The password that it is a half of.
     pub password: Password,
@@ -177,7 +156,7 @@ pub enum Password {
 }
 
 /// Access commands may come (6.3.2.4.5 Open state).
-#[derive(Clone, Copy, Debug, PartialEq, Eq)]
+#[derive(Clone, Copy)]
 pub struct Opened {
     pub(crate) held: Held,
 }
@@ -186,14 +165,10 @@ impl State for Opened {
     ghost use Rattle.tag_machine.specs.States.{open_state};
 
     ghost value = { open_state };
-
-    fn name(&self) -> StateName {
-        StateName::Opened
-    }
 }
 
 /// Access commands may come, Lock among them (6.3.2.4.6 Secured state).
-#[derive(Clone, Copy, Debug, PartialEq, Eq)]
+#[derive(Clone, Copy)]
 pub struct Secured {
     pub(crate) held: Held,
 }
@@ -202,36 +177,24 @@ impl State for Secured {
     ghost use Rattle.tag_machine.specs.States.{secured_state};
 
     ghost value = { secured_state };
-
-    fn name(&self) -> StateName {
-        StateName::Secured
-    }
 }
 
 /// The tag never answers again (6.3.2.4.7 Killed state).
-#[derive(Clone, Copy, Debug, PartialEq, Eq)]
+#[derive(Clone, Copy)]
 pub struct Killed;
 
 impl State for Killed {
     ghost use Rattle.tag_machine.specs.States.{killed_state};
 
     ghost value = { killed_state };
-
-    fn name(&self) -> StateName {
-        StateName::Killed
-    }
 }
 
 /// The tag has no power (profile).
-#[derive(Clone, Copy, Debug, PartialEq, Eq)]
+#[derive(Clone, Copy)]
 pub struct Unpowered;
 
 impl State for Unpowered {
     ghost use Rattle.tag_machine.specs.States.{unpowered_state};
 
     ghost value = { unpowered_state };
-
-    fn name(&self) -> StateName {
-        StateName::Unpowered
-    }
 }

@@ -1,2 +1,2 @@
 pub mod AllWords
-pub mod Pushing
+pub mod WordBits

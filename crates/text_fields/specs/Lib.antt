@@ -1,4 +1,5 @@
 pub mod Lines
+pub mod FaultLine
 pub mod Binary
 pub mod Hexadecimal
 pub mod WordLists

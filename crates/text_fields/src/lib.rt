@@ -2,12 +2,14 @@
 //! binary digits, hexadecimal digits and the names of the line codes as fields.
 //!
 //! A text that is read is a slice of bytes, and nothing here copies it. A text that is written is a
-//! `String`; it and a list of words that is read into are all that takes memory.
+//! `String`; it and a list of words that is read into are all that takes memory. The line of a fault has a room
+//! of its own.
 #![tactic(auto)]
 
 mod code_names;
 mod digits;
 mod exact;
+mod fault_lines;
 mod fields;
 mod hex_bytes;
 mod hex_words;
@@ -16,12 +18,14 @@ mod lines;
 mod more_fields;
 mod next_fields;
 mod numbers;
+mod short_text;
 mod single_bits;
 mod word_lists;
 
 pub use code_names::{code_named, name_of};
 pub use digits::{Digits, list_digits, push_bits};
 pub use exact::{four_fields, is_at_end, one_field, three_fields, two_fields};
+pub use fault_lines::fault_line;
 pub use fields::Fields;
 pub use hex_bytes::HexBytes;
 pub use hex_words::{push_byte_hex, push_hex_digit, push_word, push_words, word};
@@ -36,5 +40,6 @@ pub use next_fields::{
     push_next_number, push_next_numbers, push_next_word, push_next_words,
 };
 pub use numbers::{number, push_long_number, push_number};
+pub use short_text::push_bytes;
 pub use single_bits::one_bit;
 pub use word_lists::Words;

@@ -99,6 +99,16 @@ impl<'a> Words<'a> {
         Some(word)
     }
 
+    /// Takes the first word off; none exactly where there are no words.
+    pub fn take_first(&mut self) -> Option<u16>
+        ensures some { IfSome result (λ word. self.old ≡ word ∷ self.new) }
+        ensures none { IfNone result (self.old ≡ []) }
+    {
+        let (word, behind) = split_word(self.digits)?;
+        self.digits = behind;
+        Some(word)
+    }
+
     /// Writes the words into a list in place of what it holds. After an error it holds some of them.
     pub fn copy_to(&self, out: &mut Vec<u16>) -> Result<(), OutOfMemory>
         ensures { OnOk result (out.new.items ≡ self.now) }

@@ -1,6 +1,6 @@
 //! What is said of one exchange after another.
 
-use scenario::{Choice, EntryCursor, empty_entry};
+use air_events::{Choice, EntryCursor, empty_entry};
 use std::test::Fail;
 
 /// Exchanges, and what the channel gives where that is said of them.

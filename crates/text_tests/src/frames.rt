@@ -22,25 +22,24 @@ const NUMBERS: &[(&[u8], Result<&[u32], NotNumbers>)] = &[
 ];
 
 /// Whether the fields are these intervals, or are refused so.
-fn are_numbers(alloc: Global, line: &[u8], wanted: Result<&[u32], NotNumbers>) -> Option<bool> {
+fn are_numbers(alloc: Global, fields: Fields, wanted: Result<&[u32], NotNumbers>) -> Option<bool> {
     let mut intervals = Intervals::new(alloc, 3).ok()?;
     if intervals.capacity() != 3 {
         return None;
     }
-    let read = read_numbers(Fields::new(line), 3, 999_999, &mut intervals);
-    let spelled = Numbers::new(Fields::new(line), 3, 999_999);
-    let is_read = match wanted {
-        Ok(numbers) => read && intervals.as_slice() == numbers,
-        Err(_) => !read,
+    let read = read_numbers(fields, 3, 999_999, &mut intervals);
+    let is_so = match wanted {
+        Ok(numbers) => read.is_ok() && Numbers::new(&intervals).list().as_slice() == numbers,
+        Err(_) => read.err() == wanted.err(),
     };
-    Some(is_read && spelled.err() == wanted.err())
+    Some(is_so)
 }
 
 #[test]
 fn numbers_are_read(rt: HostRuntime) {
     for &(line, wanted) in NUMBERS {
         assert!(rt;
-            are_numbers(rt.alloc(), line, wanted) == Some(true),
+            are_numbers(rt.alloc(), Fields::new(line), wanted) == Some(true),
             "{line:?}"
         );
     }
@@ -50,7 +49,7 @@ fn numbers_are_read(rt: HostRuntime) {
 fn no_field_is_no_number(rt: HostRuntime) {
     let mut none = Fields::new(b"1");
     assert!(rt; none.next().is_some());
-    assert!(rt; Numbers::new(none, 3, 9).err() == Some(NotNumbers::Shape));
+    assert!(rt; are_numbers(rt.alloc(), none, Err(NotNumbers::Shape)) == Some(true));
 }
 
 const SYNC: FrameKind = FrameKind::FrameSync {

@@ -1,22 +1,8 @@
-//! Which lines of a report have a name, and names, words and refusals as texts written out by hand.
+//! Names, words and refusals as texts written out by hand.
 use epc_sgtin::{EpcFault, Sgtin, UriFault};
-use sgtin_text::{named, push_epc_fault, push_name, push_sgtin_words, push_uri_fault};
+use sgtin_text::{push_epc_fault, push_name, push_sgtin_words, push_uri_fault};
 use std::alloc::Global;
 use std::test::Fail;
-
-/// Lines, and whether they have a name. More stand in rows/names.txt.
-const LINES: &[(&[u8], bool)] = &[
-    (b"list 1 1 3000 3074257BF7194E4000001A85", true),
-    (b"list 1 1 3000 3174257BF7194E4000001A85", false),
-    (b"seen 1 1 3000 3074257BF7194E4000001A85", false),
-];
-
-#[test]
-fn lines_are_named(rt: HostRuntime) {
-    for &(line, has_name) in LINES {
-        assert!(rt; named(line).is_some() == has_name, "{line:?}");
-    }
-}
 
 /// The name and the words as two lines.
 fn name_and_words(alloc: Global, sgtin: &Sgtin) -> Result<String, Fail> {
@@ -29,8 +15,9 @@ fn name_and_words(alloc: Global, sgtin: &Sgtin) -> Result<String, Fail> {
 
 #[test]
 fn names_and_words_are_written(rt: HostRuntime) -> Result<(), Fail> {
-    let sgtin = named(b"list 1 1 3000 3074257BF7194E4000001A85").ok_or("a name")?;
-    assert!(rt; Sgtin::new(3, 7, 614_141, 812_345, 6_789) == Ok(sgtin));
+    let sgtin = Sgtin::new(3, 7, 614_141, 812_345, 6_789)
+        .ok()
+        .ok_or("an SGTIN")?;
     assert_eq!(rt;
         name_and_words(rt.alloc(), &sgtin)?.as_str(),
         "name urn:epc:tag:sgtin-96:3.0614141.812345.6789\nsgtin 3074257BF7194E4000001A85",

@@ -1,4 +1,3 @@
 pub mod EmptyTexts
 pub mod PasswordWords
 pub mod MaskDigits
-pub mod WordDigits

@@ -17,20 +17,15 @@ const TEXTS: &[(&str, &str)] = &[
     ("fm0 0 -\nm2 2 -\nx\n", "fault 2 number\n"),
 ];
 
-/// The text that comes of an input; none for want of memory.
-fn text_of(alloc: Global, input: &str) -> Option<String> {
-    let bytes = Vec::from_slice(alloc, input.as_bytes()).ok()?;
-    match answer_source(alloc, &mut SureSource::new(bytes), MOST_BYTES).ok()? {
-        Ok(answers) => Some(answers),
-        Err(fault) => fault_text(alloc, fault).ok(),
-    }
-}
-
-/// Whether this text comes of an input.
+/// Whether this text comes of an input; not for want of memory.
 fn gives(alloc: Global, input: &str, wanted: &str) -> bool {
-    match text_of(alloc, input) {
-        Some(text) => text.as_str() == wanted,
-        None => false,
+    let Ok(bytes) = Vec::from_slice(alloc, input.as_bytes()) else {
+        return false;
+    };
+    match answer_source(alloc, &mut SureSource::new(bytes), MOST_BYTES) {
+        Ok(Ok(answers)) => answers.as_str() == wanted,
+        Ok(Err(fault)) => fault_text(fault).as_slice() == wanted.as_bytes(),
+        Err(_) => false,
     }
 }
 

@@ -3,11 +3,12 @@ ghost use Rattle.std.specs.Prelude.{◌≡◌, length, IsTrue};
 ghost use Rattle.air_channel.specs.Air.{NamesTags};
 
 use crate::worlds::{FIRST, SECOND, numbered_tags, scenario_of};
-use air_channel::{Air, Code, Got};
+use air_channel::{Air, Got};
+use air_events::{Entry, EntryCursor, empty_entry};
 use air_world::set_up;
-use bit_strings::{Bits, QValue, Session};
+use bit_strings::{Bits, Code, QValue, Session};
 use command_grammar::{Command, Sel, Side};
-use scenario::{Entry, EntryCursor, Scenario, empty_entry};
+use scenario::Scenario;
 use std::alloc::Global;
 use std::marker::Brand;
 use std::sync::ledger::{Blank, Ledger};

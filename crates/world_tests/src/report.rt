@@ -3,8 +3,8 @@
 use q_round::RoundEnd;
 use reply_grammar::EpcWords;
 use report_lines::{
-    push_blf_line, push_done_line, push_list_line, push_round_line, push_rx_line, push_seen_line,
-    push_tx_line,
+    named, push_blf_line, push_done_line, push_list_line, push_round_line, push_rx_line,
+    push_seen_line, push_tx_line,
 };
 use std::alloc::{AllocError, Global};
 
@@ -61,4 +61,18 @@ fn lines_are_written(rt: HostRuntime) {
             "list 1 3 0000 -\nlist 2 1 1000 1234ABCD\nround 1 quiet 6\nround 2 limit 70000\nseen 2 1000 1234ABCD\ndone\n"
         )
     );
+}
+
+/// Lines, and whether they have a name. More stand in rows/names.txt.
+const LINES: &[(&[u8], bool)] = &[
+    (b"list 1 1 3000 3074257BF7194E4000001A85", true),
+    (b"list 1 1 3000 3174257BF7194E4000001A85", false),
+    (b"seen 1 1 3000 3074257BF7194E4000001A85", false),
+];
+
+#[test]
+fn lines_are_named(rt: HostRuntime) {
+    for &(line, has_name) in LINES {
+        assert!(rt; named(line).is_some() == has_name, "{line:?}");
+    }
 }

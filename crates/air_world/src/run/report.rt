@@ -1,128 +1,78 @@
-//! The lines before and behind those of the steps.
-ghost use Rattle.std.specs.Prelude.{◌≡◌, ◌<◌, ◌++◌, ℕ, List, [], ◌∷◌, Some, length, map, slice_get, IfErr, OnOk};
-ghost use Rattle.air_world.specs.Playing.{Origin, IsWritten, IsCutOff};
-ghost use Rattle.air_world.specs.Report.{first_lines, tag_lines};
-ghost use Rattle.report_lines.specs.ReportLine.{DoneLine, TagLine, report_line_text, report_text};
+//! What is told before and behind the steps.
+ghost use Rattle.std.specs.Prelude.{◌≡◌, ◌<◌, ◌++◌, List, [], ◌∷◌, Some, length, map, slice_get};
+ghost use Rattle.air_world.specs.Telling.{Passes};
+ghost use Rattle.report_lines.specs.ReportLine.{ReportLine, DoneLine, TagLine};
 ghost use Rattle.report_lines.specs.SeenCounts.{Seen, seen_line};
+ghost use Rattle.report_lines.specs.declared.mode.Mode.TheVariants.{Trace};
+ghost use Rattle.runs.specs.Report.{first_lines, tag_lines};
 ghost use Rattle.tag_machine.specs.TagValue.{TagValue};
 
-use crate::mode::{Mode, PlayFault};
-use crate::run::{Run, write_text};
+use crate::run::Run;
 use air_channel::Air;
-use air_io::Sink;
-use report_lines::{push_blf_line, push_done_line, push_seen_line, push_tag_line};
+use report_lines::{Line, Listener};
 use std::sync::ledger::Ledger;
 
-impl<'a, L: Ledger> Run<'a, L> {
-    /// In a trace, tells of the backscatter link frequency.
-    pub(crate) fn begin<O: Sink>(&mut self, air: &Air, out: &mut O) -> Result<(), PlayFault>
-        ensures same { self.new ≡ self.old }
-        ensures ok { (origin : Origin) (before : List ℕ) → IsWritten origin before (O.written out.old) (O.faults out.old)
-            → OnOk result (IsWritten origin (before ++ report_text (first_lines self.old.mode air.now.link)) (O.written out.new) (O.faults out.new)) }
-        ensures err { (origin : Origin) (before : List ℕ) → IsWritten origin before (O.written out.old) (O.faults out.old)
-            → IfErr result (IsCutOff origin (before ++ report_text (first_lines self.old.mode air.now.link)) (O.written out.new) (O.faults out.new)) }
-    {
-        match self.mode {
-            Mode::Plain => Ok(()),
-            Mode::Trace => {
-                let (numerator, denominator) = air.link().blf();
-                self.line.clear();
-                push_blf_line(&mut self.line, numerator, denominator)?;
-                write_text(&self.line, out)
-            }
-        }
-    }
+/// Tells of the backscatter link frequency.
+pub(crate) fn tell_link<R: Listener>(air: &Air, report: &mut R)
+    ensures { (before : List ReportLine) → Passes R.hears before report.old report.new (before ++ first_lines Trace air.now.link) }
+{
+    let (numerator, denominator) = air.link().blf();
+    report.tell(&Line::Blf {
+        numerator,
+        denominator,
+    });
+}
 
+impl<'a, L: Ledger> Run<'a, L> {
     /// Tells how often each pair of PC and EPC was listed, what each tag is, and that this is all.
-    pub(crate) fn finish<O: Sink>(&mut self, air: &mut Air, out: &mut O) -> Result<(), PlayFault>
+    pub(crate) fn finish<R: Listener>(&mut self, air: &mut Air, report: &mut R)
         ensures air { air.new ≡ air.old }
-        ensures ok { (origin : Origin) (before : List ℕ) → IsWritten origin before (O.written out.old) (O.faults out.old)
-            → OnOk result (IsWritten origin (before ++ report_text (map seen_line self.old.seen ++ tag_lines 0 air.old.tags ++ DoneLine ∷ [])) (O.written out.new) (O.faults out.new)) }
-        ensures err { (origin : Origin) (before : List ℕ) → IsWritten origin before (O.written out.old) (O.faults out.old)
-            → IfErr result (IsCutOff origin (before ++ report_text (map seen_line self.old.seen ++ tag_lines 0 air.old.tags ++ DoneLine ∷ [])) (O.written out.new) (O.faults out.new)) }
+        ensures told { (before : List ReportLine) → Passes R.hears before report.old report.new (before ++ (map seen_line self.old.seen ++ tag_lines 0 air.old.tags ++ DoneLine ∷ [])) }
     {
-        self.write_seen(out)?;
-        self.write_tags(air, out)?;
-        self.write_done(out)
+        self.tell_counts(report);
+        self.tell_tags(air, report);
+        report.tell(&Line::Done);
     }
 
     /// Tells how often each pair of PC and EPC was listed.
-    fn write_seen<O: Sink>(&mut self, out: &mut O) -> Result<(), PlayFault>
-        ensures same { self.new ≡ self.old }
-        ensures ok { (origin : Origin) (before : List ℕ) → IsWritten origin before (O.written out.old) (O.faults out.old)
-            → OnOk result (IsWritten origin (before ++ report_text (map seen_line self.old.seen)) (O.written out.new) (O.faults out.new)) }
-        ensures err { (origin : Origin) (before : List ℕ) → IsWritten origin before (O.written out.old) (O.faults out.old)
-            → IfErr result (IsCutOff origin (before ++ report_text (map seen_line self.old.seen)) (O.written out.new) (O.faults out.new)) }
+    fn tell_counts<R: Listener>(&self, report: &mut R)
+        ensures { (before : List ReportLine) → Passes R.hears before report.old report.new (before ++ map seen_line self.now.seen) }
     {
         for at in 0..self.seen.len() {
-            self.write_count(at, out)?;
+            self.tell_count(at, report);
         }
-        Ok(())
     }
 
     /// Tells how often the pair with this number was listed.
-    fn write_count<O: Sink>(&mut self, at: usize, out: &mut O) -> Result<(), PlayFault>
-        requires { at < length self.old.seen }
-        ensures same { self.new ≡ self.old }
-        ensures ok { (origin : Origin) (before : List ℕ) (seen : Seen) → slice_get self.old.seen at ≡ Some seen → IsWritten origin before (O.written out.old) (O.faults out.old)
-            → OnOk result (IsWritten origin (before ++ report_line_text (seen_line seen)) (O.written out.new) (O.faults out.new)) }
-        ensures err { (origin : Origin) (before : List ℕ) (seen : Seen) → slice_get self.old.seen at ≡ Some seen → IsWritten origin before (O.written out.old) (O.faults out.old)
-            → IfErr result (IsCutOff origin (before ++ report_line_text (seen_line seen)) (O.written out.new) (O.faults out.new)) }
+    fn tell_count<R: Listener>(&self, at: usize, report: &mut R)
+        requires { at < length self.now.seen }
+        ensures { (before : List ReportLine) (seen : Seen) → slice_get self.now.seen at ≡ Some seen
+            → Passes R.hears before report.old report.new (before ++ seen_line seen ∷ []) }
     {
-        self.line.clear();
         let Some((count, pc, epc)) = self.seen.get(at) else {
             unreachable!();
         };
-        push_seen_line(&mut self.line, count, pc, epc)?;
-        write_text(&self.line, out)
+        report.tell(&Line::Seen { count, pc, epc });
     }
 
     /// Tells what each tag is.
-    fn write_tags<O: Sink>(&mut self, air: &mut Air, out: &mut O) -> Result<(), PlayFault>
-        ensures same { self.new ≡ self.old }
+    fn tell_tags<R: Listener>(&mut self, air: &mut Air, report: &mut R)
         ensures air { air.new ≡ air.old }
-        ensures ok { (origin : Origin) (before : List ℕ) → IsWritten origin before (O.written out.old) (O.faults out.old)
-            → OnOk result (IsWritten origin (before ++ report_text (tag_lines 0 air.old.tags)) (O.written out.new) (O.faults out.new)) }
-        ensures err { (origin : Origin) (before : List ℕ) → IsWritten origin before (O.written out.old) (O.faults out.old)
-            → IfErr result (IsCutOff origin (before ++ report_text (tag_lines 0 air.old.tags)) (O.written out.new) (O.faults out.new)) }
+        ensures told { (before : List ReportLine) → Passes R.hears before report.old report.new (before ++ tag_lines 0 air.old.tags) }
     {
         for number in 0..air.len() {
-            self.write_tag(air, number, out)?;
+            self.tell_tag(air, number, report);
         }
-        Ok(())
     }
 
     /// Tells what the tag with this number is.
-    fn write_tag<O: Sink>(
-        &mut self,
-        air: &mut Air,
-        number: u32,
-        out: &mut O,
-    ) -> Result<(), PlayFault>
+    fn tell_tag<R: Listener>(&mut self, air: &mut Air, number: u32, report: &mut R)
         requires { number < length air.old.tags }
-        ensures same { self.new ≡ self.old }
         ensures air { air.new ≡ air.old }
-        ensures ok { (origin : Origin) (before : List ℕ) (tag : TagValue) → slice_get air.old.tags number ≡ Some tag → IsWritten origin before (O.written out.old) (O.faults out.old)
-            → OnOk result (IsWritten origin (before ++ report_line_text (TagLine number tag)) (O.written out.new) (O.faults out.new)) }
-        ensures err { (origin : Origin) (before : List ℕ) (tag : TagValue) → slice_get air.old.tags number ≡ Some tag → IsWritten origin before (O.written out.old) (O.faults out.old)
-            → IfErr result (IsCutOff origin (before ++ report_line_text (TagLine number tag)) (O.written out.new) (O.faults out.new)) }
+        ensures told { (before : List ReportLine) (tag : TagValue) → slice_get air.old.tags number ≡ Some tag
+            → Passes R.hears before report.old report.new (before ++ TagLine number tag ∷ []) }
     {
-        self.line.clear();
         let tag = air.tag(number, &mut self.steps);
-        push_tag_line(&mut self.line, number, tag)?;
-        write_text(&self.line, out)
-    }
-
-    /// Tells that this is all.
-    fn write_done<O: Sink>(&mut self, out: &mut O) -> Result<(), PlayFault>
-        ensures same { self.new ≡ self.old }
-        ensures ok { (origin : Origin) (before : List ℕ) → IsWritten origin before (O.written out.old) (O.faults out.old)
-            → OnOk result (IsWritten origin (before ++ report_line_text DoneLine) (O.written out.new) (O.faults out.new)) }
-        ensures err { (origin : Origin) (before : List ℕ) → IsWritten origin before (O.written out.old) (O.faults out.old)
-            → IfErr result (IsCutOff origin (before ++ report_line_text DoneLine) (O.written out.new) (O.faults out.new)) }
-    {
-        self.line.clear();
-        push_done_line(&mut self.line)?;
-        write_text(&self.line, out)
+        report.tell(&Line::Tag { number, tag });
     }
 }

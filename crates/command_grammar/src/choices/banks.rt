@@ -5,7 +5,7 @@ ghost use Rattle.command_grammar.specs.Commands.{bits_of_bank};
 use crate::field_values::Bank;
 
 /// The values of MemBank, by the number of their two bits.
-pub(crate) const BANKS: [Bank; 4] = [Bank::Reserved, Bank::Epc, Bank::Tid, Bank::User];
+pub(crate) const BANK_VALUES: [Bank; 4] = [Bank::Reserved, Bank::Epc, Bank::Tid, Bank::User];
 
 /// The bits of MemBank.
 pub(crate) fn bank_bits(bank: Bank) -> [bool; 2]

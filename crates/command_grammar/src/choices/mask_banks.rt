@@ -5,7 +5,7 @@ ghost use Rattle.command_grammar.specs.Commands.{bits_of_mask_bank};
 use crate::field_values::MaskBank;
 
 /// The values of MemBank, by the number of their two bits.
-pub(crate) const MASK_BANKS: [Option<MaskBank>; 4] = [
+pub(crate) const MASK_BANK_VALUES: [Option<MaskBank>; 4] = [
     None,
     Some(MaskBank::Epc),
     Some(MaskBank::Tid),

@@ -5,7 +5,7 @@ ghost use Rattle.command_grammar.specs.Commands.{bits_of_sel};
 use crate::field_values::Sel;
 
 /// The values of Sel, by the number of their two bits.
-pub(crate) const SELS: [Sel; 4] = [Sel::All00, Sel::All01, Sel::NotSl, Sel::Sl];
+pub(crate) const SEL_VALUES: [Sel; 4] = [Sel::All00, Sel::All01, Sel::NotSl, Sel::Sl];
 
 /// The bits of Sel.
 pub(crate) fn sel_bits(sel: Sel) -> [bool; 2]

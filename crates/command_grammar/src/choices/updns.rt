@@ -1,14 +1,13 @@
 //! UpDn of a QueryAdjust (6.3.2.11.2.2).
 ghost use Rattle.std.specs.Prelude.{◌≡◌};
 ghost use Rattle.command_grammar.specs.Commands.{bits_of_updn};
-ghost use Rattle.command_grammar.specs.Reading.{changes, child};
-ghost use Rattle.command_grammar.specs.Framing.{IsChosen};
+ghost use Rattle.command_grammar.specs.reading.Readers.{updn_values, child, IsChosen};
 
 use crate::field_values::UpDn;
 
 /// UpDn of a QueryAdjust.
 pub(crate) fn updn(first: bool, second: bool, third: bool) -> Option<UpDn>
-    ensures { IsChosen result (child (child (child changes first) second) third) }
+    ensures { IsChosen result (child (child (child updn_values first) second) third) }
 {
     match (first, second, third) {
         (true, true, false) => Some(UpDn::Up),

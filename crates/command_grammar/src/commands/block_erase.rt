@@ -6,7 +6,7 @@ ghost use Rattle.command_grammar.specs.declared.commands.Command.TheVariants.{Bl
 
 use crate::choices::bank_bits;
 use crate::field_values::Bank;
-use crate::writing::{begin_with_code, put, put_handle, put_place};
+use crate::writing::{begin_with_code, put, put_handle, put_pointer};
 use bit_strings::{Bits, Count1, Pointer};
 
 /// Its code (6.3.2.11, Table 6.18).
@@ -18,7 +18,7 @@ pub(crate) fn spell(out: &mut Bits, bank: Bank, pointer: Pointer, count: Count1,
     ensures { Writes (BlockErase bank pointer count rn) out.old out.new }
 {
     begin_with_code(out, CODE);
-    put_place(out, bank_bits(bank), pointer);
+    put_pointer(out, bank_bits(bank), pointer);
     put(out, u32::from(count.get()), 8);
     put_handle(out, rn);
 }

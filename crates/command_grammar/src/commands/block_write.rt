@@ -7,7 +7,7 @@ ghost use Rattle.command_grammar.specs.declared.commands.Command.TheVariants.{Bl
 use crate::choices::bank_bits;
 use crate::command_lists::BlockWords;
 use crate::field_values::Bank;
-use crate::writing::{begin_with_code, put, put_handle, put_place, put_words};
+use crate::writing::{begin_with_code, put, put_handle, put_pointer, put_words};
 use bit_strings::{Bits, Pointer};
 
 /// Its code (6.3.2.11, Table 6.18).
@@ -19,7 +19,7 @@ pub(crate) fn spell(out: &mut Bits, bank: Bank, pointer: Pointer, words: &BlockW
     ensures { Writes (BlockWrite bank pointer words.now rn) out.old out.new }
 {
     begin_with_code(out, CODE);
-    put_place(out, bank_bits(bank), pointer);
+    put_pointer(out, bank_bits(bank), pointer);
     put(out, words.len(), 8);
     put_words(out, words.as_slice());
     put_handle(out, rn);

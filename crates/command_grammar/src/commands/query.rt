@@ -4,7 +4,7 @@ ghost use Rattle.command_grammar.specs.Commands.{command_room};
 ghost use Rattle.command_grammar.specs.Writing.{Writes};
 ghost use Rattle.command_grammar.specs.declared.commands.Command.TheVariants.{Query};
 
-use crate::choices::{code_bits, sel_bits, side_bits};
+use crate::choices::{m_bits, query_target_bits, sel_bits};
 use crate::field_values::{Sel, Side};
 use crate::writing::{begin_with_code, put, put_bits, put_crc5};
 use bit_strings::{Bits, Code, QValue, Session};
@@ -28,11 +28,11 @@ pub(crate) fn spell(
 {
     begin_with_code(out, CODE);
     put_bits(out, &[dr]);
-    put_bits(out, &code_bits(code));
+    put_bits(out, &m_bits(code));
     put_bits(out, &[trext]);
     put_bits(out, &sel_bits(sel));
     put(out, u32::from(session.get()), 2);
-    put_bits(out, &side_bits(target));
+    put_bits(out, &query_target_bits(target));
     put(out, u32::from(q.get()), 4);
     put_crc5(out);
 }

@@ -4,10 +4,10 @@ ghost use Rattle.command_grammar.specs.Commands.{command_room};
 ghost use Rattle.command_grammar.specs.Writing.{Writes};
 ghost use Rattle.command_grammar.specs.declared.commands.Command.TheVariants.{Select};
 
-use crate::choices::{mask_bank_bits, target_bits};
+use crate::choices::{mask_bank_bits, select_target_bits};
 use crate::command_lists::Mask;
 use crate::field_values::{FlagName, MaskBank};
-use crate::writing::{begin_with_code, put, put_bits, put_crc16, put_place};
+use crate::writing::{begin_with_code, put, put_bits, put_crc16, put_pointer};
 use bit_strings::{Action, Bits, Pointer};
 
 /// Its code (6.3.2.11, Table 6.18).
@@ -26,9 +26,9 @@ pub(crate) fn spell(
     ensures { Writes (Select target action bank pointer mask.now) out.old out.new }
 {
     begin_with_code(out, CODE);
-    put_bits(out, &target_bits(target));
+    put_bits(out, &select_target_bits(target));
     put(out, u32::from(action.get()), 3);
-    put_place(out, mask_bank_bits(bank), pointer);
+    put_pointer(out, mask_bank_bits(bank), pointer);
     put(out, mask.len(), 8);
     put_bits(out, mask.as_slice());
     put_bits(out, &[false]);

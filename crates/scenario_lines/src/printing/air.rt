@@ -8,22 +8,11 @@ ghost use Rattle.scenario_lines.specs.Spelling.{event_fields, happening_fields, 
 ghost use Rattle.scenario_lines.specs.declared.line.Line.TheVariants as lines;
 
 use crate::Happening;
+use crate::names::event_name;
 use air_events::{Choice, Event};
 use bit_strings::OutOfMemory;
 use command_text::flag_name;
 use text_fields::{push_next_name, push_next_number};
-
-/// The kind of an event.
-fn event_name(event: Event) -> &'static str
-    ensures { result.now ≡ event_word (event_kind event) }
-{
-    match event {
-        Event::Timeout => "timeout",
-        Event::Off => "off",
-        Event::On => "on",
-        Event::Expire(_) => "expire",
-    }
-}
 
 /// Writes the kind of an event, the flag of an expiry, and the number of the tag.
 fn next_event(text: &mut String, event: Event, tag: u32) -> Result<(), OutOfMemory>

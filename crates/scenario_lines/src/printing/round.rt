@@ -8,23 +8,11 @@ ghost use Rattle.scenario_lines.specs.Names.{sel_text};
 ghost use Rattle.scenario_lines.specs.Spelling.{line_text};
 ghost use Rattle.scenario_lines.specs.declared.line.Line.TheVariants as lines;
 
+use crate::names::sel_name;
 use bit_strings::OutOfMemory;
-use command_grammar::Sel;
 use command_text::side_name;
 use q_round::RoundSpec;
 use text_fields::{push_next_name, push_next_number};
-
-/// The word for the tags that a round speaks to. The code 01, which means all as well, has none.
-fn sel_name(sel: Sel) -> &'static str
-    ensures { result.now ≡ sel_text sel }
-{
-    match sel {
-        Sel::All00 => "all",
-        Sel::All01 => "",
-        Sel::NotSl => "nsl",
-        Sel::Sl => "sl",
-    }
-}
 
 /// Writes `round` and the tags that a round speaks to.
 fn push_tags(text: &mut String, spec: &RoundSpec) -> Result<(), OutOfMemory>

@@ -8,7 +8,7 @@ ghost use Rattle.scenario_lines.specs.Spelling.{happening_fields};
 ghost use Rattle.scenario_lines.specs.Reading.{IsHappeningText, MisreadsAirLine, MisreadsHappening};
 
 use super::event::{MOST_PLACE, event_behind, one_number};
-use super::names::air_kind_named;
+use crate::names::air_kind_named;
 use crate::{AirKind, Happening, LineFault};
 use air_events::Choice;
 use text_fields::{Fields, is_at_end};

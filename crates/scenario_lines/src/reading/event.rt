@@ -7,7 +7,7 @@ ghost use Rattle.scenario_lines.specs.Spelling.{event_fields};
 ghost use Rattle.scenario_lines.specs.Reading.{IsEventText, MisreadsEvent, MisreadsEventLine, MisreadsNumber};
 ghost use Rattle.scenario_lines.specs.Names.{event_kind, event_word};
 
-use super::names::{event_kind_named, expiring_flag_named};
+use crate::names::{event_kind_named, expiring_flag_named};
 use crate::{EventKind, LineFault};
 use air_events::Event;
 use text_fields::{Fields, number, one_field, two_fields};

@@ -6,8 +6,9 @@ ghost use Rattle.scenario_lines.specs.Spelling.{round_fields};
 ghost use Rattle.scenario_lines.specs.LineFaults.{AreFilled};
 ghost use Rattle.scenario_lines.specs.Reading.{Misreads};
 
-use super::names::{sel_named, side_named};
 use crate::LineFault;
+use crate::names::sel_named;
+use command_text::side_named;
 use q_round::RoundSpec;
 use text_fields::{Fields, number, six_fields};
 use value_text::{q_of, session_of};

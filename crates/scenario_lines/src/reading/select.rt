@@ -6,8 +6,8 @@ ghost use Rattle.scenario_lines.specs.Spelling.{select_fields};
 ghost use Rattle.scenario_lines.specs.LineFaults.{AreFilled};
 ghost use Rattle.scenario_lines.specs.Reading.{Misreads};
 
-use super::names::{flag_named, mask_bank_named};
 use crate::{LineFault, Selection};
+use command_text::{flag_named, mask_bank_named};
 use text_fields::{Fields, five_fields};
 use value_text::{action_of, mask_of, pointer_of};
 

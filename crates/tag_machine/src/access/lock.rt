@@ -1,12 +1,10 @@
 //! Lock (6.3.2.11.3.5), which a tag heeds in secured alone.
 ghost use Rattle.std.specs.Prelude.{◌≡◌, ◌+◌, ◌≤◌};
-ghost use Rattle.tag_machine.specs.Access.{lock, lock_outcome};
-ghost use Rattle.tag_machine.specs.Hearing.{GivesOutcome};
+ghost use Rattle.tag_machine.specs.Access.{lock};
+ghost use Rattle.tag_machine.specs.Hearing.{GivesOutcome, tag_value_of};
 ghost use Rattle.reply_grammar.specs.Table.{reply_room};
 
-use super::AccessCommand;
-use super::rules::TagWithHandle;
-use crate::any_tag::Heard;
+use crate::any_tag::{AnyTag, Heard};
 use crate::moves::unanswered;
 use crate::states::Secured;
 use crate::steps::Steps;
@@ -15,16 +13,19 @@ use bit_strings::{Bits, Payload};
 use lock_rules::Level;
 use std::sync::ledger::Ledger;
 
-impl TagWithHandle {
-    /// What a Lock does that the tag heeds: in open nothing.
-    pub fn lock(self, payload: Payload, out: &mut Bits) -> Heard
+impl AnyTag {
+    /// Lock, in each state.
+    pub(crate) fn lock(self, payload: Payload, rn: u16, out: &mut Bits) -> Heard
         requires room { reply_room ≤ out.old.capacity }
-        ensures { GivesOutcome (lock_outcome payload self.level self.held self.body) result out.old out.new }
+        ensures { GivesOutcome (lock payload rn (tag_value_of self).state (tag_value_of self).body) result out.old out.new }
     {
-        match self.level {
-            Level::Opened => unanswered(self.tag(), out),
+        let mut tag = match self.heeding(rn, None, out) {
+            Ok(tag) => tag,
+            Err(heard) => return heard,
+        };
+        match tag.level {
+            Level::Opened => unanswered(tag.tag(), out),
             Level::Secured => {
-                let mut tag = self;
                 let reply = tag.body.lock(payload);
                 tag.answer_extended(&reply, out)
             }
@@ -46,7 +47,6 @@ impl Tag<Secured> {
         ensures step { GivesOutcome (lock payload rn self.state self.body) result out.old out.new }
         ensures counted { steps.new ≡ steps.old + 1 }
     {
-        self.one_step(steps)
-            .access(AccessCommand::Lock(payload), rn, out)
+        self.one_step(steps).lock(payload, rn, out)
     }
 }

@@ -1,11 +1,9 @@
 //! Read, Write, BlockWrite and BlockErase (6.3.2.11.3.2, 6.3.2.11.3.3, 6.3.2.11.3.7 and 6.3.2.11.3.8).
 ghost use Rattle.std.specs.Prelude.{◌≡◌, ◌+◌, ◌≤◌};
-ghost use Rattle.tag_machine.specs.Access.{read, write, write_outcome, block_write, block_erase};
+ghost use Rattle.tag_machine.specs.Access.{read, write, block_write, block_erase};
 ghost use Rattle.tag_machine.specs.Hearing.{GivesOutcome, tag_value_of};
 ghost use Rattle.reply_grammar.specs.Table.{reply_room};
 
-use super::AccessCommand;
-use super::rules::{Follows, TagWithHandle};
 use crate::abilities::WithHandle;
 use crate::any_tag::{AnyTag, Heard};
 use crate::steps::Steps;
@@ -14,22 +12,52 @@ use bit_strings::{Bits, Count1, Pointer};
 use command_grammar::{Bank, BlockWords};
 use std::sync::ledger::Ledger;
 
-impl TagWithHandle {
-    /// What a Write does that the tag heeds.
-    pub fn write(self, bank: Bank, pointer: Pointer, covered: u16, out: &mut Bits) -> Heard
+impl AnyTag {
+    /// Read, in each state.
+    pub(crate) fn read(
+        self,
+        bank: Bank,
+        pointer: Pointer,
+        count: u8,
+        rn: u16,
+        out: &mut Bits,
+    ) -> Heard
         requires room { reply_room ≤ out.old.capacity }
-        ensures { GivesOutcome (write_outcome bank pointer covered self.level self.held self.body) result out.old out.new }
+        ensures { GivesOutcome (read bank pointer count rn (tag_value_of self).state (tag_value_of self).body) result out.old out.new }
     {
-        let (mut tag, word) = match self.uncover(covered, out) {
+        match self.heeding(rn, None, out) {
+            Ok(tag) => {
+                let reply = tag.body.read(tag.level, bank, pointer, count);
+                tag.answer(&reply, out)
+            }
+            Err(heard) => heard,
+        }
+    }
+
+    /// Write, in each state.
+    pub(crate) fn write(
+        self,
+        bank: Bank,
+        pointer: Pointer,
+        covered: u16,
+        rn: u16,
+        out: &mut Bits,
+    ) -> Heard
+        requires room { reply_room ≤ out.old.capacity }
+        ensures { GivesOutcome (write bank pointer covered rn (tag_value_of self).state (tag_value_of self).body) result out.old out.new }
+    {
+        let tag = match self.heeding(rn, None, out) {
+            Ok(tag) => tag,
+            Err(heard) => return heard,
+        };
+        let (mut tag, word) = match tag.uncover(covered, out) {
             Ok(found) => found,
             Err(heard) => return heard,
         };
         let reply = tag.body.write(tag.level, bank, pointer, word);
         tag.answer_extended(&reply, out)
     }
-}
 
-impl AnyTag {
     /// BlockWrite, in each state.
     pub(crate) fn block_write(
         self,
@@ -42,9 +70,30 @@ impl AnyTag {
         requires room { reply_room ≤ out.old.capacity }
         ensures { GivesOutcome (block_write bank pointer words.now rn (tag_value_of self).state (tag_value_of self).body) result out.old out.new }
     {
-        match self.heeding(rn, Follows::NoHalf, out) {
+        match self.heeding(rn, None, out) {
             Ok(mut tag) => {
                 let reply = tag.body.block_write(tag.level, bank, pointer, words);
+                tag.answer_extended(&reply, out)
+            }
+            Err(heard) => heard,
+        }
+    }
+
+    /// BlockErase, in each state.
+    pub(crate) fn block_erase(
+        self,
+        bank: Bank,
+        pointer: Pointer,
+        count: Count1,
+        rn: u16,
+        out: &mut Bits,
+    ) -> Heard
+        requires room { reply_room ≤ out.old.capacity }
+        ensures { GivesOutcome (block_erase bank pointer count rn (tag_value_of self).state (tag_value_of self).body) result out.old out.new }
+    {
+        match self.heeding(rn, None, out) {
+            Ok(mut tag) => {
+                let reply = tag.body.block_erase(tag.level, bank, pointer, count);
                 tag.answer_extended(&reply, out)
             }
             Err(heard) => heard,
@@ -68,8 +117,7 @@ impl<S: WithHandle> Tag<S> {
         ensures step { GivesOutcome (read bank pointer count rn self.state self.body) result out.old out.new }
         ensures counted { steps.new ≡ steps.old + 1 }
     {
-        self.one_step(steps)
-            .access(AccessCommand::Read(bank, pointer, count), rn, out)
+        self.one_step(steps).read(bank, pointer, count, rn, out)
     }
 
     /// With the handle and a cover the tag writes the covered number XOR the cover, and answers the header or an error. The
@@ -88,8 +136,7 @@ impl<S: WithHandle> Tag<S> {
         ensures step { GivesOutcome (write bank pointer covered rn self.state self.body) result out.old out.new }
         ensures counted { steps.new ≡ steps.old + 1 }
     {
-        let write = AccessCommand::Write(bank, pointer, covered);
-        self.one_step(steps).access(write, rn, out)
+        self.one_step(steps).write(bank, pointer, covered, rn, out)
     }
 
     /// With the handle the tag writes all the words or none, and answers the header or an error. With another number nothing
@@ -126,7 +173,7 @@ impl<S: WithHandle> Tag<S> {
         ensures step { GivesOutcome (block_erase bank pointer count rn self.state self.body) result out.old out.new }
         ensures counted { steps.new ≡ steps.old + 1 }
     {
-        let tag = self.one_step(steps);
-        tag.access(AccessCommand::BlockErase(bank, pointer, count), rn, out)
+        self.one_step(steps)
+            .block_erase(bank, pointer, count, rn, out)
     }
 }

@@ -1,11 +1,10 @@
 //! Kill and Access (6.3.2.11.3.4 and 6.3.2.11.3.6): a password comes in two halves, each with a cover of its own. How an
 //! unfinished Kill or Access ends is profile.
-ghost use Rattle.std.specs.Prelude.{◌≡◌, ◌+◌, ◌≤◌};
-ghost use Rattle.tag_machine.specs.Access.{whole_of, keep_half, kill_whole, kill, access_whole, access, password_outcome};
+ghost use Rattle.std.specs.Prelude.{◌≡◌, ◌+◌, ◌≤◌, Some};
+ghost use Rattle.tag_machine.specs.Access.{in_access, whole_of, keep_half, kill_whole, kill, access_whole, access, password_outcome};
 ghost use Rattle.tag_machine.specs.Hearing.{GivesOutcome, tag_value_of};
 ghost use Rattle.reply_grammar.specs.Table.{reply_room};
 
-use super::AccessCommand;
 use super::rules::TagWithHandle;
 use crate::abilities::WithHandle;
 use crate::any_tag::{AnyTag, Heard};
@@ -81,13 +80,26 @@ impl TagWithHandle {
         let level = Level::Secured;
         TagWithHandle { level, held, body }.answer(&Reply::Handle(handle), out)
     }
+}
 
-    /// What a Kill or an Access does that the tag heeds: a first half is kept, and with a second one the password is whole.
-    pub fn take_half(self, password: Password, covered: u16, out: &mut Bits) -> Heard
+impl AnyTag {
+    /// Kill or Access, in each state, with the covered half of this password: a first half is kept, and with a second one the
+    /// password is whole.
+    pub(crate) fn take_half(
+        self,
+        password: Password,
+        covered: u16,
+        rn: u16,
+        out: &mut Bits,
+    ) -> Heard
         requires room { reply_room ≤ out.old.capacity }
-        ensures { GivesOutcome (password_outcome password covered self.level self.held self.body) result out.old out.new }
+        ensures { GivesOutcome (in_access rn (Some password) (password_outcome password covered) (tag_value_of self).state (tag_value_of self).body) result out.old out.new }
     {
-        let (tag, value) = match self.uncover(covered, out) {
+        let tag = match self.heeding(rn, Some(password), out) {
+            Ok(tag) => tag,
+            Err(heard) => return heard,
+        };
+        let (tag, value) = match tag.uncover(covered, out) {
             Ok(found) => found,
             Err(heard) => return heard,
         };
@@ -119,7 +131,7 @@ impl<S: WithHandle> Tag<S> {
         ensures counted { steps.new ≡ steps.old + 1 }
     {
         self.one_step(steps)
-            .access(AccessCommand::Kill(covered), rn, out)
+            .take_half(Password::Kill, covered, rn, out)
     }
 
     /// With the handle and a cover, a first Access keeps its half and answers the handle; with a second one the tag is in
@@ -138,6 +150,6 @@ impl<S: WithHandle> Tag<S> {
         ensures counted { steps.new ≡ steps.old + 1 }
     {
         self.one_step(steps)
-            .access(AccessCommand::Access(covered), rn, out)
+            .take_half(Password::Access, covered, rn, out)
     }
 }

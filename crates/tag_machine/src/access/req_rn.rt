@@ -4,7 +4,7 @@ ghost use Rattle.tag_machine.specs.Access.{give_handle, req_rn, req_rn_outcome};
 ghost use Rattle.tag_machine.specs.Hearing.{GivesOutcome, tag_value_of};
 ghost use Rattle.reply_grammar.specs.Table.{reply_room};
 
-use super::rules::{Follows, TagWithHandle};
+use super::rules::TagWithHandle;
 use crate::abilities::{InTurn, Present};
 use crate::any_tag::{AnyTag, Heard};
 use crate::body::Body;
@@ -43,19 +43,19 @@ impl Body {
 }
 
 impl TagWithHandle {
-    /// Req_RN in open and secured, which may follow each first half: the tag draws a cover and answers it.
+    /// Req_RN in open and secured: with the handle the tag draws a cover and answers it, and a first half stays.
     fn req_rn(self, rn: u16, out: &mut Bits) -> Heard
         requires { reply_room ≤ out.old.capacity }
         ensures { GivesOutcome (req_rn_outcome self.level rn self.held self.body) result out.old out.new }
     {
+        if self.held.handle != rn {
+            return unanswered(self.tag(), out);
+        }
         let TagWithHandle {
             level,
             held,
             mut body,
-        } = match self.heeding(rn, Follows::AnyHalf, out) {
-            Ok(tag) => tag,
-            Err(heard) => return heard,
-        };
+        } = self;
         let cover = body.draw();
         let held = Held {
             cover: Some(cover),

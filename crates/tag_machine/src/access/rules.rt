@@ -1,5 +1,5 @@
-//! The rules that stand before an access command, in their order (6.3.2.11.3): the tag has a handle, the command carries it,
-//! an unfinished Kill or Access goes on, and the covered number of a Write, Kill or Access has a cover.
+//! A tag with a handle, and the rules that stand before what an access command does (6.3.2.11.3): the tag has a handle, the command
+//! carries it, it ends no unfinished Kill or Access, and the covered number of a Write, Kill or Access has a cover.
 ghost use Rattle.std.specs.Prelude.{◌≡◌, ◌≤◌, ℕ, IfOk, IfErr, OnOk, if◌then◌else◌};
 ghost use Rattle.lock_rules.specs.declared.terms.Level.{Level};
 ghost use Rattle.tag_machine.specs.declared.states.Held.{Held};
@@ -20,17 +20,6 @@ use bit_strings::{Bits, xor16};
 use lock_rules::Level;
 use reply_grammar::Reply;
 
-/// The first half of a Kill or an Access that a command may follow. After another the tag goes back to arbitrate.
-#[derive(Clone, Copy, Debug, PartialEq, Eq)]
-pub enum Follows {
-    /// Each one.
-    AnyHalf,
-    /// One of this password.
-    HalfOf(Password),
-    /// None.
-    NoHalf,
-}
-
 /// A tag in open or secured. What it permits goes by the level.
 #[derive(Drop)]
 pub struct TagWithHandle {
@@ -43,14 +32,14 @@ pub struct TagWithHandle {
 }
 
 impl Held {
-    /// Whether an unfinished Kill or Access ends where a command comes.
-    fn ends(&self, follows: Follows) -> bool
-        ensures { (body : BodyValue) (outcome : Outcome) → unless_ended follows self.now body outcome ≡ (if result then back self.now.session self.now.q body else outcome) }
+    /// Whether an unfinished Kill or Access ends at a command that brings a half of this password, or no half.
+    fn ends(&self, brought: Option<Password>) -> bool
+        ensures { (body : BodyValue) (outcome : Outcome) → unless_ended brought self.now body outcome ≡ (if result then back self.now.session self.now.q body else outcome) }
     {
-        match (self.half, follows) {
-            (Some(_), Follows::NoHalf) => true,
-            (Some(half), Follows::HalfOf(password)) => half.password != password,
-            (Some(_), Follows::AnyHalf) | (None, _) => false,
+        match (self.half, brought) {
+            (Some(_), None) => true,
+            (Some(half), Some(password)) => half.password != password,
+            (None, _) => false,
         }
     }
 }
@@ -89,17 +78,22 @@ impl TagWithHandle {
         answer_extended(self.tag(), reply, handle, out)
     }
 
-    /// The tag where it heeds a command with this number, else what comes of the command: with another number than the handle
-    /// nothing changes, and after a first half that the command may not follow the tag goes back.
-    pub fn heeding(self, rn: u16, follows: Follows, out: &mut Bits) -> Result<TagWithHandle, Heard>
-        ensures ok { IfOk result (λ tag. (tag ≡ self) × ((outcome : Outcome) → outcome_where_heeded rn follows self.level self.held self.body outcome ≡ outcome)) }
-        ensures err { IfErr result (λ heard. (outcome : Outcome) → GivesOutcome (outcome_where_heeded rn follows self.level self.held self.body outcome) heard out.old out.new) }
+    /// The tag where it heeds a command with this number, which brings a half of a password or none; else what comes of the command:
+    /// with another number than the handle nothing changes, and a tag whose unfinished Kill or Access ends goes back.
+    fn heeding(
+        self,
+        rn: u16,
+        brought: Option<Password>,
+        out: &mut Bits,
+    ) -> Result<TagWithHandle, Heard>
+        ensures ok { IfOk result (λ tag. (tag ≡ self) × ((outcome : Outcome) → outcome_where_heeded rn brought self.level self.held self.body outcome ≡ outcome)) }
+        ensures err { IfErr result (λ heard. (outcome : Outcome) → GivesOutcome (outcome_where_heeded rn brought self.level self.held self.body outcome) heard out.old out.new) }
         ensures untouched { OnOk result (out.new ≡ out.old) }
     {
         if self.held.handle != rn {
             return Err(unanswered(self.tag(), out));
         }
-        if self.held.ends(follows) {
+        if self.held.ends(brought) {
             return Err(self.body.go_back(self.held.session, self.held.q, out));
         }
         Ok(self)
@@ -124,17 +118,17 @@ impl TagWithHandle {
 }
 
 impl AnyTag {
-    /// The tag where it heeds an access command with this number, else what comes of the command: in reply and acknowledged the
-    /// tag goes back, in the other states without a handle nothing changes, and in open and secured the rules of
-    /// [`TagWithHandle::heeding`] hold.
+    /// The tag where it heeds an access command with this number, which brings a half of a password or none; else what comes of the
+    /// command: in reply and acknowledged the tag goes back, in the other states without a handle nothing changes, and in open and
+    /// secured the rules of [`TagWithHandle::heeding`] hold.
     pub(crate) fn heeding(
         self,
         rn: u16,
-        follows: Follows,
+        brought: Option<Password>,
         out: &mut Bits,
     ) -> Result<TagWithHandle, Heard>
-        ensures ok { IfOk result (λ tag. (acts : Level → Held → BodyValue → Outcome) → in_access rn follows acts (tag_value_of self).state (tag_value_of self).body ≡ acts tag.level tag.held tag.body) }
-        ensures err { IfErr result (λ heard. (acts : Level → Held → BodyValue → Outcome) → GivesOutcome (in_access rn follows acts (tag_value_of self).state (tag_value_of self).body) heard out.old out.new) }
+        ensures ok { IfOk result (λ tag. (acts : Level → Held → BodyValue → Outcome) → in_access rn brought acts (tag_value_of self).state (tag_value_of self).body ≡ acts tag.level tag.held tag.body) }
+        ensures err { IfErr result (λ heard. (acts : Level → Held → BodyValue → Outcome) → GivesOutcome (in_access rn brought acts (tag_value_of self).state (tag_value_of self).body) heard out.old out.new) }
         ensures untouched { OnOk result (out.new ≡ out.old) }
     {
         match self {
@@ -147,12 +141,12 @@ impl AnyTag {
             AnyTag::Opened(Tag { state, body }) => {
                 let held = state.held;
                 let level = Level::Opened;
-                TagWithHandle { level, held, body }.heeding(rn, follows, out)
+                TagWithHandle { level, held, body }.heeding(rn, brought, out)
             }
             AnyTag::Secured(Tag { state, body }) => {
                 let held = state.held;
                 let level = Level::Secured;
-                TagWithHandle { level, held, body }.heeding(rn, follows, out)
+                TagWithHandle { level, held, body }.heeding(rn, brought, out)
             }
             AnyTag::Ready(tag) => Err(unanswered(AnyTag::Ready(tag), out)),
             AnyTag::Arbitrate(tag) => Err(unanswered(AnyTag::Arbitrate(tag), out)),

@@ -3,6 +3,7 @@ ghost use Rattle.std.specs.Prelude.{◌≡◌, ◌+◌};
 ghost use Rattle.tag_machine.specs.Draws.{tag_gone_back};
 
 use crate::abilities::InTurn;
+use crate::any_tag::AnyTag;
 use crate::states::Arbitrate;
 use crate::steps::Steps;
 use crate::tag::Tag;
@@ -14,9 +15,15 @@ impl<S: InTurn> Tag<S> {
         ensures step { result ≡ tag_gone_back self.state self.body }
         ensures counted { steps.new ≡ steps.old + 1 }
     {
-        steps.tick();
-        let Tag { state, body } = self;
-        let (session, q) = state.round();
-        body.back(session, q)
+        match self.one_step(steps) {
+            AnyTag::InReply(Tag { state, body }) => body.back(state.session, state.q),
+            AnyTag::Acknowledged(Tag { state, body }) => body.back(state.session, state.q),
+            AnyTag::Opened(Tag { state, body }) => body.back(state.held.session, state.held.q),
+            AnyTag::Secured(Tag { state, body }) => body.back(state.held.session, state.held.q),
+            AnyTag::Ready(Tag { state: _state, .. }) => unreachable!(),
+            AnyTag::Arbitrate(Tag { state: _state, .. }) => unreachable!(),
+            AnyTag::Killed(Tag { state: _state, .. }) => unreachable!(),
+            AnyTag::Unpowered(Tag { state: _state, .. }) => unreachable!(),
+        }
     }
 }

@@ -1,6 +1,6 @@
 use Rattle.std.proofs.Common.{refl}
-use Rattle.access_ops.proofs.Telling.{command-expects}
-use Rattle.access_ops.proofs.Legal.{legal-next, cover-off, whole-password}
+use Rattle.access_ops.proofs.OperationLaws.{command-expects}
+use Rattle.access_ops.proofs.LegalCommands.{legal-next, cover-off, whole-password}
 use Rattle.access_ops.proofs.laws.operation_commands.Goals as goal
 
 pub returns-clause-legal : goal.returns-clause-legal

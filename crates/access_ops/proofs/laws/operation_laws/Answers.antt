@@ -1,4 +1,4 @@
-use Rattle.access_ops.proofs.Telling.{commands-within, results-within, command-serves, last-result, whole-list, end-again, denied-each, denied-none, for-named}
+use Rattle.access_ops.proofs.OperationLaws.{commands-within, results-within, command-serves, last-result, whole-list, end-again, denied-each, denied-none, for-named}
 use Rattle.access_ops.proofs.laws.operation_laws.Goals as goal
 
 pub returns-clause-commands : goal.returns-clause-commands

@@ -1,4 +1,4 @@
-use Rattle.air_channel.proofs.Seating.{due_smaller}
+use Rattle.air_channel.proofs.SeatedTags.{due_smaller}
 use Rattle.air_channel.proofs.population.call_due.Goals as goal
 
 pub loop-number-smaller : goal.loop-number-smaller

@@ -1,5 +1,5 @@
 use Rattle.std.proofs.Common.{length, ◌-◌}
-use Rattle.air_channel.proofs.Seating.{DueSoFar}
+use Rattle.air_channel.proofs.SeatedTags.{DueSoFar}
 use Rattle.air_channel.specs.Seated.{called_in}
 use Rattle.air_channel.proofs.population.call_due.Given as goal
 

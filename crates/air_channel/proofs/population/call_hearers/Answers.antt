@@ -1,5 +1,5 @@
 use Rattle.std.proofs.Common.{arith}
-use Rattle.air_channel.proofs.Calling.{rep_calls, rep_called_for, rep_bound, called_counted}
+use Rattle.air_channel.proofs.QueryRepCalls.{rep_calls, rep_called_for, rep_bound, called_counted}
 use Rattle.air_channel.proofs.population.call_hearers.Goals as goal
 
 pub returns-clause-called : goal.returns-clause-called

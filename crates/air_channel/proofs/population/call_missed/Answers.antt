@@ -1,22 +1,11 @@
 use Rattle.std.proofs.Common.{ap, arith, length, ℕ, List}
-use Rattle.air_channel.proofs.Seating.{missed_all, missed_fits}
+use Rattle.air_channel.proofs.SeatedTags.{missed_all, missed_fits}
 use Rattle.air_channel.proofs.population.call_missed.Goals as goal
 
-pub overflow_cast-number : goal.overflow_cast-number
-overflow_cast-number g c =
-    omega (
-      arith,
-      missed_fits c.as_slice-number-items.result.now c.args.entry.now.missed c.loop-number.number-index (length c.args.seats.now) c.as_slice-number-items.ensures.value c.requires.missed
-          c.loop-number-test.true c.requires.few,
-    )
-
-pub overflow_cast-number-then-waits_in : goal.overflow_cast-number-then-waits_in
-overflow_cast-number-then-waits_in g c =
-    omega (
-      arith,
-      missed_fits c.as_slice-number-items.result.now c.args.entry.now.missed c.loop-number.number-index (length c.args.seats.now) c.as_slice-number-items.ensures.value c.requires.missed
-          c.loop-number-test.true c.requires.few,
-    )
+pub of-number-requires : goal.of-number-requires
+of-number-requires g c =
+    missed_fits c.as_slice-number-items.result.now c.args.entry.now.missed c.loop-number.number-index (length c.args.seats.now) c.as_slice-number-items.ensures.value c.requires.missed
+    c.loop-number-test.true c.requires.few
 
 pub returns-clause-called : goal.returns-clause-called
 returns-clause-called g c =

@@ -1,4 +1,4 @@
-use Rattle.air_channel.proofs.Seating.{MissedBelow}
+use Rattle.air_channel.proofs.SeatedTags.{MissedBelow}
 use Rattle.air_channel.proofs.population.call_missed.Given as goal
 
 abbrev pub invariant-loop-number : goal.invariant-loop-number

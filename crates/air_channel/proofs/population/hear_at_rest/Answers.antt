@@ -1,8 +1,8 @@
 use Rattle.std.proofs.Common.{◌∙◌, ap, subst, sym, arith, List}
 use Rattle.tag_machine.specs.Answers.{Outcome}
-use Rattle.air_channel.proofs.Calling.{none_called_for}
-use Rattle.air_channel.proofs.Seating.{called_most}
-use Rattle.air_channel.specs.Exchange.{replies_from, tags_after}
+use Rattle.air_channel.proofs.QueryRepCalls.{none_called_for}
+use Rattle.air_channel.proofs.SeatedTags.{called_most}
+use Rattle.air_model.specs.Exchange.{replies_from, tags_after}
 use Rattle.air_channel.specs.Kept.{RepliesStandFor}
 use Rattle.air_channel.specs.Seated.{AreCalledFor, tags_of}
 use Rattle.air_channel.proofs.population.hear_at_rest.Goals as goal

@@ -1,5 +1,5 @@
 use Rattle.std.proofs.Common.{◌≡◌, ◌+◌, length, arith}
-use Rattle.air_channel.proofs.Populations.{length-seated, seated_next, legal-append}
+use Rattle.air_channel.proofs.EventsOnTags.{length-seated, seated_next, legal-append}
 use Rattle.air_channel.proofs.population.seats_of.Goals as goal
 
 pub push_reserved-requires : goal.push_reserved-requires

@@ -1,6 +1,6 @@
 use Rattle.std.proofs.Common.{◌≡◌, ◌≤◌, ◌++◌, map, vec_len, vec_capacity}
 use Rattle.tag_machine.specs.Hearing.{tag_value_of}
-use Rattle.air_channel.specs.Air.{AreLegalTags}
+use Rattle.air_model.specs.Exchange.{AreLegalTags}
 use Rattle.air_channel.proofs.population.seats_of.Given as goal
 
 abbrev pub invariant-loop-tag : goal.invariant-loop-tag

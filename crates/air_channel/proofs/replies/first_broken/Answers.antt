@@ -1,4 +1,4 @@
-use Rattle.air_channel.proofs.Givings.{broken_some, broken_none}
+use Rattle.air_channel.proofs.GivenReplies.{broken_some, broken_none}
 use Rattle.air_channel.proofs.replies.first_broken.Goals as goal
 
 pub returns-then-count-eq0 : goal.returns-then-count-eq0

@@ -1,4 +1,4 @@
-use Rattle.air_channel.proofs.Givings.{picked_whole, picked_none}
+use Rattle.air_channel.proofs.GivenReplies.{picked_whole, picked_none}
 use Rattle.air_channel.proofs.replies.picked.Goals as goal
 
 pub returns-then-number-count : goal.returns-then-number-count

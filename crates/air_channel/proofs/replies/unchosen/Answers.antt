@@ -1,4 +1,4 @@
-use Rattle.air_channel.proofs.Givings.{default_none, default_one, default_broken, default_captured}
+use Rattle.air_channel.proofs.GivenReplies.{default_none, default_one, default_broken, default_captured}
 use Rattle.air_channel.proofs.replies.unchosen.Goals as goal
 
 pub returns-then-count-eq0 : goal.returns-then-count-eq0

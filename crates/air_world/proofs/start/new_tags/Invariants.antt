@@ -1,5 +1,5 @@
 use Rattle.std.proofs.Common.{◌≡◌, ◌≤◌, map, take, length, vec_len, vec_capacity}
-use Rattle.air_world.specs.ScenarioStart.{tag_of}
+use Rattle.runs.specs.ScenarioStart.{tag_of}
 use Rattle.tag_machine.specs.Hearing.{tag_value_of}
 use Rattle.air_world.proofs.start.new_tags.Given as goal
 

@@ -1,4 +1,4 @@
 use Rattle.air_world.proofs.summary.summarise.Given as goal
 
-abbrev pub ghosts-count_run : goal.ghosts-count_run
-ghosts-count_run a = record { name = a.blank.name; parts = a.blank.parts }
+abbrev pub ghosts-tell_run : goal.ghosts-tell_run
+ghosts-tell_run a = record { name = a.blank.name; parts = a.blank.parts }

@@ -1,5 +1,5 @@
 use Rattle.command_grammar.specs.Commands.{Spellings}
-use Rattle.command_grammar.proofs.Lengths.{length-spelling_of}
+use Rattle.command_grammar.proofs.SpellingLengths.{length-spelling_of}
 use Rattle.command_grammar.proofs.SpellingLaws.{one_command, none_behind, one_place, not_begun, not_spelled, some_answer}
 use Rattle.std.proofs.Common.{ap, length, List, Bool, arith}
 use Rattle.command_grammar.proofs.laws.spelling_laws.Goals as goal

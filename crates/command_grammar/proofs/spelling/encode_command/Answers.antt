@@ -1,6 +1,6 @@
 use Rattle.std.proofs.Common.{◌≡◌, List, Bool, length, ap, arith}
 use Rattle.command_grammar.specs.Commands.{spelling_of}
-use Rattle.command_grammar.proofs.Lengths.{length-spelling_of}
+use Rattle.command_grammar.proofs.SpellingLengths.{length-spelling_of}
 use Rattle.command_grammar.proofs.spelling.encode_command.Goals as goal
 
 pub returns-clause-count : goal.returns-clause-count

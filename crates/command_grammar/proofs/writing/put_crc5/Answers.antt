@@ -1,8 +1,8 @@
 use Rattle.std.proofs.Common.{◌++◌, ◌∙◌, ap, List, Bool, arith}
 use Rattle.bit_strings.specs.Numbers.{value_of}
 use Rattle.gen2_crc.specs.Crc.{crc5_of}
-use Rattle.gen2_crc.specs.CrcLaws.{crc5_of-below}
-use Rattle.command_grammar.proofs.CheckLaws.{crc5-field}
+use Rattle.gen2_crc.specs.laws.CheckNumbers.{crc5_of-below}
+use Rattle.command_grammar.proofs.CheckNumbers.{crc5-field}
 use Rattle.command_grammar.proofs.writing.put_crc5.Goals as goal
 
 pub returns-clause-items : goal.returns-clause-items

@@ -1,5 +1,5 @@
 use Rattle.std.proofs.Common.{arith}
-use Rattle.command_grammar.proofs.WordLaws.{are_words}
+use Rattle.command_grammar.proofs.reading.WordFields.{are_words}
 use Rattle.command_grammar.proofs.writing.put_words.Goals as goal
 
 pub returns-clause-words : goal.returns-clause-words

@@ -3,8 +3,7 @@ use Rattle.std.proofs.Common.{arith}
 use Rattle.std.proofs.lemmas.Bool.Decides.{nat_tests}
 use Rattle.epc_sgtin.proofs.UriReading.{serial_short, serial_digits, serial_number, own_width}
 use Rattle.epc_sgtin.proofs.tag_uri.serial_of.Goals as goal
-use Rattle.epc_sgtin.proofs.tag_uri.serial_of.Goals.{then-is_empty-via-then-is_empty, then-is_empty-via-else-is_empty+then-part-gt-MOST_DIGITS}
-use Rattle.epc_sgtin.proofs.tag_uri.serial_of.Goals.{else-serial-lt-SERIALS-via-then-serial-lt-SERIALS+else-digit_count-part, else-serial-lt-SERIALS-via-else-serial-lt-SERIALS}
+use Rattle.epc_sgtin.proofs.tag_uri.serial_of.Goals.{then-is_empty-via-then-is_empty, then-is_empty-via-else-is_empty+then-part-gt-MOST_DIGITS, else-serial-lt-SERIALS-via-then-serial-lt-SERIALS+else-digit_count-part, else-serial-lt-SERIALS-via-else-serial-lt-SERIALS}
 
 pub returns-then-is_empty-clause-none : goal.returns-then-is_empty-clause-none
 returns-then-is_empty-clause-none c = λ is.

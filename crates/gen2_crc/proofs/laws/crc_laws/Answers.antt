@@ -1,4 +1,4 @@
-use Rattle.gen2_crc.specs.CrcLaws.{length-crc5_of, length-crc16_of, field_of-crc16, field_of-crc5}
+use Rattle.gen2_crc.specs.laws.CheckNumbers.{length-crc5_of, length-crc16_of, field_of-crc16, field_of-crc5}
 use Rattle.gen2_crc.proofs.laws.crc_laws.Goals as goal
 
 pub returns : goal.returns

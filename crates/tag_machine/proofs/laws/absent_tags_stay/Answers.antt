@@ -1,4 +1,4 @@
-use Rattle.tag_machine.proofs.Absent.{absent}
+use Rattle.tag_machine.proofs.AbsentTags.{absent}
 use Rattle.tag_machine.proofs.laws.absent_tags_stay.Goals as goal
 
 pub returns : goal.returns

@@ -1,4 +1,4 @@
-use Rattle.tag_machine.proofs.InRange.{sent_answers, sent_is_expected}
+use Rattle.tag_machine.proofs.ReplyRanges.{sent_answers, sent_is_expected}
 use Rattle.tag_machine.proofs.laws.answers_are_expected.Goals as goal
 
 pub returns-clause-some : goal.returns-clause-some

@@ -1,6 +1,6 @@
-use Rattle.tag_machine.proofs.AnswerLaws.{answers_as}
-use Rattle.tag_machine.proofs.Replies.{sent_fits}
-use Rattle.tag_machine.proofs.Expected.{sent_expected}
+use Rattle.tag_machine.proofs.PreamblesAndErrors.{answers_as}
+use Rattle.tag_machine.proofs.SentReplies.{sent_fits}
+use Rattle.tag_machine.proofs.ExpectedReplies.{sent_expected}
 use Rattle.tag_machine.proofs.laws.answers_are_replies.Goals as goal
 
 pub returns-clause-reply : goal.returns-clause-reply

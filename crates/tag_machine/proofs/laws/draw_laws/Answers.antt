@@ -1,4 +1,4 @@
-use Rattle.tag_machine.proofs.Places.{word_is, after_is}
+use Rattle.tag_machine.proofs.DrawPlaces.{word_is, after_is}
 use Rattle.tag_machine.proofs.StepDraws.{step_draws}
 use Rattle.tag_machine.proofs.laws.draw_laws.Goals as goal
 
@@ -9,7 +9,7 @@ pub returns-clause-after : goal.returns-clause-after
 returns-clause-after c = λ draws body inside. after_is draws body inside
 
 pub returns-clause-place : goal.returns-clause-place
-returns-clause-place c = λ command state body. (step_draws command state body).place
+returns-clause-place c = λ command state body. (step_draws command state body).next_draw
 
 pub returns-clause-words : goal.returns-clause-words
 returns-clause-words c = λ command state body. (step_draws command state body).words

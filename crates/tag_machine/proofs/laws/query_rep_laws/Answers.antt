@@ -1,4 +1,4 @@
-use Rattle.tag_machine.proofs.Waiting.{waits, answers_in_slot, silent_beyond, other_rep, other_adjust}
+use Rattle.tag_machine.proofs.QueryRepLaws.{waits, answers_in_slot, silent_beyond, other_rep, other_adjust}
 use Rattle.tag_machine.proofs.laws.query_rep_laws.Goals as goal
 
 pub returns-clause-waits : goal.returns-clause-waits

@@ -1,4 +1,4 @@
-use Rattle.tag_machine.proofs.KeepsLegal.{step_keeps, event_keeps}
+use Rattle.tag_machine.proofs.LegalSteps.{step_keeps, event_keeps}
 use Rattle.tag_machine.proofs.laws.steps_keep_tags_legal.Goals as goal
 
 pub returns-clause-heard : goal.returns-clause-heard

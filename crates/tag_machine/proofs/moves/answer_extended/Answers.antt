@@ -1,5 +1,5 @@
 use Rattle.std.proofs.Common.{refl}
-use Rattle.tag_machine.proofs.InRange.{is_reply}
+use Rattle.tag_machine.proofs.ReplyRanges.{is_reply}
 use Rattle.tag_machine.proofs.moves.answer_extended.Goals as goal
 
 pub returns : goal.returns

@@ -1,5 +1,5 @@
 use Rattle.std.proofs.Common.{◌-◌, arith}
-use Rattle.tag_memory.proofs.Pushing.{one_taken, all_taken}
+use Rattle.tag_memory.proofs.WordBits.{one_taken, all_taken}
 use Rattle.tag_memory.proofs.memory.push_word.Goals as goal
 
 pub loop-places-preserved : goal.loop-places-preserved

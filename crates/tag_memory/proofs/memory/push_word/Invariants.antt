@@ -1,4 +1,4 @@
-use Rattle.tag_memory.proofs.Pushing.{TakenIn}
+use Rattle.tag_memory.proofs.WordBits.{TakenIn}
 use Rattle.tag_memory.proofs.memory.push_word.Given as goal
 
 abbrev pub invariant-loop-places : goal.invariant-loop-places

@@ -1,4 +1,4 @@
-use Rattle.access_ops.proofs.Doing.{does-access, does-kill}
+use Rattle.access_ops.proofs.NextOperation.{does-access, does-kill}
 use Rattle.access_ops.proofs.op_run.OpRun.begin_operation.Goals as goal
 
 pub returns-in-Access-clause-does : goal.returns-in-Access-clause-does

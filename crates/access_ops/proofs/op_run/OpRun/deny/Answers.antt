@@ -1,6 +1,6 @@
 use Rattle.std.proofs.Common.{◌∙◌, ap, arith}
-use Rattle.access_ops.specs.Standing.{OpRunValue}
-use Rattle.access_ops.proofs.Doing.{does-deny}
+use Rattle.access_ops.specs.OpRunValue.{OpRunValue}
+use Rattle.access_ops.proofs.NextOperation.{does-deny}
 use Rattle.access_ops.proofs.op_run.OpRun.deny.Goals as goal
 
 pub returns-clause-does : goal.returns-clause-does

@@ -1,6 +1,6 @@
 use Rattle.std.proofs.Common.{◌∙◌, ap, sym}
-use Rattle.access_ops.specs.Standing.{OpRunValue}
-use Rattle.access_ops.proofs.Doing.{next-behind-last}
+use Rattle.access_ops.specs.OpRunValue.{OpRunValue}
+use Rattle.access_ops.proofs.NextOperation.{next-behind-last}
 use Rattle.access_ops.proofs.op_run.OpRun.next.Goals as goal
 
 pub returns-in-Last-clause-next : goal.returns-in-Last-clause-next

@@ -1,6 +1,6 @@
 use Rattle.std.proofs.Common.{ap, arith}
-use Rattle.access_ops.specs.Standing.{OpRunValue}
-use Rattle.access_ops.proofs.Doing.{does-open}
+use Rattle.access_ops.specs.OpRunValue.{OpRunValue}
+use Rattle.access_ops.proofs.NextOperation.{does-open}
 use Rattle.access_ops.proofs.op_run.OpRun.open.Goals as goal
 
 pub returns-clause-does : goal.returns-clause-does

@@ -1,5 +1,5 @@
 use Rattle.std.proofs.Common.{refl, arith}
-use Rattle.air_channel.proofs.Populations.{befallen_next, befallen_all, length-tags_after_event}
+use Rattle.air_channel.proofs.EventsOnTags.{befallen_next, befallen_all, length-tags_after_event}
 use Rattle.air_channel.proofs.population.Population.befall_all.Goals as goal
 
 pub befall-requires : goal.befall-requires

@@ -1,13 +1,13 @@
 use Rattle.std.proofs.Common.{ap, arith, length, List}
 use Rattle.tag_machine.specs.TagValue.{TagValue}
-use Rattle.air_channel.proofs.Heard.{legal_tags}
-use Rattle.air_channel.proofs.Resting.{refilled}
-use Rattle.air_channel.proofs.Seating.{length-tags_of}
+use Rattle.air_channel.proofs.HeardByCalled.{legal_tags}
+use Rattle.air_channel.proofs.TagsAtRest.{refilled}
+use Rattle.air_channel.proofs.SeatedTags.{length-tags_of}
 use Rattle.air_channel.proofs.population.Population.hear.Goals as goal
 
 pub returns-clause-counted : goal.returns-clause-counted
 returns-clause-counted g c =
-    rw (← c.self.view_is, length-tags_of c.self.inside.waiting c.self.inside.seats.items c.self.invariant.whole)
+    rw (← c.self.view_is, length-tags_of c.self.inside.waiting c.self.inside.seats.items c.self.invariant.0.whole)
     (omega (arith, c.hear_at_rest.ensures.counted, ap (λ (l : List TagValue). length l) c.as_mut_slice.ensures.value))
 
 pub returns-clause-legal : goal.returns-clause-legal

@@ -1,38 +1,38 @@
 use Rattle.std.proofs.Common.{sym, ◌∙◌, refl, arith}
-use Rattle.air_channel.proofs.Resting.{WrittenBack, back_kept, back_rest, back_lent, back_steps}
-use Rattle.air_channel.proofs.Seating.{length-tags_of}
-use Rattle.air_channel.specs.Waiting.{standing_at}
+use Rattle.air_channel.proofs.TagsAtRest.{WrittenBack, back_kept, back_rest, back_lent, back_steps}
+use Rattle.air_channel.proofs.SeatedTags.{length-tags_of}
+use Rattle.air_channel.specs.Waiting.{participation_at}
 use Rattle.air_channel.proofs.population.Population.tag.Goals as goal
 
 pub invariant_of-self : goal.invariant_of-self
 invariant_of-self g c =
-    let back : WrittenBack c.self.inside.waiting c.self.inside.seats.items c.as_mut_slice.result.now c.write_back.new.seats c.args.number c.self.inside.seats.len = record {
-      rest = c.self.invariant;
-      within = rw (← length-tags_of c.self.inside.waiting c.self.inside.seats.items c.self.invariant.whole, c.self.view_is) c.requires;
-      slice_is = c.as_mut_slice.ensures.value;
+    let back : WrittenBack c.self.inside.waiting c.self.inside.seats.items c.as_mut_slice-seats.result.now c.write_back.new.seats c.of-number.result c.self.inside.seats.len = record {
+      rest = c.self.invariant.0;
+      within = rw (c.of-number.ensures, ← length-tags_of c.self.inside.waiting c.self.inside.seats.items c.self.invariant.0.whole, c.self.view_is) c.requires;
+      slice_is = c.as_mut_slice-seats.ensures.value;
       new_is = c.write_back.ensures.seats;
       legal = c.write_back.ensures.legal;
       len_is = sym c.self.inside.seats.ok.0;
     } in
-    back_rest c.self.inside.waiting c.self.inside.seats.items c.as_mut_slice.result.now c.write_back.new.seats c.args.number c.self.inside.seats.len back
+    (back_rest c.self.inside.waiting c.self.inside.seats.items c.as_mut_slice-seats.result.now c.write_back.new.seats c.of-number.result c.self.inside.seats.len back, c.self.invariant.1)
 
 pub returns : goal.returns
 returns g c =
-    let back : WrittenBack c.self.inside.waiting c.self.inside.seats.items c.as_mut_slice.result.now c.write_back.new.seats c.args.number c.self.inside.seats.len = record {
-      rest = c.self.invariant;
-      within = rw (← length-tags_of c.self.inside.waiting c.self.inside.seats.items c.self.invariant.whole, c.self.view_is) c.requires;
-      slice_is = c.as_mut_slice.ensures.value;
+    let back : WrittenBack c.self.inside.waiting c.self.inside.seats.items c.as_mut_slice-seats.result.now c.write_back.new.seats c.of-number.result c.self.inside.seats.len = record {
+      rest = c.self.invariant.0;
+      within = rw (c.of-number.ensures, ← length-tags_of c.self.inside.waiting c.self.inside.seats.items c.self.invariant.0.whole, c.self.view_is) c.requires;
+      slice_is = c.as_mut_slice-seats.ensures.value;
       new_is = c.write_back.ensures.seats;
       legal = c.write_back.ensures.legal;
       len_is = sym c.self.inside.seats.ok.0;
     } in (
-      (refl, λ population. tt, back_kept c.self.inside.waiting c.self.inside.seats.items c.as_mut_slice.result.now c.write_back.new.seats c.args.number c.self.inside.seats.len back ∙ c.self.view_is),
+      (refl, λ population. tt, back_kept c.self.inside.waiting c.self.inside.seats.items c.as_mut_slice-seats.result.now c.write_back.new.seats c.of-number.result c.self.inside.seats.len back ∙ c.self.view_is),
       record {
         same = tt;
         value =
-            rw (← c.self.view_is, c.tag.ensures.value)
-            (back_lent c.self.inside.waiting c.self.inside.seats.items c.as_mut_slice.result.now c.write_back.new.seats c.args.number c.self.inside.seats.len c.index.result.now c.index.result.now back c.index.ensures);
+            rw (← c.self.view_is, c.tag.ensures.value, ← c.of-number.ensures)
+            (back_lent c.self.inside.waiting c.self.inside.seats.items c.as_mut_slice-seats.result.now c.write_back.new.seats c.of-number.result c.self.inside.seats.len c.index.result.now c.index.result.now back (rw (← c.index-at.ensures.value) c.index.ensures));
         legal = rw c.tag.ensures.value c.tag.ensures.legal;
-        counted = omega (arith, c.write_back.ensures.counted, back_steps (standing_at c.self.inside.waiting c.args.number));
+        counted = omega (arith, c.write_back.ensures.counted, back_steps (participation_at c.self.inside.waiting c.of-number.result));
       },
     )

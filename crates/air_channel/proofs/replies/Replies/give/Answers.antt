@@ -1,9 +1,9 @@
 use Rattle.std.proofs.Common.{◌≡◌, ◌%◌, Bool, List, length, sym, ap, ◌∙◌, arith, length-set}
 use Rattle.bit_strings.specs.BitString.{BitString}
 use Rattle.line_code.specs.Laws.{with_level_flipped}
-use Rattle.air_channel.specs.Channel.{got_of, heard_levels}
+use Rattle.air_model.specs.Channel.{got_of, heard_levels}
 use Rattle.air_channel.specs.Kept.{kept_levels}
-use Rattle.air_channel.proofs.Givings.{whole_short, broken_short, heard_whole, heard_broken}
+use Rattle.air_channel.proofs.GivenReplies.{whole_short, broken_short, heard_whole, heard_broken}
 use Rattle.air_channel.proofs.replies.Replies.give.Goals as goal
 
 pub encode-requires-clause-short : goal.encode-requires-clause-short

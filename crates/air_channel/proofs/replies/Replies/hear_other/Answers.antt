@@ -1,5 +1,5 @@
 use Rattle.std.proofs.Common.{◌+◌, ap, ◌∙◌}
-use Rattle.air_channel.proofs.Keeping.{stands_other}
+use Rattle.air_channel.proofs.RepliesKept.{stands_other}
 use Rattle.air_channel.proofs.replies.Replies.hear_other.Goals as goal
 
 pub returns-clause-stands : goal.returns-clause-stands

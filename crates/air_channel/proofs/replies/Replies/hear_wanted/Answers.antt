@@ -1,6 +1,6 @@
 use Rattle.std.proofs.Common.{◌+◌, ap, ◌∙◌}
 use Rattle.tag_machine.specs.Hearing.{mark_of}
-use Rattle.air_channel.proofs.Keeping.{stands_wanted}
+use Rattle.air_channel.proofs.RepliesKept.{stands_wanted}
 use Rattle.air_channel.proofs.replies.Replies.hear_wanted.Goals as goal
 
 pub returns-clause-stands : goal.returns-clause-stands

@@ -1,5 +1,5 @@
 use Rattle.std.proofs.Common.{refl}
-use Rattle.air_channel.proofs.Slots.{map-none}
+use Rattle.air_channel.proofs.SlotPlaces.{map-none}
 use Rattle.air_channel.proofs.waiting.Waiting.new.Goals as goal
 
 pub returns : goal.returns

@@ -1,5 +1,5 @@
 use Rattle.std.proofs.Common.{arith}
-use Rattle.air_channel.proofs.Links.{new_linked}
+use Rattle.air_channel.proofs.WheelLinks.{new_linked}
 use Rattle.air_channel.proofs.wheel.Wheel.new.Goals as goal
 
 pub invariant_of-result : goal.invariant_of-result

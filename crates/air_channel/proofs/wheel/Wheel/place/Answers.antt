@@ -1,7 +1,7 @@
-use Rattle.air_channel.proofs.Links.{place_inside}
+use Rattle.air_channel.proofs.WheelLinks.{place_inside}
 use Rattle.air_channel.proofs.wheel.Wheel.place.Goals as goal
 
 pub returns-clause-range : goal.returns-clause-range
 returns-clause-range c = λ place is.
-    place_inside c.self.inside.places.items c.self.inside.links.items c.self.inside.backs.items c.args.number place c.index.result.now c.self.invariant (rw c.self.view_is c.requires)
-    c.index.ensures is
+    place_inside c.self.inside.places.items c.self.inside.links.items c.self.inside.backs.items c.index-at.result place c.index.result.now c.self.invariant
+    (rw (c.self.view_is, c.index-at.ensures.value) c.requires) c.index.ensures is

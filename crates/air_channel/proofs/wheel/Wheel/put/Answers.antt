@@ -1,11 +1,13 @@
 use Rattle.std.proofs.Common.{Some, ◌∙◌}
-use Rattle.air_channel.proofs.Links.{put_on, put_again}
+use Rattle.air_channel.proofs.WheelLinks.{put_on, put_again}
 use Rattle.air_channel.proofs.wheel.Wheel.put.Goals as goal
 
 pub invariant_of-self : goal.invariant_of-self
 invariant_of-self c =
-    put_on c.args.self.now c.self.inside.places.items c.self.inside.links.items c.self.inside.backs.items c.args.number c.args.place c.index-first.result.now (c.self.view_is ∙ c.take.ensures)
-    c.requires.number c.self.invariant c.requires.place c.index-first.ensures
+    rw (c.index-at.ensures.value, c.get.ensures.value, c.from.ensures)
+    (put_on c.args.self.now c.self.inside.places.items c.self.inside.links.items c.self.inside.backs.items c.args.number c.args.place c.index-first.result.now
+    (c.self.view_is ∙ c.take.ensures) c.requires.number c.self.invariant c.requires.place c.index-first.ensures)
 
 pub returns : goal.returns
-returns c = put_again c.args.self.now c.self.inside.places.items c.args.number (Some c.args.place) (c.self.view_is ∙ c.take.ensures)
+returns c =
+    rw c.index-at.ensures.value (put_again c.args.self.now c.self.inside.places.items c.args.number (Some c.args.place) (c.self.view_is ∙ c.take.ensures))

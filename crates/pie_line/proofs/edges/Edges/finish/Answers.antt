@@ -1,5 +1,5 @@
 use Rattle.pie_line.proofs.Leads.{leads-unfinished}
-use Rattle.pie_line.proofs.Standings.{stands-at}
+use Rattle.pie_line.proofs.DecoderStandsFor.{stands-at}
 use Rattle.pie_line.proofs.edges.Edges.finish.Goals as goal
 
 pub returns-in-None : goal.returns-in-None

@@ -1,7 +1,7 @@
 use Rattle.std.proofs.Common.{refl, subst}
 use Rattle.pie_line.specs.FrameState.{Moves}
 use Rattle.pie_line.proofs.Leads.{leads-refused}
-use Rattle.pie_line.proofs.Standings.{stands-at, refused-again, answers-bit, answers-more}
+use Rattle.pie_line.proofs.DecoderStandsFor.{stands-at, refused-again, answers-bit, answers-more}
 use Rattle.pie_line.proofs.edges.Edges.push.Goals as goal
 use Rattle.pie_line.proofs.edges.Edges.push.Goals.{in-Some-bit, in-None}
 

@@ -1,6 +1,6 @@
 use Rattle.std.proofs.Common.{◌∙◌, ap, sym}
-use Rattle.q_round.specs.Standing.{frame_after_outcome}
-use Rattle.q_round.proofs.Turns.{stands-limit, stands-adjust, stands-rep}
+use Rattle.q_round.specs.RoundValue.{frame_after_outcome}
+use Rattle.q_round.proofs.RoundAnswers.{stands-limit, stands-adjust, stands-rep}
 use Rattle.q_round.proofs.round.Round.next.Goals as goal
 
 pub returns-then-self-limit-clause-answer : goal.returns-then-self-limit-clause-answer

@@ -2,9 +2,9 @@ use Rattle.std.proofs.Common.{◌∙◌, ap}
 use Rattle.tag_machine.specs.TagValue.{TagValue}
 use Rattle.tag_machine.specs.Answers.{Outcome}
 use Rattle.tag_machine.specs.Hearing.{tag_value_of, mark_of}
-use Rattle.tag_machine.proofs.Absent.{absent}
-use Rattle.tag_machine.proofs.AnswerLaws.{answers_as, marked}
-use Rattle.tag_machine.proofs.Isolated.{isolated}
+use Rattle.tag_machine.proofs.AbsentTags.{absent}
+use Rattle.tag_machine.proofs.PreamblesAndErrors.{answers_as, marked}
+use Rattle.tag_machine.proofs.SessionIsolation.{isolated}
 use Rattle.tag_machine.proofs.any_tag.AnyTag.hear.Goals as goal
 
 pub returns-clause-isolated : goal.returns-clause-isolated

@@ -1,0 +1,3 @@
+pub mod OperationLaws
+pub mod DialogueLaws
+pub mod Running

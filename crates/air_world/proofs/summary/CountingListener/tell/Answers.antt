@@ -1,0 +1,44 @@
+use Rattle.std.proofs.Common.{◌≡◌, ◌+◌, ◌-◌, ◌^◌, ◌&&◌, ◌∙◌, ap, arith}
+use Rattle.std.specs.Prelude.{min}
+use Rattle.air_world.proofs.Counted.{other-line}
+use Rattle.air_world.specs.Counting.{Fits, counted_line}
+use Rattle.air_world.specs.CountingLaws.{counts-more}
+use Rattle.report_lines.specs.Line.{line_of}
+use Rattle.report_lines.specs.ReportLine.{ListLine, RoundLine, SeenLine, TagLine}
+use Rattle.runs.specs.Summary.{is_quiet}
+use Rattle.tag_machine.specs.Hearing.{tag_value_of}
+use Rattle.air_world.proofs.summary.CountingListener.tell.Goals as goal
+
+pub returns-in-List : goal.returns-in-List
+returns-in-List c = λ first lines counts.
+    counts-more lines first.summary c.args.self.now.summary _ (line_of c.args.line.now) counts
+    (rw c.in-List.is (λ (fits : Fits (counted_line c.args.self.now.summary (ListLine c.in-List.round c.in-List.slot c.in-List.pc c.in-List.epc.now))).
+    let more : c.saturating_add-counted.result ≡ c.args.self.now.summary.listed + 1 = omega (arith, c.saturating_add-counted.ensures, fits.listed) in
+    ap (λ n. record c.args.self.now.summary { listed = n }) more))
+
+pub returns-in-Round : goal.returns-in-Round
+returns-in-Round c = λ first lines counts.
+    counts-more lines first.summary c.args.self.now.summary _ (line_of c.args.line.now) counts
+    (rw c.in-Round.is (λ (fits : Fits (counted_line c.args.self.now.summary (RoundLine c.in-Round.round c.in-Round.end c.in-Round.slots))).
+    let counted = c.args.self.now.summary in
+    let room : min (counted.slots + c.in-Round.slots) (2 ^ 64 - 1) ≡ counted.slots + c.in-Round.slots = omega (arith, fits.slots) in
+    c.count_round.ensures ∙ ap (λ n. record counted { slots = n; quiet = counted.quiet && is_quiet c.in-Round.end }) room))
+
+pub returns-in-Seen : goal.returns-in-Seen
+returns-in-Seen c = λ first lines counts.
+    counts-more lines first.summary c.args.self.now.summary _ (line_of c.args.line.now) counts
+    (rw c.in-Seen.is (λ (fits : Fits (counted_line c.args.self.now.summary (SeenLine c.in-Seen.count c.in-Seen.pc c.in-Seen.epc.now))).
+    let more : c.saturating_add-counted-in-Seen.result ≡ c.args.self.now.summary.distinct + 1 = omega (arith, c.saturating_add-counted-in-Seen.ensures, fits.distinct) in
+    ap (λ n. record c.args.self.now.summary { distinct = n }) more))
+
+pub returns-in-Tag : goal.returns-in-Tag
+returns-in-Tag c = λ first lines counts.
+    counts-more lines first.summary c.args.self.now.summary _ (line_of c.args.line.now) counts
+    (rw c.in-Tag.is (λ (fits : Fits (counted_line c.args.self.now.summary (TagLine c.in-Tag.number (tag_value_of c.in-Tag.tag.now)))).
+    let more : c.saturating_add-counted-in-Tag.result ≡ c.args.self.now.summary.tags + 1 = omega (arith, c.saturating_add-counted-in-Tag.ensures, fits.tags) in
+    ap (λ n. record c.args.self.now.summary { tags = n }) more))
+
+pub returns-in_default : goal.returns-in_default
+returns-in_default c = λ first lines counts.
+    counts-more lines first.summary c.args.self.now.summary c.args.self.now.summary (line_of c.args.line.now) counts
+    (λ fits. other-line c.args.self.now.summary c.args.line.now c.in_default.not-List c.in_default.not-Round c.in_default.not-Seen c.in_default.not-Tag)

@@ -1,0 +1,49 @@
+-- Profile: what a run tells, and who has heard it.
+use Rattle.std.specs.Prelude.{◌≡◌, ◌⊎◌, List, [], ◌++◌, Option, Some, None, Result, Ok, Err}
+use Rattle.air_channel.specs.Air.{AirValue}
+use Rattle.air_model.specs.Past.{Start, Record, Item, exchanges_in, tags_behind}
+use Rattle.report_lines.specs.ReportLine.{ReportLine}
+use Rattle.report_lines.specs.declared.mode.Mode.TheVariants.{Trace}
+use Rattle.report_lines.specs.declared.mode.PlayFault.{PlayFault}
+use Rattle.report_lines.specs.declared.mode.PlayFault.TheVariants.{OutOfMemory}
+use Rattle.runs.specs.Report.{past_lines, trace_lines, report_of}
+use Rattle.runs.specs.ScenarioStart.{start_of, history}
+use Rattle.scenario.specs.declared.values.Scenario.{Scenario}
+use Rattle.scenario.specs.declared.values.Step.{Step}
+
+-- A run tells all that a trace has. What of it stays untold by a listener is the listener's choice.
+abbrev pub lines_behind : Start → List Item → List ReportLine
+lines_behind start past = past_lines Trace start.link past
+
+-- ... of an exchange, before what it lists
+abbrev pub exchange_lines : Start → Record → List ReportLine
+exchange_lines start sent = trace_lines Trace start.link sent
+
+-- ... and in all
+abbrev pub lines_of_run : Start → List Step → List ReportLine
+lines_of_run start steps = report_of Trace start steps
+
+-- who had heard the lines before has heard these when the listener has become the new one
+pub record Passes {A : Type 0} (hears : A → List ReportLine → A → Type 0) (before : List ReportLine) (old new : A) (after : List ReportLine) : Type 0 where
+  pub on : (first : A) → hears first before old → hears first after new
+
+-- A run was cut off: a front of these lines was told. The fault is the first of the listener, or there was no memory.
+pub record IsCutOff {A : Type 0} (hears : A → List ReportLine → A → Type 0) (failed : A → Option PlayFault) (before : List ReportLine) (old new : A)
+    (whole : List ReportLine) (fault : PlayFault) : Type 0 where
+  pub front : List ReportLine
+  pub rest : List ReportLine
+  pub split : whole ≡ front ++ rest
+  pub passes : Passes hears before old new front
+  pub cause : (failed new ≡ Some fault) ⊎ (fault ≡ OutOfMemory)
+
+-- this holds at an end, and that of the fault where it was cut off
+abbrev pub Ends : {T : Type 0} → Result T PlayFault → Type 0 → (PlayFault → Type 0) → Type 0
+Ends (Ok done) Whole CutOff = Whole
+Ends (Err fault) Whole CutOff = CutOff fault
+
+-- A run was told whole, and its air is what the history made of it.
+pub record IsPlayed {A : Type 0} (hears : A → List ReportLine → A → Type 0) (failed : A → Option PlayFault) (scenario : Scenario) (old new : A) (air : AirValue) : Type 0 where
+  pub passes : Passes hears [] old new (lines_of_run (start_of scenario) scenario.steps)
+  pub faultless : failed new ≡ None
+  pub tags : air.tags ≡ tags_behind (start_of scenario) (history scenario)
+  pub exchanges : air.exchanges ≡ exchanges_in (history scenario)

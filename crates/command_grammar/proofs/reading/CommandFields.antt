@@ -1,0 +1,214 @@
+-- The commands one by one: the fields of each are read in order, and each is read again.
+use Rattle.std.proofs.Common.{◌≡◌, ℕ, zero, suc, ◌^◌, ◌<◌, ◌≤◌, Bool, false, List, [], ◌∷◌, ◌++◌, length, Ok, refl, sym, ap, subst, arith}
+use Rattle.std.specs.Prelude.{Option, Some, None, ◌==◌}
+use Rattle.std.specs.List.{AllByRecursion}
+use Rattle.std.proofs.lemmas.Bool.Decides.{nat_tests}
+use Rattle.bit_strings.specs.Numbers.{field_of}
+use Rattle.bit_strings.specs.NumberLaws.{length-field_of}
+use Rattle.bit_strings.specs.Ebv.{ebv_of}
+use Rattle.bit_strings.specs.Words.{bits_of_words}
+use Rattle.command_grammar.specs.declared.commands.Command.{Command}
+use Rattle.command_grammar.specs.declared.commands.Command.TheVariants as commands
+use Rattle.command_grammar.specs.declared.kinds.CommandKind.{CommandKind}
+use Rattle.command_grammar.specs.declared.kinds.CommandKind.TheVariants as kinds
+use Rattle.command_grammar.specs.declared.refusal.Reason.{Reason}
+use Rattle.command_grammar.specs.declared.refusal.Reason.TheVariants as reasons
+use Rattle.command_grammar.specs.declared.field_values.UpDn.TheVariants as updns
+use Rattle.command_grammar.specs.declared.field_values.Sel.TheVariants as sels
+use Rattle.command_grammar.specs.declared.field_values.Side.TheVariants as side
+use Rattle.command_grammar.specs.declared.field_values.Bank.TheVariants as banks
+use Rattle.command_grammar.specs.declared.field_values.MaskBank.TheVariants as mask_banks
+use Rattle.command_grammar.specs.declared.field_values.FlagName.TheVariants as flags
+use Rattle.bit_strings.specs.declared.code.Code.TheVariants as lines_of
+use Rattle.command_grammar.specs.Commands.{Part, code_field, code_of, plain_field, named_field, with_crc16, IsWord, bits_of_m, bits_of_sel, bits_of_query_target, bits_of_updn, bits_of_select_target, bits_of_mask_bank, bits_of_bank}
+use Rattle.command_grammar.specs.reading.Readers.{Reading, ◌>>=◌, bit_at, bits_at, field_at, choice_at, count_at, words_at, ebv_at, exactly_at, m_values, sel_values, query_target_values, updn_values, select_target_values, mask_bank_values, bank_values, kind_values, query_rep_at, ack_at, query_at, query_adjust_at, select_at, req_rn_at, read_at, write_at, kill_at, lock_at, access_at, block_write_at, block_erase_at, fields_at}
+use Rattle.command_grammar.proofs.reading.Readers.{Reads}
+use Rattle.command_grammar.proofs.reading.ExactFields.{reads_exactly}
+use Rattle.command_grammar.proofs.reading.NumberFields.{IsNumber, reads_bit, reads_bits, reads_field, reads_count}
+use Rattle.command_grammar.proofs.reading.WordFields.{AreWords, reads_words, some_words}
+use Rattle.command_grammar.proofs.reading.EbvFields.{IsPointer, reads_ebv}
+use Rattle.command_grammar.proofs.reading.NamedFields.{reads_kind, reads_m, reads_sel, reads_query_target, reads_updn, reads_select_target, reads_mask_bank, reads_bank}
+use Rattle.command_grammar.proofs.reading.FieldsInOrder.{part, ReadsOn, reads_whole, reads_field_then, reads_crc5_then, reads_crc16_then}
+
+positive : (width : ℕ) → 0 < 2 ^ width
+positive zero = omega arith
+positive (suc width) = omega (arith, positive width)
+
+-- ---- a field and then the others, by its kind
+
+same_then : {A : Type 0} (pre : List Part) (name : Option Reason) (s : A → List Bool) (r : List Bool → Reading A) (k : A × List Bool → List Bool → Reading Command) (value : A)
+    → Reads (λ value bits. bits ≡ s value) name r → ((value : A) → ReadsOn (pre ++ part name (s value) ∷ []) (λ whole rest. k (value, rest) whole)) → ReadsOn pre (λ whole bits. r bits >>= λ x. k x whole)
+same_then {A} pre name s r k value reads second =
+    reads_field_then pre name (λ (value : A) bits. bits ≡ s value) r k reads
+    (λ value bits h. subst (λ (l : List Bool). ReadsOn (pre ++ part name l ∷ []) (λ whole rest. k (value, rest) whole)) (sym h) (second value)) value (s value) refl
+
+number_then : (width : ℕ) (pre : List Part) (k : ℕ × List Bool → List Bool → Reading Command)
+    → ((value : ℕ) → value < 2 ^ width → ReadsOn (pre ++ part None (field_of value width) ∷ []) (λ whole rest. k (value, rest) whole)) → ReadsOn pre (λ whole bits. field_at width bits >>= λ x. k x whole)
+number_then width pre k second =
+    reads_field_then pre None (IsNumber width) (field_at width) k (reads_field width None)
+    (λ value bits h. subst (λ (l : List Bool). ReadsOn (pre ++ part None l ∷ []) (λ whole rest. k (value, rest) whole)) (sym h.1) (second value h.0)) 0 (field_of 0 width) (positive width, refl)
+
+pointer_then : (pre : List Part) (k : ℕ × List Bool → List Bool → Reading Command)
+    → ((value : ℕ) → value < 2 ^ 28 → ReadsOn (pre ++ part (Some reasons.Ebv) (ebv_of value) ∷ []) (λ whole rest. k (value, rest) whole)) → ReadsOn pre (λ whole bits. ebv_at bits >>= λ x. k x whole)
+pointer_then pre k second =
+    reads_field_then pre (Some reasons.Ebv) IsPointer ebv_at k reads_ebv
+    (λ value bits h. subst (λ (l : List Bool). ReadsOn (pre ++ part (Some reasons.Ebv) l ∷ []) (λ whole rest. k (value, rest) whole)) (sym h.1) (second value h.0)) 0 (ebv_of 0) (omega arith, refl)
+
+count_then : (pre : List Part) (k : ℕ × List Bool → List Bool → Reading Command)
+    → ((value : ℕ) → value < 2 ^ 8 → (value == 0) ≡ false → ReadsOn (pre ++ part (Some reasons.Count) (field_of value 8) ∷ []) (λ whole rest. k (value, rest) whole)) → ReadsOn pre (λ whole bits. count_at bits >>= λ x. k x whole)
+count_then pre k second =
+    reads_field_then pre (Some reasons.Count) (λ value bits. IsNumber 8 value bits × ((value == 0) ≡ false)) count_at k reads_count
+    (λ value bits h. subst (λ (l : List Bool). ReadsOn (pre ++ part (Some reasons.Count) l ∷ []) (λ whole rest. k (value, rest) whole)) (sym h.0.1) (second value h.0.0 h.1)) 1 (field_of 1 8) ((omega arith, refl), refl)
+
+mask_then : (width : ℕ) (pre : List Part) (k : List Bool × List Bool → List Bool → Reading Command)
+    → ((value : List Bool) → length value ≡ width → ReadsOn (pre ++ part None value ∷ []) (λ whole rest. k (value, rest) whole)) → (some : List Bool) → length some ≡ width → ReadsOn pre (λ whole bits. bits_at width bits >>= λ x. k x whole)
+mask_then width pre k second some wide =
+    reads_field_then pre None (λ value bits. (length value ≡ width) × (bits ≡ value)) (bits_at width) k (reads_bits width None)
+    (λ value bits h. subst (λ (l : List Bool). ReadsOn (pre ++ part None l ∷ []) (λ whole rest. k (value, rest) whole)) (sym h.1) (second value h.0)) some some (wide, refl)
+
+words_then : (count : ℕ) (pre : List Part) (k : List ℕ × List Bool → List Bool → Reading Command)
+    → ((value : List ℕ) → length value ≡ count → AllByRecursion IsWord value → ReadsOn (pre ++ part None (bits_of_words value) ∷ []) (λ whole rest. k (value, rest) whole)) → ReadsOn pre (λ whole bits. words_at count bits >>= λ x. k x whole)
+words_then count pre k second =
+    let w = some_words count in
+    reads_field_then pre None (AreWords count) (words_at count) k (reads_words count None)
+    (λ value bits h. subst (λ (l : List Bool). ReadsOn (pre ++ part None l ∷ []) (λ whole rest. k (value, rest) whole)) (sym h.2) (second value h.0 h.1)) w.0 w.1 w.2
+
+-- ---- the fields of each command
+
+query_rep_reads : ReadsOn (code_field kinds.QueryRep) (λ whole bits. query_rep_at bits)
+unfolding query_rep_at
+query_rep_reads = number_then 2 _ _ (λ session small. reads_whole _ (commands.QueryRep session) (omega arith) refl)
+
+ack_reads : ReadsOn (code_field kinds.Ack) (λ whole bits. ack_at bits)
+unfolding ack_at
+ack_reads = number_then 16 _ _ (λ rn small. reads_whole _ (commands.Ack rn) small refl)
+
+req_rn_reads : ReadsOn (code_field kinds.ReqRn) (λ whole bits. req_rn_at whole bits)
+unfolding req_rn_at
+req_rn_reads = number_then 16 _ _ (λ rn small. reads_crc16_then _ _ (reads_whole _ (commands.ReqRn rn) small refl))
+
+query_reads : ReadsOn (code_field kinds.Query) (λ whole bits. query_at whole bits)
+unfolding query_at
+query_reads =
+    same_then _ None (λ bit. bit ∷ []) bit_at _ false (reads_bit None) (λ dr.
+    same_then _ None bits_of_m (choice_at m_values reasons.Code) _ lines_of.Fm0 reads_m (λ m.
+    same_then _ None (λ bit. bit ∷ []) bit_at _ false (reads_bit None) (λ trext.
+    same_then _ None bits_of_sel (choice_at sel_values reasons.Code) _ sels.Sl reads_sel (λ sel.
+    number_then 2 _ _ (λ session small.
+    same_then _ None bits_of_query_target (choice_at query_target_values reasons.Code) _ side.A reads_query_target (λ target.
+    number_then 4 _ _ (λ q small_q.
+    reads_crc5_then _ _ (reads_whole _ (commands.Query dr m trext sel session target q) (omega arith, omega arith) refl))))))))
+
+query_adjust_reads : ReadsOn (code_field kinds.QueryAdjust) (λ whole bits. query_adjust_at bits)
+unfolding query_adjust_at
+query_adjust_reads =
+    number_then 2 _ _ (λ session small.
+    same_then _ (Some reasons.UpDn) bits_of_updn (choice_at updn_values reasons.UpDn) _ updns.Up reads_updn (λ updn.
+    reads_whole _ (commands.QueryAdjust session updn) (omega arith) refl))
+
+select_reads : ReadsOn (code_field kinds.Select) (λ whole bits. select_at whole bits)
+unfolding select_at
+select_reads =
+    same_then _ (Some reasons.Target) bits_of_select_target (choice_at select_target_values reasons.Target) _ flags.Sl reads_select_target (λ target.
+    number_then 3 _ _ (λ action small.
+    same_then _ (Some reasons.Bank) bits_of_mask_bank (choice_at mask_bank_values reasons.Bank) _ mask_banks.Epc reads_mask_bank (λ bank.
+    pointer_then _ _ (λ pointer small_pointer.
+    number_then 8 _ _ (λ width small_width.
+    mask_then width _ _ (λ mask wide.
+    same_then {A = Unit {0}} _ (Some reasons.Truncate) (λ value. false ∷ []) (exactly_at (false ∷ []) reasons.Truncate) _ tt (reads_exactly reasons.Truncate (false ∷ [])) (λ truncate.
+    reads_crc16_then _ _ (reads_whole _ (commands.Select target action bank pointer mask) (omega arith, small_pointer, omega arith)
+    (ap (λ n. with_crc16 (code_field kinds.Select ++ named_field reasons.Target (bits_of_select_target target) ++ plain_field (field_of action 3) ++ named_field reasons.Bank (bits_of_mask_bank bank)
+    ++ named_field reasons.Ebv (ebv_of pointer) ++ plain_field (field_of n 8) ++ plain_field mask ++ named_field reasons.Truncate (false ∷ []))) wide))))
+    (field_of 0 width) (length-field_of 0 width))))))
+
+nak_reads : ReadsOn (code_field kinds.Nak) (λ whole bits. Ok (commands.Nak, bits))
+nak_reads = reads_whole _ commands.Nak tt refl
+
+read_reads : ReadsOn (code_field kinds.Read) (λ whole bits. read_at whole bits)
+unfolding read_at
+read_reads =
+    same_then _ None bits_of_bank (choice_at bank_values reasons.Code) _ banks.Epc reads_bank (λ bank.
+    pointer_then _ _ (λ pointer small_pointer.
+    number_then 8 _ _ (λ count small.
+    number_then 16 _ _ (λ rn small_rn.
+    reads_crc16_then _ _ (reads_whole _ (commands.Read bank pointer count rn) (small_pointer, omega arith, small_rn) refl)))))
+
+write_reads : ReadsOn (code_field kinds.Write) (λ whole bits. write_at whole bits)
+unfolding write_at
+write_reads =
+    same_then _ None bits_of_bank (choice_at bank_values reasons.Code) _ banks.Epc reads_bank (λ bank.
+    pointer_then _ _ (λ pointer small_pointer.
+    number_then 16 _ _ (λ covered small.
+    number_then 16 _ _ (λ rn small_rn.
+    reads_crc16_then _ _ (reads_whole _ (commands.Write bank pointer covered rn) (small_pointer, small, small_rn) refl)))))
+
+kill_reads : ReadsOn (code_field kinds.Kill) (λ whole bits. kill_at whole bits)
+unfolding kill_at
+kill_reads =
+    number_then 16 _ _ (λ covered small.
+    same_then {A = Unit {0}} _ (Some reasons.KillBits) (λ value. false ∷ false ∷ false ∷ []) (exactly_at (false ∷ false ∷ false ∷ []) reasons.KillBits) _ tt (reads_exactly reasons.KillBits (false ∷ false ∷ false ∷ [])) (λ zeros.
+    number_then 16 _ _ (λ rn small_rn.
+    reads_crc16_then _ _ (reads_whole _ (commands.Kill covered rn) (small, small_rn) refl))))
+
+lock_reads : ReadsOn (code_field kinds.Lock) (λ whole bits. lock_at whole bits)
+unfolding lock_at
+lock_reads =
+    number_then 20 _ _ (λ payload small.
+    number_then 16 _ _ (λ rn small_rn.
+    reads_crc16_then _ _ (reads_whole _ (commands.Lock payload rn) (small, small_rn) refl)))
+
+access_reads : ReadsOn (code_field kinds.Access) (λ whole bits. access_at whole bits)
+unfolding access_at
+access_reads =
+    number_then 16 _ _ (λ covered small.
+    number_then 16 _ _ (λ rn small_rn.
+    reads_crc16_then _ _ (reads_whole _ (commands.Access covered rn) (small, small_rn) refl)))
+
+some_of : (n : ℕ) → (n == 0) ≡ false → 1 ≤ n
+some_of n e = grind (arith, nat_tests)
+
+block_write_reads : ReadsOn (code_field kinds.BlockWrite) (λ whole bits. block_write_at whole bits)
+unfolding block_write_at
+block_write_reads =
+    same_then _ None bits_of_bank (choice_at bank_values reasons.Code) _ banks.Epc reads_bank (λ bank.
+    pointer_then _ _ (λ pointer small_pointer.
+    count_then _ _ (λ count small some.
+    words_then count _ _ (λ words many all.
+    number_then 16 _ _ (λ rn small_rn.
+    let low : 1 ≤ count = some_of count some in
+    reads_crc16_then _ _ (reads_whole _ (commands.BlockWrite bank pointer words rn) (small_pointer, omega arith, omega arith, all, small_rn)
+    (ap (λ n. with_crc16 (code_field kinds.BlockWrite ++ plain_field (bits_of_bank bank) ++ named_field reasons.Ebv (ebv_of pointer) ++ named_field reasons.Count (field_of n 8)
+    ++ plain_field (bits_of_words words) ++ plain_field (field_of rn 16))) many)))))))
+
+block_erase_reads : ReadsOn (code_field kinds.BlockErase) (λ whole bits. block_erase_at whole bits)
+unfolding block_erase_at
+block_erase_reads =
+    same_then _ None bits_of_bank (choice_at bank_values reasons.Code) _ banks.Epc reads_bank (λ bank.
+    pointer_then _ _ (λ pointer small_pointer.
+    count_then _ _ (λ count small some.
+    number_then 16 _ _ (λ rn small_rn.
+    let low : 1 ≤ count = some_of count some in
+    reads_crc16_then _ _ (reads_whole _ (commands.BlockErase bank pointer count rn) (small_pointer, low, omega arith, small_rn) refl)))))
+
+each_reads : (kind : CommandKind) → ReadsOn (named_field reasons.Code (code_of kind)) (λ whole bits. fields_at kind whole bits)
+each_reads kinds.QueryRep = query_rep_reads
+each_reads kinds.Ack = ack_reads
+each_reads kinds.Query = query_reads
+each_reads kinds.QueryAdjust = query_adjust_reads
+each_reads kinds.Select = select_reads
+each_reads kinds.Nak = nak_reads
+each_reads kinds.ReqRn = req_rn_reads
+each_reads kinds.Read = read_reads
+each_reads kinds.Write = write_reads
+each_reads kinds.Kill = kill_reads
+each_reads kinds.Lock = lock_reads
+each_reads kinds.Access = access_reads
+each_reads kinds.BlockWrite = block_write_reads
+each_reads kinds.BlockErase = block_erase_reads
+
+-- a command, code and fields
+abbrev pub reading : List Bool → List Bool → Reading Command
+reading whole bits = choice_at kind_values reasons.Code bits >>= λ kind. fields_at kind.0 whole kind.1
+
+pub reads_command : ReadsOn [] reading
+reads_command = same_then [] (Some reasons.Code) code_of (choice_at kind_values reasons.Code) (λ kind whole. fields_at kind.0 whole kind.1) kinds.Nak reads_kind each_reads

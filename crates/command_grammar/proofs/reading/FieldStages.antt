@@ -1,0 +1,210 @@
+-- One bit more in a field, and the beginning of each field.
+use Rattle.std.proofs.Common.{◌≡◌, ℕ, suc, ◌+◌, ◌-◌, ◌/◌, ◌%◌, ◌^◌, ◌<◌, ◌≤◌, Bool, true, false, not, List, [], ◌∷◌, ◌++◌, length, Result, Ok, Err, refl, sym, ap, subst, ◌∙◌, append_assoc, append-nil, length-append, arith, cond}
+use Rattle.std.specs.Prelude.{◌==◌}
+use mathlib.Core.Bool.{beq}
+use Rattle.std.proofs.lemmas.Bool.Decides.{nat_tests}
+use Rattle.std.proofs.lemmas.List.{take_at}
+use Rattle.std.proofs.lemmas.Nat.{pow_below}
+use Rattle.bit_strings.specs.Numbers.{digit_of, value_of, field_of}
+use Rattle.bit_strings.specs.Ebv.{IsEbv, IsCutEbv}
+use Rattle.gen2_crc.specs.Crc.{crc5_of, crc16_of}
+use Rattle.command_grammar.specs.declared.reader.fields.Fields.{Fields}
+use Rattle.command_grammar.specs.declared.reader.stage.NumberFront.{NumberFront}
+use Rattle.command_grammar.specs.declared.reader.stage.NumberField.{NumberField}
+use Rattle.command_grammar.specs.declared.reader.stage.NumberField.TheVariants as number_fields
+use Rattle.command_grammar.specs.declared.reader.stage.Stage.TheVariants as stages
+use Rattle.command_grammar.specs.declared.refusal.Reason.{Reason}
+use Rattle.command_grammar.specs.declared.refusal.Reason.TheVariants as reasons
+use Rattle.command_grammar.specs.reading.Readers.{Stop, Bad, Reading, ◌>>=◌, bits_at, field_at, exactly_at, count_at, words_at, ebv_at, before, crc5_at, crc16_at}
+use Rattle.command_grammar.specs.reading.FieldStages.{number_then, words_then, mask_from, ebv_from, stage_from}
+use Rattle.command_grammar.specs.reading.FieldRanges.{width_of, IsFront}
+use Rattle.command_grammar.proofs.reading.KnownBits.{exactly-more, exactly-bad, exactly-none, same_bits, other_bits}
+use Rattle.command_grammar.proofs.reading.EbvFronts.{ebv_none, ebv_more, ebv_done, ebv_refused}
+use Rattle.command_grammar.proofs.CheckNumbers.{crc5-field, crc16-field}
+use Rattle.command_grammar.proofs.reading.FieldRests.{number-start, mask-start, words-more, words-none}
+
+-- ---- numbers
+
+pub number_stage : (field : NumberField) (width : ℕ) (number : NumberFront) (v : Fields) (bits : List Bool) → number.behind + 1 ≡ width → number.value ≡ 0
+    → stage_from (stages.Number field number) v bits ≡ (field_at width bits >>= λ n. number_then field n.0 v n.1)
+number_stage field width number v bits whole nothing = ap (λ (r : Reading ℕ). r >>= λ n. number_then field n.0 v n.1) (number-start width number.behind number.value bits whole nothing)
+
+few_bits : (field : NumberField) → width_of field ≤ 20
+few_bits number_fields.Session = omega arith
+few_bits number_fields.Q = omega arith
+few_bits number_fields.Action = omega arith
+few_bits number_fields.Count = omega arith
+few_bits number_fields.WordCount = omega arith
+few_bits number_fields.Covered = omega arith
+few_bits number_fields.Payload = omega arith
+few_bits number_fields.Rn = omega arith
+few_bits number_fields.MaskLength = omega arith
+few_bits number_fields.WordsLength = omega arith
+few_bits (number_fields.FirstWord left) = omega arith
+few_bits (number_fields.Word left) = omega arith
+
+pub small_digit : (bit : Bool) → digit_of bit ≤ 1
+small_digit true = omega arith
+small_digit false = omega arith
+
+pub small_front : (field : NumberField) (number : NumberFront) → IsFront (width_of field) number → number.value < 2 ^ 30
+small_front field number front = omega (arith, front.small, pow_below front.read 30 (omega (arith, front.rest, few_bits field)))
+
+-- ---- words
+
+pub no_words : (left : ℕ) (v : Fields) (bits : List Bool) → left ≡ 0 → words_then left v bits ≡ Ok (v, bits)
+no_words left v bits nothing =
+    ap (λ (r : Reading (List ℕ)). r >>= λ x. Ok (record v { words = v.words ++ x.0 }, x.1)) (words-none left bits nothing)
+    ∙ ap (λ (l : List ℕ). Ok (record v { words = l }, bits)) (append-nil v.words)
+
+two : {A B C D : Type 0} (r : Reading A) (s : A × List Bool → Reading B) (h : A × List Bool → B × List Bool → C × List Bool) (k : C × List Bool → Result D Stop) → ((r >>= λ x. (s x >>= λ y. Ok (h x y))) >>= k) ≡ (r >>= λ x. (s x >>= λ y. k (h x y)))
+two (Ok x) s h k = one (s x) (h x) k
+  where
+    one : {B C D : Type 0} (r : Reading B) (h : B × List Bool → C × List Bool) (k : C × List Bool → Result D Stop) → ((r >>= λ y. Ok (h y)) >>= k) ≡ (r >>= λ y. k (h y))
+    one (Ok y) h k = refl
+    one (Err stop) h k = refl
+two (Err stop) s h k = refl
+
+pub more_words : (left less : ℕ) (number : NumberFront) (v : Fields) (bits : List Bool) → less + 1 ≡ left → number.behind + 1 ≡ 16 → number.value ≡ 0
+    → words_then left v bits ≡ stage_from (stages.Number (number_fields.Word less) number) v bits
+more_words left less number v bits same whole nothing =
+    ap (λ (r : Reading (List ℕ)). r >>= λ x. Ok (record v { words = v.words ++ x.0 }, x.1)) (words-more left less bits same)
+    ∙ two (field_at 16 bits) (λ word. words_at less word.1) (λ word words. (word.0 ∷ words.0, words.1)) (λ x. Ok (record v { words = v.words ++ x.0 }, x.1))
+    ∙ sym (number_stage (number_fields.Word less) 16 number v bits whole nothing)
+
+pub first_words : (count less : ℕ) (number : NumberFront) (v : Fields) (bits : List Bool) → less + 1 ≡ count → number.behind + 1 ≡ 16 → number.value ≡ 0
+    → (words_at count bits >>= λ x. Ok (record v { words = x.0 }, x.1)) ≡ stage_from (stages.Number (number_fields.FirstWord less) number) v bits
+first_words count less number v bits same whole nothing =
+    ap (λ (r : Reading (List ℕ)). r >>= λ x. Ok (record v { words = x.0 }, x.1)) (words-more count less bits same)
+    ∙ two (field_at 16 bits) (λ word. words_at less word.1) (λ word words. (word.0 ∷ words.0, words.1)) (λ x. Ok (record v { words = x.0 }, x.1))
+    ∙ sym (number_stage (number_fields.FirstWord less) 16 number v bits whole nothing)
+
+nonzero : (n less : ℕ) → less + 1 ≡ n → (n == 0) ≡ false
+nonzero n less same = grind (arith, nat_tests)
+
+pub length_words : (count less : ℕ) (number : NumberFront) (v : Fields) (bits : List Bool) → less + 1 ≡ count → number.behind + 1 ≡ 16 → number.value ≡ 0
+    → number_then number_fields.WordsLength count v bits ≡ stage_from (stages.Number (number_fields.FirstWord less) number) v bits
+length_words count less number v bits same whole nothing =
+    ap (λ (b : Bool). cond b (Err (Bad (length bits + 1) reasons.Count)) (words_at count bits >>= λ x. Ok (record v { words = x.0 }, x.1))) (nonzero count less same)
+    ∙ first_words count less number v bits same whole nothing
+
+pub first_word : (left word : ℕ) (words : List ℕ) (v : Fields) (bits : List Bool) → words ≡ word ∷ [] → number_then (number_fields.FirstWord left) word v bits ≡ words_then left (record v { words = words }) bits
+first_word left word words v bits same = ap (λ (l : List ℕ). words_then left (record v { words = l }) bits) (sym same)
+
+pub next_words : (left word : ℕ) (words : List ℕ) (v : Fields) (bits : List Bool) → words ≡ v.words ++ word ∷ [] → number_then (number_fields.Word left) word v bits ≡ words_then left (record v { words = words }) bits
+next_words left word words v bits same = behind (words_at left bits) ∙ ap (λ (l : List ℕ). words_then left (record v { words = l }) bits) (sym same)
+  where
+    one_more : Reading (List ℕ) → Reading Fields
+    one_more r = r >>= λ x. Ok (record v { words = v.words ++ word ∷ x.0 }, x.1)
+
+    others : Reading (List ℕ) → Reading Fields
+    others r = r >>= λ x. Ok (record v { words = (v.words ++ word ∷ []) ++ x.0 }, x.1)
+
+    behind : (r : Reading (List ℕ)) → one_more r ≡ others r
+    behind (Ok x) = ap (λ (l : List ℕ). Ok (record v { words = l }, x.1)) (sym (append_assoc v.words (word ∷ []) x.0))
+    behind (Err stop) = refl
+
+-- ---- masks
+
+abbrev masked : Fields → Reading (List Bool) → Reading Fields
+masked v r = r >>= λ x. Ok (record v { mask = x.0 }, x.1)
+
+pub some_mask : (count less : ℕ) (v : Fields) (bits : List Bool) → less + 1 ≡ count → v.mask ≡ [] → masked v (bits_at count bits) ≡ stage_from (stages.Mask less) v bits
+some_mask count less v bits same nothing =
+    ap (masked v) (sym (mask-start count less bits same) ∙ ap (λ (m : List Bool). mask_from less m bits) (sym nothing))
+
+-- ---- extensible bit vectors
+
+abbrev pointed : Fields → Reading ℕ → Reading Fields
+pointed v r = r >>= λ x. Ok (record v { pointer = x.0 }, x.1)
+
+pub ebv_run : (front run rest next : List Bool) (v : Fields) → next ≡ front ++ run → IsCutEbv next → stage_from (stages.Ebv front) v (run ++ rest) ≡ stage_from (stages.Ebv next) v rest
+ebv_run front run rest next v same cut =
+    ap (pointed v) (ebv_more front run rest (subst IsCutEbv same cut) ∙ ap (λ (l : List Bool). ebv_from l rest) (sym same))
+
+pub ebv_whole : (front rest : List Bool) (bit : Bool) (number pointer : ℕ) (v : Fields) → pointer ≡ number → IsEbv number (front ++ bit ∷ []) → stage_from (stages.Ebv front) v (bit ∷ rest) ≡ Ok (record v { pointer = pointer }, rest)
+ebv_whole front rest bit number pointer v same ebv =
+    ap (pointed v) (ebv_done front rest bit number ebv) ∙ ap (λ n. Ok (record v { pointer = n }, rest)) (sym same)
+
+pub ebv_stops : (front rest : List Bool) (bit : Bool) (v : Fields) → IsCutEbv front → ((number : ℕ) (more : List Bool) → IsEbv number ((front ++ bit ∷ []) ++ more) → ⊥) → stage_from (stages.Ebv front) v (bit ∷ rest) ≡ Err (Bad (length rest + 1) reasons.Ebv)
+ebv_stops front rest bit v cut none = ap (pointed v) (ebv_refused front rest bit cut none)
+
+-- ---- bits that are known
+
+abbrev kept : Fields → Reading (Unit {0}) → Reading Fields
+kept v r = r >>= λ x. Ok (v, x.1)
+
+pub known_bad : (reason : Reason) (number : NumberFront) (v : Fields) (bit : Bool) (rest : List Bool) → not (beq bit (number.value / 2 ^ number.behind % 2 == 1)) ≡ true → stage_from (stages.Known reason number) v (bit ∷ rest) ≡ Err (Bad (length rest + 1) reason)
+known_bad reason number v bit rest test =
+    ap (kept v) (exactly-bad number.value (suc number.behind) number.behind reason (bit ∷ rest) bit rest (omega arith) refl (other_bits bit (number.value / 2 ^ number.behind % 2 == 1) test))
+
+known_next : (reason : Reason) (number : NumberFront) (v : Fields) (bit : Bool) (rest : List Bool) → not (beq bit (number.value / 2 ^ number.behind % 2 == 1)) ≡ false → stage_from (stages.Known reason number) v (bit ∷ rest) ≡ kept v (exactly_at (field_of number.value number.behind) reason rest)
+known_next reason number v bit rest test =
+    ap (kept v) (exactly-more number.value (suc number.behind) number.behind reason (bit ∷ rest) bit rest (omega arith) refl (same_bits bit (number.value / 2 ^ number.behind % 2 == 1) test))
+
+pub known_last : (reason : Reason) (number : NumberFront) (v : Fields) (bit : Bool) (rest : List Bool) → not (beq bit (number.value / 2 ^ number.behind % 2 == 1)) ≡ false → number.behind ≡ 0 → stage_from (stages.Known reason number) v (bit ∷ rest) ≡ Ok (v, rest)
+known_last reason number v bit rest test nothing = known_next reason number v bit rest test ∙ ap (kept v) (exactly-none number.value number.behind reason rest nothing)
+
+pub known_more : (reason : Reason) (number : NumberFront) (less : ℕ) (v : Fields) (bit : Bool) (rest : List Bool) → not (beq bit (number.value / 2 ^ number.behind % 2 == 1)) ≡ false → less + 1 ≡ number.behind
+    → stage_from (stages.Known reason number) v (bit ∷ rest) ≡ stage_from (stages.Known reason (record { behind = less; value = number.value })) v rest
+known_more reason number less v bit rest test same =
+    let e : number.behind ≡ suc less = omega arith in
+    known_next reason number v bit rest test ∙ ap (λ n. kept v (exactly_at (field_of number.value n) reason rest)) e
+
+-- ---- the beginning of each field
+
+zeros_start : (reason : Reason) (width : ℕ) (number : NumberFront) (v : Fields) (bits : List Bool) → number.behind + 1 ≡ width → number.value ≡ 0 → stage_from (stages.Known reason number) v bits ≡ kept v (exactly_at (field_of 0 width) reason bits)
+zeros_start reason width number v bits whole nothing =
+    let e : suc number.behind ≡ width = omega arith in
+    ap (λ n. kept v (exactly_at (field_of n (suc number.behind)) reason bits)) nothing ∙ ap (λ n. kept v (exactly_at (field_of 0 n) reason bits)) e
+
+one_zero : field_of 0 1 ≡ false ∷ []
+unfolding field_of
+one_zero = refl
+
+three_zeros : field_of 0 3 ≡ false ∷ false ∷ false ∷ []
+unfolding field_of
+three_zeros = refl
+
+pub truncate_start : (number : NumberFront) (v : Fields) (bits : List Bool) → number.behind + 1 ≡ 1 → number.value ≡ 0 → stage_from (stages.Known reasons.Truncate number) v bits ≡ kept v (exactly_at (false ∷ []) reasons.Truncate bits)
+truncate_start number v bits whole nothing = zeros_start reasons.Truncate 1 number v bits whole nothing ∙ ap (λ (l : List Bool). kept v (exactly_at l reasons.Truncate bits)) one_zero
+
+pub kill_bits_start : (number : NumberFront) (v : Fields) (bits : List Bool) → number.behind + 1 ≡ 3 → number.value ≡ 0 → stage_from (stages.Known reasons.KillBits number) v bits ≡ kept v (exactly_at (false ∷ false ∷ false ∷ []) reasons.KillBits bits)
+kill_bits_start number v bits whole nothing = zeros_start reasons.KillBits 3 number v bits whole nothing ∙ ap (λ (l : List Bool). kept v (exactly_at l reasons.KillBits bits)) three_zeros
+
+before_is : (bits rest : List Bool) → before (bits ++ rest) rest ≡ bits
+before_is bits rest = take_at bits rest (length (bits ++ rest) - length rest) (omega (arith, length-append bits rest))
+
+pub crc5_start : (number : ℕ) (v : Fields) (bits rest : List Bool) → number ≡ value_of (crc5_of bits) → kept v (exactly_at (field_of number 5) reasons.Crc5 rest) ≡ kept v (crc5_at (bits ++ rest) rest)
+unfolding crc5_at
+crc5_start number v bits rest e =
+    ap (λ (l : List Bool). kept v (exactly_at l reasons.Crc5 rest)) (crc5-field bits number e ∙ ap crc5_of (sym (before_is bits rest)))
+
+pub crc16_start : (number : ℕ) (v : Fields) (bits rest : List Bool) → number ≡ value_of (crc16_of bits) → kept v (exactly_at (field_of number 16) reasons.Crc16 rest) ≡ kept v (crc16_at (bits ++ rest) rest)
+unfolding crc16_at
+crc16_start number v bits rest e =
+    ap (λ (l : List Bool). kept v (exactly_at l reasons.Crc16 rest)) (crc16-field bits number e ∙ ap crc16_of (sym (before_is bits rest)))
+
+pub pointer_start : (front : List Bool) (v : Fields) (bits : List Bool) → front ≡ [] → stage_from (stages.Ebv front) v bits ≡ pointed v (ebv_at bits)
+pointer_start front v bits nothing = ap (λ (l : List Bool). pointed v (ebv_from l bits)) nothing ∙ ap (pointed v) (ebv_none bits)
+
+abbrev counts : Reading ℕ → Reading ℕ
+counts r = r
+
+counted : {A : Type 0} (r : Reading ℕ) (k : ℕ × List Bool → Reading A) → (r >>= λ n. cond (n.0 == 0) (Err (Bad (length n.1 + 1) reasons.Count)) (k n)) ≡ ((r >>= λ n. cond (n.0 == 0) (Err (Bad (length n.1 + 1) reasons.Count)) (Ok n)) >>= k)
+counted {A} (Ok n) k = either (n.0 == 0)
+  where
+    either : (b : Bool) → cond b (Err (Bad (length n.1 + 1) reasons.Count)) (k n) ≡ (counts (cond b (Err (Bad (length n.1 + 1) reasons.Count)) (Ok n)) >>= k)
+    either true = refl
+    either false = refl
+counted (Err stop) k = refl
+
+pub words_start : (number : NumberFront) (v : Fields) (whole bits : List Bool) → number.behind + 1 ≡ 8 → number.value ≡ 0 → stage_from (stages.Number number_fields.WordsLength number) v bits ≡ (count_at bits >>= λ n. (words_at n.0 n.1 >>= λ x. Ok (record v { words = x.0 }, x.1)))
+unfolding count_at
+words_start number v whole bits width nothing =
+    number_stage number_fields.WordsLength 8 number v bits width nothing ∙ counted (field_at 8 bits) (λ n. words_at n.0 n.1 >>= λ x. Ok (record v { words = x.0 }, x.1))
+
+pub count_start : (number : NumberFront) (v : Fields) (whole bits : List Bool) → number.behind + 1 ≡ 8 → number.value ≡ 0 → stage_from (stages.Number number_fields.WordCount number) v bits ≡ (count_at bits >>= λ n. Ok (record v { word_count = n.0 }, n.1))
+unfolding count_at
+count_start number v whole bits width nothing =
+    number_stage number_fields.WordCount 8 number v bits width nothing ∙ counted (field_at 8 bits) (λ n. Ok (record v { word_count = n.0 }, n.1))

@@ -1,0 +1,77 @@
+-- Profile: what holds of a field of which some bits were read: its numbers are within their ranges. And at which bits a run ends.
+use Rattle.std.specs.Prelude.{◌≡◌, ℕ, ◌+◌, ◌/◌, ◌%◌, ◌^◌, ◌<◌, ◌≤◌, Bool, length, ◌==◌}
+use Rattle.command_grammar.specs.declared.reader.fields.Fields.{Fields}
+use Rattle.command_grammar.specs.declared.reader.stage.NumberFront.{NumberFront}
+use Rattle.command_grammar.specs.declared.reader.stage.NumberField.{NumberField}
+use Rattle.command_grammar.specs.declared.reader.stage.NumberField.TheVariants as number_fields
+use Rattle.command_grammar.specs.declared.reader.stage.Stage.{Stage}
+use Rattle.command_grammar.specs.declared.reader.stage.Stage.TheVariants as stages
+use Rattle.command_grammar.specs.declared.reader.stage.Next.{Next}
+use Rattle.command_grammar.specs.declared.reader.stage.Next.TheVariants as next
+
+-- how many bits a number has
+abbrev pub width_of : NumberField → ℕ
+width_of number_fields.Session = 2
+width_of number_fields.Q = 4
+width_of number_fields.Action = 3
+width_of number_fields.Count = 8
+width_of number_fields.WordCount = 8
+width_of number_fields.Covered = 16
+width_of number_fields.Payload = 20
+width_of number_fields.Rn = 16
+width_of number_fields.MaskLength = 8
+width_of number_fields.WordsLength = 8
+width_of (number_fields.FirstWord left) = 16
+width_of (number_fields.Word left) = 16
+
+-- a number of which some bits were read
+pub record IsFront (width : ℕ) (number : NumberFront) : Type 0 where
+  pub read : ℕ
+  pub rest : read + number.behind + 1 ≡ width
+  pub small : number.value < 2 ^ read
+
+-- ... of at most 20 bits, as each number of a field is
+abbrev pub IsSmall : NumberFront → Type 0
+IsSmall number = (width : ℕ) × (width ≤ 20) × IsFront width number
+
+-- words that are still to come have room
+abbrev pub IsSoundNumber : NumberField → Fields → Type 0
+IsSoundNumber number_fields.Session v = Unit {0}
+IsSoundNumber number_fields.Q v = Unit {0}
+IsSoundNumber number_fields.Action v = Unit {0}
+IsSoundNumber number_fields.Count v = Unit {0}
+IsSoundNumber number_fields.WordCount v = Unit {0}
+IsSoundNumber number_fields.Covered v = Unit {0}
+IsSoundNumber number_fields.Payload v = Unit {0}
+IsSoundNumber number_fields.Rn v = Unit {0}
+IsSoundNumber number_fields.MaskLength v = Unit {0}
+IsSoundNumber number_fields.WordsLength v = Unit {0}
+IsSoundNumber (number_fields.FirstWord left) v = left + 1 ≤ 255
+IsSoundNumber (number_fields.Word left) v = length v.words + left + 1 ≤ 255
+
+-- what was read of a field is in its range, and what is still to come has room
+abbrev pub IsSound : Stage → Fields → Type 0
+IsSound (stages.Bit field) v = Unit {0}
+IsSound (stages.Pair field first) v = Unit {0}
+IsSound (stages.Triple field front) v = Unit {0}
+IsSound (stages.Number field number) v = IsFront (width_of field) number × IsSoundNumber field v
+IsSound (stages.Ebv front) v = Unit {0}
+IsSound (stages.Mask behind) v = length v.mask + behind + 1 ≤ 255
+IsSound (stages.Known reason number) v = number.behind ≤ 15
+
+-- ... behind a bit of it
+abbrev pub IsSoundNext : Next → Fields → Type 0
+IsSoundNext (next.Stay stage) v = IsSound stage v
+IsSoundNext next.Done v = Unit {0}
+IsSoundNext (next.Refused reason) v = Unit {0}
+
+-- the next bit of a number that is known
+abbrev pub next_bit : NumberFront → Bool
+next_bit number = number.value / 2 ^ number.behind % 2 == 1
+
+-- the bit isn't inside a number, a mask or bits that are known: it ends them, is refused, or stands elsewhere
+abbrev pub IsEdge : Stage → Bool → Type 0
+IsEdge (stages.Number field number) bit = number.behind ≡ 0
+IsEdge (stages.Known reason number) bit = bit ≡ next_bit number → number.behind ≡ 0
+IsEdge (stages.Mask behind) bit = behind ≡ 0
+IsEdge other bit = Unit {0}

@@ -1,0 +1,89 @@
+-- Profile: what a contract sees of a Framer, and what reading gives from each of its states for the bits that are still to
+-- come. It keeps no bits but those of a mask and of words; what is pushed behind the first place of refusal changes nothing.
+use Rattle.std.specs.Prelude.{◌≡◌, ℕ, ◌+◌, Bool, List, [], ◌∷◌, ◌++◌, length, Option, Some, None, Result, Err}
+use Rattle.command_grammar.specs.Commands.{IsCommandRefusedAt}
+use Rattle.command_grammar.specs.reading.Readers.{Stop, ◌>>=◌, next_at, all_of, Bad}
+use Rattle.command_grammar.specs.reading.Codes.{bits_of_front, behind_code}
+use Rattle.command_grammar.specs.reading.CommandFields.{fields_of, command_of, only_whole, run}
+use Rattle.command_grammar.specs.reading.FieldStages.{stage_from}
+use Rattle.command_grammar.specs.reading.FieldRanges.{IsSound, IsEdge}
+use Rattle.command_grammar.specs.reading.CheckNumbers.{Counts, check_kept, AreServed}
+use Rattle.command_grammar.specs.declared.commands.Command.{Command}
+use Rattle.command_grammar.specs.declared.reader.check.Check.{Check}
+use Rattle.command_grammar.specs.declared.kinds.CommandKind.{CommandKind}
+use Rattle.command_grammar.specs.declared.reader.fields.Field.{Field}
+use Rattle.command_grammar.specs.declared.reader.fields.Fields.{Fields}
+use Rattle.command_grammar.specs.declared.reader.state.Position.{Position}
+use Rattle.command_grammar.specs.declared.reader.state.Position.TheVariants as positions
+use Rattle.command_grammar.specs.declared.reader.state.State.{State}
+use Rattle.command_grammar.specs.declared.refusal.Pushed.{Pushed}
+use Rattle.command_grammar.specs.declared.refusal.Pushed.TheVariants as pushed
+use Rattle.command_grammar.specs.declared.refusal.Reason.{Reason}
+use Rattle.command_grammar.specs.declared.refusal.Reason.TheVariants as reasons
+
+-- what reading gives from a position on; `whole` has all bits from the code on
+abbrev pub resume : CommandKind → Position → List Field → Fields → List Bool → List Bool → Result Command Stop
+resume kind (positions.Code front) behind v whole bits = next_at (behind_code front) reasons.Code bits >>= λ x. run (fields_of x.0) x.0 v whole x.1
+resume kind (positions.Within stage) behind v whole bits = stage_from stage v bits >>= λ x. run behind kind x.0 whole x.1
+resume kind positions.Whole behind v whole bits = only_whole (command_of kind v) bits
+
+-- in the code its bits are known, and behind it the command's check number goes along
+abbrev pub IsCounted : Position → Check → List Bool → Type 0
+IsCounted (positions.Code front) check bits = bits ≡ bits_of_front front
+IsCounted (positions.Within stage) check bits = Counts check bits
+IsCounted positions.Whole check bits = Unit {0}
+
+-- the check number that goes along is the one that the fields ask for
+abbrev pub IsServed : Position → Check → List Field → Type 0
+IsServed (positions.Code front) check behind = Unit {0}
+IsServed (positions.Within stage) check behind = AreServed (check_kept check) behind
+IsServed positions.Whole check behind = Unit {0}
+
+-- the state stands for these bits: whatever comes behind them, reading goes on from the state
+pub record StateStandsFor (s : State) (bits : List Bool) : Type 0 where
+  pub count : s.pushed ≡ length bits
+  pub counted : IsCounted s.position s.check bits
+  pub served : IsServed s.position s.check s.behind.now
+  pub reads : (rest : List Bool) → all_of (bits ++ rest) ≡ resume s.kind s.position s.behind.now s.fields (bits ++ rest) rest
+
+-- what was read of the field is in its range
+abbrev pub IsSoundPosition : Position → Fields → Type 0
+IsSoundPosition (positions.Code front) v = Unit {0}
+IsSoundPosition (positions.Within stage) v = IsSound stage v
+IsSoundPosition positions.Whole v = Unit {0}
+
+-- the bit ends a run, or is none of a run
+abbrev pub IsEdgePosition : Position → Bool → Type 0
+IsEdgePosition (positions.Code front) bit = Unit {0}
+IsEdgePosition (positions.Within stage) bit = IsEdge stage bit
+IsEdgePosition positions.Whole bit = Unit {0}
+
+-- what comes of one bit more: a state that stands for the bits, or a refusal at the bit, whatever follows
+abbrev pub Goes : Option Reason → State → List Bool → Bool → Type 0
+Goes None s bits bit = StateStandsFor s (bits ++ bit ∷ [])
+Goes (Some reason) s bits bit = (rest : List Bool) → all_of (bits ++ bit ∷ rest) ≡ Err (Bad (length rest + 1) reason)
+
+-- what was read, and the refusal, with its place and reason, where there was one
+pub record FramerValue : Type 0 where
+  pub state : State
+  pub refused : Option (ℕ × Reason)
+
+-- a state stands for these bits, or they are refused so
+abbrev pub Keeps : State → Option (ℕ × Reason) → List Bool → Type 0
+Keeps state None bits = StateStandsFor state bits
+Keeps state (Some refusal) bits = IsCommandRefusedAt bits refusal.0 refusal.1
+
+-- the value stands for this list of bits
+abbrev pub FramerStandsFor : FramerValue → List Bool → Type 0
+FramerStandsFor value bits = Keeps value.state value.refused bits
+
+-- the refusal that an answer tells
+abbrev pub refusal_in : Pushed → Option (ℕ × Reason)
+refusal_in pushed.More = None
+refusal_in pushed.Whole = None
+refusal_in (pushed.Bad place reason) = Some (place, reason)
+
+-- bits that are not refused are some bits that the state stands for
+abbrev pub IsOpen : State → Option (ℕ × Reason) → Type 0
+IsOpen state None = IsSoundPosition state.position state.fields × (bits : List Bool) × StateStandsFor state bits
+IsOpen state (Some refusal) = Unit {0}

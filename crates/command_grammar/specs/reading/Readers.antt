@@ -1,0 +1,317 @@
+-- Reading a list of bits from left to right, one field after another, with the first place at which no command goes on.
+-- FieldStages.antt and Framing.antt say what is left of it once some bits were read; what it has to do with spellings is what
+-- the laws in proofs/ say.
+use Rattle.std.specs.Prelude.{◌≡◌, ℕ, zero, suc, ◌+◌, ◌-◌, ◌*◌, Bool, false, List, [], ◌∷◌, length, take, drop, Option, Some, None, Result, Ok, Err, nat_lt, ◌==◌, if◌then◌else◌, ◌&&◌}
+use Rattle.bit_strings.specs.Numbers.{value_of}
+use Rattle.bit_strings.specs.declared.code.Code.{Code}
+use Rattle.bit_strings.specs.declared.code.Code.TheVariants.{Fm0, M2, M4, M8}
+use Rattle.gen2_crc.specs.Crc.{crc5_of, crc16_of, differ}
+use Rattle.command_grammar.specs.declared.field_values.Sel.{Sel}
+use Rattle.command_grammar.specs.declared.field_values.Sel.TheVariants as sels
+use Rattle.command_grammar.specs.declared.field_values.Side.{Side}
+use Rattle.command_grammar.specs.declared.field_values.Side.TheVariants as side
+use Rattle.command_grammar.specs.declared.field_values.UpDn.{UpDn}
+use Rattle.command_grammar.specs.declared.field_values.UpDn.TheVariants.{Up, Same, Down}
+use Rattle.command_grammar.specs.declared.field_values.Bank.{Bank}
+use Rattle.command_grammar.specs.declared.field_values.Bank.TheVariants as banks
+use Rattle.command_grammar.specs.declared.field_values.MaskBank.{MaskBank}
+use Rattle.command_grammar.specs.declared.field_values.MaskBank.TheVariants as mask_banks
+use Rattle.command_grammar.specs.declared.field_values.FlagName.{FlagName}
+use Rattle.command_grammar.specs.declared.field_values.FlagName.TheVariants as flags
+use Rattle.command_grammar.specs.declared.commands.Command.{Command}
+use Rattle.command_grammar.specs.declared.commands.Command.TheVariants as commands
+use Rattle.command_grammar.specs.declared.kinds.CommandKind.{CommandKind}
+use Rattle.command_grammar.specs.declared.kinds.CommandKind.TheVariants as kinds
+use Rattle.command_grammar.specs.declared.refusal.Reason.{Reason}
+use Rattle.command_grammar.specs.declared.refusal.Reason.TheVariants as reasons
+
+-- why a field can't be read: the bits end inside it, or no command goes on so, with the number of bits from the first one
+-- on with which none does and the field that it stands in
+pub data Stop : Type 0 where
+  Short : Stop
+  Bad : (left : ℕ) → (reason : Reason) → Stop
+
+-- what was read and the bits behind it
+abbrev pub Reading : Type 0 → Type 0
+Reading A = Result (A × List Bool) Stop
+
+infixl 10 ◌>>=◌
+abbrev pub ◌>>=◌ : {A B : Type 0} → Result A Stop → (A → Result B Stop) → Result B Stop
+(Ok x) >>= f = f x
+(Err e) >>= f = Err e
+
+-- one bit
+abbrev pub bit_at : List Bool → Reading Bool
+bit_at [] = Err Short
+bit_at (bit ∷ rest) = Ok (bit, rest)
+
+-- so many bits
+abbrev pub bits_at : ℕ → List Bool → Reading (List Bool)
+bits_at width bits = if nat_lt (length bits) width then Err Short else Ok (take width bits, drop width bits)
+
+-- a number
+abbrev pub field_at : ℕ → List Bool → Reading ℕ
+field_at width bits = if nat_lt (length bits) width then Err Short else Ok (value_of (take width bits), drop width bits)
+
+-- what a field of a few bits may be: by its bits, the next one 0 or 1
+pub data Choice (A : Type 0) : Type 0 where
+  pick : A → Choice A
+  none : Choice A
+  fork : Choice A → Choice A → Choice A
+
+-- what the next bit leaves of it
+abbrev pub child : {A : Type 0} → Choice A → Bool → Choice A
+child (pick a) bit = pick a
+child none bit = none
+child (fork zeros ones) bit = if bit then ones else zeros
+
+-- In a field where all bits are some value's the reason is never given.
+abbrev pub choice_at : {A : Type 0} → Choice A → Reason → List Bool → Reading A
+choice_at (pick a) reason bits = Ok (a, bits)
+choice_at none reason bits = Err (Bad (length bits + 1) reason)
+choice_at (fork zeros ones) reason bits = bit_at bits >>= λ next. (if next.0 then choice_at ones reason next.1 else choice_at zeros reason next.1)
+
+-- a choice of which at least one bit is still to come
+abbrev pub next_at : {A : Type 0} → Choice A → Reason → List Bool → Reading A
+next_at t reason bits = bit_at bits >>= λ next. choice_at (child t next.0) reason next.1
+
+-- what a choice says
+abbrev pub IsChosen : {A : Type 0} → Option A → Choice A → Type 0
+IsChosen None t = t ≡ none
+IsChosen (Some value) t = t ≡ pick value
+
+-- 6.3.2.11.2.1 Query, M
+abbrev pub m_values : Choice Code
+m_values = fork (fork (pick Fm0) (pick M2)) (fork (pick M4) (pick M8))
+
+-- 6.3.2.11.2.1 Query, Sel
+abbrev pub sel_values : Choice Sel
+sel_values = fork (fork (pick sels.All00) (pick sels.All01)) (fork (pick sels.NotSl) (pick sels.Sl))
+
+-- 6.3.2.11.2.1 Query, Target
+abbrev pub query_target_values : Choice Side
+query_target_values = fork (pick side.A) (pick side.B)
+
+-- 6.3.2.11.2.2 QueryAdjust, UpDn
+abbrev pub updn_values : Choice UpDn
+updn_values = fork (fork (fork (pick Same) none) (fork none (pick Down))) (fork none (fork (pick Up) none))
+
+-- 6.3.2.11.1.1 Select, Target
+abbrev pub select_target_values : Choice FlagName
+select_target_values = fork (fork (fork (pick flags.S0) (pick flags.S1)) (fork (pick flags.S2) (pick flags.S3))) (fork (fork (pick flags.Sl) none) none)
+
+-- 6.3.2.11.1.1 Select, MemBank
+abbrev pub mask_bank_values : Choice MaskBank
+mask_bank_values = fork (fork none (pick mask_banks.Epc)) (fork (pick mask_banks.Tid) (pick mask_banks.User))
+
+-- 6.3.2.11.3.2 Read, MemBank
+abbrev pub bank_values : Choice Bank
+bank_values = fork (fork (pick banks.Reserved) (pick banks.Epc)) (fork (pick banks.Tid) (pick banks.User))
+
+-- the kinds whose codes begin with 10, 11000, 11001 and 11
+abbrev kinds_10 : Choice CommandKind
+kinds_10 = fork (fork (pick kinds.Query) (pick kinds.QueryAdjust)) (fork (pick kinds.Select) none)
+
+abbrev kinds_11000 : Choice CommandKind
+kinds_11000 = fork
+    (fork (fork (pick kinds.Nak) (pick kinds.ReqRn)) (fork (pick kinds.Read) (pick kinds.Write)))
+    (fork (fork (pick kinds.Kill) (pick kinds.Lock)) (fork (pick kinds.Access) (pick kinds.BlockWrite)))
+
+abbrev kinds_11001 : Choice CommandKind
+kinds_11001 = fork (fork (fork (pick kinds.BlockErase) none) none) none
+
+abbrev kinds_11 : Choice CommandKind
+kinds_11 = fork (fork (fork kinds_11000 kinds_11001) none) none
+
+-- 6.3.2.11, Table 6.18: the codes
+abbrev pub kind_values : Choice CommandKind
+kind_values = fork (fork (pick kinds.QueryRep) (pick kinds.Ack)) (fork kinds_10 kinds_11)
+
+-- these bits alone
+abbrev pub exactly_at : List Bool → Reason → List Bool → Reading (Unit {0})
+exactly_at [] reason bits = Ok (tt, bits)
+exactly_at (wanted ∷ others) reason bits = bit_at bits >>= λ next. (if differ wanted next.0 then Err (Bad (length next.1 + 1) reason) else exactly_at others reason next.1)
+
+-- a number of words that is not 0
+unfoldable pub count_at : List Bool → Reading ℕ
+count_at bits = field_at 8 bits >>= λ count. (if count.0 == 0 then Err (Bad (length count.1 + 1) reasons.Count) else Ok count)
+
+-- so many words
+unfoldable pub words_at : ℕ → List Bool → Reading (List ℕ)
+words_at zero bits = Ok ([], bits)
+words_at (suc count) bits = do
+  word ← field_at 16 bits
+  words ← words_at count word.1
+  Ok (word.0 ∷ words.0, words.1)
+
+-- Annex A: a block of an extensible bit vector says whether another follows, and has a digit to the base 128
+pub record Block : Type 0 where
+  pub more : Bool
+  pub number : ℕ
+
+-- the block, with the number of the digits up to its own, where that of the digits before is this
+unfoldable pub block_at : ℕ → List Bool → Reading Block
+block_at value bits = do
+  more ← bit_at bits
+  digit ← field_at 7 more.1
+  Ok (record { more = more.0; number = value * 128 + digit.0 }, digit.1)
+
+-- a block of a vector before its fourth; no vector begins with one that says only that another follows
+unfoldable pub block_within_at : ℕ → List Bool → Reading Block
+block_within_at value bits = block_at value bits >>= λ block.
+    (if block.0.more && (block.0.number == 0) then Err (Bad (length block.1 + 1) reasons.Ebv) else Ok block)
+
+-- the fourth block, which no other follows
+unfoldable pub last_digit_at : List Bool → Reading ℕ
+last_digit_at bits = do
+  more ← exactly_at (false ∷ []) reasons.Ebv bits
+  field_at 7 more.1
+
+-- the blocks of a vector from one on, behind which at most so many may follow
+unfoldable pub blocks_at : ℕ → ℕ → List Bool → Reading ℕ
+blocks_at zero value bits = last_digit_at bits >>= λ digit. Ok (value * 128 + digit.0, digit.1)
+blocks_at (suc others) value bits = block_within_at value bits >>= λ block.
+    (if block.0.more then blocks_at others block.0.number block.1 else Ok (block.0.number, block.1))
+
+unfoldable pub ebv_at : List Bool → Reading ℕ
+ebv_at bits = blocks_at 3 0 bits
+
+-- the check numbers of the bits of `whole` before `bits`
+abbrev pub before : List Bool → List Bool → List Bool
+before whole bits = take (length whole - length bits) whole
+
+unfoldable pub crc5_at : List Bool → List Bool → Reading (Unit {0})
+crc5_at whole bits = exactly_at (crc5_of (before whole bits)) reasons.Crc5 bits
+
+unfoldable pub crc16_at : List Bool → List Bool → Reading (Unit {0})
+crc16_at whole bits = exactly_at (crc16_of (before whole bits)) reasons.Crc16 bits
+
+-- the fields behind the code, of the command of each kind
+unfoldable pub query_rep_at : List Bool → Reading Command
+query_rep_at bits = do
+  session ← field_at 2 bits
+  Ok (commands.QueryRep session.0, session.1)
+
+unfoldable pub ack_at : List Bool → Reading Command
+ack_at bits = do
+  rn ← field_at 16 bits
+  Ok (commands.Ack rn.0, rn.1)
+
+unfoldable pub query_at : List Bool → List Bool → Reading Command
+query_at whole bits = do
+  dr ← bit_at bits
+  m ← choice_at m_values reasons.Code dr.1
+  trext ← bit_at m.1
+  sel ← choice_at sel_values reasons.Code trext.1
+  session ← field_at 2 sel.1
+  target ← choice_at query_target_values reasons.Code session.1
+  q ← field_at 4 target.1
+  check ← crc5_at whole q.1
+  Ok (commands.Query dr.0 m.0 trext.0 sel.0 session.0 target.0 q.0, check.1)
+
+unfoldable pub query_adjust_at : List Bool → Reading Command
+query_adjust_at bits = do
+  session ← field_at 2 bits
+  updn ← choice_at updn_values reasons.UpDn session.1
+  Ok (commands.QueryAdjust session.0 updn.0, updn.1)
+
+unfoldable pub select_at : List Bool → List Bool → Reading Command
+select_at whole bits = do
+  target ← choice_at select_target_values reasons.Target bits
+  action ← field_at 3 target.1
+  bank ← choice_at mask_bank_values reasons.Bank action.1
+  pointer ← ebv_at bank.1
+  count ← field_at 8 pointer.1
+  mask ← bits_at count.0 count.1
+  truncate ← exactly_at (false ∷ []) reasons.Truncate mask.1
+  check ← crc16_at whole truncate.1
+  Ok (commands.Select target.0 action.0 bank.0 pointer.0 mask.0, check.1)
+
+unfoldable pub req_rn_at : List Bool → List Bool → Reading Command
+req_rn_at whole bits = do
+  rn ← field_at 16 bits
+  check ← crc16_at whole rn.1
+  Ok (commands.ReqRn rn.0, check.1)
+
+unfoldable pub read_at : List Bool → List Bool → Reading Command
+read_at whole bits = do
+  bank ← choice_at bank_values reasons.Code bits
+  pointer ← ebv_at bank.1
+  count ← field_at 8 pointer.1
+  rn ← field_at 16 count.1
+  check ← crc16_at whole rn.1
+  Ok (commands.Read bank.0 pointer.0 count.0 rn.0, check.1)
+
+unfoldable pub write_at : List Bool → List Bool → Reading Command
+write_at whole bits = do
+  bank ← choice_at bank_values reasons.Code bits
+  pointer ← ebv_at bank.1
+  covered ← field_at 16 pointer.1
+  rn ← field_at 16 covered.1
+  check ← crc16_at whole rn.1
+  Ok (commands.Write bank.0 pointer.0 covered.0 rn.0, check.1)
+
+unfoldable pub kill_at : List Bool → List Bool → Reading Command
+kill_at whole bits = do
+  covered ← field_at 16 bits
+  zeros ← exactly_at (false ∷ false ∷ false ∷ []) reasons.KillBits covered.1
+  rn ← field_at 16 zeros.1
+  check ← crc16_at whole rn.1
+  Ok (commands.Kill covered.0 rn.0, check.1)
+
+unfoldable pub lock_at : List Bool → List Bool → Reading Command
+lock_at whole bits = do
+  payload ← field_at 20 bits
+  rn ← field_at 16 payload.1
+  check ← crc16_at whole rn.1
+  Ok (commands.Lock payload.0 rn.0, check.1)
+
+unfoldable pub access_at : List Bool → List Bool → Reading Command
+access_at whole bits = do
+  covered ← field_at 16 bits
+  rn ← field_at 16 covered.1
+  check ← crc16_at whole rn.1
+  Ok (commands.Access covered.0 rn.0, check.1)
+
+unfoldable pub block_write_at : List Bool → List Bool → Reading Command
+block_write_at whole bits = do
+  bank ← choice_at bank_values reasons.Code bits
+  pointer ← ebv_at bank.1
+  count ← count_at pointer.1
+  words ← words_at count.0 count.1
+  rn ← field_at 16 words.1
+  check ← crc16_at whole rn.1
+  Ok (commands.BlockWrite bank.0 pointer.0 words.0 rn.0, check.1)
+
+unfoldable pub block_erase_at : List Bool → List Bool → Reading Command
+block_erase_at whole bits = do
+  bank ← choice_at bank_values reasons.Code bits
+  pointer ← ebv_at bank.1
+  count ← count_at pointer.1
+  rn ← field_at 16 count.1
+  check ← crc16_at whole rn.1
+  Ok (commands.BlockErase bank.0 pointer.0 count.0 rn.0, check.1)
+
+-- the fields of a kind; `whole` has all bits from the code on
+abbrev pub fields_at : CommandKind → List Bool → List Bool → Reading Command
+fields_at kinds.QueryRep whole bits = query_rep_at bits
+fields_at kinds.Ack whole bits = ack_at bits
+fields_at kinds.Query whole bits = query_at whole bits
+fields_at kinds.QueryAdjust whole bits = query_adjust_at bits
+fields_at kinds.Select whole bits = select_at whole bits
+fields_at kinds.Nak whole bits = Ok (commands.Nak, bits)
+fields_at kinds.ReqRn whole bits = req_rn_at whole bits
+fields_at kinds.Read whole bits = read_at whole bits
+fields_at kinds.Write whole bits = write_at whole bits
+fields_at kinds.Kill whole bits = kill_at whole bits
+fields_at kinds.Lock whole bits = lock_at whole bits
+fields_at kinds.Access whole bits = access_at whole bits
+fields_at kinds.BlockWrite whole bits = block_write_at whole bits
+fields_at kinds.BlockErase whole bits = block_erase_at whole bits
+
+unfoldable pub command_at : List Bool → Reading Command
+command_at bits = choice_at kind_values reasons.Code bits >>= λ kind. fields_at kind.0 bits kind.1
+
+-- all of the bits
+unfoldable pub all_of : List Bool → Result Command Stop
+all_of bits = command_at bits >>= λ read. (if length read.1 == 0 then Ok read.0 else Err (Bad (length read.1) reasons.Extra))

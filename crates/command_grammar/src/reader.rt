@@ -1,0 +1,12 @@
+//! Reading a command, bit by bit: its code, then its fields in their order, one stage after another.
+
+mod check;
+mod codes;
+mod decoding;
+mod fields;
+mod framer;
+mod stage;
+mod state;
+
+pub use decoding::{decode_command, decode_command_to};
+pub use framer::Framer;

@@ -1,0 +1,76 @@
+//! The check number that goes along with the bits of a command (6.3.1.5).
+ghost use Rattle.std.specs.Prelude.{◌≡◌, List, Bool, [], ◌∷◌, ◌++◌};
+ghost use Rattle.command_grammar.specs.Commands.{code_of};
+ghost use Rattle.command_grammar.specs.reading.CommandFields.{fields_of};
+ghost use Rattle.command_grammar.specs.reading.CheckNumbers.{Counts, check_kept, kept_behind, AreServed};
+
+use crate::kinds::CommandKind;
+use crate::reader::fields::Field;
+use gen2_crc::{Crc5, Crc16};
+
+/// The check number of the bits so far, where one is still to come.
+#[derive(Clone, Copy)]
+pub(crate) enum Check {
+    /// That of a Select or of an access command.
+    Long(Crc16),
+    /// None is to come.
+    Over,
+    /// That of a Query.
+    Short(Crc5),
+}
+
+impl Check {
+    /// The one that comes in a command of this kind, behind its code.
+    pub(crate) fn of(kind: CommandKind) -> Check
+        ensures counts { Counts result (code_of kind) }
+        ensures serves { AreServed (check_kept result) (fields_of kind) }
+    {
+        match kind {
+            CommandKind::Query => {
+                let mut crc = Crc5::new();
+                crc.push_all(kind.code());
+                Check::Short(crc)
+            }
+            CommandKind::QueryRep
+            | CommandKind::Ack
+            | CommandKind::QueryAdjust
+            | CommandKind::Nak => Check::Over,
+            CommandKind::Select
+            | CommandKind::ReqRn
+            | CommandKind::Read
+            | CommandKind::Write
+            | CommandKind::Kill
+            | CommandKind::Lock
+            | CommandKind::Access
+            | CommandKind::BlockWrite
+            | CommandKind::BlockErase => {
+                let mut crc = Crc16::new();
+                crc.push_all(kind.code());
+                Check::Long(crc)
+            }
+        }
+    }
+
+    /// These bits more.
+    #[inline]
+    pub(crate) fn push_all(&mut self, bits: &[bool])
+        ensures counts { (front : List Bool) → Counts self.old front → Counts self.new (front ++ bits.now) }
+        ensures kept { check_kept self.new ≡ check_kept self.old }
+    {
+        match self {
+            Check::Long(crc) => crc.push_all(bits),
+            Check::Short(crc) => crc.push_all(bits),
+            Check::Over => {}
+        }
+    }
+
+    /// A field begins. With its own one the check number is over.
+    pub(crate) fn start(&mut self, field: Field)
+        ensures counts { (bits : List Bool) → Counts self.old bits → Counts self.new bits }
+        ensures kept { check_kept self.new ≡ kept_behind (check_kept self.old) field }
+    {
+        if matches!(field, Field::Crc5 | Field::Crc16) {
+            *self = Check::Over;
+        }
+    }
+}

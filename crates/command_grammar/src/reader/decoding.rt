@@ -1,0 +1,30 @@
+//! A list of bits to a command.
+ghost use Rattle.std.specs.Prelude.{◌≡◌, Ok};
+ghost use Rattle.command_grammar.specs.Commands.{IsFinishAnswer, SpellsCommand};
+ghost use Rattle.command_grammar.specs.declared.commands.Command.{Command};
+
+use crate::commands::Command;
+use crate::reader::state::State;
+use crate::refusal::CommandRefusal;
+
+/// The command that these bits are, or why they are none. Bits behind a refused one are not looked
+/// at.
+pub fn decode_command(bits: &[bool]) -> Result<Command, CommandRefusal>
+    ensures answer { IsFinishAnswer result bits.now }
+    ensures only { (command : Command) → SpellsCommand command bits.now → result ≡ Ok command }
+{
+    let mut answer = Err(CommandRefusal::Short(0));
+    decode_command_to(bits, &mut answer);
+    answer
+}
+
+/// Writes what [`decode_command`] answers in place of another answer. Nothing is copied, as an answer has
+/// room for the longest mask and the longest list of words.
+pub fn decode_command_to(bits: &[bool], answer: &mut Result<Command, CommandRefusal>)
+    ensures answer { IsFinishAnswer answer.new bits.now }
+    ensures only { (command : Command) → SpellsCommand command bits.now → answer.new ≡ Ok command }
+{
+    let mut state = State::new();
+    let refused = state.take_all(bits);
+    state.finish(refused, answer);
+}

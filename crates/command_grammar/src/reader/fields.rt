@@ -1,0 +1,343 @@
+//! The fields that stand behind the codes of commands (6.3.2.11), and what was read of them.
+ghost use Rattle.std.specs.Prelude.{◌≡◌, ◌≢◌, ◌^◌, ◌<◌, ◌≤◌, Ok};
+ghost use Rattle.command_grammar.specs.reading.CommandFields.{command_of, fields_of};
+
+use crate::command_lists::{BlockWords, Mask};
+use crate::commands::Command;
+use crate::field_values::{Bank, FlagName, MaskBank, Sel, Side, UpDn};
+use crate::kinds::CommandKind;
+use crate::refusal::CommandRefusal;
+use bit_strings::{Action, Code, Count1, Payload, Pointer, QValue, Session};
+use std::mem;
+
+/// A field behind the code of a command.
+#[derive(Clone, Copy)]
+pub(crate) enum Field {
+    /// DR of a Query.
+    Dr,
+    /// M of a Query.
+    M,
+    /// TRext of a Query.
+    TRext,
+    /// Sel of a Query.
+    Sel,
+    /// Session of a QueryRep, Query or QueryAdjust.
+    Session,
+    /// Target of a Query.
+    QueryTarget,
+    /// Q of a Query.
+    Q,
+    /// CRC-5.
+    Crc5,
+    /// UpDn of a QueryAdjust.
+    UpDn,
+    /// Target of a Select.
+    SelectTarget,
+    /// Action of a Select.
+    Action,
+    /// MemBank of a Select.
+    MaskBank,
+    /// Pointer or WordPtr.
+    Pointer,
+    /// Length and Mask of a Select.
+    Mask,
+    /// Truncate of a Select.
+    Truncate,
+    /// MemBank of the other commands.
+    Bank,
+    /// WordCount of a Read.
+    Count,
+    /// WordCount and Data of a BlockWrite.
+    Words,
+    /// WordCount of a BlockErase.
+    WordCount,
+    /// Data of a Write, or half of a password.
+    Covered,
+    /// The three bits of a Kill behind the covered half.
+    KillBits,
+    /// Payload of a Lock.
+    Payload,
+    /// The tag's RN16 or handle.
+    Rn,
+    /// CRC-16.
+    Crc16,
+}
+
+impl CommandKind {
+    /// The fields behind the code, in their order.
+    pub(crate) fn fields(self) -> &'static [Field]
+        ensures { result.now ≡ fields_of self }
+    {
+        match self {
+            CommandKind::QueryRep => &[Field::Session],
+            CommandKind::Ack => &[Field::Rn],
+            CommandKind::Query => &[
+                Field::Dr,
+                Field::M,
+                Field::TRext,
+                Field::Sel,
+                Field::Session,
+                Field::QueryTarget,
+                Field::Q,
+                Field::Crc5,
+            ],
+            CommandKind::QueryAdjust => &[Field::Session, Field::UpDn],
+            CommandKind::Select => &[
+                Field::SelectTarget,
+                Field::Action,
+                Field::MaskBank,
+                Field::Pointer,
+                Field::Mask,
+                Field::Truncate,
+                Field::Crc16,
+            ],
+            CommandKind::Nak => &[],
+            CommandKind::ReqRn => &[Field::Rn, Field::Crc16],
+            CommandKind::Read => &[
+                Field::Bank,
+                Field::Pointer,
+                Field::Count,
+                Field::Rn,
+                Field::Crc16,
+            ],
+            CommandKind::Write => &[
+                Field::Bank,
+                Field::Pointer,
+                Field::Covered,
+                Field::Rn,
+                Field::Crc16,
+            ],
+            CommandKind::Kill => &[Field::Covered, Field::KillBits, Field::Rn, Field::Crc16],
+            CommandKind::Lock => &[Field::Payload, Field::Rn, Field::Crc16],
+            CommandKind::Access => &[Field::Covered, Field::Rn, Field::Crc16],
+            CommandKind::BlockWrite => &[
+                Field::Bank,
+                Field::Pointer,
+                Field::Words,
+                Field::Rn,
+                Field::Crc16,
+            ],
+            CommandKind::BlockErase => &[
+                Field::Bank,
+                Field::Pointer,
+                Field::WordCount,
+                Field::Rn,
+                Field::Crc16,
+            ],
+        }
+    }
+}
+
+/// The values of the fields that were read; the others hold some value.
+#[derive(Drop)]
+pub(crate) struct Fields {
+    pub(crate) dr: bool,
+    pub(crate) m: Code,
+    pub(crate) trext: bool,
+    pub(crate) sel: Sel,
+    pub(crate) session: Session,
+    pub(crate) query_target: Side,
+    pub(crate) q: QValue,
+    pub(crate) updn: UpDn,
+    pub(crate) select_target: FlagName,
+    pub(crate) action: Action,
+    pub(crate) mask_bank: MaskBank,
+    pub(crate) pointer: Pointer,
+    pub(crate) mask: Mask,
+    pub(crate) bank: Bank,
+    pub(crate) count: u8,
+    pub(crate) words: BlockWords,
+    pub(crate) word_count: Count1,
+    pub(crate) covered: u16,
+    pub(crate) payload: Payload,
+    pub(crate) rn: u16,
+}
+
+impl Fields {
+    /// No field was read.
+    #[inline(always)]
+    pub(crate) fn new() -> Fields {
+        Fields {
+            dr: false,
+            m: Code::Fm0,
+            trext: false,
+            sel: Sel::All00,
+            session: session_of(0),
+            query_target: Side::A,
+            q: q_of(0),
+            updn: UpDn::Same,
+            select_target: FlagName::S0,
+            action: action_of(0),
+            mask_bank: MaskBank::Epc,
+            pointer: pointer_of(0),
+            mask: Mask::new(),
+            bank: Bank::Reserved,
+            count: 0,
+            words: BlockWords::first(0),
+            word_count: count_of(1),
+            covered: 0,
+            payload: payload_of(0),
+            rn: 0,
+        }
+    }
+
+    /// Answers with the command whose fields were all read. Each command is written where the answer stands,
+    /// since a command has room for the longest mask and the longest list of words, and takes its list out of
+    /// the fields.
+    #[inline(always)]
+    pub(crate) fn answer(&mut self, kind: CommandKind, answer: &mut Result<Command, CommandRefusal>)
+        ensures { answer.new ≡ Ok (command_of kind self.old) }
+    {
+        match kind {
+            CommandKind::QueryRep => {
+                *answer = Ok(Command::QueryRep {
+                    session: self.session,
+                });
+            }
+            CommandKind::Ack => {
+                *answer = Ok(Command::Ack { rn: self.rn });
+            }
+            CommandKind::Query => {
+                *answer = Ok(Command::Query {
+                    dr: self.dr,
+                    code: self.m,
+                    trext: self.trext,
+                    sel: self.sel,
+                    session: self.session,
+                    target: self.query_target,
+                    q: self.q,
+                });
+            }
+            CommandKind::QueryAdjust => {
+                *answer = Ok(Command::QueryAdjust {
+                    session: self.session,
+                    updn: self.updn,
+                });
+            }
+            CommandKind::Select => {
+                *answer = Ok(Command::Select {
+                    target: self.select_target,
+                    action: self.action,
+                    bank: self.mask_bank,
+                    pointer: self.pointer,
+                    mask: mem::replace(&mut self.mask, Mask::new()),
+                });
+            }
+            CommandKind::Nak => *answer = Ok(Command::Nak),
+            CommandKind::ReqRn => {
+                *answer = Ok(Command::ReqRn { rn: self.rn });
+            }
+            CommandKind::Read => {
+                *answer = Ok(Command::Read {
+                    bank: self.bank,
+                    pointer: self.pointer,
+                    count: self.count,
+                    rn: self.rn,
+                });
+            }
+            CommandKind::Write => {
+                *answer = Ok(Command::Write {
+                    bank: self.bank,
+                    pointer: self.pointer,
+                    covered: self.covered,
+                    rn: self.rn,
+                });
+            }
+            CommandKind::Kill => {
+                *answer = Ok(Command::Kill {
+                    covered: self.covered,
+                    rn: self.rn,
+                });
+            }
+            CommandKind::Lock => {
+                *answer = Ok(Command::Lock {
+                    payload: self.payload,
+                    rn: self.rn,
+                });
+            }
+            CommandKind::Access => {
+                *answer = Ok(Command::Access {
+                    covered: self.covered,
+                    rn: self.rn,
+                });
+            }
+            CommandKind::BlockWrite => {
+                *answer = Ok(Command::BlockWrite {
+                    bank: self.bank,
+                    pointer: self.pointer,
+                    words: mem::replace(&mut self.words, BlockWords::first(0)),
+                    rn: self.rn,
+                });
+            }
+            CommandKind::BlockErase => {
+                *answer = Ok(Command::BlockErase {
+                    bank: self.bank,
+                    pointer: self.pointer,
+                    count: self.word_count,
+                    rn: self.rn,
+                });
+            }
+        }
+    }
+}
+
+pub(crate) fn session_of(number: u32) -> Session
+    requires { number ≤ 3 }
+    ensures { result ≡ number }
+{
+    match Session::new(number as u8) {
+        Some(session) => session,
+        None => unreachable!(),
+    }
+}
+
+pub(crate) fn q_of(number: u32) -> QValue
+    requires { number ≤ 15 }
+    ensures { result ≡ number }
+{
+    match QValue::new(number as u8) {
+        Some(q) => q,
+        None => unreachable!(),
+    }
+}
+
+pub(crate) fn action_of(number: u32) -> Action
+    requires { number ≤ 7 }
+    ensures { result ≡ number }
+{
+    match Action::new(number as u8) {
+        Some(action) => action,
+        None => unreachable!(),
+    }
+}
+
+pub(crate) fn pointer_of(number: u32) -> Pointer
+    requires { number < 2 ^ 28 }
+    ensures { result ≡ number }
+{
+    match Pointer::new(number) {
+        Some(pointer) => pointer,
+        None => unreachable!(),
+    }
+}
+
+pub(crate) fn payload_of(number: u32) -> Payload
+    requires { number < 2 ^ 20 }
+    ensures { result ≡ number }
+{
+    match Payload::new(number) {
+        Some(payload) => payload,
+        None => unreachable!(),
+    }
+}
+
+pub(crate) fn count_of(number: u32) -> Count1
+    requires some { number ≢ 0 }
+    requires few { number ≤ 255 }
+    ensures { result ≡ number }
+{
+    match Count1::new(number as u8) {
+        Some(count) => count,
+        None => unreachable!(),
+    }
+}

@@ -1,0 +1,96 @@
+//! Bits, one at a time, to a command.
+ghost use Rattle.std.specs.Prelude.{◌≡◌, ◌++◌, ◌∷◌, [], ℕ, List, Bool, Ok, Some};
+ghost use Rattle.command_grammar.specs.Commands.{Judges, IsFinishAnswer, SpellsCommand};
+ghost use Rattle.command_grammar.specs.reading.Framing.{FramerStandsFor, refusal_in, FramerValue, IsOpen};
+ghost use Rattle.command_grammar.specs.declared.commands.Command.{Command};
+ghost use Rattle.command_grammar.specs.declared.refusal.Pushed.TheVariants.{Bad};
+ghost use Rattle.command_grammar.specs.declared.refusal.Reason.{Reason};
+
+use crate::commands::Command;
+use crate::reader::state::State;
+use crate::refusal::{CommandRefusal, Pushed, Reason};
+use std::marker::Model;
+
+/// Finds the end of a command in bits that come one at a time, and what the command is.
+///
+/// A contract says which list of bits it stands for. It keeps the field that it is in with the bits
+/// read of it, behind the command code the check number of the bits so far, and the values of the
+/// fields before; no bits but those of a mask and of words. A bit is looked at once.
+#[derive(Drop)]
+pub struct Framer {
+    state: State,
+    refused: Option<(u32, Reason)>,
+}
+
+impl Model for Framer {
+    ghost Value = { FramerValue };
+
+    ghost view = { λ a. record { state = a.state; refused = a.refused } };
+
+    ghost invariant = { λ a. IsOpen a.state a.refused };
+}
+
+impl Default for Framer {
+    fn default() -> Framer
+        ensures { FramerStandsFor result [] }
+    {
+        Framer::new()
+    }
+}
+
+impl Framer {
+    /// StateStandsFor for no bits.
+    pub fn new() -> Framer
+        ensures { FramerStandsFor result [] }
+    {
+        Framer {
+            state: State::new(),
+            refused: None,
+        }
+    }
+
+    /// StateStandsFor for one bit more, and says what the bits now are. After a refusal each push answers the
+    /// same.
+    pub fn push(&mut self, bit: bool) -> Pushed
+        ensures stands { (bits : List Bool) → FramerStandsFor self.old bits → FramerStandsFor self.new (bits ++ bit ∷ []) }
+        ensures judges { (bits : List Bool) → FramerStandsFor self.old bits → Judges result (bits ++ bit ∷ []) }
+        ensures remembers { self.new.refused ≡ refusal_in result }
+        ensures same { (place : ℕ) (reason : Reason) → self.old.refused ≡ Some (place, reason) → result ≡ Bad place reason }
+    {
+        match self.refused {
+            Some((place, reason)) => Pushed::Bad(place, reason),
+            None => {
+                let place = self.state.pushed;
+                match self.state.take(bit) {
+                    None => self.state.judge(),
+                    Some(reason) => {
+                        self.refused = Some((place, reason));
+                        Pushed::Bad(place, reason)
+                    }
+                }
+            }
+        }
+    }
+
+    /// The command that the bits are, the refusal, or `Short` where they only begin a command.
+    pub fn finish(mut self) -> Result<Command, CommandRefusal>
+        ensures finishes { (bits : List Bool) → FramerStandsFor self bits → IsFinishAnswer result bits }
+        ensures only { (bits : List Bool) (command : Command) → FramerStandsFor self bits → SpellsCommand command bits → result ≡ Ok command }
+    {
+        let mut answer = Err(CommandRefusal::Short(0));
+        self.finish_to(&mut answer);
+        answer
+    }
+
+    /// Writes what [`finish`](Framer::finish) answers in place of another answer, and stands for no bits
+    /// afterwards. Neither the answer nor the Framer is copied or made anew, as both have room for the longest mask
+    /// and the longest list of words.
+    pub fn finish_to(&mut self, answer: &mut Result<Command, CommandRefusal>)
+        ensures finishes { (bits : List Bool) → FramerStandsFor self.old bits → IsFinishAnswer answer.new bits }
+        ensures only { (bits : List Bool) (command : Command) → FramerStandsFor self.old bits → SpellsCommand command bits → answer.new ≡ Ok command }
+        ensures anew { FramerStandsFor self.new [] }
+    {
+        self.state.finish(self.refused, answer);
+        self.refused = None;
+    }
+}

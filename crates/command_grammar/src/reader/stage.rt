@@ -1,0 +1,465 @@
+//! The field of a command that is being read.
+ghost use Rattle.std.specs.Prelude.{◌≡◌, ◌+◌, ◌*◌, ◌≤◌, ◌<◌, ◌^◌, ◌∷◌, ◌++◌, ℕ, List, Bool, false, length, take, get_or};
+ghost use Rattle.bit_strings.specs.Numbers.{digit_of};
+ghost use Rattle.command_grammar.specs.reading.CommandFields.{field_from};
+ghost use Rattle.command_grammar.specs.reading.FieldStages.{number_from, stage_from, next_from, pair_from, triple_from, bit_from, number_then, words_then};
+ghost use Rattle.command_grammar.specs.reading.FieldRanges.{IsFront, IsSound, IsSoundNumber, IsSoundNext, IsEdge, IsSmall, next_bit, width_of};
+ghost use Rattle.command_grammar.specs.reading.CheckNumbers.{Counts, IsAsked, check_kept};
+ghost use Rattle.command_grammar.specs.declared.reader.fields.Fields.{Fields};
+ghost use Rattle.command_grammar.specs.declared.reader.stage.Stage.TheVariants as stages;
+ghost use Rattle.command_grammar.specs.declared.refusal.Reason.{Reason};
+
+use crate::choices::{
+    BANK_VALUES, M_VALUES, MASK_BANK_VALUES, SEL_VALUES, query_target, select_target, updn,
+};
+use crate::command_lists::{BlockWords, Mask};
+use crate::reader::check::Check;
+use crate::reader::fields::{
+    Field, Fields, action_of, count_of, payload_of, pointer_of, q_of, session_of,
+};
+use crate::refusal::Reason;
+use bit_strings::{EbvFront, EbvStep};
+
+/// The bits of a number that were read before its next one.
+#[derive(Clone, Copy)]
+pub(crate) struct NumberFront {
+    /// How many bits come behind the next one.
+    behind: u32,
+    /// What the bits read are.
+    value: u32,
+}
+
+impl NumberFront {
+    /// No bit of a number of `width` bits.
+    fn of(width: u32) -> NumberFront
+        requires { 1 ≤ width }
+        ensures behind { result.behind + 1 ≡ width }
+        ensures value { result.value ≡ 0 }
+    {
+        NumberFront {
+            behind: width - 1,
+            value: 0,
+        }
+    }
+
+    /// The bits with which these begin, up to the last bit of the number, which isn't taken: gives how many.
+    #[inline]
+    fn take_run(&mut self, bits: &[bool]) -> usize
+        requires { IsSmall self.old }
+        ensures within { result ≤ length bits.now }
+        ensures reads { (rest : List Bool) → number_from self.old.behind self.old.value (take result bits.now ++ rest) ≡ number_from self.new.behind self.new.value rest }
+        ensures fits { (width : ℕ) → IsFront width self.old → IsFront width self.new }
+        ensures last { result < length bits.now → self.new.behind ≡ 0 }
+    {
+        let count = bits.len().min(self.behind as usize);
+        for bit in &bits[..count] {
+            self.value = self.with(*bit);
+        }
+        self.behind -= count as u32;
+        count
+    }
+
+    /// The number with one bit more behind those read.
+    #[inline]
+    fn with(&self, bit: bool) -> u32
+        requires { self.now.value < 2 ^ 30 }
+        ensures { result ≡ 2 * self.now.value + digit_of bit }
+    {
+        2 * self.value + u32::from(bit)
+    }
+
+    /// The next bit of a number that is known.
+    #[inline]
+    fn next(&self) -> bool
+        requires { self.now.behind ≤ 15 }
+        ensures { result ≡ next_bit self.now }
+    {
+        (self.value >> self.behind) % 2 == 1
+    }
+
+    /// The bits of a number that is known with which these begin, up to its last bit, which isn't taken, nor
+    /// is one that differs: gives how many.
+    #[inline]
+    fn take_known_run(&mut self, bits: &[bool]) -> usize
+        requires { self.old.behind ≤ 15 }
+        ensures within { result ≤ length bits.now }
+        ensures reads { (reason : Reason) (fields : Fields) (rest : List Bool) → stage_from (stages.Known reason self.old) fields (take result bits.now ++ rest) ≡ stage_from (stages.Known reason self.new) fields rest }
+        ensures few { self.new.behind ≤ self.old.behind }
+        ensures last { result < length bits.now → get_or bits.now result false ≡ next_bit self.new → self.new.behind ≡ 0 }
+    {
+        let mut count = 0;
+        for bit in bits {
+            if self.behind == 0 || *bit != self.next() {
+                return count;
+            }
+            self.behind -= 1;
+            count += 1;
+        }
+        count
+    }
+}
+
+/// A field of one bit.
+#[derive(Clone, Copy)]
+pub(crate) enum BitField {
+    Dr,
+    TRext,
+    QueryTarget,
+}
+
+/// A field of two bits whose values have names.
+#[derive(Clone, Copy)]
+pub(crate) enum PairField {
+    M,
+    Sel,
+    Bank,
+    MaskBank,
+}
+
+/// A field of three bits whose values have names.
+#[derive(Clone, Copy)]
+pub(crate) enum TripleField {
+    UpDn,
+    SelectTarget,
+}
+
+/// The bits of a field of three that were read.
+#[derive(Clone, Copy)]
+pub(crate) enum TripleFront {
+    Nothing,
+    One(bool),
+    Two(bool, bool),
+}
+
+/// What a number of some bits is for.
+#[derive(Clone, Copy)]
+pub(crate) enum NumberField {
+    Session,
+    Q,
+    Action,
+    Count,
+    WordCount,
+    Covered,
+    Payload,
+    Rn,
+    /// Length of a Select: how many bits of mask follow.
+    MaskLength,
+    /// WordCount of a BlockWrite: how many words follow.
+    WordsLength,
+    /// The first word of a BlockWrite, and how many others follow.
+    FirstWord(u32),
+    /// Another word, and how many others follow.
+    Word(u32),
+}
+
+/// What is being read: a field, or a part of one.
+#[derive(Clone, Copy)]
+pub(crate) enum Stage {
+    Bit(BitField),
+    /// The first bit, where it was read.
+    Pair(PairField, Option<bool>),
+    Triple(TripleField, TripleFront),
+    Number(NumberField, NumberFront),
+    /// An extensible bit vector (Annex A), of which some bits were read.
+    Ebv(EbvFront),
+    /// The bits of a mask: how many come behind the next one.
+    Mask(u32),
+    /// Bits that are known: they are those of a number, and a bit that differs is refused.
+    Known(Reason, NumberFront),
+}
+
+/// What comes of a bit.
+#[derive(Clone, Copy)]
+pub(crate) enum Next {
+    /// The field goes on.
+    Stay(Stage),
+    /// The field has ended.
+    Done,
+    /// No command goes on so.
+    Refused(Reason),
+}
+
+impl Stage {
+    /// The beginning of a field, behind bits with this check number.
+    pub(crate) fn start(field: Field, check: &Check) -> Stage
+        requires { IsAsked (check_kept check.now) field }
+        ensures reads { (bits rest : List Bool) (fields : Fields) → Counts check.now bits → stage_from result fields rest ≡ field_from field fields (bits ++ rest) rest }
+        ensures sound { (fields : Fields) → IsSound result fields }
+    {
+        match field {
+            Field::Dr => Stage::Bit(BitField::Dr),
+            Field::M => Stage::Pair(PairField::M, None),
+            Field::TRext => Stage::Bit(BitField::TRext),
+            Field::Sel => Stage::Pair(PairField::Sel, None),
+            Field::Session => Stage::Number(NumberField::Session, NumberFront::of(2)),
+            Field::QueryTarget => Stage::Bit(BitField::QueryTarget),
+            Field::Q => Stage::Number(NumberField::Q, NumberFront::of(4)),
+            Field::Crc5 => match check {
+                Check::Short(crc) => {
+                    let value = u32::from(crc.value());
+                    Stage::Known(Reason::Crc5, NumberFront { behind: 4, value })
+                }
+                Check::Long(_) | Check::Over => unreachable!(),
+            },
+            Field::UpDn => Stage::Triple(TripleField::UpDn, TripleFront::Nothing),
+            Field::SelectTarget => Stage::Triple(TripleField::SelectTarget, TripleFront::Nothing),
+            Field::Action => Stage::Number(NumberField::Action, NumberFront::of(3)),
+            Field::MaskBank => Stage::Pair(PairField::MaskBank, None),
+            Field::Pointer => Stage::Ebv(EbvFront::new()),
+            Field::Mask => Stage::Number(NumberField::MaskLength, NumberFront::of(8)),
+            Field::Truncate => Stage::Known(Reason::Truncate, NumberFront::of(1)),
+            Field::Bank => Stage::Pair(PairField::Bank, None),
+            Field::Count => Stage::Number(NumberField::Count, NumberFront::of(8)),
+            Field::Words => Stage::Number(NumberField::WordsLength, NumberFront::of(8)),
+            Field::WordCount => Stage::Number(NumberField::WordCount, NumberFront::of(8)),
+            Field::Covered => Stage::Number(NumberField::Covered, NumberFront::of(16)),
+            Field::KillBits => Stage::Known(Reason::KillBits, NumberFront::of(3)),
+            Field::Payload => Stage::Number(NumberField::Payload, NumberFront::of(20)),
+            Field::Rn => Stage::Number(NumberField::Rn, NumberFront::of(16)),
+            Field::Crc16 => match check {
+                Check::Long(crc) => {
+                    let value = u32::from(crc.value());
+                    Stage::Known(Reason::Crc16, NumberFront { behind: 15, value })
+                }
+                Check::Short(_) | Check::Over => unreachable!(),
+            },
+        }
+    }
+
+    /// The bits with which these begin inside a number, a mask or bits that are known, as most are: gives how
+    /// many. The last bit of these isn't taken, nor one that differs from the known one, nor one elsewhere.
+    #[inline(always)]
+    pub(crate) fn take_run(&mut self, bits: &[bool], fields: &mut Fields) -> usize
+        requires { IsSound self.old fields.old }
+        ensures within { result ≤ length bits.now }
+        ensures reads { (rest : List Bool) → stage_from self.old fields.old (take result bits.now ++ rest) ≡ stage_from self.new fields.new rest }
+        ensures sound { IsSound self.new fields.new }
+        ensures edge { result < length bits.now → IsEdge self.new (get_or bits.now result false) }
+    {
+        match self {
+            Stage::Number(_, number) => number.take_run(bits),
+            Stage::Known(_, wanted) => wanted.take_known_run(bits),
+            Stage::Mask(behind) => take_mask_run(behind, bits, fields),
+            Stage::Ebv(front) => front.take_run(bits),
+            Stage::Bit(_) | Stage::Pair(..) | Stage::Triple(..) => 0,
+        }
+    }
+
+    /// One bit more, of those that `take_run` doesn't take.
+    pub(crate) fn take(self, bit: bool, fields: &mut Fields) -> Next
+        requires sound { IsSound self fields.old }
+        requires edge { IsEdge self bit }
+        ensures reads { (rest : List Bool) → stage_from self fields.old (bit ∷ rest) ≡ next_from result fields.new rest }
+        ensures sound { IsSoundNext result fields.new }
+    {
+        match self {
+            Stage::Bit(field) => take_bit(field, bit, fields),
+            Stage::Pair(field, first) => take_pair(field, first, bit, fields),
+            Stage::Triple(field, front) => take_triple(field, front, bit, fields),
+            Stage::Number(field, number) => take_number(field, number.with(bit), fields),
+            Stage::Ebv(front) => take_ebv(front, bit, fields),
+            Stage::Mask(_) => {
+                fields.mask.push_reserved(bit);
+                Next::Done
+            }
+            Stage::Known(reason, wanted) => take_known(reason, wanted, bit),
+        }
+    }
+}
+
+/// A field of one bit.
+fn take_bit(field: BitField, bit: bool, fields: &mut Fields) -> Next
+    ensures reads { (rest : List Bool) → bit_from field fields.old (bit ∷ rest) ≡ next_from result fields.new rest }
+    ensures sound { IsSoundNext result fields.new }
+{
+    match field {
+        BitField::Dr => fields.dr = bit,
+        BitField::TRext => fields.trext = bit,
+        BitField::QueryTarget => fields.query_target = query_target(bit),
+    }
+    Next::Done
+}
+
+/// A bit of a field of two, behind the first one if that was read.
+fn take_pair(field: PairField, first: Option<bool>, bit: bool, fields: &mut Fields) -> Next
+    ensures reads { (rest : List Bool) → pair_from field first fields.old (bit ∷ rest) ≡ next_from result fields.new rest }
+    ensures sound { IsSoundNext result fields.new }
+{
+    let Some(first) = first else {
+        return Next::Stay(Stage::Pair(field, Some(bit)));
+    };
+    let number = index_of_bits(first, bit);
+    match field {
+        PairField::M => fields.m = M_VALUES[number],
+        PairField::Sel => fields.sel = SEL_VALUES[number],
+        PairField::Bank => fields.bank = BANK_VALUES[number],
+        PairField::MaskBank => match MASK_BANK_VALUES[number] {
+            Some(bank) => fields.mask_bank = bank,
+            None => return Next::Refused(Reason::Bank),
+        },
+    }
+    Next::Done
+}
+
+/// The number that two bits are, the first one the higher.
+fn index_of_bits(first: bool, second: bool) -> usize
+    ensures value { result ≡ 2 * digit_of first + digit_of second }
+    ensures small { result < 4 }
+{
+    2 * usize::from(first) + usize::from(second)
+}
+
+/// A bit of a field of three.
+fn take_triple(field: TripleField, front: TripleFront, bit: bool, fields: &mut Fields) -> Next
+    ensures reads { (rest : List Bool) → triple_from field front fields.old (bit ∷ rest) ≡ next_from result fields.new rest }
+    ensures sound { IsSoundNext result fields.new }
+{
+    match (field, front, bit) {
+        (_, TripleFront::Nothing, _) => Next::Stay(Stage::Triple(field, TripleFront::One(bit))),
+        (TripleField::UpDn, TripleFront::One(true), false) => Next::Refused(Reason::UpDn),
+        (TripleField::SelectTarget, TripleFront::One(true), true) => Next::Refused(Reason::Target),
+        (_, TripleFront::One(first), _) => Next::Stay(Stage::Triple(
+            field,
+            TripleFront::Two(first, bit),
+        )),
+        (TripleField::UpDn, TripleFront::Two(first, second), _) => match updn(first, second, bit) {
+            Some(updn) => {
+                fields.updn = updn;
+                Next::Done
+            }
+            None => Next::Refused(Reason::UpDn),
+        },
+        (TripleField::SelectTarget, TripleFront::Two(first, second), _) => match select_target(
+            first, second, bit,
+        ) {
+            Some(target) => {
+                fields.select_target = target;
+                Next::Done
+            }
+            None => Next::Refused(Reason::Target),
+        },
+    }
+}
+
+/// The whole number of a field.
+fn take_number(field: NumberField, value: u32, fields: &mut Fields) -> Next
+    requires small { value < 2 ^ width_of field }
+    requires sound { IsSoundNumber field fields.old }
+    ensures reads { (rest : List Bool) → number_then field value fields.old rest ≡ next_from result fields.new rest }
+    ensures sound { IsSoundNext result fields.new }
+{
+    match field {
+        NumberField::Session => {
+            fields.session = session_of(value);
+            Next::Done
+        }
+        NumberField::Q => {
+            fields.q = q_of(value);
+            Next::Done
+        }
+        NumberField::Action => {
+            fields.action = action_of(value);
+            Next::Done
+        }
+        NumberField::Count => {
+            fields.count = value as u8;
+            Next::Done
+        }
+        NumberField::WordCount => {
+            if value == 0 {
+                return Next::Refused(Reason::Count);
+            }
+            fields.word_count = count_of(value);
+            Next::Done
+        }
+        NumberField::Covered => {
+            fields.covered = value as u16;
+            Next::Done
+        }
+        NumberField::Payload => {
+            fields.payload = payload_of(value);
+            Next::Done
+        }
+        NumberField::Rn => {
+            fields.rn = value as u16;
+            Next::Done
+        }
+        NumberField::MaskLength => {
+            fields.mask = Mask::new();
+            if value == 0 {
+                return Next::Done;
+            }
+            Next::Stay(Stage::Mask(value - 1))
+        }
+        NumberField::WordsLength => {
+            if value == 0 {
+                return Next::Refused(Reason::Count);
+            }
+            Next::Stay(Stage::Number(NumberField::FirstWord(value - 1), NumberFront::of(16)))
+        }
+        NumberField::FirstWord(left) => {
+            fields.words = BlockWords::first(value as u16);
+            next_word(left)
+        }
+        NumberField::Word(left) => {
+            fields.words.push_reserved(value as u16);
+            next_word(left)
+        }
+    }
+}
+
+/// What follows a word of a block, where so many others follow.
+fn next_word(left: u32) -> Next
+    ensures reads { (fields : Fields) (rest : List Bool) → words_then left fields rest ≡ next_from result fields rest }
+    ensures sound { (fields : Fields) → length fields.words + left ≤ 255 → IsSoundNext result fields }
+{
+    if left == 0 {
+        return Next::Done;
+    }
+    Next::Stay(Stage::Number(NumberField::Word(left - 1), NumberFront::of(16)))
+}
+
+/// A bit of an extensible bit vector, behind those read.
+fn take_ebv(front: EbvFront, bit: bool, fields: &mut Fields) -> Next
+    ensures reads { (rest : List Bool) → stage_from (stages.Ebv front) fields.old (bit ∷ rest) ≡ next_from result fields.new rest }
+    ensures sound { IsSoundNext result fields.new }
+{
+    match front.take(bit) {
+        EbvStep::More(more) => Next::Stay(Stage::Ebv(more)),
+        EbvStep::Value(number) => {
+            fields.pointer = pointer_of(number);
+            Next::Done
+        }
+        EbvStep::NotShortest | EbvStep::TooLong => Next::Refused(Reason::Ebv),
+    }
+}
+
+/// The bits of a mask with which these begin, up to its last bit, which isn't taken: gives how many.
+#[inline]
+fn take_mask_run(behind: &mut u32, bits: &[bool], fields: &mut Fields) -> usize
+    requires { length fields.old.mask + behind.old + 1 ≤ 255 }
+    ensures within { result ≤ length bits.now }
+    ensures reads { (rest : List Bool) → stage_from (stages.Mask behind.old) fields.old (take result bits.now ++ rest) ≡ stage_from (stages.Mask behind.new) fields.new rest }
+    ensures sound { length fields.new.mask + behind.new + 1 ≤ 255 }
+    ensures last { result < length bits.now → behind.new ≡ 0 }
+{
+    let count = bits.len().min(*behind as usize);
+    for bit in &bits[..count] {
+        fields.mask.push_reserved(*bit);
+    }
+    *behind -= count as u32;
+    count
+}
+
+/// The last of the bits that are known, or another bit.
+fn take_known(reason: Reason, wanted: NumberFront, bit: bool) -> Next
+    requires few { wanted.behind ≤ 15 }
+    requires edge { IsEdge (stages.Known reason wanted) bit }
+    ensures reads { (fields : Fields) (rest : List Bool) → stage_from (stages.Known reason wanted) fields (bit ∷ rest) ≡ next_from result fields rest }
+    ensures sound { (fields : Fields) → IsSoundNext result fields }
+{
+    if bit != wanted.next() {
+        return Next::Refused(reason);
+    }
+    Next::Done
+}

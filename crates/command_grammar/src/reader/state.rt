@@ -1,0 +1,208 @@
+//! What was read of a command.
+ghost use Rattle.std.specs.Prelude.{◌≡◌, ◌<◌, ◌≤◌, ◌++◌, ◌∷◌, [], List, Bool, false, Ok, None, length, take, get_or};
+ghost use Rattle.command_grammar.specs.Commands.{Judges, IsFinishAnswer, SpellsCommand};
+ghost use Rattle.command_grammar.specs.reading.CommandFields.{run};
+ghost use Rattle.command_grammar.specs.reading.CheckNumbers.{Counts, AreServed, check_kept};
+ghost use Rattle.command_grammar.specs.reading.Framing.{StateStandsFor, Keeps, IsCounted, IsServed, IsEdgePosition, IsSoundPosition, IsOpen, Goes, refusal_in, resume};
+ghost use Rattle.command_grammar.specs.declared.commands.Command.{Command};
+
+use crate::commands::Command;
+use crate::kinds::CommandKind;
+use crate::reader::check::Check;
+use crate::reader::codes::{CodeFront, CodeStep, code_step};
+use crate::reader::fields::{Field, Fields};
+use crate::reader::stage::{Next, Stage};
+use crate::refusal::{CommandRefusal, Pushed, Reason};
+
+/// Where the next bit stands.
+#[derive(Clone, Copy)]
+pub(crate) enum Position {
+    /// In a field.
+    Within(Stage),
+    /// In the command code.
+    Code(CodeFront),
+    /// Behind the command.
+    Whole,
+}
+
+/// What was read of a command, where no bit was refused. It keeps no bits but those of a mask and of
+/// words.
+#[derive(Drop)]
+pub(crate) struct State {
+    /// How many bits were read.
+    pub(crate) pushed: u32,
+    /// The command, once its code was read.
+    kind: CommandKind,
+    /// Its check number, from the code on.
+    check: Check,
+    position: Position,
+    /// The fields behind the one that is being read.
+    behind: &'static [Field],
+    fields: Fields,
+}
+
+impl State {
+    /// StateStandsFor for no bits.
+    pub(crate) fn new() -> State
+        ensures stands { StateStandsFor result [] }
+        ensures sound { IsSoundPosition result.position result.fields }
+    {
+        State {
+            pushed: 0,
+            kind: CommandKind::Nak,
+            check: Check::Over,
+            position: Position::Code(CodeFront::Nothing),
+            behind: &[],
+            fields: Fields::new(),
+        }
+    }
+
+    /// StateStandsFor for one bit more, or says why no command goes on with it.
+    #[inline(always)]
+    pub(crate) fn take(&mut self, bit: bool) -> Option<Reason>
+        requires { IsOpen self.old None }
+        ensures goes { (bits : List Bool) → StateStandsFor self.old bits → Goes result self.new bits bit }
+        ensures sound { result ≡ None → IsSoundPosition self.new.position self.new.fields }
+    {
+        if self.take_run(&[bit]) == 1 {
+            return None;
+        }
+        self.take_edge(bit)
+    }
+
+    /// StateStandsFor for the bits more with which these begin inside a field, as most bits are: gives how many. The
+    /// bit behind them isn't taken.
+    #[inline(always)]
+    pub(crate) fn take_run(&mut self, bits: &[bool]) -> usize
+        requires { IsOpen self.old None }
+        ensures within { result ≤ length bits.now }
+        ensures stands { (front : List Bool) → StateStandsFor self.old front → StateStandsFor self.new (front ++ take result bits.now) }
+        ensures sound { IsSoundPosition self.new.position self.new.fields }
+        ensures edge { result < length bits.now → IsEdgePosition self.new.position (get_or bits.now result false) }
+    {
+        match &mut self.position {
+            Position::Within(stage) => {
+                let count = stage.take_run(bits, &mut self.fields);
+                self.check.push_all(&bits[..count]);
+                self.pushed += count as u32;
+                count
+            }
+            Position::Code(front) => {
+                let count = front.take_run(bits);
+                self.pushed += count as u32;
+                count
+            }
+            Position::Whole => 0,
+        }
+    }
+
+    /// StateStandsFor for one bit more, of those that `take_run` doesn't take, or says why no command goes on with
+    /// it.
+    #[inline(never)]
+    pub(crate) fn take_edge(&mut self, bit: bool) -> Option<Reason>
+        requires open { IsOpen self.old None }
+        requires edge { IsEdgePosition self.old.position bit }
+        ensures goes { (bits : List Bool) → StateStandsFor self.old bits → Goes result self.new bits bit }
+        ensures sound { result ≡ None → IsSoundPosition self.new.position self.new.fields }
+    {
+        self.pushed += 1;
+        match &mut self.position {
+            Position::Within(stage) => {
+                self.check.push_all(&[bit]);
+                match stage.take(bit, &mut self.fields) {
+                    Next::Stay(next) => *stage = next,
+                    Next::Done => self.begin(),
+                    Next::Refused(reason) => return Some(reason),
+                }
+            }
+            Position::Code(front) => match code_step(*front, bit) {
+                CodeStep::More(more) => *front = more,
+                CodeStep::Is(kind) => {
+                    self.kind = kind;
+                    self.check = Check::of(kind);
+                    self.behind = kind.fields();
+                    self.begin();
+                }
+                CodeStep::Refused => return Some(Reason::Code),
+            },
+            Position::Whole => return Some(Reason::Extra),
+        }
+        None
+    }
+
+    /// The next field begins, or the command is whole.
+    fn begin(&mut self)
+        requires { AreServed (check_kept self.old.check) self.old.behind.now }
+        ensures reads { (bits rest : List Bool) → Counts self.old.check bits → run self.old.behind.now self.old.kind self.old.fields (bits ++ rest) rest ≡ resume self.new.kind self.new.position self.new.behind.now self.new.fields (bits ++ rest) rest }
+        ensures counts { (bits : List Bool) → Counts self.old.check bits → IsCounted self.new.position self.new.check bits }
+        ensures serves { IsServed self.new.position self.new.check self.new.behind.now }
+        ensures sound { IsSoundPosition self.new.position self.new.fields }
+        ensures pushed { self.new.pushed ≡ self.old.pushed }
+    {
+        match self.behind {
+            [] => self.position = Position::Whole,
+            [field, behind @ ..] => {
+                self.behind = behind;
+                self.position = Position::Within(Stage::start(*field, &self.check));
+                self.check.start(*field);
+            }
+        }
+    }
+
+    /// What the bits are.
+    pub(crate) fn judge(&self) -> Pushed
+        ensures judges { (bits : List Bool) → StateStandsFor self.now bits → Judges result bits }
+        ensures taken { refusal_in result ≡ None }
+    {
+        match self.position {
+            Position::Whole => Pushed::Whole,
+            Position::Code(_) | Position::Within(_) => Pushed::More,
+        }
+    }
+
+    /// Answers with the command that the bits are, or with `refused`, or with `Short`. It stands for no bits
+    /// afterwards.
+    #[inline(always)]
+    pub(crate) fn finish(
+        &mut self,
+        refused: Option<(u32, Reason)>,
+        answer: &mut Result<Command, CommandRefusal>,
+    )
+        ensures finishes { (bits : List Bool) → Keeps self.old refused bits → IsFinishAnswer answer.new bits }
+        ensures only { (bits : List Bool) (command : Command) → Keeps self.old refused bits → SpellsCommand command bits → answer.new ≡ Ok command }
+        ensures anew { StateStandsFor self.new [] }
+        ensures sound { IsSoundPosition self.new.position self.new.fields }
+    {
+        let pushed = self.pushed;
+        let stopped = self.position;
+        self.pushed = 0;
+        self.position = Position::Code(CodeFront::Nothing);
+        match refused {
+            Some((place, reason)) => *answer = Err(CommandRefusal::At(place, reason)),
+            None => match stopped {
+                Position::Whole => self.fields.answer(self.kind, answer),
+                Position::Code(_) | Position::Within(_) => *answer = Err(CommandRefusal::Short(
+                    pushed,
+                )),
+            },
+        }
+    }
+
+    /// StateStandsFor for these bits, or gives the first one with which no command goes on.
+    #[inline(always)]
+    pub(crate) fn take_all(&mut self, bits: &[bool]) -> Option<(u32, Reason)>
+        requires nothing { StateStandsFor self.old [] }
+        requires sound { IsSoundPosition self.old.position self.old.fields }
+        ensures { Keeps self.new result bits.now }
+    {
+        let mut at = self.take_run(bits);
+        while at < bits.len() {
+            let place = self.pushed;
+            if let Some(reason) = self.take_edge(bits[at]) {
+                return Some((place, reason));
+            }
+            at += 1 + self.take_run(&bits[at + 1..]);
+        }
+        None
+    }
+}

@@ -1,0 +1,60 @@
+-- A line asks for something, or is faulty, where the fields behind its first do so or are so.
+use Rattle.std.proofs.Common.{◌≡◌, ◌⊎◌, ℕ, List, ◌∷◌, Result, Ok, Err, inl, inr, refl}
+use Rattle.std.specs.Prelude.{IfOk, IfErr}
+use Rattle.text_fields.specs.Lines.{fields_of}
+use Rattle.pie_text.specs.Numbers.{RefusesNumbers, SpellsNumbers}
+use Rattle.pie_text.specs.declared.numbers.NotNumbers.{NotNumbers}
+use Rattle.pie_text.specs.declared.numbers.NotNumbers.TheVariants as reasons
+use Rattle.pie_line.specs.Pie.{longest_interval}
+use Rattle.decode_lines.specs.Request.{request_word, most_intervals, AsksForRequest, AsksBehind, AreFaulty, IsFaultyRequest}
+use Rattle.decode_lines.specs.declared.request.RequestKind.{RequestKind}
+use Rattle.decode_lines.specs.declared.request.RequestKind.TheVariants.{Pie as PieKind}
+use Rattle.decode_lines.specs.declared.request.Request.{Request}
+use Rattle.decode_lines.specs.declared.request.Request.TheVariants.{Stream, Samples, Reply, Heard, Pie, Command, Sgtin, Uri}
+use Rattle.decode_lines.specs.declared.fault.FaultReason.{FaultReason}
+use Rattle.decode_lines.specs.declared.fault.FaultReason.TheVariants.{End, Word, Shape, Number}
+
+-- what a line does or is
+abbrev pub AskedOrFaulty : List ℕ → Type 0
+AskedOrFaulty line = ((request : Request) × AsksForRequest line request) ⊎ ((reason : FaultReason) × IsFaultyRequest (fields_of line) reason)
+
+faulty_line : (line : List ℕ) (kind : RequestKind) (others : List (List ℕ)) (reason : FaultReason) → fields_of line ≡ request_word kind ∷ others → AreFaulty kind others reason
+    → IsFaultyRequest (fields_of line) reason
+faulty_line line kind others End fields faulty = absurd faulty
+faulty_line line kind others Word fields faulty = absurd faulty
+faulty_line line kind others Shape fields faulty = (kind, others, fields, faulty)
+faulty_line line kind others Number fields faulty = (kind, others, fields, faulty)
+
+-- ... by what is read of these fields
+pub by_others : (line : List ℕ) (kind : RequestKind) (others : List (List ℕ)) (read : Result Request FaultReason) → fields_of line ≡ request_word kind ∷ others
+    → IfOk read (AsksBehind kind others) → IfErr read (AreFaulty kind others) → AskedOrFaulty line
+by_others line kind others (Ok request) fields asks faulty = inl (request, record { kind = kind; others = others; fields = fields; asks = asks })
+by_others line kind others (Err reason) fields asks faulty = inr (reason, faulty_line line kind others reason fields faulty)
+
+no_other : (others : List (List ℕ)) → RefusesNumbers reasons.Number most_intervals longest_interval others → (request : Request) → ¬ AsksBehind PieKind others request
+no_other others refused (Pie intervals) asks = refused.1 intervals asks.limits.2 asks.spelling
+no_other others refused (Stream code trext levels) asks = let same = asks.same_kind in cc
+no_other others refused (Samples threshold per_level samples) asks = let same = asks.same_kind in cc
+no_other others refused (Reply expect bits) asks = let same = asks.same_kind in cc
+no_other others refused (Heard code trext expect levels) asks = let same = asks.same_kind in cc
+no_other others refused (Command bits) asks = let same = asks.same_kind in cc
+no_other others refused (Sgtin words) asks = let same = asks.same_kind in cc
+no_other others refused (Uri text) asks = let same = asks.same_kind in cc
+
+-- ... and the intervals of a frame are numbers, or are refused
+pub by_intervals : (line : List ℕ) (others : List (List ℕ)) → fields_of line ≡ request_word PieKind ∷ others
+    → ((numbers : List ℕ) × SpellsNumbers most_intervals longest_interval others numbers) ⊎ ((reason : NotNumbers) × RefusesNumbers reason most_intervals longest_interval others)
+    → AskedOrFaulty line
+by_intervals line others fields (inl (numbers, spells)) = inl (
+  Pie numbers,
+  record {
+    kind = PieKind;
+    others = others;
+    fields = fields;
+    asks = record { same_kind = refl; spelling = spells.spelling; limits = (spells.some, spells.room, spells.within) };
+  },
+)
+by_intervals line others fields (inr (reasons.Shape, refused)) =
+    inr (Shape, (PieKind, others, fields, λ has. refused (record { some = has.0.0; room = has.0.1; filled = has.1 })))
+by_intervals line others fields (inr (reasons.Number, refused)) =
+    inr (Number, (PieKind, others, fields, (((refused.0.some, refused.0.room), refused.0.filled), no_other others refused)))

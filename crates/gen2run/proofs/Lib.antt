@@ -1,7 +1,0 @@
-pub mod Ends
-pub mod Headlined
-pub mod RunEnds
-pub mod NamedLines
-pub mod Waits
-pub mod ToldForms
-pub mod SummaryLines

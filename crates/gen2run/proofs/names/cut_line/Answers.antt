@@ -1,6 +1,0 @@
--- One more line is counted.
-use Rattle.gen2run.proofs.NamedLines.{counts_more}
-use Rattle.gen2run.proofs.names.cut_line.Goals as goal
-
-pub loop-behind-preserved : goal.loop-behind-preserved
-loop-behind-preserved c = counts_more _ _ c.in-Some.field-0-0.now c.in-Some.behind.now _ c.loop-behind.invariant c.in-Some.ensures.lines c.in-Some.ensures.cut

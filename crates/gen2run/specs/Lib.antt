@@ -1,9 +1,0 @@
-pub mod Form
-pub mod Reported
-pub mod Named
-pub mod Generated
-pub mod Waiting
-pub mod Defined
-pub mod Outcome
-pub mod Ending
-pub mod StatusNumber

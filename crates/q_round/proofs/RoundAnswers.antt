@@ -1,0 +1,151 @@
+-- What a round that keeps no outcomes does is what the table says of the outcomes.
+use Rattle.std.proofs.Common.{◌≡◌, ◌≢◌, ℕ, ◌+◌, ◌^◌, ◌==◌, ◌&&◌, nat_lt, Bool, true, false, List, ◌∷◌, length, Option, Some, None, refl, ap, sym, ◌∙◌, subst, add-one, add-zero, eq-eqb, if◌then◌else◌}
+use Rattle.std.proofs.lemmas.Bool.{ne_eqb}
+use Rattle.command_grammar.specs.declared.field_values.UpDn.{UpDn}
+use Rattle.command_grammar.specs.declared.field_values.UpDn.TheVariants.{Up, Same, Down}
+use Rattle.command_grammar.specs.declared.commands.Command.TheVariants.{QueryAdjust, QueryRep}
+use Rattle.q_round.specs.declared.frame.Frame.{Frame}
+use Rattle.q_round.specs.declared.frame.Outcome.{Outcome}
+use Rattle.q_round.specs.declared.round.Next.TheVariants.{Send, Limit}
+use Rattle.q_round.specs.declared.round.Stage.TheVariants as stages
+use Rattle.q_round.specs.SpecValue.{SpecValue}
+use Rattle.q_round.specs.Rounds.{q_nearest, Turn, adjust, rep, limit, turn_after, turn_of, frame_of, is_over, slots_of}
+use Rattle.q_round.specs.laws.SlotLaws.{slots-underway}
+use Rattle.q_round.specs.RoundValue.{RoundValue, frame_after_outcome, change_of, frame_begun_by, IsFrameOf, IsStageOf, RoundStandsFor, IsNextAnswer}
+
+-- the line of the table behind one more outcome, by what the frame knows
+pub turn-is : (spec : SpecValue) (outcomes : List Outcome) (outcome : Outcome) (frame : Frame) → IsFrameOf frame spec outcomes →
+    let next = frame_after_outcome spec.c outcome frame in
+    turn_of spec (outcome ∷ outcomes) ≡ turn_after spec.limit (length outcomes + 1) next.qfp next.q next.slots next.silent
+turn-is spec outcomes outcome frame s = rw (s.q, s.qfp, s.slots, s.silent, add-one (length (frame_of spec outcomes)))
+
+-- its second line
+pub turn-limit : (most sent qfp q slots : ℕ) (silent : Bool) → (slots == 2 ^ q && silent) ≡ false → sent ≡ most → turn_after most sent qfp q slots silent ≡ limit
+turn-limit most sent qfp q slots silent h e = rw (h, eq-eqb sent most e)
+
+-- what follows where the round goes on
+abbrev pub turn_for : Option UpDn → Turn
+turn_for None = rep
+turn_for (Some updn) = adjust updn
+
+turn-for : (up down whole : Bool) → (if up then adjust Up else if down then adjust Down else if whole then adjust Same else rep)
+    ≡ turn_for (if up then Some Up else if down then Some Down else if whole then Some Same else None)
+turn-for true down whole = refl
+turn-for false true whole = refl
+turn-for false false true = refl
+turn-for false false false = refl
+
+-- the lines below them
+pub turn-on : (most sent : ℕ) (frame : Frame) → (frame.slots == 2 ^ frame.q && frame.silent) ≡ false → sent ≢ most →
+    turn_after most sent frame.qfp frame.q frame.slots frame.silent ≡ turn_for (change_of frame)
+turn-on most sent frame h other = rw (h, ne_eqb sent most other)
+    (turn-for (nat_lt frame.q (q_nearest frame.qfp)) (nat_lt (q_nearest frame.qfp) frame.q) (frame.slots == 2 ^ frame.q))
+
+-- the frame that a QueryAdjust begins
+pub frame-begun : (spec : SpecValue) (outcomes : List Outcome) (outcome : Outcome) (frame : Frame) (updn : UpDn) → IsFrameOf frame spec outcomes →
+    turn_of spec (outcome ∷ outcomes) ≡ adjust updn → IsFrameOf (frame_begun_by updn (frame_after_outcome spec.c outcome frame)) spec (outcome ∷ outcomes)
+frame-begun spec outcomes outcome frame updn s t = record {
+  goes_on = rw t;
+  q = rw (t, s.q);
+  qfp = rw s.qfp;
+  slots = rw t;
+  silent = rw t;
+}
+
+-- the frame that goes on
+pub frame-goes_on : (spec : SpecValue) (outcomes : List Outcome) (outcome : Outcome) (frame : Frame) → IsFrameOf frame spec outcomes →
+    turn_of spec (outcome ∷ outcomes) ≡ rep → IsFrameOf (frame_after_outcome spec.c outcome frame) spec (outcome ∷ outcomes)
+frame-goes_on spec outcomes outcome frame s t = record {
+  goes_on = rw t;
+  q = rw (t, s.q);
+  qfp = rw s.qfp;
+  slots = rw (t, s.slots) (add-one (length (frame_of spec outcomes)));
+  silent = rw (t, s.silent);
+}
+
+-- a round under way knows its frame, and counts its slots
+pub underway : (round : RoundValue) (spec : SpecValue) (outcomes : List Outcome) (frame : Frame) → RoundStandsFor round spec outcomes →
+    round.stage ≡ stages.Underway frame → IsFrameOf frame spec outcomes
+underway round spec outcomes frame s is = subst (λ stage. IsStageOf stage spec outcomes) is s.stage
+
+-- the frame with one more outcome, which the step of the parameters has moved
+next-is : (round : RoundValue) (spec : SpecValue) (outcome : Outcome) (frame next : Frame) → round.spec ≡ spec →
+    next ≡ frame_after_outcome round.spec.c outcome frame → next ≡ frame_after_outcome spec.c outcome frame
+next-is round spec outcome frame next is value = value ∙ ap (λ parameters. frame_after_outcome parameters.c outcome frame) is
+
+-- the round ends at its limit
+pub stands-limit : (round : RoundValue) (spec : SpecValue) (outcomes : List Outcome) (outcome : Outcome) (frame next : Frame) →
+    RoundStandsFor round spec outcomes → is_over spec outcomes ≡ false → round.stage ≡ stages.Underway frame →
+    next ≡ frame_after_outcome round.spec.c outcome frame → (next.slots == 2 ^ next.q && next.silent) ≡ false → round.slots_sent ≡ round.spec.limit →
+    IsNextAnswer Limit (record { spec = round.spec; stage = stages.Limit; slots_sent = round.slots_sent }) spec (outcome ∷ outcomes)
+stands-limit round spec outcomes outcome frame next s on is value h full =
+    let at = underway round spec outcomes frame s is in
+    let n = next-is round spec outcome frame next s.spec_is value in
+    let after = frame_after_outcome spec.c outcome frame in
+    let h' = subst (λ (f : Frame). (f.slots == 2 ^ f.q && f.silent) ≡ false) n h in
+    let count : length outcomes + 1 ≡ spec.limit = sym (slots-underway spec outcomes s.outcomes_are on) ∙ sym s.sent ∙ full ∙ ap (λ p. p.limit) s.spec_is in
+    let t : turn_of spec (outcome ∷ outcomes) ≡ limit = turn-is spec outcomes outcome frame at ∙ turn-limit spec.limit (length outcomes + 1) after.qfp after.q after.slots after.silent h' count in
+    record {
+      stands = record {
+        spec_is = s.spec_is;
+        outcomes_are = (on, s.outcomes_are);
+        stage = t;
+        sent = rw (t, add-zero (slots_of spec outcomes)) s.sent;
+      };
+      next = λ link. rw t;
+      over = rw t;
+    }
+
+-- what follows where the round goes on
+goes-on : (round : RoundValue) (spec : SpecValue) (outcomes : List Outcome) (outcome : Outcome) (frame next : Frame) →
+    RoundStandsFor round spec outcomes → is_over spec outcomes ≡ false → round.stage ≡ stages.Underway frame →
+    next ≡ frame_after_outcome round.spec.c outcome frame → (next.slots == 2 ^ next.q && next.silent) ≡ false → round.slots_sent ≢ round.spec.limit →
+    turn_of spec (outcome ∷ outcomes) ≡ turn_for (change_of next)
+goes-on round spec outcomes outcome frame next s on is value h other =
+    let at = underway round spec outcomes frame s is in
+    let n = next-is round spec outcome frame next s.spec_is value in
+    let after = frame_after_outcome spec.c outcome frame in
+    let h' = subst (λ (f : Frame). (f.slots == 2 ^ f.q && f.silent) ≡ false) n h in
+    let count : length outcomes + 1 ≡ round.slots_sent = sym (slots-underway spec outcomes s.outcomes_are on) ∙ sym s.sent in
+    let other' : length outcomes + 1 ≢ spec.limit = λ e. other (sym count ∙ e ∙ sym (ap (λ p. p.limit) s.spec_is)) in
+    turn-is spec outcomes outcome frame at ∙ turn-on spec.limit (length outcomes + 1) after h' other' ∙ ap (λ f. turn_for (change_of f)) (sym n)
+
+-- it adjusts Q
+pub stands-adjust : (round : RoundValue) (spec : SpecValue) (outcomes : List Outcome) (outcome : Outcome) (frame next : Frame) (updn : UpDn) →
+    RoundStandsFor round spec outcomes → is_over spec outcomes ≡ false → round.stage ≡ stages.Underway frame →
+    next ≡ frame_after_outcome round.spec.c outcome frame → (next.slots == 2 ^ next.q && next.silent) ≡ false → round.slots_sent ≢ round.spec.limit → change_of next ≡ Some updn →
+    IsNextAnswer (Send (QueryAdjust round.spec.session updn)) (record { spec = round.spec; stage = stages.Underway (frame_begun_by updn next); slots_sent = round.slots_sent + 1 }) spec (outcome ∷ outcomes)
+stands-adjust round spec outcomes outcome frame next updn s on is value h other due =
+    let at = underway round spec outcomes frame s is in
+    let n = next-is round spec outcome frame next s.spec_is value in
+    let t : turn_of spec (outcome ∷ outcomes) ≡ adjust updn = goes-on round spec outcomes outcome frame next s on is value h other ∙ ap turn_for due in
+    record {
+      stands = record {
+        spec_is = s.spec_is;
+        outcomes_are = (on, s.outcomes_are);
+        stage = rw n (frame-begun spec outcomes outcome frame updn at t);
+        sent = rw (t, s.sent);
+      };
+      next = λ link. rw (t, s.spec_is);
+      over = rw t;
+    }
+
+-- or it goes on in the same frame
+pub stands-rep : (round : RoundValue) (spec : SpecValue) (outcomes : List Outcome) (outcome : Outcome) (frame next : Frame) →
+    RoundStandsFor round spec outcomes → is_over spec outcomes ≡ false → round.stage ≡ stages.Underway frame →
+    next ≡ frame_after_outcome round.spec.c outcome frame → (next.slots == 2 ^ next.q && next.silent) ≡ false → round.slots_sent ≢ round.spec.limit → change_of next ≡ None →
+    IsNextAnswer (Send (QueryRep round.spec.session)) (record { spec = round.spec; stage = stages.Underway next; slots_sent = round.slots_sent + 1 }) spec (outcome ∷ outcomes)
+stands-rep round spec outcomes outcome frame next s on is value h other due =
+    let at = underway round spec outcomes frame s is in
+    let n = next-is round spec outcome frame next s.spec_is value in
+    let t : turn_of spec (outcome ∷ outcomes) ≡ rep = goes-on round spec outcomes outcome frame next s on is value h other ∙ ap turn_for due in
+    record {
+      stands = record {
+        spec_is = s.spec_is;
+        outcomes_are = (on, s.outcomes_are);
+        stage = rw n (frame-goes_on spec outcomes outcome frame at t);
+        sent = rw (t, s.sent);
+      };
+      next = λ link. rw (t, s.spec_is);
+      over = rw t;
+    }

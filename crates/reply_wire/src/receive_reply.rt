@@ -1,0 +1,52 @@
+//! Levels to replies.
+ghost use Rattle.std.specs.Prelude.{◌≡◌, ℕ, ◌<◌, ◌≤◌, List, Bool, [], length};
+ghost use Rattle.line_code.specs.Laws.{with_level_flipped};
+ghost use Rattle.line_code.specs.Stream.{IsStream};
+ghost use Rattle.line_codes.specs.Codes.{table_of};
+ghost use Rattle.reply_grammar.specs.Table.{AnswersExpected};
+ghost use Rattle.reply_grammar.specs.declared.expected.Reply.{Reply};
+ghost use Rattle.reply_grammar.specs.declared.expected.Received.{Received};
+ghost use Rattle.reply_grammar.specs.declared.expected.Received.TheVariants.{Whole, Refused};
+ghost use Rattle.reply_wire.specs.Received.{IsReceived};
+ghost use Rattle.bit_strings.specs.BitString.{most_counted};
+
+use bit_strings::{Bits, Levels};
+use line_codes::{Code, LineRefusal, decode_levels};
+use reply_grammar::{Expect, Received, decode_reply};
+
+/// What an interrogator makes of a stream of levels (6.3.1.3.2 and 6.3.2.11 of the standard), where it
+/// expects a reply of one kind: the reply, or the place of refusal, counted from 0. That is the place
+/// where the levels stop being a stream, or the number of levels where they begin a stream and are
+/// none, or where they are one, and its bits no reply that is expected.
+///
+/// `bits` is a buffer with room for as many bits as there are levels. After a whole reply it holds the
+/// bits of the stream, without the dummy at the end. After a refusal it is empty. No memory is taken.
+pub fn receive(
+    stream: &Levels,
+    code: Code,
+    trext: bool,
+    expect: &Expect,
+    bits: &mut Bits,
+) -> Received
+    requires room { length stream.now.items ≤ bits.old.capacity }
+    requires few { length stream.now.items ≤ most_counted }
+    ensures received { IsReceived (table_of code) trext expect.now stream.now.items result }
+    ensures only { (answer : Received) → IsReceived (table_of code) trext expect.now stream.now.items answer → result ≡ answer }
+    ensures only_whole { (reply : Reply) (sent : List Bool) → IsStream (table_of code) trext sent stream.now.items → AnswersExpected reply expect.now sent → (result ≡ Whole reply) × (bits.new.items ≡ sent) }
+    ensures whole { (reply : Reply) → result ≡ Whole reply → IsStream (table_of code) trext bits.new.items stream.now.items × AnswersExpected reply expect.now bits.new.items }
+    ensures flip { (sent whole : List Bool) (at : ℕ) → IsStream (table_of code) trext sent whole → at < length whole → stream.now.items ≡ with_level_flipped whole at → (place : ℕ) × (result ≡ Refused place) }
+    ensures refused { (place : ℕ) → result ≡ Refused place → bits.new.items ≡ [] }
+    ensures capacity { bits.new.capacity ≡ bits.old.capacity }
+{
+    match decode_levels(code, trext, stream, bits) {
+        Ok(()) => match decode_reply(bits, expect) {
+            Ok(reply) => Received::Whole(reply),
+            Err(_) => {
+                bits.clear();
+                Received::Refused(stream.len())
+            }
+        },
+        Err(LineRefusal::Invalid(place)) => Received::Refused(place),
+        Err(LineRefusal::Unfinished(count)) => Received::Refused(count),
+    }
+}

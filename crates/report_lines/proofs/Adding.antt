@@ -1,0 +1,62 @@
+-- The text of one line more.
+use Rattle.std.proofs.Common.{◌≡◌, ℕ, ◌≤◌, List, [], ◌++◌, take, drop, Option, Some, None, Result, Ok, Err, refl, sym, ap, ◌∙◌, subst, arith, append_assoc}
+use Rattle.std.proofs.lemmas.List.{append-nil, take-append-drop}
+use Rattle.std.specs.Result.{result_err, IsErrAnd}
+use Rattle.air_io.specs.Flow.{Adds, FaultsRose}
+use Rattle.air_io.specs.FlowLaws.{Adds-more}
+use Rattle.report_lines.specs.TextReport.{IsAdded}
+use Rattle.report_lines.specs.declared.mode.PlayFault.{PlayFault}
+use Rattle.report_lines.specs.declared.mode.PlayFault.TheVariants.{Write, OutOfMemory}
+
+rose-later : (first before after : ℕ) → first ≤ before → FaultsRose before after → FaultsRose first after
+rose-later first before after count rose = record { no_less = omega arith; larger_or_last = λ same. rose.larger_or_last (omega arith) }
+
+-- without a fault all is added
+all-added : (text : List ℕ) (first written : Option (List ℕ)) (before after : ℕ) → IsAdded text first written before after None → Adds first written text
+all-added text first written before after added =
+    let whole : text ≡ added.front = added.split ∙ ap (λ (rest : List ℕ). added.front ++ rest) (added.whole refl) ∙ append-nil added.front in
+    subst (λ (bytes : List ℕ). Adds first written bytes) (sym whole) added.added
+
+-- the text of a line was written behind what was added
+pub added-line : (text line piece : List ℕ) (first old new : Option (List ℕ)) (before was is : ℕ) → IsAdded text first old before was None → piece ≡ line → Adds old new piece → was ≤ is
+    → IsAdded (text ++ line) first new before is None
+added-line text line piece first old new before was is added same written count = record {
+  front = text ++ line;
+  rest = [];
+  split = sym (append-nil (text ++ line));
+  whole = λ none. refl;
+  added = Adds-more first old new text line (all-added text first old before was added) (subst (λ (bytes : List ℕ). Adds old new bytes) same written);
+  rose = λ rose. absurd (cc);
+  count = omega (arith, added.count);
+}
+
+-- ... or a front of it, where the write failed
+pub added-part : (text line piece : List ℕ) (first old new : Option (List ℕ)) (before was is count : ℕ) → IsAdded text first old before was None → piece ≡ line
+    → Adds old new (take count piece) → FaultsRose was is → IsAdded (text ++ line) first new before is (Some Write)
+added-part text line piece first old new before was is count added same written rose = record {
+  front = text ++ take count line;
+  rest = drop count line;
+  split = ap (λ (bytes : List ℕ). text ++ bytes) (sym (take-append-drop count line)) ∙ sym (append_assoc text (take count line) (drop count line));
+  whole = λ none. absurd (cc);
+  added = Adds-more first old new text (take count line) (all-added text first old before was added) (subst (λ (bytes : List ℕ). Adds old new (take count bytes)) same written);
+  rose = λ write. rose-later before was is added.count rose;
+  count = omega (arith, added.count, rose.no_less);
+}
+
+-- ... or nothing, where there was no memory for it
+pub added-nothing : (text line : List ℕ) (first written : Option (List ℕ)) (before after : ℕ) → IsAdded text first written before after None
+    → IsAdded (text ++ line) first written before after (Some OutOfMemory)
+added-nothing text line first written before after added = record {
+  front = added.front;
+  rest = added.rest ++ line;
+  split = ap (λ (bytes : List ℕ). bytes ++ line) added.split ∙ append_assoc added.front added.rest line;
+  whole = λ none. absurd (cc);
+  added = added.added;
+  rose = λ write. absurd (cc);
+  count = added.count;
+}
+
+-- a fault that is handed on
+pub fault-kept : {T : Type 0} (r : Result T PlayFault) (cause : PlayFault) (P : Option PlayFault → Type 0) → IsErrAnd r (λ fault. fault ≡ cause) → P (Some cause) → P (result_err r)
+fault-kept (Ok x) cause P is holds = absurd is
+fault-kept (Err fault) cause P is holds = subst (λ (f : PlayFault). P (Some f)) (sym is) holds

@@ -1,0 +1,28 @@
+//! Who hears what a run tells.
+ghost use Rattle.std.specs.Prelude.{◌≡◌, List, [], ◌∷◌, ◌++◌, Option};
+ghost use Rattle.report_lines.specs.Line.{line_of};
+ghost use Rattle.report_lines.specs.ReportLine.{ReportLine};
+ghost use Rattle.report_lines.specs.declared.mode.PlayFault.{PlayFault as Fault};
+
+use crate::line::Line;
+use crate::mode::PlayFault;
+
+/// Who hears what a run tells, line by line. What is told behind the first fault changes nothing.
+pub trait Listener {
+    /// These lines make the second value of the first.
+    ghost hears: { Self → List ReportLine → Self → Type 0 };
+
+    /// The first fault that was met, if one was.
+    ghost failed: { Self → Option Fault };
+
+    /// Hears a line more.
+    fn tell(&mut self, line: &Line<'_>)
+        ensures { (first : Self) (lines : List ReportLine) → hears first lines self.old → hears first (lines ++ line_of line.now ∷ []) self.new };
+
+    /// The first fault that was met, if one was.
+    fn fault(&self) -> Option<PlayFault>
+        ensures { result ≡ failed self.now };
+
+    /// No line changes nothing.
+    ghost nothing: { (listener : Self) → hears listener [] listener };
+}

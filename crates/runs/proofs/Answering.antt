@@ -1,0 +1,242 @@
+-- What tags answer to the commands of an inventory is what the interrogator expects, and what they answer to the commands of a
+-- dialogue is unmistakable.
+use Rattle.std.proofs.Common.{◌≡◌, ℕ, zero, suc, ◌+◌, ◌==◌, ◌⊎◌, inl, inr, Bool, true, false, ◌&&◌, List, [], ◌∷◌, ◌++◌, length, Option, Some, None, refl, sym, ap, ◌∙◌, subst, arith}
+use Rattle.std.specs.Prelude.{if◌then◌else◌}
+use Rattle.std.specs.List.{AllByRecursion}
+use Rattle.std.proofs.lemmas.Bool.{eq-eqb}
+use Rattle.access_ops.specs.laws.OperationLaws.{Expects}
+use Rattle.access_ops.specs.Operations.{words_expected}
+use Rattle.air_model.specs.Exchange.{AreLegalTags, outcomes_in, replies_in, Replied, tag_after_own_event, tag_after_events, is_missed, outcome_unless, outcomes_from, reply_of, replies_from}
+use Rattle.air_model.specs.Channel.{given_in}
+use Rattle.air_model.specs.Reception.{has_handle, is_expected, HoldsOfSent, IsReplyFor, IsGivenFor, IsUnmistakable}
+use Rattle.air_events.specs.declared.Entry.{Entry}
+use Rattle.air_events.specs.declared.Event.{Event}
+use Rattle.air_events.specs.declared.Several.{Several}
+use Rattle.air_model.specs.ReceptionLaws.{expected_answers, given_of_sent}
+use Rattle.runs.specs.HistoryLaws.{expectation_of}
+use Rattle.command_grammar.specs.declared.commands.Command.{Command}
+use Rattle.command_grammar.specs.declared.commands.Command.TheVariants as commands
+use Rattle.reply_grammar.specs.laws.Passing.{answers_pass}
+use Rattle.reply_grammar.specs.laws.Suiting.{suits-from}
+use Rattle.reply_grammar.specs.Table.{AnswersExpected, Suits, handle_of, spelling, suits}
+use Rattle.reply_grammar.specs.declared.expected.Expect.{Expect}
+use Rattle.reply_grammar.specs.declared.expected.Expect.TheVariants as expects
+use Rattle.reply_grammar.specs.declared.expected.Reply.{Reply}
+use Rattle.reply_grammar.specs.declared.expected.Reply.TheVariants.{Rn16, Epc, Handle, Words, Header, Error}
+use Rattle.tag_machine.specs.Answers.{Outcome, Sent, IsSent}
+use Rattle.tag_machine.specs.Events.{tag_after_event}
+use Rattle.tag_machine.specs.laws.Extended.{has_half}
+use Rattle.tag_machine.specs.laws.Replies.{IsAnswerTo, IsHandleAnswer, IsHeaderOrError, IsDelayedAnswer, IsReadReply, IsReadAnswer, IsKillAnswer}
+use Rattle.tag_machine.specs.Step.{step}
+use Rattle.tag_machine.specs.TagValue.{TagValue, StateValue, BodyValue, IsLegalTag}
+
+-- the laws of tag_machine
+abbrev pub AnswersByRow : Type 0
+AnswersByRow = (command : Command) (state : StateValue) (body : BodyValue) (sent : Sent) → IsLegalTag (record { state = state; body = body })
+    → (step command state body).answer ≡ Some sent → IsAnswerTo command state body sent
+
+abbrev pub SendsInRange : Type 0
+SendsInRange = (command : Command) (state : StateValue) (body : BodyValue) (sent : Sent) → IsLegalTag (record { state = state; body = body })
+    → (step command state body).answer ≡ Some sent → IsSent (Some sent)
+
+abbrev pub StaysLegal : Type 0
+StaysLegal = (event : Event) (state : StateValue) (body : BodyValue) → IsLegalTag (record { state = state; body = body }) → IsLegalTag (tag_after_event event state body)
+
+rn16-expected : (sent : Sent) (rn : ℕ) → IsSent (Some sent) → sent.reply ≡ Rn16 rn → sent.extended ≡ false → IsReplyFor expects.Rn16 sent
+rn16-expected sent rn legal reply plain = record {
+  in_range = legal;
+  by_link = plain;
+  expected = ap (λ (r : Reply). suits r expects.Rn16 && has_handle r sent.handle 0) reply;
+}
+
+epc-expected : (sent : Sent) (pc : ℕ) (epc : List ℕ) → IsSent (Some sent) → sent.reply ≡ Epc pc epc → sent.extended ≡ false → IsReplyFor expects.Epc sent
+epc-expected sent pc epc legal reply plain = record {
+  in_range = legal;
+  by_link = plain;
+  expected = ap (λ (r : Reply). suits r expects.Epc && has_handle r sent.handle 0) reply;
+}
+
+same-rn16 : (expect : Expect) (sent : Sent) → Some expects.Rn16 ≡ Some expect → IsReplyFor expects.Rn16 sent → IsReplyFor expect sent
+same-rn16 expect sent same is = let e : expects.Rn16 ≡ expect = cc in subst (λ (x : Expect). IsReplyFor x sent) e is
+
+same-epc : (expect : Expect) (sent : Sent) → Some expects.Epc ≡ Some expect → IsReplyFor expects.Epc sent → IsReplyFor expect sent
+same-epc expect sent same is = let e : expects.Epc ≡ expect = cc in subst (λ (x : Expect). IsReplyFor x sent) e is
+
+row-expected : (command : Command) (expect : Expect) (state : StateValue) (body : BodyValue) (sent : Sent) → expectation_of command ≡ Some expect
+    → IsSent (Some sent) → IsAnswerTo command state body sent → IsReplyFor expect sent
+row-expected (commands.QueryRep session) expect state body sent asked legal is = same-rn16 expect sent asked (rn16-expected sent _ legal is.reply is.plain)
+row-expected (commands.Ack rn) expect state body sent asked legal is = same-epc expect sent asked (epc-expected sent _ _ legal is.reply is.plain)
+row-expected (commands.Query dr line_code trext sel session target q) expect state body sent asked legal is = same-rn16 expect sent asked (rn16-expected sent _ legal is.reply is.plain)
+row-expected (commands.QueryAdjust session updn) expect state body sent asked legal is = same-rn16 expect sent asked (rn16-expected sent _ legal is.reply is.plain)
+row-expected (commands.Select target action bank pointer mask) expect state body sent asked legal is = absurd (cc)
+row-expected commands.Nak expect state body sent asked legal is = absurd (cc)
+row-expected (commands.ReqRn rn) expect state body sent asked legal is = absurd (cc)
+row-expected (commands.Read bank pointer count rn) expect state body sent asked legal is = absurd (cc)
+row-expected (commands.Write bank pointer covered rn) expect state body sent asked legal is = absurd (cc)
+row-expected (commands.Kill covered rn) expect state body sent asked legal is = absurd (cc)
+row-expected (commands.Lock payload rn) expect state body sent asked legal is = absurd (cc)
+row-expected (commands.Access covered rn) expect state body sent asked legal is = absurd (cc)
+row-expected (commands.BlockWrite bank pointer words rn) expect state body sent asked legal is = absurd (cc)
+row-expected (commands.BlockErase bank pointer count rn) expect state body sent asked legal is = absurd (cc)
+
+event-legal : (b : Bool) (event : Event) (tag : TagValue) → StaysLegal → IsLegalTag tag → IsLegalTag (if b then tag_after_event event tag.state tag.body else tag)
+event-legal true event tag stays legal = stays event tag.state tag.body legal
+event-legal false event tag stays legal = legal
+
+pub events-legal : (number : ℕ) (events : List (Event × ℕ)) (tag : TagValue) → StaysLegal → IsLegalTag tag → IsLegalTag (tag_after_events number events tag)
+events-legal number [] tag stays legal = legal
+events-legal number (event ∷ events) tag stays legal =
+    events-legal number events (tag_after_own_event number event.0 event.1 tag) stays (event-legal (event.1 == number) event.0 tag stays legal)
+
+-- what one tag answers, that hears the command or misses it, is so
+abbrev IsAnswered : (Sent → Type 0) → Outcome → Type 0
+IsAnswered P outcome = (sent : Sent) → outcome.answer ≡ Some sent → P sent
+
+-- whatever a legal tag answers to a command is so
+abbrev pub AnswersSo : (Sent → Type 0) → Command → Type 0
+AnswersSo P command = (tag : TagValue) → IsLegalTag tag → IsAnswered P (step command tag.state tag.body)
+
+-- each reply is so
+abbrev pub AreReplies : (Sent → Type 0) → List Replied → Type 0
+AreReplies P replies = AllByRecursion (λ replied. P replied.sent) replies
+
+unless-missed : (P : Sent → Type 0) (misses : Bool) (command : Command) (tag : TagValue) → AnswersSo P command → IsLegalTag tag → IsAnswered P (outcome_unless misses command tag)
+unless-missed P true command tag answers legal = λ sent is. absurd (cc)
+unless-missed P false command tag answers legal = answers tag legal
+
+outcomes-answered : (P : Sent → Type 0) (number : ℕ) (command : Command) (entry : Entry) (tags : List TagValue) → AnswersSo P command → StaysLegal → AreLegalTags tags
+    → AllByRecursion (IsAnswered P) (outcomes_from number command entry tags)
+outcomes-answered P number command entry [] answers stays legal = tt
+outcomes-answered P number command entry (tag ∷ tags) answers stays legal = (
+  unless-missed P (is_missed number entry) command (tag_after_events number entry.events tag) answers (events-legal number entry.events tag stays legal.0),
+  outcomes-answered P (number + 1) command entry tags answers stays legal.1,
+)
+
+both-parts : (P : Sent → Type 0) (replies more : List Replied) → AreReplies P replies → AreReplies P more → AreReplies P (replies ++ more)
+both-parts P [] more are others = others
+both-parts P (replied ∷ replies) more are others = (are.0, both-parts P replies more are.1 others)
+
+reply-answered : (P : Sent → Type 0) (number : ℕ) (answer : Option Sent) → ((sent : Sent) → answer ≡ Some sent → P sent) → AreReplies P (reply_of number answer)
+reply-answered P number None is = tt
+reply-answered P number (Some sent) is = (is sent refl, tt)
+
+replies-answered : (P : Sent → Type 0) (number : ℕ) (outcomes : List Outcome) → AllByRecursion (IsAnswered P) outcomes → AreReplies P (replies_from number outcomes)
+replies-answered P number [] are = tt
+replies-answered P number (outcome ∷ outcomes) are =
+    both-parts P (reply_of number outcome.answer) (replies_from (number + 1) outcomes) (reply-answered P number outcome.answer are.0) (replies-answered P (number + 1) outcomes are.1)
+
+-- what holds of whatever legal tags answer to a command holds of what the channel gives
+pub given-of-answers : (P : Sent → Type 0) (several : Several) (command : Command) (entry : Entry) (tags : List TagValue) → AnswersSo P command → StaysLegal → AreLegalTags tags
+    → HoldsOfSent P (given_in several command entry tags)
+given-of-answers P several command entry tags answers stays legal =
+    given_of_sent P (replies_in command entry tags) entry.choice several (replies-answered P 0 (outcomes_in command entry tags) (outcomes-answered P 0 command entry tags answers stays legal))
+
+-- what the channel gives of the answers of legal tags is expected
+pub given-in-expected : (several : Several) (command : Command) (expect : Expect) (entry : Entry) (tags : List TagValue) → expectation_of command ≡ Some expect → AnswersByRow → SendsInRange → StaysLegal
+    → AreLegalTags tags → IsGivenFor expect (given_in several command entry tags)
+given-in-expected several command expect entry tags asked rows range stays legal =
+    given-of-answers (IsReplyFor expect) several command entry tags
+    (λ tag lawful sent is. row-expected command expect tag.state tag.body sent asked (range command tag.state tag.body sent lawful is) (rows command tag.state tag.body sent lawful is)) stays legal
+
+-- what suits, with the handle that is named, is expected
+suiting-expected : (expect : Expect) (sent : Sent) → Suits sent.reply expect → has_handle sent.reply sent.handle (handle_of expect) ≡ true → is_expected expect sent ≡ true
+suiting-expected expect sent suit same = rw (suits-from sent.reply expect suit) same
+
+number-expected : (sent : Sent) (number : ℕ) → sent.reply ≡ Handle number → is_expected expects.Handle sent ≡ true
+number-expected sent number reply = ap (λ (r : Reply). suits r expects.Handle && has_handle r sent.handle 0) reply
+
+handle-expected : (rn : ℕ) (state : StateValue) (sent : Sent) → IsHandleAnswer rn state sent → is_expected (expects.Same rn) sent ≡ true
+handle-expected rn state sent is = suiting-expected (expects.Same rn) sent (rw is.reply refl) (rw is.reply refl)
+
+header-suits : (rn : ℕ) (reply : Reply) → IsHeaderOrError reply → Suits reply (expects.Header rn)
+header-suits rn Header is = tt
+header-suits rn (Error code) is = tt
+header-suits rn reply is = absurd is
+
+header-handle : (rn : ℕ) (reply : Reply) (handle : ℕ) → IsHeaderOrError reply → handle ≡ rn → has_handle reply handle rn ≡ true
+header-handle rn Header handle is same = eq-eqb handle rn same
+header-handle rn (Error code) handle is same = eq-eqb handle rn same
+header-handle rn reply handle is same = absurd is
+
+delayed-expected : (rn : ℕ) (state : StateValue) (sent : Sent) → IsDelayedAnswer rn state sent → is_expected (expects.Header rn) sent ≡ true
+delayed-expected rn state sent is = suiting-expected (expects.Header rn) sent (header-suits rn sent.reply is.reply) (header-handle rn sent.reply sent.handle is.reply is.handle)
+
+words-suit : (count rn : ℕ) (reply : Reply) → IsReadReply count reply → Suits reply (words_expected count rn)
+words-suit zero rn (Words words) is = is
+words-suit zero rn (Error code) is = tt
+words-suit zero rn reply is = absurd is
+words-suit (suc more) rn (Words words) is = is
+words-suit (suc more) rn (Error code) is = tt
+words-suit (suc more) rn reply is = absurd is
+
+words-handle : (count rn : ℕ) (reply : Reply) (handle : ℕ) → IsReadReply count reply → handle ≡ rn → has_handle reply handle (handle_of (words_expected count rn)) ≡ true
+words-handle zero rn (Words words) handle is same = eq-eqb handle rn same
+words-handle zero rn (Error code) handle is same = eq-eqb handle rn same
+words-handle zero rn reply handle is same = absurd is
+words-handle (suc more) rn (Words words) handle is same = eq-eqb handle rn same
+words-handle (suc more) rn (Error code) handle is same = eq-eqb handle rn same
+words-handle (suc more) rn reply handle is same = absurd is
+
+read-expected : (count rn : ℕ) (state : StateValue) (sent : Sent) → IsReadAnswer count rn state sent → is_expected (words_expected count rn) sent ≡ true
+read-expected count rn state sent is =
+    suiting-expected (words_expected count rn) sent (words-suit count rn sent.reply is.reply) (words-handle count rn sent.reply sent.handle is.reply is.handle)
+
+-- what is expected is unmistakable
+expected-unmistakable : (expect named : Expect) (sent : Sent) → expect ≡ named → IsSent (Some sent) → is_expected named sent ≡ true → IsUnmistakable expect sent
+expected-unmistakable expect named sent same legal expected =
+    let here : is_expected expect sent ≡ true = ap (λ (e : Expect). is_expected e sent) same ∙ expected in
+    record { in_range = legal; unexpected = λ not_here other answers. let both : true ≡ false = sym here ∙ not_here in absurd (cc) }
+
+-- a handle alone has another length than a header or an error, so that no bits are both
+handle-or-header : (handle named : ℕ) (left right : Reply) (bits : List Bool) → AnswersExpected left (expects.Same handle) bits → AnswersExpected right (expects.Header named) bits → ⊥
+handle-or-header handle named left right bits one other =
+    let short : length bits ≡ 32 = (answers_pass left (expects.Same handle) bits one).length_fits in
+    elim (answers_pass right (expects.Header named) bits other).length_fits [
+      | inl plain ↦ omega arith
+      | inr error ↦ omega arith
+    ]
+
+-- a Kill awaits the handle, or a header or an error, and a tag answers the one or the other
+kill-unmistakable : (half : Bool) (expect : Expect) (extended : Bool) (rn : ℕ) (state : StateValue) (sent : Sent)
+    → ((expect ≡ expects.Same rn) × (extended ≡ false)) ⊎ ((expect ≡ expects.Header rn) × (extended ≡ true)) → IsSent (Some sent) → IsKillAnswer half rn state sent → IsUnmistakable expect sent
+kill-unmistakable false expect extended rn state sent (inl asked) legal is = expected-unmistakable expect (expects.Same rn) sent asked.0 legal (handle-expected rn state sent is)
+kill-unmistakable true expect extended rn state sent (inr asked) legal is = expected-unmistakable expect (expects.Header rn) sent asked.0 legal (delayed-expected rn state sent is)
+kill-unmistakable false expect extended rn state sent (inr asked) legal is =
+    let sends = expected_answers (expects.Same rn) sent legal (handle-expected rn state sent is) in
+    record {
+      in_range = legal;
+      unexpected = λ other reply answers.
+          handle-or-header rn rn sent.reply reply (spelling sent.reply sent.handle) sends (subst (λ (e : Expect). AnswersExpected reply e (spelling sent.reply sent.handle)) asked.0 answers);
+    }
+kill-unmistakable true expect extended rn state sent (inl asked) legal is =
+    let sends = expected_answers (expects.Header rn) sent legal (delayed-expected rn state sent is) in
+    record {
+      in_range = legal;
+      unexpected = λ other reply answers.
+          handle-or-header rn rn reply sent.reply (spelling sent.reply sent.handle) (subst (λ (e : Expect). AnswersExpected reply e (spelling sent.reply sent.handle)) asked.0 answers) sends;
+    }
+
+row-unmistakable : (command : Command) (expect : Expect) (extended : Bool) (state : StateValue) (body : BodyValue) (sent : Sent) → Expects command expect extended
+    → IsSent (Some sent) → IsAnswerTo command state body sent → IsUnmistakable expect sent
+row-unmistakable (commands.ReqRn rn) expect extended state body sent asked legal is = expected-unmistakable expect expects.Handle sent asked.0 legal (number-expected sent _ is.reply)
+row-unmistakable (commands.Read bank pointer count rn) expect extended state body sent asked legal is =
+    expected-unmistakable expect (words_expected count rn) sent asked.0 legal (read-expected count rn state sent is)
+row-unmistakable (commands.Write bank pointer covered rn) expect extended state body sent asked legal is =
+    expected-unmistakable expect (expects.Header rn) sent asked.0 legal (delayed-expected rn state sent is)
+row-unmistakable (commands.BlockWrite bank pointer words rn) expect extended state body sent asked legal is =
+    expected-unmistakable expect (expects.Header rn) sent asked.0 legal (delayed-expected rn state sent is)
+row-unmistakable (commands.BlockErase bank pointer count rn) expect extended state body sent asked legal is =
+    expected-unmistakable expect (expects.Header rn) sent asked.0 legal (delayed-expected rn state sent is)
+row-unmistakable (commands.Lock payload rn) expect extended state body sent asked legal is =
+    expected-unmistakable expect (expects.Header rn) sent asked.0 legal (delayed-expected rn state sent is)
+row-unmistakable (commands.Access covered rn) expect extended state body sent asked legal is =
+    expected-unmistakable expect (expects.Same rn) sent asked.0 legal (handle-expected rn state sent is)
+row-unmistakable (commands.Kill covered rn) expect extended state body sent asked legal is = kill-unmistakable (has_half state) expect extended rn state sent asked legal is
+row-unmistakable command expect extended state body sent asked legal is = absurd asked
+
+-- what the channel gives of the answers of legal tags to a command of a dialogue is unmistakable
+pub given-unmistakable : (several : Several) (command : Command) (expect : Expect) (extended : Bool) (entry : Entry) (tags : List TagValue) → Expects command expect extended → AnswersByRow → SendsInRange
+    → StaysLegal → AreLegalTags tags → HoldsOfSent (IsUnmistakable expect) (given_in several command entry tags)
+given-unmistakable several command expect extended entry tags asked rows range stays legal =
+    given-of-answers (IsUnmistakable expect) several command entry tags
+    (λ tag lawful sent is. row-unmistakable command expect extended tag.state tag.body sent asked (range command tag.state tag.body sent lawful is) (rows command tag.state tag.body sent lawful is)) stays legal

@@ -1,0 +1,106 @@
+-- Which lines of a report pass a test that only lines of listed EPCs, of results and of ends of rounds may pass.
+use Rattle.std.proofs.Common.{◌≡◌, ℕ, ◌+◌, Bool, true, false, ◌&&◌, List, [], ◌∷◌, ◌++◌, length, map, filter, refl, ap, ◌∙◌, append-nil}
+use Rattle.std.proofs.lemmas.List.Elements.{filter-append}
+use Rattle.access_ops.specs.declared.op_next.OpResult.{OpResult}
+use Rattle.air_model.specs.Channel.{heard_levels, wave_for}
+use Rattle.air_model.specs.Past.{Start, Record, Item, exchanged, tags_behind}
+use Rattle.runs.specs.Headline.{is_round_line, is_list_line}
+use Rattle.runs.specs.Listing.{Listed, listed_by, listing_of}
+use Rattle.runs.specs.Report.{trace_lines, list_line, item_lines, past_lines, tag_lines, last_lines}
+use Rattle.report_lines.specs.declared.mode.Mode.{Mode}
+use Rattle.report_lines.specs.declared.mode.Mode.TheVariants.{Plain, Trace}
+use Rattle.pie_line.specs.Link.{LinkValue}
+use Rattle.report_lines.specs.ReportLine.{ReportLine, TxLine, RxLine, OpLine, SeenLine, TagLine, DoneLine}
+use Rattle.report_lines.specs.SeenCounts.{Seen, seen_in}
+use Rattle.tag_machine.specs.TagValue.{TagValue}
+
+-- no line of an exchange's trace passes, and none behind the steps
+pub record PassesFew (test : ReportLine → Bool) : Type 0 where
+  pub tx : (exchange : ℕ) (intervals : List ℕ) → test (TxLine exchange intervals) ≡ false
+  pub rx : (exchange count : ℕ) (levels : List Bool) → test (RxLine exchange count levels) ≡ false
+  pub seen : (count pc : ℕ) (epc : List ℕ) → test (SeenLine count pc epc) ≡ false
+  pub tag : (number : ℕ) (tag : TagValue) → test (TagLine number tag) ≡ false
+  pub done : test DoneLine ≡ false
+
+pub round-lines-pass : (round : ℕ) → PassesFew (is_round_line round)
+round-lines-pass round = record {
+  tx = λ exchange intervals. refl;
+  rx = λ exchange count levels. refl;
+  seen = λ count pc epc. refl;
+  tag = λ number tag. refl;
+  done = refl;
+}
+
+pub list-lines-pass : (round slot : ℕ) → PassesFew (is_list_line round slot)
+list-lines-pass round slot = record {
+  tx = λ exchange intervals. refl;
+  rx = λ exchange count levels. refl;
+  seen = λ count pc epc. refl;
+  tag = λ number tag. refl;
+  done = refl;
+}
+
+no-trace : (test : ReportLine → Bool) → PassesFew test → (mode : Mode) (link : LinkValue) (sent : Record) → filter test (trace_lines mode link sent) ≡ []
+no-trace test few Plain link sent = refl
+no-trace test few Trace link sent =
+    rw (few.tx sent.exchange (wave_for link sent.command), few.rx sent.exchange (length sent.replies) (heard_levels link sent.given)) refl
+
+-- of an exchange those that list something may pass
+pub sent-passes : (test : ReportLine → Bool) → PassesFew test → (mode : Mode) (link : LinkValue) (sent : Record) (past : List Item)
+    → filter test (past_lines mode link (exchanged sent ∷ past)) ≡ filter test (past_lines mode link past) ++ filter test (map list_line (listed_by sent))
+sent-passes test few mode link sent past =
+    filter-append test (past_lines mode link past) (item_lines mode link (exchanged sent))
+    ∙ ap (λ (lines : List ReportLine). filter test (past_lines mode link past) ++ lines)
+    (filter-append test (trace_lines mode link sent) (map list_line (listed_by sent))
+    ∙ ap (λ (lines : List ReportLine). lines ++ filter test (map list_line (listed_by sent))) (no-trace test few mode link sent))
+
+-- where no list line passes, what is listed adds nothing
+pub no-listed : (test : ReportLine → Bool) → ((listed : Listed) → test (list_line listed) ≡ false) → (listing : List Listed)
+    → filter test (map list_line listing) ≡ []
+no-listed test fails [] = refl
+no-listed test fails (listed ∷ listing) = rw (fails listed) (no-listed test fails listing)
+
+-- ... and no exchange
+pub sent-adds-none : (test : ReportLine → Bool) → PassesFew test → ((listed : Listed) → test (list_line listed) ≡ false) → (mode : Mode) (link : LinkValue) (sent : Record) (past : List Item)
+    → filter test (past_lines mode link (exchanged sent ∷ past)) ≡ filter test (past_lines mode link past)
+sent-adds-none test few fails mode link sent past =
+    sent-passes test few mode link sent past
+    ∙ ap (λ (lines : List ReportLine). filter test (past_lines mode link past) ++ lines) (no-listed test fails (listed_by sent))
+    ∙ append-nil (filter test (past_lines mode link past))
+
+-- an event has no line
+pub befell-passes : (test : ReportLine → Bool) (mode : Mode) (link : LinkValue) (past : List Item)
+    → filter test (past_lines mode link past ++ []) ≡ filter test (past_lines mode link past)
+befell-passes test mode link past = ap (λ (lines : List ReportLine). filter test lines) (append-nil (past_lines mode link past))
+
+-- where the line of a result does not pass, the result adds nothing
+pub operated-passes : (test : ReportLine → Bool) (mode : Mode) (link : LinkValue) (round slot index : ℕ) (result : OpResult) (past : List Item)
+    → test (OpLine round slot index result) ≡ false
+    → filter test (past_lines mode link past ++ OpLine round slot index result ∷ []) ≡ filter test (past_lines mode link past)
+operated-passes test mode link round slot index result past fails =
+    filter-append test (past_lines mode link past) (OpLine round slot index result ∷ [])
+    ∙ rw fails (append-nil (filter test (past_lines mode link past)))
+
+no-last : (test : ReportLine → Bool) → PassesFew test → (seen : List Seen) (number : ℕ) (tags : List TagValue)
+    → filter test (map (λ seen. SeenLine seen.count seen.pc seen.epc) seen ++ tag_lines number tags ++ DoneLine ∷ []) ≡ []
+no-last test few [] number [] = rw few.done refl
+no-last test few [] number (tag ∷ tags) = rw (few.tag number tag) (no-last test few [] (number + 1) tags)
+no-last test few (one ∷ more) number tags = rw (few.seen one.count one.pc one.epc) (no-last test few more number tags)
+
+-- of a report those of the steps may pass
+pub report-passes : (test : ReportLine → Bool) → PassesFew test → (mode : Mode) (start : Start) (past : List Item)
+    → filter test (past_lines mode start.link past ++ last_lines start past) ≡ filter test (past_lines mode start.link past)
+report-passes test few mode start past =
+    filter-append test (past_lines mode start.link past) (last_lines start past)
+    ∙ ap (λ (lines : List ReportLine). filter test (past_lines mode start.link past) ++ lines)
+    (no-last test few (seen_in (map (λ listed. (listed.pc, listed.epc)) (listing_of past))) 0 (tags_behind start past))
+    ∙ append-nil (filter test (past_lines mode start.link past))
+
+-- two tests in one
+pub and-false : (a b : Bool) → b ≡ false → (a && b) ≡ false
+and-false true b is = is
+and-false false b is = refl
+
+pub and-true : (a b : Bool) → a ≡ true → b ≡ true → (a && b) ≡ true
+and-true true b is this = this
+and-true false b is this = absurd (cc)

@@ -1,0 +1,347 @@
+-- What came whole is listed once: the rounds and slots of ACKs rise along a history, so that each list line has its own.
+use Rattle.std.proofs.Common.{◌≡◌, ℕ, ◌+◌, ◌<◌, ◌==◌, ◌&&◌, Bool, true, false, ◌⊎◌, inl, inr, List, [], ◌∷◌, ◌++◌, length, map, filter, if◌then◌else◌, refl, ap, sym, ◌∙◌, subst, append-nil, arith, add-one, ne_eqb, eq-eqb}
+use Rattle.std.proofs.lemmas.List.Elements.{filter-append}
+use Rattle.access_ops.specs.laws.OperationLaws.{Expects}
+use Rattle.access_ops.specs.declared.OpList.{OpList}
+use Rattle.air_model.specs.Channel.{Given, whole}
+use Rattle.air_model.specs.Exchange.{Replied}
+use Rattle.air_model.specs.Past.{Start, Record, Item, befell, exchanged, operated, ended, next_record, rounds_in}
+use Rattle.air_model.specs.Reception.{has_handle, is_expected, reception_of}
+use Rattle.reply_grammar.specs.Reception.{Reception, no_stream, whole_reply, no_such_reply}
+use Rattle.runs.specs.Headline.{IsSelect, IsLegalStep, AreLegalSteps, IsRecordOf, Acknowledges, IsGivenWhole, is_list_line, begins_slot}
+use Rattle.runs.specs.History.{past_behind_answer, slot_reception, past_behind_slot, past_behind_round, past_behind_step, history_of}
+use Rattle.runs.specs.Listing.{Listed, reception_of_ack, listed_from, listed_by}
+use Rattle.runs.specs.Report.{list_line, past_lines, last_lines}
+use Rattle.report_lines.specs.declared.mode.Mode.{Mode}
+use Rattle.report_lines.specs.declared.mode.Mode.TheVariants.{Plain, Trace}
+use Rattle.runs.proofs.Growth.{RoundsKeepLimit, answer-holds, ack-keeps, round-holds, steps-hold}
+use Rattle.runs.proofs.HeadlineLines.{list-lines-pass, sent-passes, befell-passes, operated-passes, report-passes, and-false}
+use Rattle.runs.proofs.HeadlineSlots.{next-begins, slot-rounds}
+use Rattle.command_grammar.specs.declared.commands.Command.{Command}
+use Rattle.command_grammar.specs.declared.commands.Command.TheVariants as commands
+use Rattle.pie_line.specs.Link.{LinkValue}
+use Rattle.q_round.specs.SpecValue.{SpecValue, IsLegalSpec}
+use Rattle.q_round.specs.declared.round.RoundEnd.{RoundEnd}
+use Rattle.reply_grammar.specs.Table.{handle_of, suits}
+use Rattle.reply_grammar.specs.declared.expected.Expect.{Expect}
+use Rattle.reply_grammar.specs.declared.expected.Expect.TheVariants as expects
+use Rattle.reply_grammar.specs.declared.expected.Reply.{Reply}
+use Rattle.reply_grammar.specs.declared.expected.Reply.TheVariants as replies
+use Rattle.report_lines.specs.ReportLine.{ReportLine, ListLine, RoundLine}
+use Rattle.scenario.specs.declared.values.Step.{Step}
+use Rattle.scenario.specs.declared.values.Step.TheVariants as steps
+
+abbrev pub is_ack : Command → Bool
+is_ack (commands.Ack rn) = true
+is_ack command = false
+
+slot-no-ack : (command : Command) → begins_slot command ≡ true → is_ack command ≡ false
+slot-no-ack (commands.Ack rn) begins = absurd (cc)
+slot-no-ack (commands.Query dr code trext sel session target q) begins = refl
+slot-no-ack (commands.QueryAdjust session updn) begins = refl
+slot-no-ack (commands.QueryRep session) begins = refl
+slot-no-ack command begins = refl
+
+select-no-ack : (command : Command) → IsSelect command → is_ack command ≡ false
+select-no-ack (commands.Ack rn) is = absurd is
+select-no-ack command is = refl
+
+-- no command of an operation is an ACK
+pub expects-no-ack : (command : Command) (expect : Expect) (extended : Bool) → Expects command expect extended → is_ack command ≡ false
+expects-no-ack (commands.Ack rn) expect extended suits = absurd suits
+expects-no-ack command expect extended suits = refl
+
+-- one round and slot come before another
+abbrev pub IsEarlier : (round slot later_round later_slot : ℕ) → Type 0
+IsEarlier round slot later_round later_slot = (round < later_round) ⊎ ((round ≡ later_round) × (slot < later_slot))
+
+earlier-on : (a b c d e f : ℕ) → IsEarlier a b c d → IsEarlier c d e f → IsEarlier a b e f
+earlier-on a b c d e f (inl left) (inl right) = inl (omega arith)
+earlier-on a b c d e f (inl left) (inr right) = inl (omega (arith, right.0))
+earlier-on a b c d e f (inr left) (inl right) = inl (omega (arith, left.0))
+earlier-on a b c d e f (inr left) (inr right) = inr (left.0 ∙ right.0, omega (arith, left.1, right.1))
+
+not-itself : (a b c d : ℕ) → a ≡ c → b ≡ d → IsEarlier a b c d → ⊥
+not-itself a b c d same_round same_slot (inl less) = absurd (omega (arith, less, same_round))
+not-itself a b c d same_round same_slot (inr less) = absurd (omega (arith, less.1, same_slot))
+
+-- the ACKs of a past come before a round and slot
+abbrev pub AcksBefore : ℕ → ℕ → List Item → Type 0
+AcksBefore round slot [] = Unit {0}
+AcksBefore round slot (befell event number ∷ past) = AcksBefore round slot past
+AcksBefore round slot (exchanged sent ∷ past) = (is_ack sent.command ≡ true → IsEarlier sent.round sent.slot round slot) × AcksBefore round slot past
+AcksBefore round slot (operated number place index result ∷ past) = AcksBefore round slot past
+AcksBefore round slot (ended number end slots ∷ past) = AcksBefore round slot past
+
+-- the rounds and slots of the ACKs of a past rise
+abbrev pub AcksRise : List Item → Type 0
+AcksRise [] = Unit {0}
+AcksRise (befell event number ∷ past) = AcksRise past
+AcksRise (exchanged sent ∷ past) = (is_ack sent.command ≡ true → AcksBefore sent.round sent.slot past) × AcksRise past
+AcksRise (operated number place index result ∷ past) = AcksRise past
+AcksRise (ended number end slots ∷ past) = AcksRise past
+
+before-on : (round slot later_round later_slot : ℕ) (past : List Item) → IsEarlier round slot later_round later_slot
+    → AcksBefore round slot past → AcksBefore later_round later_slot past
+before-on round slot later_round later_slot [] less before = tt
+before-on round slot later_round later_slot (befell event number ∷ past) less before = before-on round slot later_round later_slot past less before
+before-on round slot later_round later_slot (exchanged sent ∷ past) less before =
+    (λ ack. earlier-on sent.round sent.slot round slot later_round later_slot (before.0 ack) less, before-on round slot later_round later_slot past less before.1)
+before-on round slot later_round later_slot (operated number place index result ∷ past) less before =
+    before-on round slot later_round later_slot past less before
+before-on round slot later_round later_slot (ended number end slots ∷ past) less before = before-on round slot later_round later_slot past less before
+
+-- the ACKs of a past rise, and come before a round and slot
+record Rise (round slot : ℕ) (past : List Item) : Type 0 where
+  pub before : AcksBefore round slot past
+  pub rise : AcksRise past
+
+-- a record with another command changes nothing
+rise-other : (round slot : ℕ) (sent : Record) (past : List Item) → is_ack sent.command ≡ false → Rise round slot past → Rise round slot (exchanged sent ∷ past)
+rise-other round slot sent past other holds = record {
+  before = (λ ack. absurd (cc), holds.before);
+  rise = (λ ack. absurd (cc), holds.rise);
+}
+
+rise-more : (round slot : ℕ) (past : List Item) → Rise round slot past → Rise round (slot + 1) past
+rise-more round slot past holds = record {
+  before = before-on round slot round (slot + 1) past (inr (refl, omega arith)) holds.before;
+  rise = holds.rise;
+}
+
+-- an ACK may come at that round and slot, and later ones behind it
+rise-answer : (start : Start) (operations : OpList) (round slot : ℕ) (reception : Reception) (past : List Item) → Rise round slot past
+    → Rise round (slot + 1) (past_behind_answer start operations round slot reception past)
+rise-answer start operations round slot reception past holds =
+    let more : Rise round (slot + 1) past = rise-more round slot past holds in
+    answer-holds (Rise round (slot + 1)) start operations round slot reception past more
+    (λ rn is. ack-keeps (Rise round (slot + 1)) start operations round slot rn past
+    (record {
+      command = λ command expect extended now suits rises.
+          rise-other round (slot + 1) (next_record start round slot command now) now (expects-no-ack command expect extended suits) rises;
+      result = λ index result now rises. record { before = rises.before; rise = rises.rise };
+    })
+    (record {
+      before = (λ ack. inr (refl, omega arith), more.before);
+      rise = (λ ack. holds.before, holds.rise);
+    }))
+
+-- within a round: its ACKs come before its next slot
+record RiseIn (round slot : ℕ) (past : List Item) : Type 0 where
+  pub rounds : rounds_in past + 1 ≡ round
+  pub rise : Rise round slot past
+
+-- between steps: they come before the next round
+abbrev pub AcksRiseBefore : List Item → Type 0
+AcksRiseBefore past = AcksRise past × AcksBefore (rounds_in past + 1) 1 past
+
+round-rise : RoundsKeepLimit → (start : Start) (operations : OpList) (spec : SpecValue) (past : List Item) → IsLegalSpec spec → AcksRiseBefore past
+    → AcksRiseBefore (past_behind_round start operations spec past)
+round-rise keeps start operations spec past legal holds =
+    let round : ℕ = rounds_in past + 1 in
+    round-holds (λ outcomes now. RiseIn round (length outcomes + 1) now) AcksRiseBefore start operations spec past keeps legal
+    (record {
+      slot = λ outcomes now command are is inside.
+          let slot : ℕ = length outcomes + 1 in
+          let sent = next_record start round slot command now in
+          let other : is_ack command ≡ false = slot-no-ack command (next-begins spec start.link outcomes command is) in
+          let count : rounds_in (past_behind_slot start operations round slot command now) ≡ rounds_in now = slot-rounds start operations round slot command now in
+          record {
+            rounds = ap (λ n. n + 1) count ∙ inside.rounds;
+            rise = subst (λ n. Rise round (n + 1) (past_behind_slot start operations round slot command now)) (add-one (length outcomes))
+                (rise-answer start operations round slot (slot_reception start round slot command now) (exchanged sent ∷ now) (rise-other round slot sent now other inside.rise));
+          };
+      end = λ outcomes now end are is inside.
+          let last : rounds_in now + 1 ≡ round = inside.rounds in
+          (inside.rise.rise, before-on round (length outcomes + 1) (rounds_in now + 1 + 1) 1 now (inl (omega arith)) inside.rise.before);
+    })
+    (record { rounds = refl; rise = record { before = holds.1; rise = holds.0 } })
+
+step-rise : RoundsKeepLimit → (start : Start) (step : Step) (past : List Item) → IsLegalStep step → AcksRiseBefore past → AcksRiseBefore (past_behind_step start step past)
+step-rise keeps start (steps.Select command) past legal holds =
+    let other : is_ack command ≡ false = select-no-ack command legal in
+    ((λ ack. absurd (cc), holds.0), (λ ack. absurd (cc), holds.1))
+step-rise keeps start steps.Nak past legal holds = ((λ ack. absurd (cc), holds.0), (λ ack. absurd (cc), holds.1))
+step-rise keeps start (steps.Event event number) past legal holds = holds
+step-rise keeps start (steps.Round spec operations) past legal holds = round-rise keeps start operations spec past legal.legal holds
+
+-- along a history they rise
+pub history-rises : RoundsKeepLimit → (start : Start) (steps : List Step) → AreLegalSteps steps → AcksRise (history_of start steps)
+history-rises keeps start steps legal =
+    (steps-hold AcksRiseBefore IsLegalStep start (step-rise keeps start) steps [] legal (tt, tt)).0
+
+pub rise-split : (item : Item) (past : List Item) → AcksRise (item ∷ past) → AcksRise past
+rise-split (befell event number) past rise = rise
+rise-split (exchanged sent) past rise = rise.1
+rise-split (operated number place index result) past rise = rise
+rise-split (ended number end slots) past rise = rise
+
+before-at : (round slot : ℕ) (later : List Item) (sent : Record) (earlier : List Item) → AcksBefore round slot (later ++ exchanged sent ∷ earlier)
+    → is_ack sent.command ≡ true → IsEarlier sent.round sent.slot round slot
+before-at round slot [] sent earlier before ack = before.0 ack
+before-at round slot (befell event number ∷ later) sent earlier before ack = before-at round slot later sent earlier before ack
+before-at round slot (exchanged other ∷ later) sent earlier before ack = before-at round slot later sent earlier before.1 ack
+before-at round slot (operated number place index result ∷ later) sent earlier before ack = before-at round slot later sent earlier before ack
+before-at round slot (ended number end slots ∷ later) sent earlier before ack = before-at round slot later sent earlier before ack
+
+-- the list lines of a round and slot among the lines of a past
+abbrev pub list_lines : Mode → LinkValue → ℕ → ℕ → List Item → List ReportLine
+list_lines mode link round slot past = filter (is_list_line round slot) (past_lines mode link past)
+
+no-end-line : (mode : Mode) (link : LinkValue) (round slot number : ℕ) (end : RoundEnd) (slots : ℕ) (past : List Item)
+    → list_lines mode link round slot (ended number end slots ∷ past) ≡ list_lines mode link round slot past
+no-end-line mode link round slot number end slots past =
+    filter-append (is_list_line round slot) (past_lines mode link past) (RoundLine number end slots ∷ [])
+    ∙ append-nil (list_lines mode link round slot past)
+
+-- no other command than an ACK lists anything
+lists-none : (sent : Record) (command : Command) → is_ack command ≡ false → listed_from sent (reception_of_ack sent command) ≡ []
+lists-none sent (commands.Ack rn) other = absurd (cc)
+lists-none sent command other = refl
+
+-- ... and none at another place
+lists-elsewhere : (round slot : ℕ) (sent : Record) (reception : Reception) → (sent.round == round && sent.slot == slot) ≡ false
+    → filter (is_list_line round slot) (map list_line (listed_from sent reception)) ≡ []
+lists-elsewhere round slot sent no_stream other = refl
+lists-elsewhere round slot sent no_such_reply other = refl
+lists-elsewhere round slot sent (whole_reply (replies.Epc pc epc)) other = rw other refl
+lists-elsewhere round slot sent (whole_reply (replies.Rn16 rn)) other = refl
+lists-elsewhere round slot sent (whole_reply (replies.Handle rn)) other = refl
+lists-elsewhere round slot sent (whole_reply (replies.Words words)) other = refl
+lists-elsewhere round slot sent (whole_reply replies.Header) other = refl
+lists-elsewhere round slot sent (whole_reply (replies.Error code)) other = refl
+
+other-place : (a b c d : ℕ) → IsEarlier a b c d → (a == c && b == d) ≡ false
+other-place a b c d (inl less) = let other : (a == c) ≡ false = ne_eqb a c (λ same. absurd (omega (arith, less, same))) in rw other refl
+other-place a b c d (inr less) = and-false (a == c) (b == d) (ne_eqb b d (λ same. absurd (omega (arith, less.1, same))))
+
+later-place : (a b c d : ℕ) → IsEarlier c d a b → (a == c && b == d) ≡ false
+later-place a b c d (inl less) = let other : (a == c) ≡ false = ne_eqb a c (λ same. absurd (omega (arith, less, same))) in rw other refl
+later-place a b c d (inr less) = and-false (a == c) (b == d) (ne_eqb b d (λ same. absurd (omega (arith, less.1, same))))
+
+-- a record that sends no ACK in this round and slot has no list line there
+no-line : (round slot : ℕ) (sent : Record) (ack : Bool) → is_ack sent.command ≡ ack → (ack ≡ true → (sent.round == round && sent.slot == slot) ≡ false)
+    → filter (is_list_line round slot) (map list_line (listed_by sent)) ≡ []
+no-line round slot sent false is other = ap (λ (listing : List Listed). filter (is_list_line round slot) (map list_line listing)) (lists-none sent sent.command is)
+no-line round slot sent true is other = lists-elsewhere round slot sent (reception_of_ack sent sent.command) (other refl)
+
+passes-record : (mode : Mode) (link : LinkValue) (round slot : ℕ) (sent : Record) (past : List Item) → (is_ack sent.command ≡ true → (sent.round == round && sent.slot == slot) ≡ false)
+    → list_lines mode link round slot (exchanged sent ∷ past) ≡ list_lines mode link round slot past
+passes-record mode link round slot sent past other =
+    sent-passes (is_list_line round slot) (list-lines-pass round slot) mode link sent past
+    ∙ ap (λ (lines : List ReportLine). list_lines mode link round slot past ++ lines) (no-line round slot sent (is_ack sent.command) refl other)
+    ∙ append-nil (list_lines mode link round slot past)
+
+-- where all ACKs come before a round and slot, nothing is listed there
+none-before : (mode : Mode) (link : LinkValue) (round slot : ℕ) (past : List Item) → AcksBefore round slot past → list_lines mode link round slot past ≡ []
+none-before Plain link round slot [] before = refl
+none-before Trace link round slot [] before = refl
+none-before mode link round slot (befell event number ∷ past) before = befell-passes (is_list_line round slot) mode link past ∙ none-before mode link round slot past before
+none-before mode link round slot (exchanged sent ∷ past) before =
+    passes-record mode link round slot sent past (λ ack. other-place sent.round sent.slot round slot (before.0 ack))
+    ∙ none-before mode link round slot past before.1
+none-before mode link round slot (operated number place index result ∷ past) before =
+    operated-passes (is_list_line round slot) mode link number place index result past refl ∙ none-before mode link round slot past before
+none-before mode link round slot (ended number end slots ∷ past) before = no-end-line mode link round slot number end slots past ∙ none-before mode link round slot past before
+
+-- what follows an ACK lists nothing in its round and slot
+none-after : (mode : Mode) (link : LinkValue) (later : List Item) (sent : Record) (earlier : List Item) → AcksRise (later ++ exchanged sent ∷ earlier) → is_ack sent.command ≡ true
+    → list_lines mode link sent.round sent.slot (later ++ exchanged sent ∷ earlier) ≡ list_lines mode link sent.round sent.slot (exchanged sent ∷ earlier)
+none-after mode link [] sent earlier rise ack = refl
+none-after mode link (befell event number ∷ later) sent earlier rise ack =
+    befell-passes (is_list_line sent.round sent.slot) mode link (later ++ exchanged sent ∷ earlier) ∙ none-after mode link later sent earlier rise ack
+none-after mode link (exchanged other ∷ later) sent earlier rise ack =
+    passes-record mode link sent.round sent.slot other (later ++ exchanged sent ∷ earlier)
+    (λ its. later-place other.round other.slot sent.round sent.slot (before-at other.round other.slot later sent earlier (rise.0 its) ack))
+    ∙ none-after mode link later sent earlier rise.1 ack
+none-after mode link (operated number place index result ∷ later) sent earlier rise ack =
+    operated-passes (is_list_line sent.round sent.slot) mode link number place index result (later ++ exchanged sent ∷ earlier) refl
+    ∙ none-after mode link later sent earlier rise ack
+none-after mode link (ended number end slots ∷ later) sent earlier rise ack =
+    no-end-line mode link sent.round sent.slot number end slots (later ++ exchanged sent ∷ earlier) ∙ none-after mode link later sent earlier rise ack
+
+-- an EPC is expected
+epc-expected : (reply : Reply) (handle pc : ℕ) (epc : List ℕ) → reply ≡ replies.Epc pc epc
+    → (suits reply expects.Epc && has_handle reply handle (handle_of expects.Epc)) ≡ true
+epc-expected (replies.Epc in_pc in_epc) handle pc epc is = refl
+epc-expected (replies.Rn16 rn) handle pc epc is = absurd (cc)
+epc-expected (replies.Handle rn) handle pc epc is = absurd (cc)
+epc-expected (replies.Words words) handle pc epc is = absurd (cc)
+epc-expected replies.Header handle pc epc is = absurd (cc)
+epc-expected (replies.Error code) handle pc epc is = absurd (cc)
+
+-- what a record of an ACK lists that was given an EPC whole
+own-listed : (sent : Record) (rn pc : ℕ) (epc : List ℕ) (replied : Replied) → Acknowledges sent rn → IsGivenWhole sent.given pc epc replied
+    → map list_line (listed_by sent) ≡ ListLine sent.round sent.slot pc epc ∷ []
+own-listed sent rn pc epc replied acknowledges given =
+    let ack : listed_by sent ≡ listed_from sent (reception_of expects.Epc sent.given) = ap (λ (command : Command). listed_from sent (reception_of_ack sent command)) acknowledges in
+    let came : reception_of expects.Epc sent.given ≡ reception_of expects.Epc (whole replied) = ap (λ (g : Given). reception_of expects.Epc g) given.unbroken in
+    let expected : is_expected expects.Epc replied.sent ≡ true = epc-expected replied.sent.reply replied.sent.handle pc epc given.reply in
+    let heard : reception_of expects.Epc (whole replied) ≡ whole_reply (replies.Epc pc epc) =
+    ap (λ (b : Bool). if b then whole_reply replied.sent.reply else no_such_reply) expected ∙ ap (λ (r : Reply). whole_reply r) given.reply in
+    ap (λ (listing : List Listed). map list_line listing) (ack ∙ ap (λ (r : Reception). listed_from sent r) (came ∙ heard))
+
+own-line : (round slot pc : ℕ) (epc : List ℕ) → filter (is_list_line round slot) (ListLine round slot pc epc ∷ []) ≡ ListLine round slot pc epc ∷ []
+own-line round slot pc epc =
+    let same_round : (round == round) ≡ true = eq-eqb round round refl in
+    let same_slot : (slot == slot) ≡ true = eq-eqb slot slot refl in
+    rw (same_round, same_slot) refl
+
+ack-of : (sent : Record) (rn : ℕ) → Acknowledges sent rn → is_ack sent.command ≡ true
+ack-of sent rn acknowledges = ap is_ack acknowledges
+
+-- the one line
+listed-at : (mode : Mode) (link : LinkValue) (later : List Item) (sent : Record) (earlier : List Item) (rn pc : ℕ) (epc : List ℕ) (replied : Replied)
+    → AcksRise (later ++ exchanged sent ∷ earlier) → AcksBefore sent.round sent.slot earlier → Acknowledges sent rn → IsGivenWhole sent.given pc epc replied
+    → list_lines mode link sent.round sent.slot (later ++ exchanged sent ∷ earlier) ≡ ListLine sent.round sent.slot pc epc ∷ []
+listed-at mode link later sent earlier rn pc epc replied rise before acknowledges given =
+    none-after mode link later sent earlier rise (ack-of sent rn acknowledges)
+    ∙ sent-passes (is_list_line sent.round sent.slot) (list-lines-pass sent.round sent.slot) mode link sent earlier
+    ∙ ap (λ (lines : List ReportLine). lines ++ filter (is_list_line sent.round sent.slot) (map list_line (listed_by sent)))
+    (none-before mode link sent.round sent.slot earlier before)
+    ∙ ap (λ (lines : List ReportLine). filter (is_list_line sent.round sent.slot) lines) (own-listed sent rn pc epc replied acknowledges given)
+    ∙ own-line sent.round sent.slot pc epc
+
+rise-tail : (later past : List Item) → AcksRise (later ++ past) → AcksRise past
+rise-tail [] past rise = rise
+rise-tail (item ∷ later) past rise = rise-tail later past (rise-split item (later ++ past) rise)
+
+pub listed-once : RoundsKeepLimit → (mode : Mode) (start : Start) (steps : List Step) (sent : Record) (earlier : List Item) (rn pc : ℕ) (epc : List ℕ) (replied : Replied)
+    → AreLegalSteps steps → IsRecordOf (history_of start steps) sent earlier → Acknowledges sent rn → IsGivenWhole sent.given pc epc replied
+    → filter (is_list_line sent.round sent.slot) (past_lines mode start.link (history_of start steps) ++ last_lines start (history_of start steps)) ≡ ListLine sent.round sent.slot pc epc ∷ []
+listed-once keeps mode start steps sent earlier rn pc epc replied legal recorded acknowledges given =
+    let history = history_of start steps in
+    let rise : AcksRise (recorded.later ++ exchanged sent ∷ earlier) = subst AcksRise recorded.is (history-rises keeps start steps legal) in
+    let own : AcksRise (exchanged sent ∷ earlier) = rise-tail recorded.later (exchanged sent ∷ earlier) rise in
+    report-passes (is_list_line sent.round sent.slot) (list-lines-pass sent.round sent.slot) mode start history
+    ∙ ap (λ (past : List Item). list_lines mode start.link sent.round sent.slot past) recorded.is
+    ∙ listed-at mode start.link recorded.later sent earlier rn pc epc replied rise (own.0 (ack-of sent rn acknowledges)) acknowledges given
+
+-- two ACKs of one round and slot are one record
+same-record : (left_later : List Item) (left : Record) (left_earlier right_later : List Item) (right : Record) (right_earlier : List Item)
+    → left_later ++ exchanged left ∷ left_earlier ≡ right_later ++ exchanged right ∷ right_earlier → AcksRise (left_later ++ exchanged left ∷ left_earlier)
+    → is_ack left.command ≡ true → is_ack right.command ≡ true → left.round ≡ right.round → left.slot ≡ right.slot → left ≡ right
+same-record [] left left_earlier [] right right_earlier same rise left_ack right_ack round slot = cc
+same-record [] left left_earlier (item ∷ right_later) right right_earlier same rise left_ack right_ack round slot =
+    let tails : left_earlier ≡ right_later ++ exchanged right ∷ right_earlier = cc in
+    let before : AcksBefore left.round left.slot (right_later ++ exchanged right ∷ right_earlier) = subst (AcksBefore left.round left.slot) tails (rise.0 left_ack) in
+    absurd (not-itself right.round right.slot left.round left.slot (sym round) (sym slot) (before-at left.round left.slot right_later right right_earlier before right_ack))
+same-record (item ∷ left_later) left left_earlier [] right right_earlier same rise left_ack right_ack round slot =
+    let head : item ≡ exchanged right = cc in
+    let tails : left_later ++ exchanged left ∷ left_earlier ≡ right_earlier = cc in
+    let rise_right : AcksRise (exchanged right ∷ (left_later ++ exchanged left ∷ left_earlier)) =
+    subst (λ (first : Item). AcksRise (first ∷ (left_later ++ exchanged left ∷ left_earlier))) head rise in
+    absurd (not-itself left.round left.slot right.round right.slot round slot
+    (before-at right.round right.slot left_later left left_earlier (rise_right.0 right_ack) left_ack))
+same-record (item ∷ left_later) left left_earlier (other ∷ right_later) right right_earlier same rise left_ack right_ack round slot =
+    let tails : left_later ++ exchanged left ∷ left_earlier ≡ right_later ++ exchanged right ∷ right_earlier = cc in
+    same-record left_later left left_earlier right_later right right_earlier tails
+    (rise-split item (left_later ++ exchanged left ∷ left_earlier) rise) left_ack right_ack round slot
+
+pub one-ack : RoundsKeepLimit → (start : Start) (steps : List Step) (left right : Record) (left_earlier right_earlier : List Item) (left_rn right_rn : ℕ) → AreLegalSteps steps
+    → IsRecordOf (history_of start steps) left left_earlier → IsRecordOf (history_of start steps) right right_earlier
+    → Acknowledges left left_rn → Acknowledges right right_rn → left.round ≡ right.round → left.slot ≡ right.slot → left ≡ right
+one-ack keeps start steps left right left_earlier right_earlier left_rn right_rn legal left_recorded right_recorded left_ack right_ack round slot =
+    same-record left_recorded.later left left_earlier right_recorded.later right right_earlier (sym left_recorded.is ∙ right_recorded.is)
+    (subst AcksRise left_recorded.is (history-rises keeps start steps legal))
+    (ack-of left left_rn left_ack) (ack-of right right_rn right_ack) round slot

@@ -1,0 +1,384 @@
+-- A history grows by what comes next alone, and stops where nothing does.
+use Rattle.std.proofs.Common.{◌≡◌, ℕ, zero, suc, ◌+◌, ◌<◌, ◌==◌, Bool, true, false, List, [], ◌∷◌, ◌++◌, length, map, Option, Some, None, slice_get, refl, ap, sym, ◌∙◌, subst, arith, add-one, ne_eqb, eq-eqb}
+use Rattle.access_ops.specs.laws.DialogueLaws.{AwaitsReplies}
+use Rattle.access_ops.specs.laws.OperationLaws.{Expects}
+use Rattle.access_ops.specs.Operations.{Dialogue, sends, tells, done}
+use Rattle.access_ops.specs.declared.OpList.{OpList}
+use Rattle.air_model.specs.Past.{Start, Record, Item, exchanged, operated, ended, next_record, past_behind_command, rounds_in}
+use Rattle.reply_grammar.specs.Reception.{Reception}
+use Rattle.runs.specs.Headline.{IsSelect, IsLegalStep, AreLegalSteps, begins_slot, begins_slot_of, slot_records}
+use Rattle.runs.specs.History.{outcome_of, operation_reception, past_behind_dialogue, dialogue_begun, ack_reception, past_behind_ack, past_behind_answer, slot_reception, past_behind_round, past_behind_step, past_behind, history_of}
+use Rattle.runs.specs.HistoryLaws.{finished_in, reception_of_slot, outcomes_of_round, rn_of, rn_received, item_by_rule, dialogue_behind_record, dialogue_behind_result, dialogue_behind_exchange, dialogue_left, results_behind_exchange, results_told, item_of_slots, item_in_round, item_of_step, next_item, GrowsByNext}
+use Rattle.report_lines.specs.declared.mode.Mode.TheVariants.{Plain}
+use Rattle.runs.proofs.Growth.{RoundsKeepLimit, dialogue-holds, begun-awaits, answer-cases, next_at_end, round-holds}
+use Rattle.runs.proofs.HeadlineLines.{and-true}
+use Rattle.runs.proofs.HeadlineSlots.{Fresh, step-fresh, first-fresh, next-begins, expects-begins-none}
+use Rattle.command_grammar.specs.declared.commands.Command.{Command}
+use Rattle.command_grammar.specs.declared.commands.Command.TheVariants as commands
+use Rattle.q_round.specs.SpecValue.{SpecValue, IsLegalSpec}
+use Rattle.q_round.specs.declared.frame.Outcome.{Outcome}
+use Rattle.q_round.specs.declared.round.Next.{Next}
+use Rattle.q_round.specs.declared.round.RoundEnd.{RoundEnd}
+use Rattle.q_round.specs.declared.round.RoundEnd.TheVariants as round_ends
+use Rattle.reply_grammar.specs.declared.expected.Expect.{Expect}
+use Rattle.scenario.specs.declared.values.Step.{Step}
+use Rattle.scenario.specs.declared.values.Step.TheVariants as steps
+
+-- within a round that began with so many rounds and steps behind it: the past so far, with the outcomes of its slots, the RN16
+-- that was just received, and what is left of the dialogue with the tag that was listed last
+record Inside (start : Start) (all : List Step) (operations : OpList) (finished rounds : ℕ) (outcomes : List Outcome) (received : Option ℕ) (left : Dialogue) (past : List Item) : Type 0 where
+  pub grows : GrowsByNext start all past
+  pub finished_is : finished_in past ≡ finished
+  pub rounds_are : rounds_in past ≡ rounds
+  pub outcomes_are : outcomes_of_round (rounds + 1) past ≡ outcomes
+  pub received_is : rn_received past ≡ received
+  pub left_is : dialogue_left start operations past ≡ left
+
+-- what comes next within a round
+next-inside : (start : Start) (all : List Step) (operations : OpList) (finished rounds : ℕ) (outcomes : List Outcome) (received : Option ℕ) (left : Dialogue) (past : List Item) (spec : SpecValue)
+    → slice_get all finished ≡ Some (steps.Round spec operations) → Inside start all operations finished rounds outcomes received left past
+    → next_item start all past ≡ Some (item_in_round start spec (rounds + 1) outcomes past left)
+next-inside start all operations finished rounds outcomes received left past spec at inside =
+    ap (λ n. item_of_step start past (slice_get all n)) inside.finished_is
+    ∙ ap (λ (step : Option Step). item_of_step start past step) at
+    ∙ ap (λ n. Some (item_in_round start spec (n + 1) (outcomes_of_round (n + 1) past) past (dialogue_left start operations past))) inside.rounds_are
+    ∙ ap (λ (o : List Outcome). Some (item_in_round start spec (rounds + 1) o past (dialogue_left start operations past))) inside.outcomes_are
+    ∙ ap (λ (dialogue : Dialogue). Some (item_in_round start spec (rounds + 1) outcomes past dialogue)) inside.left_is
+
+-- ... where no operation is left
+next-of-slots : (start : Start) (all : List Step) (operations : OpList) (finished rounds : ℕ) (outcomes : List Outcome) (received : Option ℕ) (past : List Item) (spec : SpecValue)
+    → slice_get all finished ≡ Some (steps.Round spec operations) → Inside start all operations finished rounds outcomes received done past
+    → next_item start all past ≡ Some (item_of_slots start spec (rounds + 1) outcomes past received)
+next-of-slots start all operations finished rounds outcomes received past spec at inside =
+    next-inside start all operations finished rounds outcomes received done past spec at inside
+    ∙ ap (λ (rn : Option ℕ). Some (item_of_slots start spec (rounds + 1) outcomes past rn)) inside.received_is
+
+-- the exchanges of a round finish no step
+round-unfinished : (sent : Record) (past : List Item) (rounds : ℕ) → sent.round ≡ rounds + 1 → finished_in (exchanged sent ∷ past) ≡ finished_in past
+round-unfinished sent past rounds is =
+    let other : (sent.round == 0) ≡ false = ne_eqb sent.round 0 (λ none. absurd (omega (arith, is, none))) in
+    rw other refl
+
+-- a slot command begins no dialogue
+slot-done : (start : Start) (operations : OpList) (sent : Record) (command : Command) → begins_slot command ≡ true
+    → dialogue_behind_exchange start operations sent command done ≡ done
+slot-done start operations sent (commands.Ack rn) begins = absurd (cc)
+slot-done start operations sent command begins = refl
+
+-- a slot command of the round: it brings one outcome more, and an RN16 or none
+inside-sent : (start : Start) (all : List Step) (operations : OpList) (finished rounds : ℕ) (outcomes : List Outcome) (past : List Item) (command : Command)
+    → begins_slot command ≡ true → next_item start all past ≡ Some (exchanged (next_record start (rounds + 1) (length outcomes + 1) command past))
+    → Inside start all operations finished rounds outcomes None done past
+    → Inside start all operations finished rounds (outcome_of (slot_reception start (rounds + 1) (length outcomes + 1) command past) ∷ outcomes)
+    (rn_of (slot_reception start (rounds + 1) (length outcomes + 1) command past)) done
+    (past_behind_command start (rounds + 1) (length outcomes + 1) command past)
+inside-sent start all operations finished rounds outcomes past command begins next inside =
+    let sent = next_record start (rounds + 1) (length outcomes + 1) command past in
+    let this : begins_slot_of (rounds + 1) sent ≡ true = and-true (begins_slot command) (rounds + 1 == rounds + 1) begins (eq-eqb (rounds + 1) (rounds + 1) refl) in
+    let slots : slot_records (rounds + 1) (exchanged sent ∷ past) ≡ sent ∷ slot_records (rounds + 1) past = rw this refl in
+    record {
+      grows = (next, inside.grows);
+      finished_is = round-unfinished sent past rounds refl ∙ inside.finished_is;
+      rounds_are = inside.rounds_are;
+      outcomes_are = ap (λ (sents : List Record). map (λ sent. outcome_of (reception_of_slot sent)) sents) slots
+          ∙ ap (λ (o : List Outcome). outcome_of (reception_of_slot sent) ∷ o) inside.outcomes_are;
+      received_is = rw begins refl;
+      left_is = ap (λ (dialogue : Dialogue). dialogue_behind_exchange start operations sent command dialogue) inside.left_is
+          ∙ slot-done start operations sent command begins;
+    }
+
+-- what an exchange leaves that begins no slot: it brings no outcome, and no RN16 of a slot
+inside-exchange : (start : Start) (all : List Step) (operations : OpList) (finished rounds : ℕ) (outcomes : List Outcome) (received : Option ℕ) (left now_left : Dialogue) (past : List Item) (sent : Record)
+    → sent.round ≡ rounds + 1 → begins_slot sent.command ≡ false → next_item start all past ≡ Some (exchanged sent)
+    → dialogue_left start operations (exchanged sent ∷ past) ≡ now_left
+    → Inside start all operations finished rounds outcomes received left past → Inside start all operations finished rounds outcomes None now_left (exchanged sent ∷ past)
+inside-exchange start all operations finished rounds outcomes received left now_left past sent round_is begins_none next left_is inside =
+    let slots : slot_records (rounds + 1) (exchanged sent ∷ past) ≡ slot_records (rounds + 1) past = rw begins_none refl in
+    record {
+      grows = (next, inside.grows);
+      finished_is = round-unfinished sent past rounds round_is ∙ inside.finished_is;
+      rounds_are = inside.rounds_are;
+      outcomes_are = ap (λ (sents : List Record). map (λ sent. outcome_of (reception_of_slot sent)) sents) slots ∙ inside.outcomes_are;
+      received_is = rw begins_none refl;
+      left_is = left_is;
+    }
+
+-- a command of an operation goes on with the dialogue
+goes-on : (start : Start) (operations : OpList) (sent : Record) (command : Command) (expect : Expect) (extended : Bool) (left : Dialogue) → Expects command expect extended
+    → dialogue_behind_exchange start operations sent command left ≡ dialogue_behind_record start sent left
+goes-on start operations sent (commands.Ack rn) expect extended left suits = absurd suits
+goes-on start operations sent command expect extended left suits = refl
+
+-- ... and tells no result
+tells-none : (command : Command) (expect : Expect) (extended : Bool) (told : ℕ) → Expects command expect extended → results_behind_exchange command told ≡ told
+tells-none (commands.Ack rn) expect extended told suits = absurd suits
+tells-none command expect extended told suits = refl
+
+-- within a dialogue, whose next result has this number
+record InDialogue (start : Start) (all : List Step) (operations : OpList) (finished rounds : ℕ) (outcomes : List Outcome) (index : ℕ) (left : Dialogue) (past : List Item) : Type 0 where
+  pub inside : Inside start all operations finished rounds outcomes None left past
+  pub told_is : results_told past + 1 ≡ index
+  pub awaits : AwaitsReplies left
+
+-- a dialogue grows by what comes next alone
+inside-dialogue : (start : Start) (all : List Step) (operations : OpList) (finished rounds : ℕ) (outcomes : List Outcome) (slot index : ℕ) (left : Dialogue) (past : List Item) (spec : SpecValue)
+    → slice_get all finished ≡ Some (steps.Round spec operations) → length outcomes ≡ slot → InDialogue start all operations finished rounds outcomes index left past
+    → Inside start all operations finished rounds outcomes None done (past_behind_dialogue start (rounds + 1) slot index left past)
+inside-dialogue start all operations finished rounds outcomes slot index left past spec at count holds =
+    dialogue-holds (InDialogue start all operations finished rounds outcomes) (Inside start all operations finished rounds outcomes None done) start (rounds + 1) slot
+    (record {
+      command = λ index command expect extended go_on now here.
+          let sent = next_record start (rounds + 1) slot command now in
+          let suits : Expects command expect extended = here.awaits.0 in
+          record {
+            inside = inside-exchange start all operations finished rounds outcomes None (sends command expect extended go_on)
+                (go_on (operation_reception start (rounds + 1) slot command expect extended now)) now sent refl (expects-begins-none command expect extended suits)
+                (next-inside start all operations finished rounds outcomes None (sends command expect extended go_on) now spec at here.inside
+                ∙ ap (λ n. Some (exchanged (next_record start (rounds + 1) n command now))) count)
+                (ap (λ (dialogue : Dialogue). dialogue_behind_exchange start operations sent command dialogue) here.inside.left_is
+                ∙ goes-on start operations sent command expect extended (sends command expect extended go_on) suits)
+                here.inside;
+            told_is = ap (λ n. n + 1) (tells-none command expect extended (results_told now) suits) ∙ here.told_is;
+            awaits = here.awaits.1 _;
+          };
+      result = λ index result later now here. record {
+        inside = record {
+          grows = (
+            next-inside start all operations finished rounds outcomes None (tells result later) now spec at here.inside
+                ∙ ap (λ n. Some (operated (rounds + 1) n (results_told now + 1) result)) count
+                ∙ ap (λ n. Some (operated (rounds + 1) slot n result)) here.told_is,
+            here.inside.grows,
+          );
+          finished_is = here.inside.finished_is;
+          rounds_are = here.inside.rounds_are;
+          outcomes_are = here.inside.outcomes_are;
+          received_is = refl;
+          left_is = ap dialogue_behind_result here.inside.left_is;
+        };
+        told_is = ap (λ n. n + 1) here.told_is;
+        awaits = here.awaits;
+      };
+      end = λ index now here. here.inside;
+    })
+    index left past holds
+
+-- the ACK that follows a whole RN16, and what follows it
+inside-ack : (start : Start) (all : List Step) (operations : OpList) (finished rounds : ℕ) (outcomes : List Outcome) (slot rn : ℕ) (past : List Item) (spec : SpecValue)
+    → slice_get all finished ≡ Some (steps.Round spec operations) → length outcomes ≡ slot → Inside start all operations finished rounds outcomes (Some rn) done past
+    → Inside start all operations finished rounds outcomes None done (past_behind_ack start operations (rounds + 1) slot rn past)
+inside-ack start all operations finished rounds outcomes slot rn past spec at count inside =
+    let sent = next_record start (rounds + 1) slot (commands.Ack rn) past in
+    let begun = dialogue_begun operations rn (ack_reception start (rounds + 1) slot rn past) in
+    inside-dialogue start all operations finished rounds outcomes slot 1 begun (exchanged sent ∷ past) spec at count
+    (record {
+      inside = inside-exchange start all operations finished rounds outcomes (Some rn) done begun past sent refl refl
+          (next-of-slots start all operations finished rounds outcomes (Some rn) past spec at inside
+          ∙ ap (λ n. Some (exchanged (next_record start (rounds + 1) n (commands.Ack rn) past))) count)
+          refl inside;
+      told_is = refl;
+      awaits = begun-awaits operations rn (ack_reception start (rounds + 1) slot rn past);
+    })
+
+inside-answer : (start : Start) (all : List Step) (operations : OpList) (finished rounds : ℕ) (outcomes : List Outcome) (slot : ℕ) (reception : Reception) (past : List Item) (spec : SpecValue)
+    → slice_get all finished ≡ Some (steps.Round spec operations) → length outcomes ≡ slot → Inside start all operations finished rounds outcomes (rn_of reception) done past
+    → Inside start all operations finished rounds outcomes None done (past_behind_answer start operations (rounds + 1) slot reception past)
+inside-answer start all operations finished rounds outcomes slot reception past spec at count inside =
+    answer-cases (Inside start all operations finished rounds outcomes None done) start operations (rounds + 1) slot reception past
+    (λ none. subst (λ (received : Option ℕ). Inside start all operations finished rounds outcomes received done past) none inside)
+    (λ rn is. inside-ack start all operations finished rounds outcomes slot rn past spec at count
+    (subst (λ (reception : Reception). Inside start all operations finished rounds outcomes (rn_of reception) done past) is inside))
+
+-- between steps, of which so many are finished
+record Between (start : Start) (all : List Step) (finished : ℕ) (past : List Item) : Type 0 where
+  pub grows : GrowsByNext start all past
+  pub finished_is : finished_in past ≡ finished
+  pub received_is : rn_received past ≡ None
+  pub over : (operations : OpList) → dialogue_left start operations past ≡ done
+  pub fresh : Fresh Plain start.link past
+
+-- what a round leaves
+record Behind (start : Start) (all : List Step) (finished : ℕ) (past : List Item) : Type 0 where
+  pub grows : GrowsByNext start all past
+  pub finished_is : finished_in past ≡ finished
+  pub received_is : rn_received past ≡ None
+  pub over : (operations : OpList) → dialogue_left start operations past ≡ done
+
+end-item : (start : Start) (round : ℕ) (outcomes : List Outcome) (past : List Item) (end : RoundEnd)
+    → item_by_rule start round outcomes past (next_at_end end) ≡ ended round end (length outcomes)
+end-item start round outcomes past round_ends.Quiet = refl
+end-item start round outcomes past round_ends.Limit = refl
+
+round-grows : RoundsKeepLimit → (start : Start) (all : List Step) (finished : ℕ) (past : List Item) (spec : SpecValue) (operations : OpList) → IsLegalSpec spec
+    → slice_get all finished ≡ Some (steps.Round spec operations) → Between start all finished past → Behind start all (finished + 1) (past_behind_round start operations spec past)
+round-grows keeps start all finished past spec operations legal at between =
+    let rounds : ℕ = rounds_in past in
+    round-holds (λ outcomes now. Inside start all operations finished rounds outcomes None done now) (λ now. Behind start all (finished + 1) now)
+    start operations spec past keeps legal
+    (record {
+      slot = λ outcomes now command are is inside.
+          let slot : ℕ = length outcomes + 1 in
+          let begins : begins_slot command ≡ true = next-begins spec start.link outcomes command is in
+          let next : next_item start all now ≡ Some (exchanged (next_record start (rounds + 1) slot command now)) =
+          next-of-slots start all operations finished rounds outcomes None now spec at inside
+          ∙ ap (λ (next : Next). Some (item_by_rule start (rounds + 1) outcomes now next)) is in
+          let reception = slot_reception start (rounds + 1) slot command now in
+          inside-answer start all operations finished rounds (outcome_of reception ∷ outcomes) slot reception (past_behind_command start (rounds + 1) slot command now) spec at
+          (sym (add-one (length outcomes)))
+          (inside-sent start all operations finished rounds outcomes now command begins next inside);
+      end = λ outcomes now end are is inside. record {
+        grows = (
+          next-of-slots start all operations finished rounds outcomes None now spec at inside
+              ∙ ap (λ (next : Next). Some (item_by_rule start (rounds + 1) outcomes now next)) is
+              ∙ ap (λ (item : Item). Some item) (end-item start (rounds + 1) outcomes now end),
+          inside.grows,
+        );
+        finished_is = ap (λ n. n + 1) inside.finished_is;
+        received_is = refl;
+        over = λ other. refl;
+      };
+    })
+    (record {
+      grows = between.grows;
+      finished_is = between.finished_is;
+      rounds_are = refl;
+      outcomes_are = ap (λ (sents : List Record). map (λ sent. outcome_of (reception_of_slot sent)) sents) (between.fresh (rounds + 1) (omega arith)).slots;
+      received_is = between.received_is;
+      left_is = between.over operations;
+    })
+
+-- a Select begins no slot
+select-begins-none : (command : Command) → IsSelect command → begins_slot command ≡ false
+select-begins-none (commands.Select target action bank pointer mask) is = refl
+select-begins-none command is = absurd is
+
+-- ... and no dialogue
+select-done : (start : Start) (operations : OpList) (sent : Record) (command : Command) → IsSelect command
+    → dialogue_behind_exchange start operations sent command done ≡ done
+select-done start operations sent (commands.Ack rn) is = absurd is
+select-done start operations sent command is = refl
+
+-- what comes next between steps
+next-between : (start : Start) (all : List Step) (finished : ℕ) (past : List Item) (step : Option Step) → slice_get all finished ≡ step → Between start all finished past
+    → next_item start all past ≡ item_of_step start past step
+next-between start all finished past step at between =
+    ap (λ n. item_of_step start past (slice_get all n)) between.finished_is ∙ ap (λ (s : Option Step). item_of_step start past s) at
+
+step-grows-by-next : RoundsKeepLimit → (start : Start) (all : List Step) (finished : ℕ) (past : List Item) (step : Step) → IsLegalStep step
+    → slice_get all finished ≡ Some step → Between start all finished past → Behind start all (finished + 1) (past_behind_step start step past)
+step-grows-by-next keeps start all finished past (steps.Select command) legal at between =
+    let none : begins_slot command ≡ false = select-begins-none command legal in
+    record {
+      grows = (next-between start all finished past (Some (steps.Select command)) at between, between.grows);
+      finished_is = ap (λ n. n + 1) between.finished_is;
+      received_is = rw none refl;
+      over = λ operations.
+          ap (λ (dialogue : Dialogue). dialogue_behind_exchange start operations (next_record start 0 0 command past) command dialogue) (between.over operations)
+          ∙ select-done start operations (next_record start 0 0 command past) command legal;
+    }
+step-grows-by-next keeps start all finished past steps.Nak legal at between = record {
+  grows = (next-between start all finished past (Some steps.Nak) at between, between.grows);
+  finished_is = ap (λ n. n + 1) between.finished_is;
+  received_is = refl;
+  over = λ operations. ap (λ (dialogue : Dialogue). dialogue_behind_record start (next_record start 0 0 commands.Nak past) dialogue) (between.over operations);
+}
+step-grows-by-next keeps start all finished past (steps.Event event number) legal at between = record {
+  grows = (next-between start all finished past (Some (steps.Event event number)) at between, between.grows);
+  finished_is = ap (λ n. n + 1) between.finished_is;
+  received_is = refl;
+  over = λ operations. refl;
+}
+step-grows-by-next keeps start all finished past (steps.Round spec operations) legal at between =
+    round-grows keeps start all finished past spec operations legal.legal at between
+
+-- a run grows by what comes next, and nothing comes next where no step is left
+record Ends (start : Start) (all : List Step) (history : List Item) : Type 0 where
+  pub grows : GrowsByNext start all history
+  pub ends : next_item start all history ≡ None
+
+steps-grow-by-next : RoundsKeepLimit → (start : Start) (all left : List Step) (finished : ℕ) (past : List Item) → AreLegalSteps left
+    → ((place more : ℕ) → place ≡ finished + more → slice_get all place ≡ slice_get left more)
+    → Between start all finished past → Ends start all (past_behind start left past)
+steps-grow-by-next keeps start all [] finished past legal at between = record {
+  grows = between.grows;
+  ends = next-between start all finished past None (at finished 0 (omega arith)) between;
+}
+steps-grow-by-next keeps start all (step ∷ left) finished past legal at between =
+    let now = past_behind_step start step past in
+    let behind : Behind start all (finished + 1) now = step-grows-by-next keeps start all finished past step legal.0 (at finished 0 (omega arith)) between in
+    steps-grow-by-next keeps start all left (finished + 1) now legal.1 (λ place more is. at place (suc more) (omega (arith, is)))
+    (record {
+      grows = behind.grows;
+      finished_is = behind.finished_is;
+      received_is = behind.received_is;
+      over = behind.over;
+      fresh = step-fresh keeps Plain start step past legal.0 between.fresh;
+    })
+
+history-ends : RoundsKeepLimit → (start : Start) (all : List Step) → AreLegalSteps all → Ends start all (history_of start all)
+history-ends keeps start all legal =
+    steps-grow-by-next keeps start all all 0 [] legal (λ place more is. ap (λ n. slice_get all n) (is ∙ omega arith))
+    (record { grows = tt; finished_is = refl; received_is = refl; over = λ operations. refl; fresh = first-fresh Plain start.link })
+
+pub history-grows : RoundsKeepLimit → (start : Start) (all : List Step) → AreLegalSteps all → GrowsByNext start all (history_of start all)
+history-grows keeps start all legal = (history-ends keeps start all legal).grows
+
+pub history-stops : RoundsKeepLimit → (start : Start) (all : List Step) → AreLegalSteps all → next_item start all (history_of start all) ≡ None
+history-stops keeps start all legal = (history-ends keeps start all legal).ends
+
+-- two pasts that grow by what comes next and are as long are the same
+pub same-growth : (start : Start) (all : List Step) (first second : List Item) → GrowsByNext start all first → GrowsByNext start all second
+    → length first ≡ length second → first ≡ second
+same-growth start all [] [] left right count = refl
+same-growth start all [] (item ∷ second) left right count = absurd (omega (arith, count))
+same-growth start all (item ∷ first) [] left right count = absurd (omega (arith, count))
+same-growth start all (item ∷ first) (other ∷ second) left right count =
+    let same : first ≡ second = same-growth start all first second left.1 right.1 (omega (arith, count)) in
+    let items : Some item ≡ Some other = sym left.0 ∙ ap (λ (past : List Item). next_item start all past) same ∙ right.0 in
+    cc
+
+pub data Compared (m n : ℕ) : Type 0 where
+  equal : (m ≡ n) → Compared m n
+  below : (m < n) → Compared m n
+  above : (n < m) → Compared m n
+
+compared-on : (m n : ℕ) → Compared m n → Compared (suc m) (suc n)
+compared-on m n (equal is) = equal (ap suc is)
+compared-on m n (below is) = below (omega (arith, is))
+compared-on m n (above is) = above (omega (arith, is))
+
+pub compared : (m n : ℕ) → Compared m n
+compared zero zero = equal refl
+compared zero (suc n) = below (omega arith)
+compared (suc m) zero = above (omega arith)
+compared (suc m) (suc n) = compared-on m n (compared m n)
+
+-- one that stops is not shorter than another
+shorter : (start : Start) (all : List Step) (first second : List Item) → GrowsByNext start all first → GrowsByNext start all second
+    → next_item start all first ≡ None → length first < length second → ⊥
+shorter start all first [] left right stops less = absurd (omega (arith, less))
+shorter start all first (item ∷ second) left right stops less =
+    elim (compared (length first) (length second)) [
+      | equal same ↦
+          let is : first ≡ second = same-growth start all first second left right.1 same in
+          let next : next_item start all second ≡ None = ap (λ (past : List Item). next_item start all past) (sym is) ∙ stops in
+          let both : Some item ≡ None = sym right.0 ∙ next in
+          absurd (cc)
+      | below is ↦ shorter start all first second left right.1 stops is
+      | above is ↦ absurd (omega (arith, is, less))
+    ]
+
+-- the history is the one past that grows by what comes next and stops where nothing does
+pub one-growth : (start : Start) (all : List Step) (first second : List Item) → GrowsByNext start all first → GrowsByNext start all second
+    → next_item start all first ≡ None → next_item start all second ≡ None → first ≡ second
+one-growth start all first second left right left_stops right_stops =
+    elim (compared (length first) (length second)) [
+      | equal is ↦ same-growth start all first second left right is
+      | below is ↦ absurd (shorter start all first second left right left_stops is)
+      | above is ↦ absurd (shorter start all second first right left right_stops is)
+    ]
+
+-- each item of it came next behind what was past
+pub growth-at : (start : Start) (all : List Step) (later : List Item) (item : Item) (earlier : List Item) → GrowsByNext start all (later ++ item ∷ earlier)
+    → next_item start all earlier ≡ Some item
+growth-at start all [] item earlier grows = grows.0
+growth-at start all (other ∷ later) item earlier grows = growth-at start all later item earlier grows.1

@@ -1,0 +1,255 @@
+-- The tags behind each past of a history are legal, since each command that is sent has its numbers in their fields.
+use Rattle.std.proofs.Common.{◌≡◌, ℕ, suc, ◌+◌, Bool, true, false, ◌&&◌, List, [], ◌∷◌, ◌++◌, length, Some, if◌then◌else◌, refl, ap, sym, ◌∙◌, subst}
+use Rattle.std.proofs.lemmas.List.Elements.{recursion_from_All}
+use Rattle.std.specs.List.{AllByRecursion}
+use Rattle.access_ops.specs.laws.OperationLaws.{IsLegalOp}
+use Rattle.access_ops.specs.Operations.{Dialogue, dialogue_of, dialogue_after, dialogue_behind, first_of, next_operation, reception_in, Move, answered, told, IsAnswerFor, Follows, AreMoves}
+use Rattle.access_ops.specs.declared.OpList.{OpList}
+use Rattle.access_ops.specs.declared.op_next.Answer.{Answer}
+use Rattle.access_ops.specs.declared.op_next.Answer.TheVariants.{Silence, Got}
+use Rattle.access_ops.specs.declared.op_next.OpNext.{OpNext}
+use Rattle.access_ops.specs.declared.op_next.OpNext.TheVariants.{Send, Result}
+use Rattle.access_ops.specs.declared.op_next.OpResult.{OpResult}
+use Rattle.air_model.specs.Exchange.{AreLegalTags, outcome_unless, outcomes_from, tags_after, tags_after_event, tag_after_events, is_missed}
+use Rattle.air_model.specs.Channel.{given_in, Given, silence, whole, broken}
+use Rattle.air_model.specs.Past.{Start, Item, befell, operated, ended, next_record, next_entry, past_behind_command, rounds_in, tags_behind, tags_behind_from}
+use Rattle.air_model.specs.Reception.{has_handle, has_preamble, is_expected, reception_of, reception_with, IsGiven}
+use Rattle.air_events.specs.declared.Entry.{Entry}
+use Rattle.air_events.specs.declared.Event.{Event}
+use Rattle.air_events.specs.declared.Several.{Several}
+use Rattle.runs.proofs.Answering.{SendsInRange, StaysLegal, events-legal, given-of-answers}
+use Rattle.runs.proofs.Growth.{dialogue-holds, listing-holds, answer-holds, always-holds, steps-hold}
+use Rattle.runs.proofs.LegalStart.{start-legal, selection-legal}
+use Rattle.runs.proofs.Tags.{tags-exchanged, tags-befell, tags-operated, tags-ended}
+use Rattle.runs.specs.History.{operation_reception, past_behind_dialogue, ack_reception, past_behind_ack, slot_reception, past_behind_slot, past_behind_round, past_behind_step}
+use Rattle.runs.specs.ScenarioStart.{start_of, history}
+use Rattle.command_grammar.specs.Commands.{IsWord, IsLegalCommand}
+use Rattle.command_grammar.specs.declared.commands.Command.{Command}
+use Rattle.command_grammar.specs.declared.commands.Command.TheVariants as commands
+use Rattle.pie_line.specs.Link.{LinkValue}
+use Rattle.q_round.specs.laws.RoundLaws.{IsLegalNext}
+use Rattle.q_round.specs.Rounds.{next_command}
+use Rattle.q_round.specs.SpecValue.{SpecValue, IsLegalSpec}
+use Rattle.q_round.specs.declared.frame.Outcome.{Outcome}
+use Rattle.q_round.specs.declared.round.RoundEnd.{RoundEnd}
+use Rattle.reply_grammar.specs.Reception.{Reception, no_stream, whole_reply, no_such_reply}
+use Rattle.reply_grammar.specs.laws.Suiting.{suits-true}
+use Rattle.reply_grammar.specs.Table.{Suits, suits, handle_of, IsReply}
+use Rattle.reply_grammar.specs.declared.expected.Expect.{Expect}
+use Rattle.reply_grammar.specs.declared.expected.Expect.TheVariants as expects
+use Rattle.reply_grammar.specs.declared.expected.Received.TheVariants.{Whole, Refused}
+use Rattle.reply_grammar.specs.declared.expected.Reply.{Reply}
+use Rattle.reply_grammar.specs.declared.expected.Reply.TheVariants as replies
+use Rattle.scenario.specs.Limits.{IsStep, IsScenario}
+use Rattle.scenario.specs.declared.values.Scenario.{Scenario}
+use Rattle.scenario.specs.declared.values.Step.{Step}
+use Rattle.scenario.specs.declared.values.Step.TheVariants as steps
+use Rattle.tag_machine.specs.Answers.{Sent, IsSent}
+use Rattle.tag_machine.specs.Step.{step}
+use Rattle.tag_machine.specs.TagValue.{TagValue, StateValue, BodyValue, IsLegalTag}
+
+-- the laws of tags, of rounds and of operations that this goes by
+abbrev pub HeardLegal : Type 0
+HeardLegal = (command : Command) (state : StateValue) (body : BodyValue) → IsLegalCommand command → IsLegalTag (record { state = state; body = body })
+    → IsLegalTag (step command state body).tag
+
+abbrev pub RoundsLegal : Type 0
+RoundsLegal = (spec : SpecValue) (link : LinkValue) (outcomes : List Outcome) → IsLegalSpec spec → IsLegalNext (next_command spec link outcomes)
+
+abbrev pub OperationsLegal : Type 0
+OperationsLegal = (list : OpList) (epc : List ℕ) (rn : ℕ) (moves : List Move) (command : Command) (expect : Expect) (extended : Bool) → AllByRecursion IsLegalOp list.ops → IsWord rn
+    → AreMoves list epc rn moves → next_operation list epc rn moves ≡ Send command expect extended → IsLegalCommand command
+
+pub record Laws : Type 0 where
+  pub range : SendsInRange
+  pub heard : HeardLegal
+  pub befallen : StaysLegal
+  pub rounds : RoundsLegal
+  pub operations : OperationsLegal
+
+-- the tags are legal behind the past and behind each earlier one
+abbrev pub AreLegalBehind : Start → List Item → Type 0
+AreLegalBehind start [] = AreLegalTags (tags_behind start [])
+AreLegalBehind start (item ∷ past) = AreLegalTags (tags_behind start (item ∷ past)) × AreLegalBehind start past
+
+now-legal : (start : Start) (past : List Item) → AreLegalBehind start past → AreLegalTags (tags_behind start past)
+now-legal start [] are = are
+now-legal start (item ∷ past) are = are.0
+
+earlier-legal : (start : Start) (later earlier : List Item) → AreLegalBehind start (later ++ earlier) → AreLegalTags (tags_behind start earlier)
+earlier-legal start [] earlier are = now-legal start earlier are
+earlier-legal start (item ∷ later) earlier are = earlier-legal start later earlier are.1
+
+first-legal : (number : ℕ) (starts : List TagValue) → AreLegalTags starts → AreLegalTags (tags_behind_from number starts [])
+first-legal number [] are = tt
+first-legal number (start ∷ starts) are = (are.0, first-legal (number + 1) starts are.1)
+
+-- a tag that misses a command or hears it is legal after it
+outcome-legal : (misses : Bool) (command : Command) (tag : TagValue) → Laws → IsLegalCommand command → IsLegalTag tag → IsLegalTag (outcome_unless misses command tag).tag
+outcome-legal true command tag laws legal is = is
+outcome-legal false command tag laws legal is = laws.heard command tag.state tag.body legal is
+
+outcomes-legal : (number : ℕ) (command : Command) (entry : Entry) (tags : List TagValue) → Laws → IsLegalCommand command → AreLegalTags tags
+    → AreLegalTags (tags_after (outcomes_from number command entry tags))
+outcomes-legal number command entry [] laws legal are = tt
+outcomes-legal number command entry (tag ∷ tags) laws legal are = (
+  outcome-legal (is_missed number entry) command (tag_after_events number entry.events tag) laws legal (events-legal number entry.events tag laws.befallen are.0),
+  outcomes-legal (number + 1) command entry tags laws legal are.1,
+)
+
+befallen-legal : (number : ℕ) (event : Event) (befallen : ℕ) (tags : List TagValue) → Laws → AreLegalTags tags → AreLegalTags (tags_after_event number event befallen tags)
+befallen-legal number event befallen [] laws are = tt
+befallen-legal number event befallen (tag ∷ tags) laws are =
+    (events-legal number ((event, befallen) ∷ []) tag laws.befallen are.0, befallen-legal (number + 1) event befallen tags laws are.1)
+
+-- so they are behind each item
+legal-sent : Laws → (start : Start) (round slot : ℕ) (command : Command) (past : List Item) → IsLegalCommand command → AreLegalBehind start past
+    → AreLegalBehind start (past_behind_command start round slot command past)
+legal-sent laws start round slot command past legal are = (
+  subst AreLegalTags (sym (tags-exchanged start (next_record start round slot command past) past))
+      (outcomes-legal 0 command (next_entry start past) (tags_behind start past) laws legal (now-legal start past are)),
+  are,
+)
+
+legal-befell : Laws → (start : Start) (event : Event) (number : ℕ) (past : List Item) → AreLegalBehind start past → AreLegalBehind start (befell event number ∷ past)
+legal-befell laws start event number past are =
+    (subst AreLegalTags (sym (tags-befell start event number past)) (befallen-legal 0 event number (tags_behind start past) laws (now-legal start past are)), are)
+
+legal-operated : (start : Start) (round slot index : ℕ) (result : OpResult) (past : List Item) → AreLegalBehind start past
+    → AreLegalBehind start (operated round slot index result ∷ past)
+legal-operated start round slot index result past are = (subst AreLegalTags (sym (tags-operated start round slot index result past)) (now-legal start past are), are)
+
+legal-ended : (start : Start) (round : ℕ) (end : RoundEnd) (slots : ℕ) (past : List Item) → AreLegalBehind start past → AreLegalBehind start (ended round end slots ∷ past)
+legal-ended start round end slots past are = (subst AreLegalTags (sym (tags-ended start round end slots past)) (now-legal start past are), are)
+
+-- what the channel gives of the answers of legal tags is in its ranges
+given-legal : Laws → (several : Several) (command : Command) (entry : Entry) (tags : List TagValue) → AreLegalTags tags → IsGiven (given_in several command entry tags)
+given-legal laws several command entry tags legal =
+    given-of-answers (λ sent. IsSent (Some sent)) several command entry tags (λ tag lawful sent is. laws.range command tag.state tag.body sent lawful is) laws.befallen legal
+
+first-true : (one other : Bool) → (one && other) ≡ true → one ≡ true
+first-true true other both = refl
+first-true false other both = both
+
+-- a whole reply is one that is expected
+whole-suits : (expected : Bool) (expect : Expect) (sent : Sent) (reply : Reply) → is_expected expect sent ≡ expected → IsSent (Some sent)
+    → (if expected then whole_reply sent.reply else no_such_reply) ≡ whole_reply reply → Suits reply expect × IsReply reply
+whole-suits true expect sent reply is range heard =
+    let same : sent.reply ≡ reply = cc in
+    let suit : Suits sent.reply expect = suits-true sent.reply expect (first-true (suits sent.reply expect) (has_handle sent.reply sent.handle (handle_of expect)) is) in
+    (subst (λ (r : Reply). Suits r expect) same suit, subst IsReply same range.0)
+whole-suits false expect sent reply is range heard = absurd (cc)
+
+reception-suits : (expect : Expect) (given : Given) (reply : Reply) → IsGiven given → reception_of expect given ≡ whole_reply reply → Suits reply expect × IsReply reply
+reception-suits expect silence reply range heard = absurd (cc)
+reception-suits expect (whole replied) reply range heard = whole-suits (is_expected expect replied.sent) expect replied.sent reply refl range heard
+reception-suits expect (broken replied place) reply range heard = absurd (cc)
+
+whole-awaited : (awaited : Bool) (reception : Reception) (reply : Reply) → (if awaited then reception else no_such_reply) ≡ whole_reply reply → reception ≡ whole_reply reply
+whole-awaited true reception reply heard = heard
+whole-awaited false reception reply heard = absurd (cc)
+
+awaited-suits : (trext extended : Bool) (expect : Expect) (given : Given) (reply : Reply) → IsGiven given → reception_with trext extended expect given ≡ whole_reply reply
+    → Suits reply expect × IsReply reply
+awaited-suits trext extended expect silence reply range heard = absurd (cc)
+awaited-suits trext extended expect (whole replied) reply range heard =
+    reception-suits expect (whole replied) reply range (whole-awaited (has_preamble trext extended replied.sent) (reception_of expect (whole replied)) reply heard)
+awaited-suits trext extended expect (broken replied place) reply range heard = absurd (cc)
+
+-- what is made of an answer is this
+record IsAnswered (expect : Expect) (reception : Reception) : Type 0 where
+  pub answer : Answer
+  pub fits : IsAnswerFor expect answer
+  pub is : reception_in answer ≡ reception
+
+answer-for : (expect : Expect) (reception : Reception) → ((reply : Reply) → reception ≡ whole_reply reply → Suits reply expect × IsReply reply) → IsAnswered expect reception
+answer-for expect no_stream suit = record { answer = Silence; fits = tt; is = refl }
+answer-for expect (whole_reply reply) suit = record { answer = Got (Whole reply); fits = suit reply refl; is = refl }
+answer-for expect no_such_reply suit = record { answer = Got (Refused 0); fits = tt; is = refl }
+
+-- within a dialogue: what is left of it is what comes behind some moves
+record InDialogue (start : Start) (list : OpList) (epc : List ℕ) (rn : ℕ) (left : Dialogue) (past : List Item) : Type 0 where
+  pub legal : AreLegalBehind start past
+  pub moves : List Move
+  pub are : AreMoves list epc rn moves
+  pub left_is : dialogue_after list epc rn moves ≡ left
+
+dialogue-legal : Laws → (start : Start) (list : OpList) (epc : List ℕ) (rn round slot : ℕ) (past : List Item) → AllByRecursion IsLegalOp list.ops → IsWord rn → AreLegalBehind start past
+    → AreLegalBehind start (past_behind_dialogue start round slot 1 (dialogue_of list epc rn) past)
+dialogue-legal laws start list epc rn round slot past ops word legal =
+    dialogue-holds (λ index left now. InDialogue start list epc rn left now) (AreLegalBehind start) start round slot
+    (record {
+      command = λ index command expect extended go_on now here.
+          let next : next_operation list epc rn here.moves ≡ Send command expect extended = ap first_of here.left_is in
+          let given : Given = (next_record start round slot command now).given in
+          let range : IsGiven given = given-legal laws start.several command (next_entry start now) (tags_behind start now) (now-legal start now here.legal) in
+          let came : IsAnswered expect (operation_reception start round slot command expect extended now) =
+          answer-for expect (operation_reception start round slot command expect extended now)
+          (λ reply heard. awaited-suits start.link.trext extended expect given reply range heard) in
+          record {
+            legal = legal-sent laws start round slot command now (laws.operations list epc rn here.moves command expect extended ops word here.are next) here.legal;
+            moves = answered came.answer ∷ here.moves;
+            are = (subst (λ (n : OpNext). Follows n (answered came.answer)) (sym next) came.fits, here.are);
+            left_is = ap (λ (d : Dialogue). dialogue_behind (answered came.answer) d) here.left_is ∙ ap go_on came.is;
+          };
+      result = λ index result later now here.
+          let next : next_operation list epc rn here.moves ≡ Result result = ap first_of here.left_is in
+          record {
+            legal = legal-operated start round slot index result now here.legal;
+            moves = told ∷ here.moves;
+            are = (subst (λ (n : OpNext). Follows n told) (sym next) tt, here.are);
+            left_is = ap (λ (d : Dialogue). dialogue_behind told d) here.left_is;
+          };
+      end = λ index now here. here.legal;
+    })
+    1 (dialogue_of list epc rn) past (record { legal = legal; moves = []; are = tt; left_is = refl })
+
+ack-legal : Laws → (start : Start) (operations : OpList) (round slot rn : ℕ) (past : List Item) → AllByRecursion IsLegalOp operations.ops → IsWord rn → AreLegalBehind start past
+    → AreLegalBehind start (past_behind_ack start operations round slot rn past)
+ack-legal laws start operations round slot rn past ops word legal =
+    let sent = past_behind_command start round slot (commands.Ack rn) past in
+    let behind : AreLegalBehind start sent = legal-sent laws start round slot (commands.Ack rn) past word legal in
+    listing-holds (AreLegalBehind start) start operations round slot rn (ack_reception start round slot rn past) sent behind
+    (λ pc epc is. dialogue-legal laws start operations epc rn round slot sent ops word behind)
+
+slot-legal : Laws → (start : Start) (operations : OpList) (round slot : ℕ) (command : Command) (past : List Item) → AllByRecursion IsLegalOp operations.ops → IsLegalCommand command
+    → AreLegalBehind start past → AreLegalBehind start (past_behind_slot start operations round slot command past)
+slot-legal laws start operations round slot command past ops lawful legal =
+    let sent = past_behind_command start round slot command past in
+    let behind : AreLegalBehind start sent = legal-sent laws start round slot command past lawful legal in
+    let given : Given = (next_record start round slot command past).given in
+    let range : IsGiven given = given-legal laws start.several command (next_entry start past) (tags_behind start past) (now-legal start past legal) in
+    answer-holds (AreLegalBehind start) start operations round slot (slot_reception start round slot command past) sent behind
+    (λ rn heard. ack-legal laws start operations round slot rn sent ops (reception-suits expects.Rn16 given (replies.Rn16 rn) range heard).1 behind)
+
+round-legal : Laws → (start : Start) (operations : OpList) (spec : SpecValue) (past : List Item) → AllByRecursion IsLegalOp operations.ops → IsLegalSpec spec
+    → AreLegalBehind start past → AreLegalBehind start (past_behind_round start operations spec past)
+round-legal laws start operations spec past ops lawful legal =
+    let round = rounds_in past + 1 in
+    always-holds (AreLegalBehind start) start operations round spec
+    (record {
+      slot = λ outcomes now command are next holds.
+          slot-legal laws start operations round (length outcomes + 1) command now ops (subst IsLegalNext next (laws.rounds spec start.link outcomes lawful)) holds;
+      end = λ outcomes now end are next holds. legal-ended start round end (length outcomes) now holds;
+    })
+    (suc spec.limit) [] past tt legal
+
+step-legal : Laws → (start : Start) (tags : ℕ) (step : Step) (past : List Item) → IsStep tags step → AreLegalBehind start past → AreLegalBehind start (past_behind_step start step past)
+step-legal laws start tags (steps.Select command) past is legal = legal-sent laws start 0 0 command past (selection-legal tags command is) legal
+step-legal laws start tags steps.Nak past is legal = legal-sent laws start 0 0 commands.Nak past tt legal
+step-legal laws start tags (steps.Event event number) past is legal = legal-befell laws start event number past legal
+step-legal laws start tags (steps.Round spec operations) past is legal =
+    round-legal laws start operations spec past (recursion_from_All IsLegalOp operations.ops is.1.ops) is.0.legal legal
+
+history-legal : Laws → (scenario : Scenario) → IsScenario scenario → AreLegalBehind (start_of scenario) (history scenario)
+history-legal laws scenario is =
+    let start = start_of scenario in
+    let tags = length scenario.tags in
+    steps-hold (AreLegalBehind start) (IsStep tags) start (step-legal laws start tags) scenario.steps [] (recursion_from_All (IsStep tags) scenario.steps is.steps)
+    (first-legal 0 start.tags (start-legal scenario is))
+
+-- the tags behind each past of the history of a scenario
+pub past-legal : Laws → (scenario : Scenario) (later earlier : List Item) → IsScenario scenario → history scenario ≡ later ++ earlier
+    → AreLegalTags (tags_behind (start_of scenario) earlier)
+past-legal laws scenario later earlier is split =
+    earlier-legal (start_of scenario) later earlier (subst (AreLegalBehind (start_of scenario)) split (history-legal laws scenario is))

@@ -1,0 +1,71 @@
+-- The tags of a scenario are legal at its start, and its steps are legal.
+use Rattle.std.proofs.Common.{ℕ, ◌/◌, ◌%◌, ◌^◌, ◌<◌, List, [], ◌∷◌, map, subst, arith}
+use Rattle.std.proofs.lemmas.List.Elements.{All-cons, All-from_recursion, recursion_from_All}
+use Rattle.std.specs.List.{AllByRecursion}
+use Rattle.air_model.specs.Exchange.{AreLegalTags}
+use Rattle.runs.specs.ScenarioStart.{start_of, tag_of}
+use Rattle.bit_strings.specs.NumberLaws.{value_of-below}
+use Rattle.bit_strings.specs.Words.{bits_of_words}
+use Rattle.command_grammar.specs.Commands.{IsWord, IsLegalCommand}
+use Rattle.command_grammar.specs.declared.commands.Command.{Command}
+use Rattle.command_grammar.specs.declared.commands.Command.TheVariants as commands
+use Rattle.gen2_crc.specs.Crc.{crc16_of}
+use Rattle.gen2_crc.specs.laws.CheckNumbers.{length-crc16_of}
+use Rattle.reply_grammar.specs.Table.{AreWords}
+use Rattle.scenario.specs.Limits.{IsStep, IsScenario}
+use Rattle.scenario.specs.declared.values.Scenario.{Scenario}
+use Rattle.scenario.specs.declared.values.Step.TheVariants as steps
+use Rattle.scenario_lines.specs.TagForm.{IsTag}
+use Rattle.scenario_lines.specs.TagLaws.{banks-legal}
+use Rattle.scenario_lines.specs.declared.tag.TagSpec.{TagSpec}
+use Rattle.tag_machine.specs.TagValue.{IsLegalTag}
+use Rattle.tag_memory.specs.Image.{banks_of, image_banks}
+use Rattle.tag_memory.specs.Memory.{Banks, AreBanksOfWords, pc_of, epc_of, stored_crc_of}
+
+-- StoredCRC has 16 bits
+crc-below : (banks : Banks) → stored_crc_of banks < 2 ^ 16
+crc-below banks =
+    let message = bits_of_words (pc_of banks ∷ epc_of banks) in
+    subst (λ n. stored_crc_of banks < 2 ^ n) (length-crc16_of message) (value_of-below (crc16_of message))
+
+upper-below : (password : ℕ) → password < 2 ^ 32 → password / 2 ^ 16 < 2 ^ 16
+upper-below password small = omega arith
+
+lower-below : (password : ℕ) → password % 2 ^ 16 < 2 ^ 16
+lower-below password = omega arith
+
+two-passwords : (kill access : ℕ) → kill < 2 ^ 32 → access < 2 ^ 32 → AreWords (kill / 2 ^ 16 ∷ kill % 2 ^ 16 ∷ access / 2 ^ 16 ∷ access % 2 ^ 16 ∷ [])
+two-passwords kill access kill_small access_small =
+    All-from_recursion IsWord (kill / 2 ^ 16 ∷ kill % 2 ^ 16 ∷ access / 2 ^ 16 ∷ access % 2 ^ 16 ∷ [])
+    (upper-below kill kill_small, (lower-below kill, (upper-below access access_small, (lower-below access, tt))))
+
+banks-words : (tag : TagSpec) → IsTag tag → AreBanksOfWords (banks_of tag.image)
+banks-words tag is = record {
+  reserved = two-passwords tag.image.kill tag.image.access is.form.kill is.form.access;
+  epc = All-cons IsWord (stored_crc_of (image_banks tag.image)) tag.image.epc (crc-below (image_banks tag.image)) is.form.epc.small;
+  tid = is.form.tid.small;
+  user = is.form.user.small;
+}
+
+new-legal : (tag : TagSpec) → IsTag tag → IsLegalTag (tag_of tag)
+new-legal tag is = record {
+  state = tt;
+  body = record {
+    memory = banks-legal tag is;
+    memory_words = banks-words tag is;
+    words = record { some = is.form.words.some; few = is.form.words.room; small = is.form.words.small };
+    next_draw = omega (arith, is.form.words.some);
+  };
+}
+
+new-legal-each : (tags : List TagSpec) → AllByRecursion IsTag tags → AreLegalTags (map tag_of tags)
+new-legal-each [] are = tt
+new-legal-each (tag ∷ tags) are = (new-legal tag are.0, new-legal-each tags are.1)
+
+pub start-legal : (scenario : Scenario) → IsScenario scenario → AreLegalTags (start_of scenario).tags
+start-legal scenario is = new-legal-each scenario.tags (recursion_from_All IsTag scenario.tags is.tags)
+
+-- the numbers of a Select step are within their fields
+pub selection-legal : (tags : ℕ) (command : Command) → IsStep tags (steps.Select command) → IsLegalCommand command
+selection-legal tags (commands.Select target action bank pointer mask) is = (is.action, omega (arith, is.pointer), is.mask)
+selection-legal tags command is = absurd is

@@ -1,0 +1,49 @@
+-- Of two pasts that grow by what comes next, one is a front of the other. So the events and the exchanges determine a past, but for
+-- the results and ends that follow them.
+use Rattle.std.proofs.Common.{◌≡◌, ◌+◌, ◌<◌, ◌⊎◌, inl, inr, List, [], ◌∷◌, ◌++◌, length, refl, ap, sym, ◌∙◌, arith, length-append}
+use Rattle.air_model.specs.Past.{Start, Item, befell, exchanged, operated, ended}
+use Rattle.runs.proofs.Growth.{Grows, grows-more}
+use Rattle.runs.proofs.HeadlineNext.{compared, equal, below, above, same-growth}
+use Rattle.runs.specs.EventsAndRecords.{events_and_records_of, IsConcluded}
+use Rattle.runs.specs.HistoryLaws.{GrowsByNext}
+use Rattle.scenario.specs.declared.values.Step.{Step}
+
+-- a past that is longer than another has grown from it
+longer-grows : (start : Start) (all : List Step) (first second : List Item) → GrowsByNext start all first → GrowsByNext start all second
+    → length first < length second → Grows first second
+longer-grows start all first [] left right less = absurd (omega (arith, less))
+longer-grows start all first (item ∷ second) left right less =
+    elim (compared (length first) (length second)) [
+      | equal is ↦ record { own = item ∷ []; is = ap (λ (past : List Item). item ∷ past) (sym (same-growth start all first second left right.1 is)) }
+      | below is ↦ grows-more first second item (longer-grows start all first second left right.1 is)
+      | above is ↦ absurd (omega (arith, is, less))
+    ]
+
+events_and_records_of-append : (own past : List Item) → events_and_records_of (own ++ past) ≡ events_and_records_of own ++ events_and_records_of past
+events_and_records_of-append [] past = refl
+events_and_records_of-append (befell event number ∷ own) past = ap (λ (items : List Item). befell event number ∷ items) (events_and_records_of-append own past)
+events_and_records_of-append (exchanged sent ∷ own) past = ap (λ (items : List Item). exchanged sent ∷ items) (events_and_records_of-append own past)
+events_and_records_of-append (operated round slot index result ∷ own) past = events_and_records_of-append own past
+events_and_records_of-append (ended round end slots ∷ own) past = events_and_records_of-append own past
+
+none-added : (own past : List Item) → own ++ past ≡ past → own ≡ []
+none-added [] past is = refl
+none-added (item ∷ own) past is =
+    let count : length (item ∷ own) + length past ≡ length past = sym (length-append (item ∷ own) past) ∙ ap length is in
+    absurd (omega (arith, count))
+
+concluded : (past behind : List Item) → Grows past behind → events_and_records_of past ≡ events_and_records_of behind → IsConcluded past behind
+concluded past behind grown same = record {
+  own = grown.own;
+  none = none-added (events_and_records_of grown.own) (events_and_records_of past) (sym (events_and_records_of-append grown.own past) ∙ ap events_and_records_of (sym grown.is) ∙ sym same);
+  is = grown.is;
+}
+
+pub one-past : (start : Start) (all : List Step) (one other : List Item) → GrowsByNext start all one → GrowsByNext start all other → events_and_records_of one ≡ events_and_records_of other
+    → IsConcluded one other ⊎ IsConcluded other one
+one-past start all one other left right same =
+    elim (compared (length one) (length other)) [
+      | equal is ↦ inl (concluded one other (record { own = []; is = sym (same-growth start all one other left right is) }) same)
+      | below is ↦ inl (concluded one other (longer-grows start all one other left right is) same)
+      | above is ↦ inr (concluded other one (longer-grows start all other one right left is) (sym same))
+    ]

@@ -1,0 +1,158 @@
+-- Who answers a command among the tags of a start, where nothing is said of the exchange: from each tag's own answer to the replies
+-- of the exchange, and back.
+use Rattle.std.proofs.Common.{◌≡◌, ◌≢◌, ℕ, zero, suc, ◌+◌, ◌⊎◌, inl, inr, List, [], ◌∷◌, ◌++◌, Contains, Option, Some, None, slice_get, refl, ap, sym, ◌∙◌, subst, arith}
+use Rattle.air_model.specs.Exchange.{Replied, reply_of, replies_from, outcome_in, outcomes_from}
+use Rattle.air_model.specs.Past.{Start, Item, tag_behind, tags_behind_from, past_behind_command, next_entry}
+use Rattle.air_events.specs.Entries.{no_entry}
+use Rattle.air_events.specs.declared.Entry.{Entry}
+use Rattle.command_grammar.specs.declared.commands.Command.{Command}
+use Rattle.tag_machine.specs.Answers.{Sent}
+use Rattle.tag_machine.specs.Step.{step}
+use Rattle.tag_machine.specs.TagValue.{TagValue}
+
+-- what the tag with a number answers a command, and what it becomes by it
+abbrev pub answer_behind : Command → List Item → ℕ → TagValue → Option Sent
+answer_behind command past number tag =
+    let now = tag_behind number tag past in (step command now.state now.body).answer
+
+abbrev pub tag_stepped : Command → List Item → ℕ → TagValue → TagValue
+tag_stepped command past number tag =
+    let now = tag_behind number tag past in (step command now.state now.body).tag
+
+-- where nothing is said of the next exchange, each tag makes its step
+pub tag-steps : (start : Start) (round slot : ℕ) (command : Command) (past : List Item) (number : ℕ) (tag : TagValue) → next_entry start past ≡ no_entry
+    → tag_behind number tag (past_behind_command start round slot command past) ≡ tag_stepped command past number tag
+tag-steps start round slot command past number tag unsaid =
+    ap (λ (entry : Entry). (outcome_in number command entry (tag_behind number tag past)).tag) unsaid
+
+-- an item is one of a list
+abbrev pub Among : {A : Type 0} → A → List A → Type 0
+Among item [] = ⊥
+Among item (first ∷ others) = (first ≡ item) ⊎ Among item others
+
+pub contains-of : {A : Type 0} (item : A) (list : List A) → Among item list → Contains list item
+contains-of item [] among = absurd among
+contains-of item (first ∷ others) (inl here) = (zero, omega arith, here)
+contains-of item (first ∷ others) (inr there) =
+    let rest = contains-of item others there in (suc rest.0, omega (arith, rest.1), rest.2)
+
+among-left : {A : Type 0} (item : A) (left right : List A) → Among item left → Among item (left ++ right)
+among-left item [] right among = absurd among
+among-left item (first ∷ left) right (inl is) = inl is
+among-left item (first ∷ left) right (inr among) = inr (among-left item left right among)
+
+among-right : {A : Type 0} (item : A) (left right : List A) → Among item right → Among item (left ++ right)
+among-right item [] right among = among
+among-right item (first ∷ left) right among = inr (among-right item left right among)
+
+among-split : {A : Type 0} (item : A) (left right : List A) → Among item (left ++ right) → Among item left ⊎ Among item right
+among-split item [] right among = inr among
+among-split item (first ∷ left) right (inl is) = inl (inl is)
+among-split item (first ∷ left) right (inr among) =
+    elim (among-split item left right among) [
+      | inl found ↦ inl (inr found)
+      | inr found ↦ inr found
+    ]
+
+-- the replies of the tags that are numbered from a number on, where nothing is said of the exchange
+abbrev pub replies_behind : ℕ → Command → List TagValue → List Item → List Replied
+replies_behind number command starts past = replies_from number (outcomes_from number command no_entry (tags_behind_from number starts past))
+
+abbrev pub reply_by : ℕ → Sent → Replied
+reply_by number sent = record { number = number; sent = sent }
+
+-- who answers is among those who replied
+pub answer-replied : (command : Command) (past : List Item) (number : ℕ) (starts : List TagValue) (place : ℕ) (tag : TagValue) (sent : Sent)
+    → slice_get starts place ≡ Some tag → answer_behind command past (number + place) tag ≡ Some sent
+    → Among (reply_by (number + place) sent) (replies_behind number command starts past)
+answer-replied command past number [] place tag sent at answered = absurd (cc)
+answer-replied command past number (first ∷ starts) zero tag sent at answered =
+    let same : first ≡ tag = cc in
+    let here : number + 0 ≡ number = omega arith in
+    let answers : answer_behind command past number first ≡ Some sent =
+    ap (λ (t : TagValue). answer_behind command past number t) same ∙ sym (ap (λ n. answer_behind command past n tag) here) ∙ answered in
+    among-left (reply_by (number + 0) sent) (reply_of number (answer_behind command past number first)) (replies_behind (number + 1) command starts past)
+    (subst (λ (answer : Option Sent). Among (reply_by (number + 0) sent) (reply_of number answer)) (sym answers) (inl (ap (λ n. reply_by n sent) (sym here))))
+answer-replied command past number (first ∷ starts) (suc place) tag sent at answered =
+    let next : number + suc place ≡ number + 1 + place = omega arith in
+    among-right (reply_by (number + suc place) sent) (reply_of number (answer_behind command past number first)) (replies_behind (number + 1) command starts past)
+    (subst (λ n. Among (reply_by n sent) (replies_behind (number + 1) command starts past)) (sym next)
+    (answer-replied command past (number + 1) starts place tag sent at (subst (λ n. answer_behind command past n tag ≡ Some sent) next answered)))
+
+-- the tag that made a reply
+pub record IsAnswerer (command : Command) (past : List Item) (number : ℕ) (starts : List TagValue) (replied : Replied) : Type 0 where
+  pub place : ℕ
+  pub tag : TagValue
+  pub numbered : slice_get starts place ≡ Some tag
+  pub number_is : replied.number ≡ number + place
+  pub answered : answer_behind command past replied.number tag ≡ Some replied.sent
+
+reply-is : (number : ℕ) (answer : Option Sent) (replied : Replied) → Among replied (reply_of number answer)
+    → (replied.number ≡ number) × (answer ≡ Some replied.sent)
+reply-is number None replied among = absurd among
+reply-is number (Some sent) replied (inl is) = (ap (λ (r : Replied). r.number) (sym is), ap (λ (r : Replied). Some r.sent) is)
+reply-is number (Some sent) replied (inr none) = absurd none
+
+pub replied-answerer : (command : Command) (past : List Item) (number : ℕ) (starts : List TagValue) (replied : Replied)
+    → Among replied (replies_behind number command starts past) → IsAnswerer command past number starts replied
+replied-answerer command past number [] replied among = absurd among
+replied-answerer command past number (first ∷ starts) replied among =
+    elim (among-split replied (reply_of number (answer_behind command past number first)) (replies_behind (number + 1) command starts past) among) [
+      | inl found ↦
+          let is = reply-is number (answer_behind command past number first) replied found in
+          record {
+            place = 0;
+            tag = first;
+            numbered = refl;
+            number_is = is.0 ∙ omega arith;
+            answered = subst (λ n. answer_behind command past n first ≡ Some replied.sent) (sym is.0) is.1;
+          }
+      | inr found ↦
+          let rest = replied-answerer command past (number + 1) starts replied found in
+          record {
+            place = suc rest.place;
+            tag = rest.tag;
+            numbered = rest.numbered;
+            number_is = rest.number_is ∙ omega arith;
+            answered = rest.answered;
+          }
+    ]
+
+-- where no tag answers there are no replies
+pub none-replies : (command : Command) (past : List Item) (number : ℕ) (starts : List TagValue)
+    → ((place : ℕ) (tag : TagValue) → slice_get starts place ≡ Some tag → answer_behind command past (number + place) tag ≡ None)
+    → replies_behind number command starts past ≡ []
+none-replies command past number [] none = refl
+none-replies command past number (first ∷ starts) none =
+    let here : answer_behind command past number first ≡ None = subst (λ n. answer_behind command past n first ≡ None) (omega arith) (none 0 first refl) in
+    let rest : replies_behind (number + 1) command starts past ≡ [] =
+    none-replies command past (number + 1) starts (λ place tag at. subst (λ n. answer_behind command past n tag ≡ None) (omega arith) (none (suc place) tag at)) in
+    ap (λ (answer : Option Sent). reply_of number answer ++ replies_behind (number + 1) command starts past) here ∙ rest
+
+-- where one tag alone answers there is its reply alone
+pub one-replies : (command : Command) (past : List Item) (number : ℕ) (starts : List TagValue) (place : ℕ) (tag : TagValue) (sent : Sent)
+    → slice_get starts place ≡ Some tag → answer_behind command past (number + place) tag ≡ Some sent
+    → ((other : ℕ) (tag : TagValue) → slice_get starts other ≡ Some tag → other ≢ place → answer_behind command past (number + other) tag ≡ None)
+    → replies_behind number command starts past ≡ reply_by (number + place) sent ∷ []
+one-replies command past number [] place tag sent at answered none = absurd (cc)
+one-replies command past number (first ∷ starts) zero tag sent at answered none =
+    let same : first ≡ tag = cc in
+    let here : number + 0 ≡ number = omega arith in
+    let answers : answer_behind command past number first ≡ Some sent =
+    ap (λ (t : TagValue). answer_behind command past number t) same ∙ sym (ap (λ n. answer_behind command past n tag) here) ∙ answered in
+    let rest : replies_behind (number + 1) command starts past ≡ [] =
+    none-replies command past (number + 1) starts
+    (λ other later at. subst (λ n. answer_behind command past n later ≡ None) (omega arith) (none (suc other) later at (λ is. absurd (omega (arith, is))))) in
+    ap (λ (answer : Option Sent). reply_of number answer ++ replies_behind (number + 1) command starts past) answers
+    ∙ ap (λ (others : List Replied). reply_by number sent ∷ others) rest
+    ∙ ap (λ n. reply_by n sent ∷ []) (sym here)
+one-replies command past number (first ∷ starts) (suc place) tag sent at answered none =
+    let here : answer_behind command past number first ≡ None =
+    subst (λ n. answer_behind command past n first ≡ None) (omega arith) (none 0 first refl (λ is. absurd (omega (arith, is)))) in
+    let next : number + suc place ≡ number + 1 + place = omega arith in
+    let rest : replies_behind (number + 1) command starts past ≡ reply_by (number + 1 + place) sent ∷ [] =
+    one-replies command past (number + 1) starts place tag sent at (subst (λ n. answer_behind command past n tag ≡ Some sent) next answered)
+    (λ other later at differs. subst (λ n. answer_behind command past n later ≡ None) (omega arith) (none (suc other) later at (λ is. differs (omega (arith, is))))) in
+    ap (λ (answer : Option Sent). reply_of number answer ++ replies_behind (number + 1) command starts past) here
+    ∙ rest
+    ∙ ap (λ n. reply_by n sent ∷ []) (sym next)

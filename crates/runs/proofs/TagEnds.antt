@@ -1,0 +1,126 @@
+-- What is known of a tag where a round ends.
+use Rattle.std.proofs.Common.{◌≡◌, ℕ, Bool, true, false, List, [], ◌∷◌, ◌++◌, length, refl, ap, sym, ◌∙◌, subst, inl, inr, add-one, arith}
+use Rattle.std.specs.List.{AllByRecursion}
+use Rattle.q_round.specs.declared.frame.Outcome.{Outcome as SlotOutcome}
+use Rattle.q_round.specs.declared.frame.Outcome.TheVariants.{Silence}
+use Rattle.q_round.specs.laws.RoundLaws.{IsSilentFrame}
+use Rattle.tag_machine.specs.TagValue.{StateValue, ReadyState, ArbitrateState, ReplyState, AcknowledgedState, OpenState, SecuredState, KilledState, UnpoweredState, TagValue, is_present}
+use Rattle.runs.specs.TagInRound.{is_matched, IsCounterBefore, IsBeforeSlot, flags_in_round, StandsBeforeSlot}
+use Rattle.runs.specs.TagAtEnd.{is_acknowledged, StandsAtQuiet, StandsAtEnd, IsListedOnce}
+
+-- a tag that is ready, or takes no part, isn't listed twice
+done-once : (first : TagValue) (listed listed_now : Bool) → listed ≡ is_matched first.state → listed_now ≡ false → IsListedOnce first listed listed_now
+done-once first listed listed_now is none = record { matched = λ e. sym is ∙ e; matched_now = λ e. absurd (cc); once = λ e. none }
+
+-- nor is one that isn't listed before this slot
+new-once : (first : TagValue) (listed listed_now : Bool) → is_matched first.state ≡ true → listed ≡ false → IsListedOnce first listed listed_now
+new-once first listed listed_now part new = record { matched = λ e. part; matched_now = λ e. part; once = λ e. absurd (cc) }
+
+once : (session q : ℕ) (outcome : SlotOutcome) (frame : List SlotOutcome) (first : TagValue) (listed listed_now : Bool) (state : StateValue)
+    → IsBeforeSlot session q outcome frame (is_matched first.state) listed listed_now state → IsListedOnce first listed listed_now
+once session q outcome frame first listed listed_now ReadyState is = done-once first listed listed_now is.earlier is.not_now
+once session q outcome frame first listed listed_now (ArbitrateState own own_q slot) is = new-once first listed listed_now is.unlisted.takes_part is.unlisted.not_listed
+once session q outcome frame first listed listed_now (ReplyState own own_q rn) is = new-once first listed listed_now is.unlisted.takes_part is.unlisted.not_listed
+once session q outcome frame first listed listed_now (AcknowledgedState own own_q rn) is = new-once first listed listed_now is.unlisted.takes_part is.unlisted.not_listed
+once session q outcome frame first listed listed_now (OpenState held) is = absurd is
+once session q outcome frame first listed listed_now (SecuredState held) is = absurd is
+once session q outcome frame first listed listed_now KilledState is = done-once first listed listed_now (is.0.not_listed ∙ sym is.0.no_part) is.1
+once session q outcome frame first listed listed_now UnpoweredState is = done-once first listed listed_now (is.0.not_listed ∙ sym is.0.no_part) is.1
+
+-- A tag is listed in one slot of a round at most, and only where it matched.
+pub listed-once : (session q : ℕ) (outcome : SlotOutcome) (frame : List SlotOutcome) (first : TagValue) (listed listed_now : Bool) (tag : TagValue)
+    → StandsBeforeSlot session q outcome frame first listed listed_now tag → IsListedOnce first listed listed_now
+listed-once session q outcome frame first listed listed_now tag stands = once session q outcome frame first listed listed_now tag.state stands.state
+
+-- each outcome of a silent frame is silence
+all-before : (later : List SlotOutcome) (outcome : SlotOutcome) (earlier : List SlotOutcome) → AllByRecursion (λ o. o ≡ Silence) (later ++ outcome ∷ earlier) → outcome ≡ Silence
+all-before [] outcome earlier all = all.0
+all-before (first ∷ later) outcome earlier all = all-before later outcome earlier all.1
+
+-- no tag waits behind a silent frame
+no-counter : (q : ℕ) (outcome : SlotOutcome) (frame : List SlotOutcome) (slot : ℕ) → IsSilentFrame q (outcome ∷ frame) → IsCounterBefore q outcome frame slot → ⊥
+no-counter q outcome frame slot silent (inl (inl c)) = let whole = silent.whole in let least = c.least in let most = c.most in let long = add-one (length frame) in omega arith
+no-counter q outcome frame slot silent (inl (inr a)) =
+    a.heard (all-before a.later a.outcome a.earlier (subst (λ (l : List SlotOutcome). AllByRecursion (λ o. o ≡ Silence) l) a.in_frame silent.silent.1))
+no-counter q outcome frame slot silent (inr back) = back.1 silent.silent.0
+
+-- what is left of the cases behind a silent frame
+record IsFinished (matched listed listed_now : Bool) (state : StateValue) : Type 0 where
+  listed_is : listed ≡ matched
+  not_now : listed_now ≡ false
+  ready : is_present state ≡ true → state ≡ ReadyState
+
+finished : (session q : ℕ) (outcome : SlotOutcome) (frame : List SlotOutcome) (matched listed listed_now : Bool) (state : StateValue)
+    → IsSilentFrame q (outcome ∷ frame) → IsBeforeSlot session q outcome frame matched listed listed_now state → IsFinished matched listed listed_now state
+finished session q outcome frame matched listed listed_now ReadyState silent is = record { listed_is = is.earlier; not_now = is.not_now; ready = λ e. refl }
+finished session q outcome frame matched listed listed_now (ArbitrateState own own_q slot) silent is = absurd (no-counter q outcome frame slot silent is.counter)
+finished session q outcome frame matched listed listed_now (ReplyState own own_q rn) silent is = absurd (is.heard silent.silent.0)
+finished session q outcome frame matched listed listed_now (AcknowledgedState own own_q rn) silent is = absurd (is.heard silent.silent.0)
+finished session q outcome frame matched listed listed_now (OpenState held) silent is = absurd is
+finished session q outcome frame matched listed listed_now (SecuredState held) silent is = absurd is
+finished session q outcome frame matched listed listed_now KilledState silent is =
+    record { listed_is = is.0.not_listed ∙ sym is.0.no_part; not_now = is.1; ready = λ e. absurd (cc) }
+finished session q outcome frame matched listed listed_now UnpoweredState silent is =
+    record { listed_is = is.0.not_listed ∙ sym is.0.no_part; not_now = is.1; ready = λ e. absurd (cc) }
+
+-- Behind a frame of silent slots each tag that matched was listed, and each tag that is present is ready.
+pub quiet-stands : (session q : ℕ) (outcome : SlotOutcome) (frame : List SlotOutcome) (first : TagValue) (listed listed_now : Bool) (tag : TagValue)
+    → IsSilentFrame q (outcome ∷ frame) → StandsBeforeSlot session q outcome frame first listed listed_now tag → StandsAtQuiet session first listed listed_now tag
+quiet-stands session q outcome frame first listed listed_now tag silent stands =
+    let known = finished session q outcome frame (is_matched first.state) listed listed_now tag.state silent stands.state in
+    record {
+      listed_is = known.listed_is;
+      not_now = known.not_now;
+      ready = known.ready;
+      flags = stands.body.flags ∙ ap (λ (b : Bool). flags_in_round session b first.body.flags) known.listed_is;
+    }
+
+-- what the state of a tag says of how it was listed
+record IsWhere (matched listed listed_now : Bool) (state : StateValue) : Type 0 where
+  unlisted : matched ≡ true → listed ≡ false → listed_now ≡ false → is_matched state ≡ true
+  last : listed_now ≡ true → is_acknowledged state ≡ true
+  earlier : listed ≡ true → state ≡ ReadyState
+  outside : matched ≡ false → is_present state ≡ true → state ≡ ReadyState
+
+is-where : (session q : ℕ) (outcome : SlotOutcome) (frame : List SlotOutcome) (matched listed listed_now : Bool) (state : StateValue)
+    → IsBeforeSlot session q outcome frame matched listed listed_now state → IsWhere matched listed listed_now state
+is-where session q outcome frame matched listed listed_now ReadyState is =
+    let e = is.earlier in let n = is.not_now in record { unlisted = λ part new none. absurd (cc); last = λ now. absurd (cc); earlier = λ before. refl; outside = λ none present. refl }
+is-where session q outcome frame matched listed listed_now (ArbitrateState own own_q slot) is =
+    let n = is.not_now in let u = is.unlisted.not_listed in let p = is.unlisted.takes_part in
+    record { unlisted = λ part new none. refl; last = λ now. absurd (cc); earlier = λ before. absurd (cc); outside = λ none present. absurd (cc) }
+is-where session q outcome frame matched listed listed_now (ReplyState own own_q rn) is =
+    let n = is.not_now in let u = is.unlisted.not_listed in let p = is.unlisted.takes_part in
+    record { unlisted = λ part new none. refl; last = λ now. absurd (cc); earlier = λ before. absurd (cc); outside = λ none present. absurd (cc) }
+is-where session q outcome frame matched listed listed_now (AcknowledgedState own own_q rn) is =
+    let n = is.now in let u = is.unlisted.not_listed in let p = is.unlisted.takes_part in
+    record { unlisted = λ part new none. absurd (cc); last = λ now. refl; earlier = λ before. absurd (cc); outside = λ none present. absurd (cc) }
+is-where session q outcome frame matched listed listed_now (OpenState held) is = absurd is
+is-where session q outcome frame matched listed listed_now (SecuredState held) is = absurd is
+is-where session q outcome frame matched listed listed_now KilledState is =
+    let p = is.0.no_part in let u = is.0.not_listed in let n = is.1 in
+    record { unlisted = λ part new none. absurd (cc); last = λ now. absurd (cc); earlier = λ before. absurd (cc); outside = λ none present. absurd (cc) }
+is-where session q outcome frame matched listed listed_now UnpoweredState is =
+    let p = is.0.no_part in let u = is.0.not_listed in let n = is.1 in
+    record { unlisted = λ part new none. absurd (cc); last = λ now. absurd (cc); earlier = λ before. absurd (cc); outside = λ none present. absurd (cc) }
+
+not_both : (b : Bool) → (b ≡ true → ⊥) → b ≡ false
+not_both true never = absurd (never refl)
+not_both false never = refl
+
+-- Behind the last slot, whichever way the round ends, the state and the flags of a tag say how it was listed.
+pub end-stands : (session q : ℕ) (outcome : SlotOutcome) (frame : List SlotOutcome) (first : TagValue) (listed listed_now : Bool) (tag : TagValue)
+    → StandsBeforeSlot session q outcome frame first listed listed_now tag → StandsAtEnd session first listed listed_now tag
+end-stands session q outcome frame first listed listed_now tag stands =
+    let known = is-where session q outcome frame (is_matched first.state) listed listed_now tag.state stands.state in
+    let single = once session q outcome frame first listed listed_now tag.state stands.state in
+    let flags : (b : Bool) → listed ≡ b → tag.body.flags ≡ flags_in_round session b first.body.flags =
+    λ b e. stands.body.flags ∙ ap (λ (c : Bool). flags_in_round session c first.body.flags) e in
+    let new_now : listed_now ≡ true → listed ≡ false = λ now. not_both listed (λ e. let none = single.once e in cc) in
+    let new_outside : is_matched first.state ≡ false → listed ≡ false = λ none. not_both listed (λ e. let part = single.matched e in cc) in
+    record {
+      unlisted = λ part new none. (known.unlisted part new none, flags false new);
+      last = λ now. (known.last now, flags false (new_now now));
+      earlier = λ before. (known.earlier before, flags true before);
+      outside = λ none. (known.outside none, flags false (new_outside none));
+    }

@@ -1,0 +1,345 @@
+-- Where the tags of a start stand in a round of which nothing is said: just after each slot command, and just before the next.
+use Rattle.std.proofs.Common.{◌≡◌, ◌≢◌, ℕ, ◌+◌, ◌-◌, ◌<◌, ◌≤◌, ◌==◌, ◌||◌, Bool, true, false, List, [], ◌∷◌, ◌++◌, length, Option, Some, None, slice_get, if◌then◌else◌, refl, ap, sym, ◌∙◌, subst, arith, add-one, eq-eqb, ne_eqb}
+use Rattle.std.proofs.lemmas.Bool.{eqb-true}
+use Rattle.air_model.specs.Past.{Start, Record, Item, exchanged, tag_behind, next_entry, next_record, past_behind_command}
+use Rattle.reply_grammar.specs.Reception.{Reception}
+use Rattle.air_events.specs.Entries.{no_entry}
+use Rattle.runs.specs.Headline.{begins_slot}
+use Rattle.runs.specs.History.{outcome_of, slot_reception}
+use Rattle.runs.specs.Listing.{listed_from, listed_by, reception_of_ack}
+use Rattle.command_grammar.specs.declared.commands.Command.{Command}
+use Rattle.command_grammar.specs.declared.commands.Command.TheVariants as commands
+use Rattle.runs.specs.Complete.{HasNumber}
+use Rattle.runs.specs.Counted.{is_spoken_to}
+use Rattle.runs.specs.Listed.{sender_where, sender_listed_by, listed_as, is_of_round, is_of_slot, tags_listed_in, tags_listed_in_slot, times}
+use Rattle.runs.specs.Moments.{is_query, begins_later_slot, is_query_of, past_after_query, flags_behind}
+use Rattle.runs.specs.TagInRound.{is_matched, flags_in_round, slot_answer_of, is_acknowledged_by, StandsAfterSlot, StandsBeforeSlot}
+use Rattle.runs.proofs.Heard.{slot-heard, silent-none, no-replies-none, IsOnlyAnswerer, same-tag, acknowledges-one, epc_sent, ack-lists, ack-lists-as}
+use Rattle.runs.proofs.Others.{AllRecords, and-false}
+use Rattle.runs.proofs.Population.{answer_behind, tag_stepped, tag-steps, reply_by, replies_behind, one-replies}
+use Rattle.runs.proofs.TagBetween.{unacknowledged-stands, ack-stands, ack-answer, ack-body}
+use Rattle.runs.proofs.TagEnds.{listed-once}
+use Rattle.runs.proofs.TagSteps.{slot-stands, slot-answer, slot-flags}
+use Rattle.runs.proofs.Times.{bit, times-append, times-one, bit-either, bit-test, lists-none, lists-elsewhere, lists-one}
+use Rattle.q_round.specs.laws.RoundFacts.{IsNextSlot}
+use Rattle.q_round.specs.Rounds.{q_of, frame_of}
+use Rattle.q_round.specs.SpecValue.{SpecValue}
+use Rattle.q_round.specs.declared.frame.Outcome.{Outcome}
+use Rattle.q_round.specs.declared.frame.Outcome.TheVariants.{Silence, Whole}
+use Rattle.tag_machine.specs.TagValue.{TagValue, StateValue}
+
+-- what a record of the round does to the flags of a tag
+pub record StepsOwnFlags (round session : ℕ) (sent : Record) (earlier : List Item) (number : ℕ) (tag : TagValue) : Type 0 where
+  pub slot : begins_later_slot sent.command ≡ true → flags_behind number tag (exchanged sent ∷ earlier)
+      ≡ flags_in_round session (times number (tags_listed_in_slot round (sent.slot - 1) earlier) == 1) (flags_behind number tag earlier)
+  pub other : begins_later_slot sent.command ≡ false → is_query sent.command ≡ false
+      → flags_behind number tag (exchanged sent ∷ earlier) ≡ flags_behind number tag earlier
+
+-- ... where it is one of the round
+abbrev pub StepsFlagsOf : Start → (round session : ℕ) → Record → List Item → Type 0
+StepsFlagsOf start round session sent earlier =
+    sent.round ≡ round → (number : ℕ) (tag : TagValue) → HasNumber start number tag → StepsOwnFlags round session sent earlier number tag
+
+-- a record of the round lists its sender with the PC and the EPC in its memory
+abbrev pub ListsOwnEpc : Start → ℕ → List Item → Record → List Item → Type 0
+ListsOwnEpc start round query sent earlier =
+    sent.round ≡ round → (number : ℕ) (tag : TagValue) → HasNumber start number tag → sender_listed_by sent ≡ number ∷ []
+    → listed_by sent ≡ listed_as sent (tag_behind number tag query).body.memory ∷ []
+
+-- a record that lists nobody
+pub lists-nobody : (start : Start) (round : ℕ) (query : List Item) (sent : Record) (earlier : List Item) → sender_listed_by sent ≡ [] → ListsOwnEpc start round query sent earlier
+lists-nobody start round query sent earlier none same number tag numbered one =
+    let both : [] ≡ number ∷ [] = sym none ∙ one in absurd (cc)
+
+-- What a past tells of the round so far: its Query, behind which the tags that take part are those that it speaks to, and that its
+-- records did to the flags what they may.
+pub record Tells (start : Start) (spec : SpecValue) (round : ℕ) (query past : List Item) : Type 0 where
+  pub query_is : past_after_query round past ≡ query
+  pub spoken : (number : ℕ) (tag : TagValue) → HasNumber start number tag
+      → is_matched (tag_behind number tag query).state ≡ is_spoken_to spec (tag_behind number tag query)
+  pub flags : AllRecords (StepsFlagsOf start round spec.session) past
+  pub epcs : AllRecords (ListsOwnEpc start round query) past
+
+-- how many times each number is listed in the round, just after the slot command behind so many slots
+pub record CountsAfter (start : Start) (round slots : ℕ) (listed : ℕ → Bool) (past : List Item) : Type 0 where
+  pub count : (number : ℕ) → times number (tags_listed_in round past) ≡ bit (listed number)
+  pub later : (slot : ℕ) → slots < slot → tags_listed_in_slot round slot past ≡ []
+  pub strangers : (number : ℕ) → slice_get start.tags number ≡ None → listed number ≡ false
+
+-- ... and just before the next one, in slots before this one and in this one
+pub record CountsBefore (start : Start) (round slot : ℕ) (listed listed_now : ℕ → Bool) (past : List Item) : Type 0 where
+  pub count : (number : ℕ) → times number (tags_listed_in round past) ≡ bit (listed number) + bit (listed_now number)
+  pub count_now : (number : ℕ) → times number (tags_listed_in_slot round slot past) ≡ bit (listed_now number)
+  pub later : (later : ℕ) → slot < later → tags_listed_in_slot round later past ≡ []
+  pub strangers : (number : ℕ) → slice_get start.tags number ≡ None → (listed number ≡ false) × (listed_now number ≡ false)
+
+-- Just after a slot command: where each tag stands, and what it answered the command.
+pub record StandsSent (start : Start) (spec : SpecValue) (round : ℕ) (query : List Item) (outcomes : List Outcome) (sent : Record) (past : List Item) : Type 0 where
+  pub listed : ℕ → Bool
+  pub unsaid : sent.entry ≡ no_entry
+  pub begins : begins_slot sent.command ≡ true
+  pub tells : Tells start spec round query (exchanged sent ∷ past)
+  pub counts : CountsAfter start round (length outcomes) listed (exchanged sent ∷ past)
+  pub tags : (number : ℕ) (tag : TagValue) → HasNumber start number tag
+      → StandsAfterSlot spec.session (q_of spec outcomes) (frame_of spec outcomes) (tag_behind number tag query) (listed number) (tag_behind number tag (exchanged sent ∷ past))
+  pub answers : (number : ℕ) (tag : TagValue) → HasNumber start number tag
+      → answer_behind sent.command past number tag ≡ slot_answer_of (tag_behind number tag (exchanged sent ∷ past)).state
+
+-- Just before the next slot command or the end: where each tag stands. The slot that ends had the first outcome.
+pub record StandsNext (start : Start) (spec : SpecValue) (round : ℕ) (query : List Item) (outcome : Outcome) (before : List Outcome) (past : List Item) : Type 0 where
+  pub listed : ℕ → Bool
+  pub listed_now : ℕ → Bool
+  pub tells : Tells start spec round query past
+  pub counts : CountsBefore start round (length before + 1) listed listed_now past
+  pub tags : (number : ℕ) (tag : TagValue) → HasNumber start number tag
+      → StandsBeforeSlot spec.session (q_of spec before) outcome (frame_of spec before) (tag_behind number tag query) (listed number) (listed_now number) (tag_behind number tag past)
+
+slot-lists-none : (sent : Record) (command : Command) → begins_slot command ≡ true → listed_from sent (reception_of_ack sent command) ≡ []
+slot-lists-none sent (commands.Ack rn) begins = absurd (cc)
+slot-lists-none sent (commands.Query dr code trext sel session target q) begins = refl
+slot-lists-none sent (commands.QueryAdjust session updn) begins = refl
+slot-lists-none sent (commands.QueryRep session) begins = refl
+slot-lists-none sent command begins = refl
+
+-- a slot command lists nobody
+pub slot-no-sender : (sent : Record) → begins_slot sent.command ≡ true → sender_listed_by sent ≡ []
+slot-no-sender sent begins = ap (λ listed. sender_where listed sent.given) (slot-lists-none sent sent.command begins)
+
+-- Where no ACK is sent, each tag stands as it stood after the slot command.
+silent-answer : (start : Start) (round slot : ℕ) (command : Command) (past : List Item) (reception : Reception) (outcome : Outcome) (number : ℕ) (tag : TagValue) (state : StateValue)
+    → next_entry start past ≡ no_entry → slot_reception start round slot command past ≡ reception → outcome_of reception ≡ outcome → HasNumber start number tag
+    → answer_behind command past number tag ≡ slot_answer_of state → outcome ≡ Silence → slot_answer_of state ≡ None
+silent-answer start round slot command past reception outcome number tag state unsaid heard is numbered answers silent =
+    let all = replies_behind 0 command start.tags past in
+    let none : all ≡ [] = silent-none start.several all (ap outcome_of (slot-heard start round slot command past reception unsaid heard) ∙ is ∙ silent) in
+    sym answers ∙ no-replies-none start command past number tag none numbered
+
+pub stands-unacknowledged : (start : Start) (spec : SpecValue) (round : ℕ) (query : List Item) (outcomes : List Outcome) (past : List Item) (command : Command) (reception : Reception)
+    → slot_reception start round (length outcomes + 1) command past ≡ reception
+    → StandsSent start spec round query outcomes (next_record start round (length outcomes + 1) command past) past
+    → StandsNext start spec round query (outcome_of reception) outcomes (past_behind_command start round (length outcomes + 1) command past)
+stands-unacknowledged start spec round query outcomes past command reception heard stands =
+    let now = past_behind_command start round (length outcomes + 1) command past in
+    let slot : ℕ = length outcomes + 1 in
+    record {
+      listed = stands.listed;
+      listed_now = λ number. false;
+      tells = stands.tells;
+      counts = record {
+        count = λ number. stands.counts.count number ∙ omega arith;
+        count_now = λ number. ap (λ (tags : List ℕ). times number tags) (stands.counts.later slot (omega arith));
+        later = λ later above. stands.counts.later later (omega arith);
+        strangers = λ number none. (stands.counts.strangers number none, refl);
+      };
+      tags = λ number tag numbered.
+          let tag_now = tag_behind number tag now in
+          unacknowledged-stands spec.session (q_of spec outcomes) (outcome_of reception) (frame_of spec outcomes) (tag_behind number tag query) (stands.listed number) tag_now
+          (silent-answer start round slot command past reception (outcome_of reception) number tag tag_now.state stands.unsaid heard refl numbered (stands.answers number tag numbered))
+          (stands.tags number tag numbered);
+    }
+
+same-slot : (round slot : ℕ) (sent : Record) → sent.round ≡ round → sent.slot ≡ slot → is_of_slot round slot sent ≡ true
+same-slot round slot sent same_round same_slot =
+    let first : (sent.round == round) ≡ true = eq-eqb sent.round round same_round in
+    let second : (sent.slot == slot) ≡ true = eq-eqb sent.slot slot same_slot in
+    rw first second
+
+other-slot : (round slot : ℕ) (sent : Record) → sent.slot ≢ slot → is_of_slot round slot sent ≡ false
+other-slot round slot sent other = and-false (sent.round == round) (sent.slot == slot) (ne_eqb sent.slot slot other)
+
+-- what an ACK does to the flags of a tag: nothing
+ack-flags : (start : Start) (round slot session rn : ℕ) (now : List Item) (number : ℕ) (tag : TagValue) → next_entry start now ≡ no_entry
+    → (tag_stepped (commands.Ack rn) now number tag).body ≡ (tag_behind number tag now).body
+    → StepsOwnFlags round session (next_record start round slot (commands.Ack rn) now) now number tag
+ack-flags start round slot session rn now number tag unsaid kept = record {
+  slot = λ begins. absurd (cc);
+  other = λ not_slot not_query.
+      ap (λ (t : TagValue). t.body.flags) (tag-steps start round slot (commands.Ack rn) now number tag unsaid) ∙ ap (λ body. body.flags) kept;
+}
+
+-- the one that is acknowledged is no stranger
+one-known : (start : Start) (number one : ℕ) (tag : TagValue) (same : Bool) → HasNumber start one tag → slice_get start.tags number ≡ None → (one == number) ≡ same → same ≡ false
+one-known start number one tag false numbered none is = refl
+one-known start number one tag true numbered none is =
+    let alike : one ≡ number = eqb-true one number is in
+    let found : slice_get start.tags number ≡ Some tag = subst (λ n. slice_get start.tags n ≡ Some tag) alike numbered in
+    absurd (cc)
+
+-- Where an ACK is sent, the one tag that answered with its RN16 is listed.
+pub stands-acknowledged : (start : Start) (spec : SpecValue) (round : ℕ) (query : List Item) (outcomes : List Outcome) (past : List Item) (command : Command) (rn : ℕ)
+    → let slot = length outcomes + 1 in
+    let now = past_behind_command start round slot command past in
+    IsOnlyAnswerer start command past rn → next_entry start now ≡ no_entry
+    → StandsSent start spec round query outcomes (next_record start round slot command past) past
+    → StandsNext start spec round query Whole outcomes (past_behind_command start round slot (commands.Ack rn) now)
+stands-acknowledged start spec round query outcomes past command rn one unsaid stands =
+    let slot : ℕ = length outcomes + 1 in
+    let now = past_behind_command start round slot command past in
+    let sent = next_record start round slot (commands.Ack rn) now in
+    let state_of = λ (number : ℕ) (tag : TagValue). (tag_behind number tag now).state in
+    let acknowledged : (number : ℕ) (tag : TagValue) → HasNumber start number tag → is_acknowledged_by rn (tag_behind number tag now).state ≡ (one.number == number) =
+    acknowledges-one start command past rn state_of one stands.answers in
+    let answer : (number : ℕ) (tag : TagValue) → HasNumber start number tag
+    → answer_behind (commands.Ack rn) now number tag ≡ (if one.number == number then Some (epc_sent (tag_behind number tag now).body) else None) =
+    λ number tag numbered.
+    ack-answer spec.session (q_of spec outcomes) (frame_of spec outcomes) (tag_behind number tag query) (stands.listed number) rn (tag_behind number tag now) (stands.tags number tag numbered)
+    ∙ ap (λ (test : Bool). if test then Some (epc_sent (tag_behind number tag now).body) else None) (acknowledged number tag numbered) in
+    let body = (tag_behind one.number one.tag now).body in
+    let here : 0 + one.number ≡ one.number = omega arith in
+    let alone : replies_behind 0 (commands.Ack rn) start.tags now ≡ reply_by one.number (epc_sent body) ∷ [] =
+    one-replies (commands.Ack rn) now 0 start.tags one.number one.tag (epc_sent body) one.numbered
+    (subst (λ n. answer_behind (commands.Ack rn) now n one.tag ≡ Some (epc_sent body)) (sym here)
+    (answer one.number one.tag one.numbered ∙ ap (λ (test : Bool). if test then Some (epc_sent body) else None) (eq-eqb one.number one.number refl)))
+    (λ other tag numbered differs.
+    subst (λ n. answer_behind (commands.Ack rn) now n tag ≡ None) (omega arith)
+    (answer other tag numbered ∙ ap (λ (test : Bool). if test then Some (epc_sent (tag_behind other tag now).body) else None) (ne_eqb one.number other (λ same. differs (sym same)))))
+    ∙ ap (λ n. reply_by n (epc_sent body) ∷ []) here in
+    let lists : sender_listed_by sent ≡ one.number ∷ [] = ack-lists start round slot rn now one.number body unsaid alone in
+    record {
+      listed = stands.listed;
+      listed_now = λ number. one.number == number;
+      tells = record {
+        query_is = stands.tells.query_is;
+        spoken = stands.tells.spoken;
+        flags = (
+          λ same number tag numbered. ack-flags start round slot spec.session rn now number tag unsaid
+              (ack-body spec.session (q_of spec outcomes) (frame_of spec outcomes) (tag_behind number tag query) (stands.listed number) rn (tag_behind number tag now) (stands.tags number tag numbered)),
+          stands.tells.flags,
+        );
+        epcs = (
+          λ same number tag numbered senders.
+              let found : one.number ∷ [] ≡ number ∷ [] = sym lists ∙ senders in
+              let alike : one.number ≡ number = cc in
+              let tags : one.tag ≡ tag = same-tag start one.number number one.tag tag one.numbered numbered alike in
+              ack-lists-as start round slot rn now one.number body unsaid alone
+              ∙ ap (λ memory. listed_as sent memory ∷ []) (stands.tags one.number one.tag one.numbered).body.memory
+              ∙ ap (λ n. listed_as sent (tag_behind n one.tag query).body.memory ∷ []) alike
+              ∙ ap (λ (t : TagValue). listed_as sent (tag_behind number t query).body.memory ∷ []) tags,
+          stands.tells.epcs,
+        );
+      };
+      counts = record {
+        count = λ number.
+            ap (λ (tags : List ℕ). times number tags) (lists-one (is_of_round round) sent now one.number (eq-eqb round round refl) lists)
+            ∙ times-append number (tags_listed_in round now) (one.number ∷ [])
+            ∙ ap (λ n. n + times number (one.number ∷ [])) (stands.counts.count number)
+            ∙ ap (λ n. bit (stands.listed number) + n) (times-one number one.number);
+        count_now = λ number.
+            ap (λ (tags : List ℕ). times number tags)
+            (lists-one (is_of_slot round slot) sent now one.number (same-slot round slot sent refl refl) lists
+            ∙ ap (λ (tags : List ℕ). tags ++ one.number ∷ []) (stands.counts.later slot (omega arith)))
+            ∙ times-one number one.number;
+        later = λ later above.
+            lists-elsewhere (is_of_slot round later) sent now (other-slot round later sent (λ same. absurd (omega (arith, same, above))))
+            ∙ stands.counts.later later (omega arith);
+        strangers = λ number none. (stands.counts.strangers number none, one-known start number one.number one.tag (one.number == number) one.numbered none refl);
+      };
+      tags = λ number tag numbered.
+          let first = tag_behind number tag query in
+          subst (λ (t : TagValue). StandsBeforeSlot spec.session (q_of spec outcomes) Whole (frame_of spec outcomes) first (stands.listed number) (one.number == number) t)
+          (sym (tag-steps start round slot (commands.Ack rn) now number tag unsaid))
+          (subst (λ (b : Bool). StandsBeforeSlot spec.session (q_of spec outcomes) Whole (frame_of spec outcomes) first (stands.listed number) b (tag_stepped (commands.Ack rn) now number tag))
+          (acknowledged number tag numbered)
+          (ack-stands spec.session (q_of spec outcomes) Whole (frame_of spec outcomes) first (stands.listed number) rn (tag_behind number tag now) (λ e. cc) (stands.tags number tag numbered)));
+    }
+
+-- a slot command behind an outcome is a QueryRep or a QueryAdjust
+later-slot : (command : Command) (session q : ℕ) (frame : List Outcome) (next_q : ℕ) (next_frame : List Outcome) → IsNextSlot command session q frame next_q next_frame
+    → begins_later_slot command ≡ true
+later-slot (commands.QueryRep own) session q frame next_q next_frame next = refl
+later-slot (commands.QueryAdjust own updn) session q frame next_q next_frame next = refl
+later-slot command session q frame next_q next_frame next = absurd next
+
+later-begins : (command : Command) → begins_later_slot command ≡ true → begins_slot command ≡ true
+later-begins (commands.QueryRep own) later = refl
+later-begins (commands.QueryAdjust own updn) later = refl
+later-begins command later = absurd (cc)
+
+later-no-query : (command : Command) → begins_later_slot command ≡ true → is_query command ≡ false
+later-no-query (commands.QueryRep own) later = refl
+later-no-query (commands.QueryAdjust own updn) later = refl
+later-no-query command later = absurd (cc)
+
+no-query-of : (round : ℕ) (sent : Record) → is_query sent.command ≡ false → is_query_of round sent ≡ false
+no-query-of round sent no_query = rw no_query refl
+
+-- what a slot command does to the flags of a tag
+slot-steps-flags : (start : Start) (round slot session : ℕ) (command : Command) (past : List Item) (number : ℕ) (tag : TagValue) (listed_now : Bool) → next_entry start past ≡ no_entry
+    → begins_later_slot command ≡ true
+    → times number (tags_listed_in_slot round slot past) ≡ bit listed_now
+    → (tag_stepped command past number tag).body.flags ≡ flags_in_round session listed_now (tag_behind number tag past).body.flags
+    → StepsOwnFlags round session (next_record start round (slot + 1) command past) past number tag
+slot-steps-flags start round slot session command past number tag listed_now unsaid begins count flags =
+    let before : slot + 1 - 1 ≡ slot = omega arith in
+    let now : (times number (tags_listed_in_slot round (slot + 1 - 1) past) == 1) ≡ listed_now =
+    ap (λ n. times number (tags_listed_in_slot round n past) == 1) before ∙ ap (λ n. n == 1) count ∙ bit-test listed_now in
+    record {
+      slot = λ is.
+          ap (λ (t : TagValue). t.body.flags) (tag-steps start round (slot + 1) command past number tag unsaid) ∙ flags
+          ∙ ap (λ (b : Bool). flags_in_round session b (flags_behind number tag past)) (sym now);
+      other = λ not_slot not_query. absurd (cc);
+    }
+
+-- no number is listed in two slots
+pub known-once : (start : Start) (spec : SpecValue) (round : ℕ) (query : List Item) (outcome : Outcome) (before : List Outcome) (past : List Item)
+    (stands : StandsNext start spec round query outcome before past) (number : ℕ) (found : Option TagValue) → slice_get start.tags number ≡ found
+    → stands.listed number ≡ true → stands.listed_now number ≡ false
+known-once start spec round query outcome before past stands number None none listed = (stands.counts.strangers number none).1
+known-once start spec round query outcome before past stands number (Some tag) numbered listed =
+    (listed-once spec.session (q_of spec before) outcome (frame_of spec before) (tag_behind number tag query) (stands.listed number) (stands.listed_now number) (tag_behind number tag past)
+    (stands.tags number tag numbered)).once listed
+
+-- A slot command behind an outcome takes each tag to where it stands after it.
+pub stands-sent : (start : Start) (spec : SpecValue) (round : ℕ) (query : List Item) (outcome : Outcome) (before : List Outcome) (past : List Item) (command : Command)
+    → q_of spec before ≤ 15 → q_of spec (outcome ∷ before) ≤ 15
+    → IsNextSlot command spec.session (q_of spec before) (outcome ∷ frame_of spec before) (q_of spec (outcome ∷ before)) (frame_of spec (outcome ∷ before))
+    → next_entry start past ≡ no_entry → StandsNext start spec round query outcome before past
+    → StandsSent start spec round query (outcome ∷ before) (next_record start round (length (outcome ∷ before) + 1) command past) past
+stands-sent start spec round query outcome before past command small next_small next unsaid stands =
+    let slot : ℕ = length (outcome ∷ before) in
+    let same : length before + 1 ≡ slot = add-one (length before) in
+    let sent = next_record start round (slot + 1) command past in
+    let later : begins_later_slot command ≡ true =
+    later-slot command spec.session (q_of spec before) (outcome ∷ frame_of spec before) (q_of spec (outcome ∷ before)) (frame_of spec (outcome ∷ before)) next in
+    let none : sender_listed_by sent ≡ [] = slot-no-sender sent (later-begins command later) in
+    let listed = λ (number : ℕ). stands.listed number || stands.listed_now number in
+    let first = λ (number : ℕ) (tag : TagValue). tag_behind number tag query in
+    let once : (number : ℕ) → stands.listed number ≡ true → stands.listed_now number ≡ false =
+    λ number is. known-once start spec round query outcome before past stands number (slice_get start.tags number) refl is in
+    record {
+      listed = listed;
+      unsaid = unsaid;
+      begins = later-begins command later;
+      tells = record {
+        query_is =
+            ap (λ (is : Bool). if is then exchanged sent ∷ past else past_after_query round past) (no-query-of round sent (later-no-query command later))
+            ∙ stands.tells.query_is;
+        spoken = stands.tells.spoken;
+        flags = (
+          λ same_round number tag numbered.
+              slot-steps-flags start round slot spec.session command past number tag (stands.listed_now number) unsaid later
+              (subst (λ n. times number (tags_listed_in_slot round n past) ≡ bit (stands.listed_now number)) same (stands.counts.count_now number))
+              (slot-flags spec.session (q_of spec before) (q_of spec (outcome ∷ before)) outcome (frame_of spec before) (frame_of spec (outcome ∷ before)) command
+              (first number tag) (stands.listed number) (stands.listed_now number) (tag_behind number tag past) small next_small next (stands.tags number tag numbered)),
+          stands.tells.flags,
+        );
+        epcs = (lists-nobody start round query sent past none, stands.tells.epcs);
+      };
+      counts = record {
+        count = λ number.
+            ap (λ (tags : List ℕ). times number tags) (lists-none (is_of_round round) sent past none)
+            ∙ stands.counts.count number
+            ∙ sym (bit-either (stands.listed number) (stands.listed_now number) (once number));
+        later = λ after above. lists-none (is_of_slot round after) sent past none ∙ stands.counts.later after (omega arith);
+        strangers = λ number stranger. ap (λ (b : Bool). b || stands.listed_now number) (stands.counts.strangers number stranger).0 ∙ (stands.counts.strangers number stranger).1;
+      };
+      tags = λ number tag numbered.
+          subst (λ (t : TagValue). StandsAfterSlot spec.session (q_of spec (outcome ∷ before)) (frame_of spec (outcome ∷ before)) (first number tag) (listed number) t)
+          (sym (tag-steps start round (slot + 1) command past number tag unsaid))
+          (slot-stands spec.session (q_of spec before) (q_of spec (outcome ∷ before)) outcome (frame_of spec before) (frame_of spec (outcome ∷ before)) command
+          (first number tag) (stands.listed number) (stands.listed_now number) (tag_behind number tag past) small next_small next (stands.tags number tag numbered));
+      answers = λ number tag numbered.
+          slot-answer spec.session (q_of spec before) (q_of spec (outcome ∷ before)) outcome (frame_of spec before) (frame_of spec (outcome ∷ before)) command
+          (first number tag) (stands.listed number) (stands.listed_now number) (tag_behind number tag past) small next_small next (stands.tags number tag numbered)
+          ∙ ap (λ (t : TagValue). slot_answer_of t.state) (sym (tag-steps start round (slot + 1) command past number tag unsaid));
+    }

@@ -1,0 +1,29 @@
+-- What the honest rounds of the run of a scenario prove (6.3.2.8 Inventorying Tag populations).
+use Rattle.std.specs.Prelude.{◌≡◌, ℕ, ◌+◌, List, ◌∷◌, ◌++◌}
+use Rattle.std.specs.List.{AllZip}
+use Rattle.access_ops.specs.declared.OpList.{OpList}
+use Rattle.air_events.specs.declared.Several.TheVariants as severals
+use Rattle.q_round.specs.SpecValue.{SpecValue}
+use Rattle.scenario.specs.declared.values.Scenario.{Scenario}
+use Rattle.scenario.specs.declared.values.Step.{Step}
+use Rattle.scenario.specs.declared.values.Step.TheVariants as steps
+use Rattle.runs.specs.Complete.{CompleteInventory}
+use Rattle.runs.specs.Counted.{CountedRound}
+use Rattle.runs.specs.Headline.{rounds_of}
+use Rattle.runs.specs.Honest.{IsHonest, IsApart}
+use Rattle.runs.specs.ListLines.{IsEntryOf, entries_in}
+use Rattle.runs.specs.Listed.{tags_listed_in}
+use Rattle.runs.specs.ScenarioStart.{history, start_of}
+
+-- Which tags each honest round lists, and what it leaves of every tag. Rounds are numbered from 1 over the steps.
+pub record RoundsAreComplete (scenario : Scenario) : Type 0 where
+  pub complete : (before after : List Step) (spec : SpecValue) (operations : OpList) → scenario.steps ≡ before ++ steps.Round spec operations ∷ after
+      → IsHonest (history scenario) (rounds_of before + 1) operations
+      → ((start_of scenario).several ≡ severals.Capture → IsApart (history scenario) (rounds_of before + 1))
+      → CompleteInventory (start_of scenario) (history scenario) (rounds_of before + 1) spec.session
+  pub counted : (before after : List Step) (spec : SpecValue) (operations : OpList) → scenario.steps ≡ before ++ steps.Round spec operations ∷ after
+      → IsHonest (history scenario) (rounds_of before + 1) operations
+      → ((start_of scenario).several ≡ severals.Capture → IsApart (history scenario) (rounds_of before + 1))
+      → CountedRound (start_of scenario) (history scenario) (rounds_of before + 1) spec
+  -- the list lines of a round are those of the tags that are listed in it
+  pub lines : (round : ℕ) → AllZip (IsEntryOf (history scenario) round) (entries_in round (history scenario)) (tags_listed_in round (history scenario))

@@ -1,0 +1,19 @@
+-- Profile: whose each list line of a round is.
+use Rattle.std.specs.Prelude.{◌≡◌, ℕ, ◌==◌, List, [], ◌∷◌, filter}
+use Rattle.air_model.specs.Past.{Record, Item}
+use Rattle.runs.specs.Headline.{IsRecordOf}
+use Rattle.runs.specs.Listing.{Listed, listed_by, listing_of}
+use Rattle.runs.specs.Listed.{sender_listed_by}
+
+-- what a history lists in a round, in order: a list line of the report each
+abbrev pub entries_in : ℕ → List Item → List Listed
+entries_in round history = filter (λ listed. listed.round == round) (listing_of history)
+
+-- the entry is what a record of the round lists, and the number is that of the tag that sent it
+pub record IsEntryOf (history : List Item) (round : ℕ) (listed : Listed) (number : ℕ) : Type 0 where
+  pub sent : Record
+  pub earlier : List Item
+  pub recorded : IsRecordOf history sent earlier
+  pub round_is : sent.round ≡ round
+  pub entry : listed_by sent ≡ listed ∷ []
+  pub sender : sender_listed_by sent ≡ number ∷ []

@@ -1,0 +1,19 @@
+//! Runs of scenarios, as definitions and their laws: the one history of a run, its listing, its report and its summary, and which tags
+//! an honest round of it counts (6.3.2.8 Inventorying Tag populations of the EPCglobal Class-1 Generation-2 standard, version
+//! 1.2.0).
+#![tactic(auto)]
+
+mod inventory;
+mod laws;
+mod summary;
+
+pub use inventory::{
+    complete_inventory, honest_rounds_count_tags, list_lines_are_of_listed_tags,
+    quiet_runs_list_every_tag, rounds_are_complete, rounds_are_honest_where_nothing_is_said,
+};
+pub use laws::{
+    events_and_records_determine_a_past, exchanges_are_few, headline,
+    histories_grow_by_the_next_item, histories_hear_what_is_received, histories_keep_tags_legal,
+    operations_are_told, records_follow_from_the_past, scenario_steps_are_legal,
+};
+pub use summary::Summary;

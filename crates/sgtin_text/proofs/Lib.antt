@@ -1,3 +1,0 @@
-pub mod SixWords
-pub mod OneName
-pub mod SomeName

@@ -1,6 +1,0 @@
-use Rattle.sgtin_text.proofs.OneName.{same_text}
-use Rattle.sgtin_text.proofs.SomeName.{some_lines}
-use Rattle.sgtin_text.proofs.laws.lines_have_names.Goals as goal
-
-pub returns : goal.returns
-returns c = record { some = some_lines c.sgtin_laws.ensures.apart c.sgtin_laws.ensures.some; one = same_text c.sgtin_laws.ensures.one_sgtin }

@@ -1,0 +1,137 @@
+-- A tag in arbitrate whose slot has not come waits, and a tag outside the session of a command is silent.
+use Rattle.std.proofs.Common.{◌≡◌, ◌≢◌, ℕ, ◌==◌, Bool, true, false, Option, Some, None, if◌then◌else◌, refl, ◌∙◌, ap, arith, inl, inr}
+use Rattle.std.proofs.lemmas.Bool.Decides.{eqb_tells}
+use Rattle.command_grammar.specs.declared.field_values.UpDn.{UpDn}
+use Rattle.command_grammar.specs.declared.commands.Command.TheVariants as commands
+use Rattle.tag_machine.specs.declared.states.Held.{Held}
+use Rattle.tag_machine.specs.TagValue.{StateValue, ReadyState, ArbitrateState, ReplyState, AcknowledgedState, OpenState, SecuredState, KilledState, UnpoweredState, BodyValue}
+use Rattle.tag_machine.specs.Answers.{Sent, Outcome, silent}
+use Rattle.tag_machine.specs.Draws.{begin_reply, enter, body_after_inversion, close, back}
+use Rattle.tag_machine.specs.Inventory.{slot_below, count_down, q_after_adjust, end_turn}
+use Rattle.tag_machine.specs.Slots.{session_of, slot_of, is_beyond_arbitrate}
+use Rattle.tag_machine.specs.Step.{step}
+use Rattle.tag_machine.proofs.SentReplies.{Sends, nothing, chosen, same_number, past_half}
+
+same : (number : ℕ) → (number == number) ≡ true
+same number =
+    elim (eqb_tells number number) [
+      | inl w ↦ w.0
+      | inr w ↦ absurd (w.1 refl)
+    ]
+
+differ : (a b : ℕ) → a ≢ b → (a == b) ≡ false
+differ a b apart =
+    elim (eqb_tells a b) [
+      | inl w ↦ absurd (apart w.1)
+      | inr w ↦ w.0
+    ]
+
+if_true : (test : Bool) (x y : Outcome) → test ≡ true → (if test then x else y) ≡ x
+if_true true x y is = refl
+if_true false x y is = absurd (cc)
+
+if_false : (test : Bool) (x y : Outcome) → test ≡ false → (if test then x else y) ≡ y
+if_false true x y is = absurd (cc)
+if_false false x y is = refl
+
+not_yet : (slot : ℕ) → slot ≢ 1 → slot_below slot ≢ 0
+not_yet slot later =
+    elim (eqb_tells slot 0) [
+      | inl w ↦ rw w.0 (omega arith)
+      | inr w ↦ rw w.0 (omega (arith, w.1, later))
+    ]
+
+pub waits : (session q slot : ℕ) (body : BodyValue) → slot ≢ 1 → step (commands.QueryRep session) (ArbitrateState session q slot) body ≡ silent (ArbitrateState session q (slot_below slot)) body
+waits session q slot body later =
+    if_true (session == session) (count_down session q slot body) (silent (ArbitrateState session q slot) body) (same session)
+    ∙ if_false (slot_below slot == 0) (begin_reply session q body) (silent (ArbitrateState session q (slot_below slot)) body) (differ (slot_below slot) 0 (not_yet slot later))
+
+-- a command of another session
+other : (own session : ℕ) (outcome stays : Outcome) → Some own ≢ Some session → (if own == session then outcome else stays) ≡ stays
+other own session outcome stays apart = if_false (own == session) outcome stays (differ own session (λ is. apart (ap (λ n. Some n) is)))
+
+pub other_rep : (session : ℕ) (state : StateValue) (body : BodyValue) → session_of state ≢ Some session → step (commands.QueryRep session) state body ≡ silent state body
+other_rep session ReadyState body apart = refl
+other_rep session (ArbitrateState own q slot) body apart = other own session (count_down session q slot body) (silent (ArbitrateState own q slot) body) apart
+other_rep session (ReplyState own q rn) body apart = other own session (silent (ArbitrateState session q 0x7FFF) body) (silent (ReplyState own q rn) body) apart
+other_rep session (AcknowledgedState own q rn) body apart = other own session (close session body) (silent (AcknowledgedState own q rn) body) apart
+other_rep session (OpenState held) body apart = other held.session session (end_turn session held body) (silent (OpenState held) body) apart
+other_rep session (SecuredState held) body apart = other held.session session (end_turn session held body) (silent (SecuredState held) body) apart
+other_rep session KilledState body apart = refl
+other_rep session UnpoweredState body apart = refl
+
+pub other_adjust : (session : ℕ) (updn : UpDn) (state : StateValue) (body : BodyValue) → session_of state ≢ Some session → step (commands.QueryAdjust session updn) state body ≡ silent state body
+other_adjust session updn ReadyState body apart = refl
+other_adjust session updn (ArbitrateState own q slot) body apart = other own session (enter session (q_after_adjust updn q) body) (silent (ArbitrateState own q slot) body) apart
+other_adjust session updn (ReplyState own q rn) body apart = other own session (enter session (q_after_adjust updn q) body) (silent (ReplyState own q rn) body) apart
+other_adjust session updn (AcknowledgedState own q rn) body apart = other own session (close session body) (silent (AcknowledgedState own q rn) body) apart
+other_adjust session updn (OpenState held) body apart = other held.session session (end_turn session held body) (silent (OpenState held) body) apart
+other_adjust session updn (SecuredState held) body apart = other held.session session (end_turn session held body) (silent (SecuredState held) body) apart
+other_adjust session updn KilledState body apart = refl
+other_adjust session updn UnpoweredState body apart = refl
+
+-- who answers a QueryRep
+abbrev IsInSlot : ℕ → StateValue → Type 0
+IsInSlot session state = (session_of state ≡ Some session) × (slot_of state ≡ Some 1)
+
+silent_now : (session : ℕ) (before after : StateValue) (body : BodyValue) → Sends (λ sent. IsInSlot session before) (silent after body)
+silent_now session before after body = nothing (λ sent. IsInSlot session before) after body
+
+last_slot : (slot : ℕ) → slot_below slot ≡ 0 → slot ≡ 1
+last_slot slot is =
+    elim (eqb_tells slot 1) [
+      | inl w ↦ w.1
+      | inr w ↦ absurd (not_yet slot w.1 is)
+    ]
+
+in_slot : (own session slot : ℕ) → (own == session) ≡ true → (slot_below slot == 0) ≡ true → (Some own ≡ Some session) × (Some slot ≡ Some 1)
+in_slot own session slot same_session last =
+    (ap (λ n. Some n) (same_number own session same_session), ap (λ n. Some n) (last_slot slot (same_number (slot_below slot) 0 last)))
+
+of_session : (own session : ℕ) (before : StateValue) (body : BodyValue) (outcome : Outcome) → Sends (λ sent. IsInSlot session before) outcome → Sends (λ sent. IsInSlot session before) (if own == session then outcome else silent before body)
+of_session own session before body outcome given =
+    chosen (λ sent. IsInSlot session before) (own == session) outcome (silent before body) (λ is. given) (silent_now session before before body)
+
+turn_ended : (session : ℕ) (before : StateValue) (held : Held) (body : BodyValue) → Sends (λ sent. IsInSlot session before) (end_turn session held body)
+turn_ended session before held body =
+    past_half (λ sent. IsInSlot session before) held.half (back session held.q body) (close session body)
+    (silent_now session before (ArbitrateState session held.q 0) body) (silent_now session before ReadyState (body_after_inversion session body))
+
+pub answers_in_slot : (session : ℕ) (state : StateValue) (body : BodyValue) → Sends (λ sent. IsInSlot session state) (step (commands.QueryRep session) state body)
+answers_in_slot session ReadyState body = silent_now session ReadyState ReadyState body
+answers_in_slot session (ArbitrateState own q slot) body =
+    let state = ArbitrateState own q slot in
+    let P : Sent → Type 0 = λ sent. IsInSlot session state in
+    chosen P (own == session) (count_down session q slot body) (silent state body)
+    (λ same_session. chosen P (slot_below slot == 0) (begin_reply session q body) (silent (ArbitrateState session q (slot_below slot)) body)
+    (λ last. λ sent is. in_slot own session slot same_session last)
+    (silent_now session state (ArbitrateState session q (slot_below slot)) body))
+    (silent_now session state state body)
+answers_in_slot session (ReplyState own q rn) body =
+    let state = ReplyState own q rn in
+    of_session own session state body (silent (ArbitrateState session q 0x7FFF) body) (silent_now session state (ArbitrateState session q 0x7FFF) body)
+answers_in_slot session (AcknowledgedState own q rn) body =
+    let state = AcknowledgedState own q rn in
+    of_session own session state body (close session body) (silent_now session state ReadyState (body_after_inversion session body))
+answers_in_slot session (OpenState held) body = of_session held.session session (OpenState held) body (end_turn session held body) (turn_ended session (OpenState held) held body)
+answers_in_slot session (SecuredState held) body = of_session held.session session (SecuredState held) body (end_turn session held body) (turn_ended session (SecuredState held) held body)
+answers_in_slot session KilledState body = silent_now session KilledState KilledState body
+answers_in_slot session UnpoweredState body = silent_now session UnpoweredState UnpoweredState body
+
+no_answer : (answer : Option Sent) → ((sent : Sent) → answer ≡ Some sent → ⊥) → answer ≡ None
+no_answer None none = refl
+no_answer (Some sent) none = absurd (none sent refl)
+
+no_slot : (state : StateValue) → is_beyond_arbitrate state ≡ true → slot_of state ≡ Some 1 → ⊥
+no_slot ReadyState beyond is = cc
+no_slot (ArbitrateState own q slot) beyond is = cc
+no_slot (ReplyState own q rn) beyond is = cc
+no_slot (AcknowledgedState own q rn) beyond is = cc
+no_slot (OpenState held) beyond is = cc
+no_slot (SecuredState held) beyond is = cc
+no_slot KilledState beyond is = cc
+no_slot UnpoweredState beyond is = cc
+
+pub silent_beyond : (session : ℕ) (state : StateValue) (body : BodyValue) → is_beyond_arbitrate state ≡ true → (step (commands.QueryRep session) state body).answer ≡ None
+silent_beyond session state body beyond =
+    no_answer (step (commands.QueryRep session) state body).answer (λ sent is. no_slot state beyond (answers_in_slot session state body sent is).1)

@@ -1,0 +1,4 @@
+pub mod Isolation
+pub mod Extended
+pub mod Replies
+pub mod DrawCounts

@@ -1,0 +1,6 @@
+pub mod Ends
+pub mod RunEnds
+pub mod NamedLines
+pub mod Waits
+pub mod ToldForms
+pub mod SummaryLines

@@ -1,0 +1,229 @@
+-- The lines before a place of the input, with their names.
+use Rattle.std.proofs.Common.{◌≡◌, ◌≢◌, ℕ, ◌+◌, ◌≤◌, List, [], ◌∷◌, ◌++◌, length, refl, sym, ◌∙◌, ap, subst, arith, append_assoc, length-append, Option, Result, Err, inl, inr}
+use Rattle.std.specs.List.{AllZip, flat_map}
+use Rattle.std.proofs.lemmas.List.{append_cancel_right, append-nil}
+use Rattle.text_fields.specs.Lines.{lines_of, line_feed, text_with}
+use Rattle.air_io.specs.Flow.{FaultsRose}
+use Rattle.epc_sgtin.specs.SgtinValue.{SgtinValue}
+use Rattle.sgtin_text.specs.SgtinText.{name_line}
+use Rattle.report_lines.specs.Names.{IsNamed, HasName, BecomesLines, AreWithNames}
+use Rattle.top_call.specs.Job.{Defines}
+use Rattle.top_call.specs.Outcome.{AddsWhole, AddsFront, EndsSo}
+use Rattle.top_call.specs.UnwrittenBytes.{Sends, Loses}
+use Rattle.top_call.specs.declared.ending.Wrote.{Wrote}
+use Rattle.top_call.specs.declared.ending.WriteEnd.{WriteEnd}
+use Rattle.top_call.specs.declared.ending.WriteEnd.TheVariants.{Fault}
+use Rattle.text_fields.specs.FaultLine.{fault_line}
+use Rattle.decode_lines.specs.DecodeLines.{reason_word}
+use Rattle.top_call.specs.words.Named.{IsOfLines, AddsNames, IsCutAt, RefusesCutLine, names_job}
+use Rattle.decode_lines.specs.declared.fault.FaultReason.TheVariants.{End}
+use Rattle.text_fields.specs.LineLaws.{some_line}
+use Rattle.text_fields.specs.ListLaws.{flat_map_push, zip_push}
+use Rattle.top_call.proofs.Waits.{sends_whole, loses_later, loses_last}
+
+-- two ways to cut a last line off agree
+last_agrees : (before : List (List ℕ)) (last : List ℕ) (before' : List (List ℕ)) (last' : List ℕ) → before ++ last ∷ [] ≡ before' ++ last' ∷ [] → (before ≡ before') × (last ≡ last')
+last_agrees [] last [] last' same = (refl, cc)
+last_agrees [] last (b ∷ []) last' same = cc
+last_agrees [] last (b ∷ c ∷ before') last' same = cc
+last_agrees (b ∷ []) last [] last' same = cc
+last_agrees (b ∷ c ∷ before) last [] last' same = cc
+last_agrees (b ∷ before) last (c ∷ before') last' same =
+    let first : b ≡ c = cc in
+    let others : before ++ last ∷ [] ≡ before' ++ last' ∷ [] = cc in
+    let found = last_agrees before last before' last' others in
+    let rest : before ≡ before' = found.0 in
+    (cc, found.1)
+
+-- an input of whole lines has no cut line
+pub whole_not_cut : (bytes : List ℕ) (number : ℕ) → IsOfLines bytes → IsCutAt bytes number → ⊥
+whole_not_cut bytes number whole at = at.filled (sym (last_agrees whole.0 [] at.before at.last (sym whole.1 ∙ at.cut)).1)
+
+-- an input has one number of its cut line, and so one fault line
+pub same_cut_line : (bytes one other : List ℕ) → RefusesCutLine bytes one → RefusesCutLine bytes other → one ≡ other
+same_cut_line bytes one other left right =
+    let before = (last_agrees left.at.before left.at.last right.at.before right.at.last (sym left.at.cut ∙ right.at.cut)).0 in
+    let number : left.number ≡ right.number = left.at.count ∙ ap (λ (b : List (List ℕ)). length b + 1) before ∙ sym right.at.count in
+    left.line ∙ ap (λ n. fault_line n (reason_word End)) number ∙ sym right.line
+
+-- what the law of names says
+abbrev pub HaveOneText : Type 0
+HaveOneText = (lines : List (List ℕ)) (one other : List ℕ) → AreWithNames lines one → AreWithNames lines other → one ≡ other
+
+pub same_named : HaveOneText → (bytes one other : List ℕ) → AddsNames bytes one → AddsNames bytes other → one ≡ other
+same_named one_text bytes one other left right =
+    let lines : left.lines ≡ right.lines = append_cancel_right left.lines right.lines ([] ∷ []) (sym left.cut ∙ right.cut) in
+    one_text right.lines one other (subst (λ l. AreWithNames l one) lines left.names) right.names
+
+-- the lines before what is left, counted
+pub record CountsTo (input rest : List ℕ) (count : ℕ) : Type 0 where
+  pub before : List (List ℕ)
+  pub cut : lines_of input ≡ before ++ lines_of rest
+  pub number : count ≡ length before + 1
+  pub room : length before + length rest ≤ length input
+
+-- the lines before what is left have become the text, with their names, and what is left is of whole lines
+pub record NamesTo (input rest text : List ℕ) : Type 0 where
+  pub before : List (List ℕ)
+  pub cut : lines_of input ≡ before ++ lines_of rest
+  pub names : AreWithNames before text
+  pub others : IsOfLines rest
+
+pub counts_none : (input : List ℕ) → CountsTo input input 1
+counts_none input = record { before = []; cut = refl; number = refl; room = omega arith }
+
+pub counts_more : (input rest line behind : List ℕ) (count : ℕ) → CountsTo input rest count → lines_of rest ≡ line ∷ lines_of behind → rest ≡ line ++ line_feed ∷ behind → CountsTo input behind (count + 1)
+counts_more input rest line behind count so_far lines split = record {
+  before = so_far.before ++ line ∷ [];
+  cut = so_far.cut ∙ ap (λ tail. so_far.before ++ tail) lines ∙ sym (append_assoc so_far.before (line ∷ []) (lines_of behind));
+  number = omega (arith, so_far.number, length-append so_far.before (line ∷ []));
+  room = omega (arith, so_far.room, length-append so_far.before (line ∷ []), ap length split, length-append line (line_feed ∷ behind));
+}
+
+-- nothing is left behind the last line feed
+pub all_lines : (input rest : List ℕ) (count : ℕ) → CountsTo input rest count → lines_of rest ≡ rest ∷ [] → rest ≡ [] → IsOfLines input
+all_lines input rest count so_far lines none = (so_far.before, so_far.cut ∙ ap (λ tail. so_far.before ++ tail) (lines ∙ ap (λ (r : List ℕ). r ∷ []) none))
+
+-- something is
+pub last_line : (input rest : List ℕ) (count : ℕ) → CountsTo input rest count → lines_of rest ≡ rest ∷ [] → rest ≢ [] → IsCutAt input count
+last_line input rest count so_far lines some = record {
+  before = so_far.before;
+  last = rest;
+  cut = so_far.cut ∙ ap (λ tail. so_far.before ++ tail) lines;
+  filled = some;
+  count = so_far.number;
+}
+
+pub names_none : (input : List ℕ) → IsOfLines input → NamesTo input input []
+names_none input whole = record { before = []; cut = refl; names = record { pieces = []; each = tt; text_is = refl }; others = whole }
+
+-- what stands behind a line of an input of whole lines is of whole lines
+others_whole : (lines : List (List ℕ)) (line : List ℕ) (tail : List (List ℕ)) → 1 ≤ length tail → lines ++ [] ∷ [] ≡ line ∷ tail → (others : List (List ℕ)) × (tail ≡ others ++ [] ∷ [])
+others_whole [] line tail some same = let none : [] ≡ tail = cc in absurd (omega (arith, ap length none))
+others_whole (l ∷ lines) line tail some same = (lines, cc)
+
+-- one more line, with its name
+pub names_more : (input rest line behind text : List ℕ) (lines : List (List ℕ)) → NamesTo input rest text → lines_of rest ≡ line ∷ lines_of behind → BecomesLines line lines → NamesTo input behind (text ++ text_with lines)
+names_more input rest line behind text lines so_far split becomes = record {
+  before = so_far.before ++ line ∷ [];
+  cut = so_far.cut ∙ ap (λ tail. so_far.before ++ tail) split ∙ sym (append_assoc so_far.before (line ∷ []) (lines_of behind));
+  names = record {
+    pieces = so_far.names.pieces ++ lines ∷ [];
+    each = zip_push BecomesLines so_far.before so_far.names.pieces line lines so_far.names.each becomes;
+    text_is = ap (λ (t : List ℕ). t ++ text_with lines) so_far.names.text_is ∙ sym (flat_map_push text_with so_far.names.pieces lines);
+  };
+  others = others_whole so_far.others.0 line (lines_of behind) (some_line behind) (sym so_far.others.1 ∙ split);
+}
+
+-- where the rest is one piece, all lines have been named
+pub names_all : (input rest text : List ℕ) → NamesTo input rest text → lines_of rest ≡ rest ∷ [] → AddsNames input text
+names_all input rest text so_far one =
+    let end = last_agrees so_far.others.0 [] [] rest (sym so_far.others.1 ∙ one) in
+    record {
+      lines = so_far.before;
+      cut = so_far.cut ∙ ap (λ tail. so_far.before ++ tail) (one ∙ ap (λ (r : List ℕ). r ∷ []) (sym end.1));
+      names = so_far.names;
+    }
+
+-- the lines that are left become some text, whatever stands before them
+pub some_names : (lines : List (List ℕ)) → ((line : List ℕ) → (pieces : List (List ℕ)) × BecomesLines line pieces) → (text : List ℕ) × AreWithNames lines text
+some_names [] become = ([], record { pieces = []; each = tt; text_is = refl })
+some_names (line ∷ lines) become =
+    let first = become line in
+    let others = some_names lines become in
+    (text_with first.0 ++ others.0, record { pieces = first.0 ∷ others.1.pieces; each = (first.1, others.1.each); text_is = ap (λ (t : List ℕ). text_with first.0 ++ t) others.1.text_is })
+
+zip_append : {A B : Type 0} (R : A → B → Type 0) (xs : List A) (ys : List B) (us : List A) (vs : List B) → AllZip R xs ys → AllZip R us vs → AllZip R (xs ++ us) (ys ++ vs)
+zip_append R [] [] us vs first second = second
+zip_append R [] (y ∷ ys) us vs first second = absurd first
+zip_append R (x ∷ xs) [] us vs first second = absurd first
+zip_append R (x ∷ xs) (y ∷ ys) us vs first second = (first.0, zip_append R xs ys us vs first.1 second)
+
+flat_map-append : {A B : Type 0} (f : A → List B) (xs ys : List A) → flat_map f (xs ++ ys) ≡ flat_map f xs ++ flat_map f ys
+flat_map-append f [] ys = refl
+flat_map-append f (x ∷ xs) ys = ap (λ t. f x ++ t) (flat_map-append f xs ys) ∙ sym (append_assoc (f x) (flat_map f xs) (flat_map f ys))
+
+-- with the lines that are left, the lines so far are all
+names_rest : (input rest text tail : List ℕ) → (so_far : NamesTo input rest text) → AreWithNames so_far.others.0 tail → AddsNames input (text ++ tail)
+names_rest input rest text tail so_far left = record {
+  lines = so_far.before ++ so_far.others.0;
+  cut = so_far.cut ∙ ap (λ lines. so_far.before ++ lines) so_far.others.1 ∙ sym (append_assoc so_far.before so_far.others.0 ([] ∷ []));
+  names = record {
+    pieces = so_far.names.pieces ++ left.pieces;
+    each = zip_append BecomesLines so_far.before so_far.names.pieces so_far.others.0 left.pieces so_far.names.each left.each;
+    text_is = ap (λ (t : List ℕ). t ++ tail) so_far.names.text_is ∙ ap (λ (t : List ℕ). flat_map text_with so_far.names.pieces ++ t) left.text_is
+        ∙ sym (flat_map-append text_with so_far.names.pieces left.pieces);
+  };
+}
+
+-- what the law of names says of a line
+abbrev pub BecomeSome : Type 0
+BecomeSome = (line : List ℕ) → (lines : List (List ℕ)) × BecomesLines line lines
+
+-- what was written before a write failed is a front of the whole text
+pub front_of_names : BecomeSome → (input rest text : List ℕ) (written written' : Option (List ℕ)) → NamesTo input rest text → Loses text written written' → AddsFront (AddsNames input) written written'
+front_of_names become input rest text written written' so_far loses =
+    let tail = some_names so_far.others.0 become in
+    let whole : text ++ tail.0 ≡ loses.sent ++ (loses.lost ++ tail.0) = ap (λ (t : List ℕ). t ++ tail.0) loses.all ∙ append_assoc loses.sent loses.lost tail.0 in
+    record {
+      front = loses.sent;
+      rest = loses.lost ++ tail.0;
+      named = subst (AddsNames input) whole (names_rest input rest text tail.0 so_far tail.1);
+      added = loses.added;
+    }
+
+-- one more line was lost with its name
+pub lost_line : BecomeSome → (input rest line behind text page : List ℕ) (written written' written'' : Option (List ℕ)) → NamesTo input rest text → lines_of rest ≡ line ∷ lines_of behind
+    → Sends text page written written' → (lines : List (List ℕ)) × BecomesLines line lines × Loses (page ++ text_with lines) written' written'' → AddsFront (AddsNames input) written written''
+lost_line become input rest line behind text page written written' written'' so_far split sends lost =
+    front_of_names become input behind (text ++ text_with lost.0) written written'' (names_more input rest line behind text lost.0 so_far split lost.1)
+    (loses_later text page (text_with lost.0) written written' written'' sends lost.2)
+
+-- the page was written at last, or lost
+pub all_written : (input rest text page : List ℕ) (written written' written'' : Option (List ℕ)) → NamesTo input rest text → lines_of rest ≡ rest ∷ [] → Sends text page written written'
+    → Sends page [] written' written'' → AddsWhole (AddsNames input) written written''
+all_written input rest text page written written' written'' so_far one sends last =
+    record { text = text; named = names_all input rest text so_far one; added = sends_whole text page written written' written'' sends last }
+
+pub last_lost : BecomeSome → (input rest text page : List ℕ) (written written' written'' : Option (List ℕ)) → NamesTo input rest text → Sends text page written written' → Loses page written' written''
+    → AddsFront (AddsNames input) written written''
+last_lost become input rest text page written written' written'' so_far sends loses =
+    front_of_names become input rest text written written'' so_far (loses_last text page written written' written'' sends loses)
+
+-- the text of a line and its name, and that of a line alone
+two_lines : (line name : List ℕ) → line ++ ((line_feed ∷ name) ++ line_feed ∷ []) ≡ text_with (line ∷ name ∷ [])
+two_lines line name = simp (append_assoc, append-nil)
+
+one_line : (line : List ℕ) → line ++ line_feed ∷ [] ≡ text_with (line ∷ [])
+one_line line = simp append-nil
+
+-- a line that has a name waits with it, or is lost with it
+pub named_sent : (line piece page waits : List ℕ) (sgtin : SgtinValue) (written written' : Option (List ℕ)) → IsNamed line sgtin → piece ≡ (line_feed ∷ name_line sgtin) ++ line_feed ∷ []
+    → Sends (page ++ (line ++ piece)) waits written written' → (lines : List (List ℕ)) × BecomesLines line lines × Sends (page ++ text_with lines) waits written written'
+named_sent line piece page waits sgtin written written' is piece_is sends =
+    let text : line ++ piece ≡ text_with (line ∷ name_line sgtin ∷ []) = ap (λ (p : List ℕ). line ++ p) piece_is ∙ two_lines line (name_line sgtin) in
+    (line ∷ name_line sgtin ∷ [], inl (sgtin, is, refl), subst (λ (t : List ℕ). Sends (page ++ t) waits written written') text sends)
+
+pub named_lost : (line piece page : List ℕ) (sgtin : SgtinValue) (written written' : Option (List ℕ)) → IsNamed line sgtin → piece ≡ (line_feed ∷ name_line sgtin) ++ line_feed ∷ []
+    → Loses (page ++ (line ++ piece)) written written' → (lines : List (List ℕ)) × BecomesLines line lines × Loses (page ++ text_with lines) written written'
+named_lost line piece page sgtin written written' is piece_is loses =
+    let text : line ++ piece ≡ text_with (line ∷ name_line sgtin ∷ []) = ap (λ (p : List ℕ). line ++ p) piece_is ∙ two_lines line (name_line sgtin) in
+    (line ∷ name_line sgtin ∷ [], inl (sgtin, is, refl), subst (λ (t : List ℕ). Loses (page ++ t) written written') text loses)
+
+-- and so is a line that has none
+pub plain_sent : (line page waits : List ℕ) (written written' : Option (List ℕ)) → ¬ HasName line → Sends (page ++ (line ++ line_feed ∷ [])) waits written written'
+    → (lines : List (List ℕ)) × BecomesLines line lines × Sends (page ++ text_with lines) waits written written'
+plain_sent line page waits written written' none sends =
+    (line ∷ [], inr (none, refl), subst (λ (t : List ℕ). Sends (page ++ t) waits written written') (one_line line) sends)
+
+pub plain_lost : (line page : List ℕ) (written written' : Option (List ℕ)) → ¬ HasName line → Loses (page ++ (line ++ line_feed ∷ [])) written written'
+    → (lines : List (List ℕ)) × BecomesLines line lines × Loses (page ++ text_with lines) written written'
+plain_lost line page written written' none loses =
+    (line ∷ [], inr (none, refl), subst (λ (t : List ℕ). Loses (page ++ t) written written') (one_line line) loses)
+
+-- the writing of names ended where a write failed
+pub names_failed : (bytes : List ℕ) (written written' : Option (List ℕ)) (writes writes' : ℕ) (end : Result Wrote WriteEnd) → end ≡ Err Fault → FaultsRose writes writes'
+    → AddsFront (AddsNames bytes) written written' → EndsSo names_job bytes written written' writes writes' end
+names_failed bytes written written' writes writes' end is rose front =
+    let part : AddsFront (Defines names_job bytes) written written' = record { front = front.front; rest = front.rest; named = inl front.named; added = front.added } in
+    subst (EndsSo names_job bytes written written' writes writes') (sym is) (rose, part)

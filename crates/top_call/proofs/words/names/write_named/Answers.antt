@@ -1,0 +1,36 @@
+-- The lines wait on the page in turn, and the page is written at last.
+use Rattle.std.proofs.Common.{◌++◌, arith}
+use Rattle.std.proofs.lemmas.Result.{on_ok_weaker, on_err_weaker}
+use Rattle.text_fields.specs.Lines.{text_with}
+use Rattle.top_call.proofs.Waits.{on_failure, sends_more}
+use Rattle.top_call.proofs.NamedLines.{names_more, lost_line, all_written, last_lost}
+use Rattle.top_call.proofs.words.names.write_named.Goals as goal
+
+pub returns-in_err-put_named-clause-front : goal.returns-in_err-put_named-clause-front
+returns-in_err-put_named-clause-front g c =
+    let so_far = c.loop-line.invariant in
+    on_failure c.from_residual.result
+    (lost_line c.lines_have_names.ensures.some c.args.input.now c.loop-line.rest.now c.in-Some.line.now c.in-Some.behind.now so_far.text _ _ _ _ so_far.so_far c.in-Some.ensures.lines so_far.sends
+    c.in_err-put_named.ensures.lost)
+
+pub loop-line-preserved : goal.loop-line-preserved
+loop-line-preserved g c =
+    let so_far = c.loop-line.invariant in
+    let sent = c.in_ok-put_named.ensures.sent in
+    record {
+      text = so_far.text ++ text_with sent.0;
+      so_far = names_more c.args.input.now c.loop-line.rest.now c.in-Some.line.now c.in-Some.behind.now so_far.text sent.0 so_far.so_far c.in-Some.ensures.lines sent.1;
+      sends = sends_more so_far.text _ (text_with sent.0) _ _ _ _ so_far.sends sent.2;
+      count = omega (arith, so_far.count, c.put_named.ensures.count);
+    }
+
+pub returns-clause-ok : goal.returns-clause-ok
+returns-clause-ok g c =
+    let so_far = c.loop-line.invariant in
+    on_ok_weaker c.flush.result
+    (λ last. all_written c.args.input.now c.loop-line.rest.now so_far.text _ _ _ _ so_far.so_far c.in_default.ensures.whole so_far.sends last) c.flush.ensures.sent
+
+pub returns-clause-front : goal.returns-clause-front
+returns-clause-front g c =
+    let so_far = c.loop-line.invariant in
+    on_err_weaker c.flush.result (λ loses. last_lost c.lines_have_names.ensures.some c.args.input.now c.loop-line.rest.now so_far.text _ _ _ _ so_far.so_far so_far.sends loses) c.flush.ensures.lost

@@ -1,0 +1,15 @@
+use Rattle.top_call.proofs.RunEnds.{same_report, same_refusal, text_not_refused}
+use Rattle.top_call.proofs.words.run.run_is_lawful.Goals as goal
+
+pub returns : goal.returns
+returns c mode = record {
+  one_text = same_report c.scenarios_are_told_apart.ensures mode;
+  one_fault_line = same_refusal c.texts_have_one_fault.ensures;
+  allowed = λ bytes text writes. (writes.scenario, writes.legal, writes.spelled);
+  not_refused = text_not_refused c.scenario_texts_are_not_faulty.ensures;
+  unread = λ unread bytes text refused. absurd (cc);
+  kept = λ bytes text writes. record {
+    headline = record { reports = writes; headline = c.headline.ensures.scenario mode writes.scenario writes.legal };
+    inventory = record { reports = writes; rounds = c.rounds_are_complete.ensures writes.scenario writes.legal };
+  };
+}

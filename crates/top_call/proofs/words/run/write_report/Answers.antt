@@ -1,0 +1,19 @@
+use Rattle.std.proofs.Common.{inr, rules}
+use Rattle.top_call.specs.words.Reported.{run_job}
+use Rattle.top_call.proofs.Ends.{write_failed}
+use Rattle.top_call.proofs.RunEnds.{play_failed}
+use Rattle.top_call.proofs.words.run.write_report.Goals as goal
+
+pub returns-in_err-play-in-Ok : goal.returns-in_err-play-in-Ok
+returns-in_err-play-in-Ok g c =
+    let read = c.in-Ok.ensures.ok in
+    let cut = c.in_err-play-in-Ok.ensures in
+    play_failed c.args.mode _ c.in-Ok.scenario _ _ _ _ c.in_err-play-in-Ok.field-0.0 _ (search rules) read.0 read.1 cut.write cut.part
+
+pub returns-in_err-write_all-in-Err-Line : goal.returns-in_err-write_all-in-Err-Line
+returns-in_err-write_all-in-Err-Line g c =
+    let here = c.in-Err-Line in
+    let written = c.in_err-write_all-in-Err-Line.ensures in
+    let line = rw c.in-Err-Line.field-0-is at c.fault_text-line.ensures in
+    write_failed (run_job c.args.mode) _ _ _ _ _ c.fault_text-line.result.items _ _ (search rules)
+    (inr (record { number = here.number; fault = here.fault; first = rw c.in-Err-Line.field-0-is at c.in-Err-Line.ensures.refused; line = line })) c.as_slice.ensures.value written.failed written.part

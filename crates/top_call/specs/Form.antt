@@ -1,0 +1,35 @@
+-- Profile: the words of the program's command line, and what they ask for.
+use Rattle.std.specs.Prelude.{◌≡◌, ℕ, ◌<◌, ◌≤◌, ◌^◌, List, [], ◌∷◌, map, codes, String}
+use Rattle.std.specs.Fmt.{decimal}
+use Rattle.std.specs.Global.{Global}
+use Rattle.std.specs.String.{string_bytes}
+use Rattle.report_lines.specs.declared.mode.Mode.TheVariants.{Plain, Trace}
+use Rattle.top_call.specs.declared.forms.Form.{Form}
+use Rattle.top_call.specs.declared.forms.Form.TheVariants.{Decode, Run, Names, Gen}
+use Rattle.made_scenario.specs.Made.{most_made_tags}
+
+-- the bytes of each word
+abbrev pub texts : List (String Global) → List (List ℕ)
+texts words = map string_bytes words
+
+-- the one spelling of a form
+abbrev pub words_of : Form → List (List ℕ)
+words_of Decode = codes "decode" ∷ []
+words_of (Run Plain) = codes "run" ∷ []
+words_of (Run Trace) = codes "run" ∷ codes "trace" ∷ []
+words_of Names = codes "names" ∷ []
+words_of (Gen seed tags) = codes "gen" ∷ decimal seed ∷ decimal tags ∷ []
+
+-- the numbers of a form are in their ranges
+abbrev pub IsForm : Form → Type 0
+IsForm (Gen seed tags) = (seed < 2 ^ 64) × (tags ≤ most_made_tags)
+IsForm form = Unit {0}
+
+-- the words are the one spelling of the form
+pub record AskFor (words : List (List ℕ)) (form : Form) : Type 0 where
+  pub spelled : words ≡ words_of form
+  pub legal : IsForm form
+
+-- the words are the spelling of some form
+abbrev pub HasForm : List (List ℕ) → Type 0
+HasForm words = (form : Form) × AskFor words form

@@ -1,0 +1,8 @@
+pub mod Job
+pub mod words
+pub mod Form
+pub mod Jobs
+pub mod UnwrittenBytes
+pub mod Outcome
+pub mod Ending
+pub mod StatusNumber

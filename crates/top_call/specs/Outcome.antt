@@ -1,0 +1,110 @@
+-- Profile: what each status of the program says of the bytes that came in and of those that went out. A source
+-- may tell the bytes that it has left, and a sink those that were written; what is not told is left open.
+use Rattle.std.specs.Prelude.{◌≡◌, ℕ, ◌+◌, ◌≤◌, Bool, true, false, List, [], ◌++◌, length, Option, Result, Ok, Err, ◌⊎◌}
+use Rattle.air_io.specs.Flow.{Reads, Adds, AtEnd, FaultsRose}
+use Rattle.air_io.specs.declared.transfer.ReadEnd.{ReadEnd}
+use Rattle.air_io.specs.declared.transfer.ReadEnd.TheVariants as read_ends
+use Rattle.top_call.specs.Job.{Job, Defines}
+use Rattle.top_call.specs.declared.ending.Wrote.{Wrote}
+use Rattle.top_call.specs.declared.ending.Wrote.TheVariants.{Text, FaultLine}
+use Rattle.top_call.specs.declared.ending.WriteEnd.{WriteEnd}
+use Rattle.top_call.specs.declared.ending.WriteEnd.TheVariants as ends
+use Rattle.top_call.specs.declared.status.Status.{Status}
+use Rattle.top_call.specs.declared.status.Status.TheVariants.{Done, BadWords, BadInput, ReadFault, WriteFault, TooLong, OutOfMemory}
+
+-- how many bytes of input are read at most
+abbrev pub input_limit : ℕ
+input_limit = 16777216
+
+-- these bytes were read, within the limit, and then the source was at its end
+pub record ReadsAll (old new : Option (List ℕ)) (bytes : List ℕ) : Type 0 where
+  pub reads : Reads old new bytes
+  pub end : AtEnd new
+  pub limit : length bytes ≤ input_limit
+
+-- nothing was read
+pub record ReadsNothing (old new : Option (List ℕ)) (bytes : List ℕ) : Type 0 where
+  pub none : bytes ≡ []
+  pub same : new ≡ old
+
+-- the bytes are the input of a word that reads one or not, and were taken from what was left of the source
+abbrev pub TakesInput : (input : Bool) → (left left' : Option (List ℕ)) → List ℕ → Type 0
+TakesInput true left left' bytes = ReadsAll left left' bytes
+TakesInput false left left' bytes = ReadsNothing left left' bytes
+
+-- a text that T names was added whole
+pub record AddsWhole (T : List ℕ → Type 0) (written written' : Option (List ℕ)) : Type 0 where
+  pub text : List ℕ
+  pub named : T text
+  pub added : Adds written written' text
+
+-- a front of a text that T names was added
+pub record AddsFront (T : List ℕ → Type 0) (written written' : Option (List ℕ)) : Type 0 where
+  pub front : List ℕ
+  pub rest : List ℕ
+  pub named : T (front ++ rest)
+  pub added : Adds written written' front
+
+-- the word's input was taken, and a text that T names for it was added whole
+pub record WritesWhole (job : Job) (T : List ℕ → List ℕ → Type 0) (left left' written written' : Option (List ℕ)) : Type 0 where
+  pub bytes : List ℕ
+  pub taken : TakesInput job.input left left' bytes
+  pub adds : AddsWhole (T bytes) written written'
+
+-- the word's input was taken, and a front of its defined text was added
+pub record WritesFront (job : Job) (left left' written written' : Option (List ℕ)) : Type 0 where
+  pub bytes : List ℕ
+  pub taken : TakesInput job.input left left' bytes
+  pub adds : AddsFront (Defines job bytes) written written'
+
+-- no more than the limit was read
+pub record ReadsWithin (old new : Option (List ℕ)) : Type 0 where
+  pub bytes : List ℕ
+  pub reads : Reads old new bytes
+  pub within : length bytes ≤ input_limit
+
+-- more than the limit was read: one byte more
+pub record ReadsTooMuch (old new : Option (List ℕ)) : Type 0 where
+  pub bytes : List ℕ
+  pub reads : Reads old new bytes
+  pub over : length bytes ≡ input_limit + 1
+
+-- What the end of a word's writing for these bytes says: of what was written and is written, and of the count of the
+-- sink's faults before and after.
+abbrev pub EndsSo : Job → (bytes : List ℕ) → (written written' : Option (List ℕ)) → (writes writes' : ℕ) → Result Wrote WriteEnd → Type 0
+EndsSo job bytes written written' writes writes' (Ok Text) = AddsWhole (job.writes bytes) written written'
+EndsSo job bytes written written' writes writes' (Ok FaultLine) = AddsWhole (job.refuses bytes) written written'
+EndsSo job bytes written written' writes writes' (Err ends.Fault) = FaultsRose writes writes' × AddsFront (Defines job bytes) written written'
+EndsSo job bytes written written' writes writes' (Err ends.OutOfMemory) = (written' ≡ written) ⊎ AddsFront (Defines job bytes) written written'
+
+-- What a status says of a word: of what was left and is left of the source, of what was written and is written, of the
+-- two counts of faults before and after, and of the fact that the sink is untouched.
+abbrev pub Tells : Job → (left left' written written' : Option (List ℕ)) → (reads reads' writes writes' : ℕ) → (untouched : Type 0) → Status → Type 0
+Tells job left left' written written' reads reads' writes writes' untouched Done = WritesWhole job job.writes left left' written written'
+Tells job left left' written written' reads reads' writes writes' untouched BadInput = WritesWhole job job.refuses left left' written written'
+Tells job left left' written written' reads reads' writes writes' untouched ReadFault = FaultsRose reads reads' × ReadsWithin left left' × untouched
+Tells job left left' written written' reads reads' writes writes' untouched WriteFault = FaultsRose writes writes' × WritesFront job left left' written written'
+Tells job left left' written written' reads reads' writes writes' untouched TooLong = ReadsTooMuch left left' × untouched
+Tells job left left' written written' reads reads' writes writes' untouched OutOfMemory =
+    (ReadsWithin left left' × (written' ≡ written)) ⊎ WritesFront job left left' written written'
+Tells job left left' written written' reads reads' writes writes' untouched BadWords = ⊥
+
+-- the status of an end of the writing
+abbrev pub status_of : Result Wrote WriteEnd → Status
+status_of (Ok Text) = Done
+status_of (Ok FaultLine) = BadInput
+status_of (Err ends.Fault) = WriteFault
+status_of (Err ends.OutOfMemory) = OutOfMemory
+
+-- the status where a source was not read to its end
+abbrev pub unread_status : ReadEnd → Status
+unread_status read_ends.Fault = ReadFault
+unread_status read_ends.TooLong = TooLong
+unread_status read_ends.OutOfMemory = OutOfMemory
+
+-- the statuses that speak of an input don't come
+abbrev pub SpeaksOfNoInput : Status → Type 0
+SpeaksOfNoInput ReadFault = ⊥
+SpeaksOfNoInput TooLong = ⊥
+SpeaksOfNoInput BadInput = ⊥
+SpeaksOfNoInput status = Unit {0}

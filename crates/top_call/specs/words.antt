@@ -1,0 +1,5 @@
+-- What each word of the command line does.
+pub mod Decoded
+pub mod Reported
+pub mod Named
+pub mod Generated

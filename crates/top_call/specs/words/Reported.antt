@@ -1,0 +1,56 @@
+-- Profile: what `run` and `run trace` write for the bytes that they read. The whole input is read before a line is written.
+use Rattle.std.specs.Prelude.{◌≡◌, ℕ, true, List}
+use Rattle.scenario.specs.declared.values.Scenario.{Scenario}
+use Rattle.scenario.specs.declared.fault.Fault.{Fault}
+use Rattle.scenario.specs.Limits.{IsScenario, IsText}
+use Rattle.scenario.specs.ScenarioText.{scenario_text}
+use Rattle.scenario.specs.Faults.{IsFirstFault}
+use Rattle.scenario.specs.FaultWords.{fault_word}
+use Rattle.text_fields.specs.FaultLine.{fault_line}
+use Rattle.report_lines.specs.declared.mode.Mode.{Mode}
+use Rattle.runs.specs.CompleteRounds.{RoundsAreComplete}
+use Rattle.runs.specs.Headline.{Headline}
+use Rattle.runs.specs.Report.{report_of, report_text_of}
+use Rattle.runs.specs.ScenarioStart.{history, start_of}
+use Rattle.top_call.specs.Job.{Job}
+
+-- the text is the report of the scenario that the bytes spell
+pub record Reports (mode : Mode) (bytes text : List ℕ) : Type 0 where
+  pub scenario : Scenario
+  pub legal : IsScenario scenario
+  pub spelled : bytes ≡ scenario_text scenario
+  pub report : text ≡ report_text_of mode scenario
+
+-- the text is the fault line of bytes that spell no scenario
+pub record RefusesScenario (bytes text : List ℕ) : Type 0 where
+  pub number : ℕ
+  pub fault : Fault
+  pub first : IsFirstFault bytes number fault
+  pub line : text ≡ fault_line number (fault_word fault)
+
+-- the text is the report of the scenario that the bytes spell, and with its one history it says the headline
+pub record SaysHeadline (mode : Mode) (bytes text : List ℕ) : Type 0 where
+  pub reports : Reports mode bytes text
+  pub headline : Headline (start_of reports.scenario) reports.scenario.steps (history reports.scenario)
+      (report_of mode (start_of reports.scenario) reports.scenario.steps)
+
+-- the text is the report of the scenario that the bytes spell, and its honest rounds prove which tags each lists, and what it leaves of
+-- every tag
+pub record SaysInventory (mode : Mode) (bytes text : List ℕ) : Type 0 where
+  pub reports : Reports mode bytes text
+  pub rounds : RoundsAreComplete reports.scenario
+
+-- what a run proves of its report
+pub record ProvesRun (mode : Mode) (bytes text : List ℕ) : Type 0 where
+  pub headline : SaysHeadline mode bytes text
+  pub inventory : SaysInventory mode bytes text
+
+-- the report of the scenario that the bytes spell
+abbrev pub run_job : Mode → Job
+run_job mode = record {
+  input = true;
+  allows = IsText;
+  writes = Reports mode;
+  refuses = RefusesScenario;
+  promises = ProvesRun mode;
+}

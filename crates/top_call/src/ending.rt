@@ -1,0 +1,88 @@
+//! How the reading of an input and the writing of a word's text ended, and the status of that.
+ghost use Rattle.std.specs.Prelude.{◌≡◌, Result};
+ghost use Rattle.top_call.specs.Outcome.{status_of, unread_status};
+
+use crate::status::Status;
+use air_io::{ReadEnd, WriteFailed};
+use air_world::PlayFault;
+use std::alloc::AllocError;
+
+/// How many bytes of input are read at most.
+pub(crate) const MOST_INPUT_BYTES: u32 = 16_777_216;
+
+/// What was written whole.
+#[derive(Clone, Copy, Debug, PartialEq, Eq)]
+pub enum Wrote {
+    /// The text of an input that the grammar allows.
+    Text,
+    /// The one line that reports the first faulty line of the input.
+    FaultLine,
+}
+
+/// Why the defined text was not written whole.
+#[derive(Clone, Copy, Debug, PartialEq, Eq)]
+pub enum WriteEnd {
+    /// A write failed.
+    Fault,
+    /// There was no memory.
+    OutOfMemory,
+}
+
+impl From<WriteFailed> for WriteEnd {
+    ghost use Rattle.std.specs.Prelude.{◌≡◌};
+    ghost use Rattle.top_call.specs.declared.ending.WriteEnd.TheVariants.{Fault};
+
+    ghost from_gives = { λ _ end. end ≡ Fault };
+
+    fn from(_error: WriteFailed) -> WriteEnd {
+        WriteEnd::Fault
+    }
+}
+
+impl From<AllocError> for WriteEnd {
+    ghost use Rattle.std.specs.Prelude.{◌≡◌};
+    ghost use Rattle.top_call.specs.declared.ending.WriteEnd.TheVariants.{OutOfMemory};
+
+    ghost from_gives = { λ _ end. end ≡ OutOfMemory };
+
+    fn from(_error: AllocError) -> WriteEnd {
+        WriteEnd::OutOfMemory
+    }
+}
+
+impl From<PlayFault> for WriteEnd {
+    ghost use Rattle.std.specs.Prelude.{◌≡◌};
+    ghost use Rattle.top_call.specs.Ending.{end_of_play};
+
+    ghost from_gives = { λ fault end. end ≡ end_of_play fault };
+
+    fn from(fault: PlayFault) -> WriteEnd {
+        match fault {
+            PlayFault::Write => WriteEnd::Fault,
+            PlayFault::OutOfMemory => WriteEnd::OutOfMemory,
+        }
+    }
+}
+
+/// The status of an end of the writing.
+pub(crate) fn status_of(end: Result<Wrote, WriteEnd>) -> Status
+    ensures { result ≡ status_of end }
+{
+    match end {
+        Ok(Wrote::Text) => Status::Done,
+        Ok(Wrote::FaultLine) => Status::BadInput,
+        Err(WriteEnd::Fault) => Status::WriteFault,
+        Err(WriteEnd::OutOfMemory) => Status::OutOfMemory,
+    }
+}
+
+/// The status where a source was not read to its end.
+pub(crate) fn unread_status(end: ReadEnd) -> Status
+    ensures { result ≡ unread_status end }
+{
+    match end {
+        ReadEnd::Fault => Status::ReadFault,
+        ReadEnd::TooLong => Status::TooLong,
+        ReadEnd::OutOfMemory => Status::OutOfMemory,
+    }
+}

@@ -1,0 +1,84 @@
+//! What the words of the command line ask for.
+ghost use Rattle.std.specs.Prelude.{◌≡◌, ◌↔◌, ◌≤◌, ◌<◌, ◌^◌, ℕ, [], ◌∷◌, codes, IsTrue, IfSome, Some};
+ghost use Rattle.std.specs.Fmt.{decimal};
+ghost use Rattle.top_call.specs.declared.forms.Form.{Form};
+ghost use Rattle.top_call.specs.Form.{texts, AskFor};
+ghost use Rattle.made_scenario.specs.Made.{most_made_tags};
+
+use air_world::Mode;
+use itoa::Buffer;
+use made_scenario::MOST_MADE_TAGS;
+use text_fields::number;
+
+/// What the program is asked to do, by its words.
+#[derive(Clone, Copy, Debug, PartialEq, Eq)]
+pub enum Form {
+    /// The word `decode`: explain the captures of the input, line by line.
+    Decode,
+    /// The word `run`, and `trace` behind it for a trace: run the scenario of the input, and report.
+    Run(Mode),
+    /// The word `names`: copy lines, and add its name behind each line that has one.
+    Names,
+    /// The word `gen` and two numbers: make the scenario of a seed with so many tags, run it, and write its
+    /// summary. Nothing is read.
+    Gen {
+        /// The seed of the generator of random words.
+        seed: u64,
+        /// How many tags there are.
+        tags: u32,
+    },
+}
+
+/// Whether a word is the name.
+fn is_word(word: &str, name: &str) -> bool
+    ensures { IsTrue result ↔ (word.now ≡ name.now) }
+{
+    word == name
+}
+
+/// The seed that a word spells in decimal digits, without a sign and without leading zeros; none exactly
+/// where it spells no number of 64 bits.
+fn seed_of(word: &str) -> Option<u64>
+    ensures value { IfSome result (λ seed. (word.now ≡ decimal seed) × (seed < 2 ^ 64)) }
+    ensures only { (seed : ℕ) → seed < 2 ^ 64 → word.now ≡ decimal seed → result ≡ Some seed }
+{
+    let seed = word.parse::<u64>().ok()?;
+    let mut digits = Buffer::new();
+    // std reads a plus and leading zeros as well.
+    if is_word(digits.format(seed), word) {
+        Some(seed)
+    } else {
+        None
+    }
+}
+
+/// The form of a seed and a number of tags.
+fn made_form(seed: &str, tags: &str) -> Option<Form>
+    ensures found { IfSome result (AskFor (codes "gen" ∷ seed.now ∷ tags.now ∷ [])) }
+    ensures only { (number count : ℕ) → number < 2 ^ 64 → count ≤ most_made_tags → seed.now ≡ decimal number → tags.now ≡ decimal count
+        → result ≡ Some (Form.Gen number count) }
+{
+    Some(Form::Gen {
+        seed: seed_of(seed)?,
+        tags: number(tags.as_bytes(), MOST_MADE_TAGS)?,
+    })
+}
+
+/// The form of the words. None comes exactly where they are the spelling of no form.
+pub fn form_of(words: &[String]) -> Option<Form>
+    ensures found { IfSome result (AskFor (texts words.now)) }
+    ensures only { (form : Form) → AskFor (texts words.now) form → result ≡ Some form }
+{
+    match words {
+        [word] if is_word(word.as_str(), "decode") => Some(Form::Decode),
+        [word] if is_word(word.as_str(), "run") => Some(Form::Run(Mode::Plain)),
+        [word] if is_word(word.as_str(), "names") => Some(Form::Names),
+        [word, mode] if is_word(word.as_str(), "run") && is_word(mode.as_str(), "trace") => {
+            Some(Form::Run(Mode::Trace))
+        }
+        [word, seed, tags] if is_word(word.as_str(), "gen") => {
+            made_form(seed.as_str(), tags.as_str())
+        }
+        _ => None,
+    }
+}

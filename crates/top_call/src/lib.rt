@@ -1,0 +1,20 @@
+//! The top call of Siulanke: what the words of the command line ask for, read from a source and written to a sink.
+#![tactic(auto)]
+
+mod ending;
+mod forms;
+mod laws;
+mod program;
+mod status;
+mod words;
+
+pub use forms::{Form, form_of};
+pub use laws::{
+    forms_are_told_apart, grammatical_inputs_are_not_refused, inputs_have_one_text, jobs_are_lawful,
+};
+pub use program::{gen2run, gen2run_surely};
+pub use status::Status;
+pub use words::decode::decode_is_lawful;
+pub use words::generate::gen_is_lawful;
+pub use words::names::{names_are_lawful, names_inputs_have_a_text};
+pub use words::run::{run_inputs_have_a_text, run_is_lawful};

@@ -1,0 +1,56 @@
+//! The word `decode`: captures and bit strings, explained line by line.
+ghost use Rattle.std.specs.Prelude.{◌≡◌, ℕ, List, IfOk, IfErr};
+ghost use Rattle.std.specs.String.{string_bytes};
+ghost use Rattle.decode_lines.specs.DecodeLines.{Decodes, IsFirstFault};
+ghost use Rattle.top_call.specs.Job.{IsLawful};
+ghost use Rattle.top_call.specs.Outcome.{EndsSo, Tells};
+ghost use Rattle.top_call.specs.words.Decoded.{decode_job};
+
+use crate::ending::{MOST_INPUT_BYTES, WriteEnd, Wrote, status_of, unread_status};
+use crate::status::Status;
+use air_io::{Sink, Source, write_all};
+use decode_lines::{
+    DecodeFault, answer_source, decode_lines_are_not_faulty, decode_lines_have_one_text, fault_text,
+};
+use std::alloc::Global;
+
+/// Answers the lines of the input as they come, and then writes what is defined for it. Nothing is written
+/// before the input is read to its end.
+pub fn answer<I: Source, O: Sink>(alloc: Global, input: &mut I, output: &mut O) -> Status
+    ensures { Tells decode_job (I.left input.old) (I.left input.new) (O.written output.old) (O.written output.new)
+        (I.faults input.old) (I.faults input.new) (O.faults output.old) (O.faults output.new) (output.new ≡ output.old) result }
+{
+    match answer_source(alloc, input, MOST_INPUT_BYTES) {
+        Ok(answered) => status_of(write_answered(&answered, output)),
+        Err(end) => unread_status(end),
+    }
+}
+
+/// Writes the answers to the lines of an input, or the one line that reports its first faulty line.
+fn write_answered<O: Sink>(
+    answered: &Result<String, DecodeFault>,
+    output: &mut O,
+) -> Result<Wrote, WriteEnd>
+    ensures { (input : List ℕ) → IfOk answered.now (λ text. Decodes input (string_bytes text)) → IfErr answered.now (IsFirstFault input)
+        → EndsSo decode_job input (O.written output.old) (O.written output.new) (O.faults output.old) (O.faults output.new) result }
+{
+    match answered {
+        Ok(text) => {
+            write_all(output, text.as_bytes())?;
+            Ok(Wrote::Text)
+        }
+        Err(fault) => {
+            let line = fault_text(*fault);
+            write_all(output, line.as_slice())?;
+            Ok(Wrote::FaultLine)
+        }
+    }
+}
+
+/// An input has one text of answers or one fault line at most, and never both.
+pub fn decode_is_lawful()
+    ensures { IsLawful decode_job }
+{
+    decode_lines_have_one_text();
+    decode_lines_are_not_faulty();
+}

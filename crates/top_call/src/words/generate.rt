@@ -1,0 +1,97 @@
+//! The words `gen SEED TAGS`: the summary of a generated scenario.
+ghost use Rattle.std.specs.Prelude.{◌≡◌, ◌+◌, ◌≤◌, ℕ, [], ◌∷◌, ◌++◌, length};
+ghost use Rattle.std.specs.Fmt.{decimal};
+ghost use Rattle.top_call.specs.Job.{IsLawful};
+ghost use Rattle.top_call.specs.words.Generated.{end_line, summary_text, gen_job};
+ghost use Rattle.top_call.specs.Outcome.{EndsSo, SpeaksOfNoInput, Tells};
+ghost use Rattle.made_scenario.specs.Made.{most_made_tags};
+ghost use Rattle.text_fields.specs.Lines.{line_feed};
+
+use crate::ending::{WriteEnd, Wrote, status_of};
+use crate::status::Status;
+use air_io::{Sink, Source, write_all};
+use air_world::{Summary, summarise};
+use arrayvec::ArrayVec;
+use itoa::Buffer;
+use made_runs::quiet_made_runs_list_every_tag;
+use made_scenario::made_scenario;
+use std::alloc::Global;
+use text_fields::push_bytes;
+
+/// Makes the scenario of a seed with so many tags, runs it, and writes its summary. Nothing is read.
+pub fn answer<I: Source, O: Sink>(
+    alloc: Global,
+    seed: u64,
+    tags: u32,
+    _input: &mut I,
+    output: &mut O,
+) -> Status
+    requires { tags ≤ most_made_tags }
+    ensures tells { Tells (gen_job seed tags) (I.left _input.old) (I.left _input.new) (O.written output.old) (O.written output.new)
+        (I.faults _input.old) (I.faults _input.new) (O.faults output.old) (O.faults output.new) (output.new ≡ output.old) result }
+    ensures unread { (_input.new ≡ _input.old) × SpeaksOfNoInput result }
+{
+    status_of(write_summary(alloc, seed, tags, output))
+}
+
+/// Writes the summary of the run of the scenario of a seed.
+fn write_summary<O: Sink>(
+    alloc: Global,
+    seed: u64,
+    tags: u32,
+    output: &mut O,
+) -> Result<Wrote, WriteEnd>
+    requires { tags ≤ most_made_tags }
+    ensures { EndsSo (gen_job seed tags) [] (O.written output.old) (O.written output.new) (O.faults output.old) (O.faults output.new) result }
+{
+    let scenario = made_scenario(alloc, seed, tags)?;
+    let summary = summarise(alloc, &scenario)?;
+    let text = summary_text(&summary);
+    write_all(output, text.as_slice())?;
+    Ok(Wrote::Text)
+}
+
+/// The text of a summary, a line a count.
+fn summary_text(summary: &Summary) -> ArrayVec<u8, 144>
+    ensures { result.items ≡ summary_text summary.now }
+{
+    let mut text = ArrayVec::new();
+    push_count(&mut text, b"tags ", u64::from(summary.tags));
+    push_count(&mut text, b"listed ", summary.listed);
+    push_count(&mut text, b"distinct ", summary.distinct);
+    push_count(&mut text, b"slots ", summary.slots);
+    push_bytes(&mut text, end_line(summary.quiet));
+    push_bytes(&mut text, b"done\n");
+    text
+}
+
+/// Adds the line of a count to a text that has room for it.
+fn push_count<const N: usize>(text: &mut ArrayVec<u8, N>, name: &[u8], count: u64)
+    requires { length text.old.items + length name.now + 21 ≤ N }
+    ensures bytes { text.new.items ≡ text.old.items ++ (name.now ++ decimal count ++ line_feed ∷ []) }
+    ensures count { length text.new.items ≤ length text.old.items + length name.now + 21 }
+{
+    let mut digits = Buffer::new();
+    push_bytes(text, name);
+    push_bytes(text, digits.format(count).as_bytes());
+    push_bytes(text, b"\n");
+}
+
+/// The line that says how the rounds ended: each quiet, or one by its limit.
+fn end_line(quiet: bool) -> &'static [u8]
+    ensures line { result.now ≡ end_line quiet ++ line_feed ∷ [] }
+    ensures count { length result.now ≡ 10 }
+{
+    if quiet {
+        b"end quiet\n"
+    } else {
+        b"end limit\n"
+    }
+}
+
+/// A seed and a number of tags have one summary, which says that each tag was listed where it says `end quiet`.
+pub fn gen_is_lawful()
+    ensures { (seed tags : ℕ) → IsLawful (gen_job seed tags) }
+{
+    quiet_made_runs_list_every_tag();
+}

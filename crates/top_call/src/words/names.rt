@@ -1,0 +1,129 @@
+//! The word `names`: lines, each with its name behind it.
+ghost use Rattle.std.specs.Prelude.{◌≡◌, ℕ, ◌+◌, ◌≤◌, List, [], ◌∷◌, ◌++◌, length, OnOk, OnErr, IfSome, IfNone};
+ghost use Rattle.air_io.specs.Flow.{FaultsRose};
+ghost use Rattle.text_fields.specs.Lines.{line_feed, text_with};
+ghost use Rattle.report_lines.specs.Names.{BecomesLines};
+ghost use Rattle.sgtin_text.specs.SgtinText.{name_line};
+ghost use Rattle.top_call.specs.Job.{Defines, IsLawful};
+ghost use Rattle.top_call.specs.words.Named.{IsOfLines, AddsNames, IsCutAt, names_job};
+ghost use Rattle.top_call.specs.Outcome.{input_limit, AddsWhole, AddsFront, EndsSo, Tells};
+ghost use Rattle.top_call.specs.UnwrittenBytes.{Sends, Loses};
+
+use crate::ending::{MOST_INPUT_BYTES, WriteEnd, Wrote, status_of, unread_status};
+use crate::status::Status;
+use crate::words::page::Page;
+use air_io::{Sink, Source, WriteFailed, read_to_end, write_all};
+use arrayvec::ArrayVec;
+use epc_sgtin::{Sgtin, Uri};
+use report_lines::{lines_have_names, named};
+use std::alloc::Global;
+use text_fields::{fault_line, push_bytes, split_line};
+
+/// Reads the input to its end, and writes what is defined for it. The whole input is checked before a line is
+/// written.
+pub fn answer<I: Source, O: Sink>(alloc: Global, input: &mut I, output: &mut O) -> Status
+    ensures { Tells names_job (I.left input.old) (I.left input.new) (O.written output.old) (O.written output.new)
+        (I.faults input.old) (I.faults input.new) (O.faults output.old) (O.faults output.new) (output.new ≡ output.old) result }
+{
+    match read_to_end(alloc, input, MOST_INPUT_BYTES) {
+        Ok(bytes) => status_of(write_with_names(bytes.as_slice(), output)),
+        Err(end) => unread_status(end),
+    }
+}
+
+/// Writes what is defined for the bytes of an input: its lines, each with its name behind it, or the one line that
+/// reports that the last line has no line feed. It takes no memory.
+fn write_with_names<O: Sink>(input: &[u8], output: &mut O) -> Result<Wrote, WriteEnd>
+    requires { length input.now ≤ input_limit }
+    ensures { EndsSo names_job input.now (O.written output.old) (O.written output.new) (O.faults output.old) (O.faults output.new) result }
+{
+    match cut_line(input) {
+        None => {
+            write_named(input, output)?;
+            Ok(Wrote::Text)
+        }
+        Some(number) => {
+            let line = fault_line(number, "end");
+            write_all(output, line.as_slice())?;
+            Ok(Wrote::FaultLine)
+        }
+    }
+}
+
+/// The number of the last line, counted from 1, where it has no line feed; none exactly where each line has one.
+fn cut_line(input: &[u8]) -> Option<u32>
+    requires { length input.now ≤ input_limit }
+    ensures some { IfSome result (IsCutAt input.now) }
+    ensures none { IfNone result (IsOfLines input.now) }
+{
+    let mut rest = input;
+    let mut number = 1;
+    while let Some((_, behind)) = split_line(rest) {
+        rest = behind;
+        number += 1;
+    }
+    if rest.is_empty() { None } else { Some(number) }
+}
+
+/// Writes the lines of an input, each with its name behind it.
+fn write_named<O: Sink>(input: &[u8], output: &mut O) -> Result<(), WriteFailed>
+    requires { IsOfLines input.now }
+    ensures ok { OnOk result (AddsWhole (AddsNames input.now) (O.written output.old) (O.written output.new)) }
+    ensures failed { OnErr result (FaultsRose (O.faults output.old) (O.faults output.new)) }
+    ensures front { OnErr result (AddsFront (AddsNames input.now) (O.written output.old) (O.written output.new)) }
+{
+    // By this law each line that is left has a name or has none, so that there is a whole text.
+    lines_have_names();
+    let mut page = Page::new();
+    let mut rest = input;
+    while let Some((line, behind)) = split_line(rest) {
+        put_named(line, &mut page, output)?;
+        rest = behind;
+    }
+    page.flush(output)
+}
+
+/// Lets a line wait on the page, and its name behind it.
+fn put_named<O: Sink>(line: &[u8], page: &mut Page, output: &mut O) -> Result<(), WriteFailed>
+    ensures sent { OnOk result ((lines : List (List ℕ)) × BecomesLines line.now lines
+        × Sends (page.old ++ text_with lines) page.new (O.written output.old) (O.written output.new)) }
+    ensures failed { OnErr result (FaultsRose (O.faults output.old) (O.faults output.new)) }
+    ensures lost { OnErr result ((lines : List (List ℕ)) × BecomesLines line.now lines
+        × Loses (page.old ++ text_with lines) (O.written output.old) (O.written output.new)) }
+    ensures count { O.faults output.old ≤ O.faults output.new }
+{
+    match named(line) {
+        Some(sgtin) => {
+            let name = text_behind(&sgtin);
+            page.put_both(line, name.as_slice(), output)
+        }
+        None => page.put_both(line, b"\n", output),
+    }
+}
+
+/// What stands behind a line that has this name: its line feed, and the line of the name.
+fn text_behind(sgtin: &Sgtin) -> ArrayVec<u8, 67>
+    ensures { result.items ≡ line_feed ∷ name_line sgtin.now ++ line_feed ∷ [] }
+{
+    let mut uri = Uri::new();
+    sgtin.write_uri(&mut uri);
+    let mut text = ArrayVec::new();
+    push_bytes(&mut text, b"\nname ");
+    push_bytes(&mut text, uri.as_slice());
+    push_bytes(&mut text, b"\n");
+    text
+}
+
+/// An input has one text with its names or one fault line at most, and never both.
+pub fn names_are_lawful()
+    ensures { IsLawful names_job }
+{
+    lines_have_names();
+}
+
+/// Each list of bytes has a defined text under `names`: its lines with their names, or its fault line.
+pub fn names_inputs_have_a_text()
+    ensures { (bytes : List ℕ) → (text : List ℕ) × Defines names_job bytes text }
+{
+    lines_have_names();
+}

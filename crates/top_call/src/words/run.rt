@@ -1,0 +1,78 @@
+//! The words `run` and `run trace`: the report of a scenario.
+ghost use Rattle.std.specs.Prelude.{◌≡◌, ℕ, List};
+ghost use Rattle.report_lines.specs.declared.mode.Mode.{Mode};
+ghost use Rattle.top_call.specs.Job.{Defines, IsLawful};
+ghost use Rattle.top_call.specs.Outcome.{EndsSo, Tells};
+ghost use Rattle.top_call.specs.words.Reported.{run_job};
+
+use crate::ending::{MOST_INPUT_BYTES, WriteEnd, Wrote, status_of, unread_status};
+use crate::status::Status;
+use air_io::{Sink, Source, read_to_end, write_all};
+use air_world::{Mode, play, set_up};
+use runs::{headline, rounds_are_complete};
+use scenario::{
+    ScenarioFault, fault_text, read_scenario, scenario_texts_are_not_faulty,
+    scenarios_are_told_apart, texts_are_scenarios_or_faulty, texts_have_one_fault,
+};
+use std::alloc::Global;
+
+/// Reads the input to its end, and writes what is defined for it. The whole input is read before a line is written.
+pub fn answer<I: Source, O: Sink>(
+    alloc: Global,
+    mode: Mode,
+    input: &mut I,
+    output: &mut O,
+) -> Status
+    ensures { Tells (run_job mode) (I.left input.old) (I.left input.new) (O.written output.old) (O.written output.new)
+        (I.faults input.old) (I.faults input.new) (O.faults output.old) (O.faults output.new) (output.new ≡ output.old) result }
+{
+    match read_to_end(alloc, input, MOST_INPUT_BYTES) {
+        Ok(bytes) => status_of(write_report(alloc, mode, bytes.as_slice(), output)),
+        Err(end) => unread_status(end),
+    }
+}
+
+/// Writes what is defined for the bytes of an input: the report of the scenario that they spell, or the one
+/// line that reports the first faulty line.
+fn write_report<O: Sink>(
+    alloc: Global,
+    mode: Mode,
+    input: &[u8],
+    output: &mut O,
+) -> Result<Wrote, WriteEnd>
+    ensures { EndsSo (run_job mode) input.now (O.written output.old) (O.written output.new) (O.faults output.old) (O.faults output.new) result }
+{
+    match read_scenario(alloc, input) {
+        Ok(scenario) => {
+            let mut air = set_up(alloc, &scenario)?;
+            play(alloc, &scenario, &mut air, mode, output)?;
+            Ok(Wrote::Text)
+        }
+        Err(ScenarioFault::Line(number, fault)) => {
+            let line = fault_text(number, fault);
+            write_all(output, line.as_slice())?;
+            Ok(Wrote::FaultLine)
+        }
+        Err(ScenarioFault::OutOfMemory) => Err(WriteEnd::OutOfMemory),
+    }
+}
+
+/// An input has one report or one fault line at most, and never both; a report says its headline, and what its
+/// honest rounds prove.
+pub fn run_is_lawful()
+    ensures { (mode : Mode) → IsLawful (run_job mode) }
+{
+    scenarios_are_told_apart();
+    texts_have_one_fault();
+    scenario_texts_are_not_faulty();
+    headline();
+    rounds_are_complete();
+}
+
+/// Each list of bytes has a defined text under `run`, and one under `run trace`: the report of the scenario
+/// that it spells, or its fault line.
+pub fn run_inputs_have_a_text()
+    ensures { (mode : Mode) (bytes : List ℕ) → (text : List ℕ) × Defines (run_job mode) bytes text }
+{
+    texts_are_scenarios_or_faulty();
+}

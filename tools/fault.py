@@ -1,0 +1,245 @@
+#!/usr/bin/env python3
+"""Says of a faulty line what can be seen of it: fault.py FILE WORD 'fault LINE REASON'.
+
+FILE is the input, WORD the first word of the program. It prints the line, its form, and what the reason means there; of `number` the first
+field that isn't of its form. A field is named only where it surely is the faulty one: the program alone decides, and names the line.
+The forms are those of docs/FORMATS.md; checks/rows holds them against each row of the tables that has a fault, and each that has none.
+"""
+
+import re
+import sys
+
+NUMBER = "0|[1-9][0-9]*"
+WORD = "[0-9A-F]{4}"
+
+
+def number(least, most):
+    return f"a number from {least:,} to {most:,}, without leading zeros", lambda it: bool(re.fullmatch(NUMBER, it)) and len(it) < 20 and least <= int(it) <= most
+
+
+def one_of(*names):
+    return " or ".join([", ".join(names[:-1]), names[-1]] if len(names) > 1 else names), lambda it: it in names
+
+
+def digits(kind, least, most):
+    empty = ", or - for an empty list" if least == 0 else ""
+    said = f"{least} digits 0 and 1" if least == most else f"at most {most:,} digits 0 and 1{empty}"
+    return said, lambda it: (least == 0 and it == "-") or bool(re.fullmatch("[01]+", it)) and max(least, 1) <= len(it) <= most
+
+
+def words(least, most):
+    empty = ", or - for an empty list" if least == 0 else ""
+    said = f"{least} words" if least == most else f"{max(least, 1)} to {most} words"
+    said = "one word" if least == most == 1 else said
+    return (
+        f"{said} of four upper-case hexadecimal digits{empty}",
+        lambda it: (least == 0 and it == "-") or bool(re.fullmatch(f"({WORD})+", it)) and max(least, 1) * 4 <= len(it) <= most * 4,
+    )
+
+
+def matching(said, pattern):
+    return said, lambda it: bool(re.fullmatch(pattern, it))
+
+
+def expect(it):
+    count = re.fullmatch(f"words-({NUMBER})-{WORD}", it)
+    return it in ("rn16", "epc", "handle") or bool(re.fullmatch(f"(same|any|header)-{WORD}", it)) or bool(count) and len(count[1]) < 4 and 1 <= int(count[1]) <= 255
+
+
+ANY = "any text", lambda it: True
+FLAG = one_of("s1", "s2", "s3", "sl")
+LENGTH = number(0, 999_999)
+# What a field is, by its name; behind a form where it is another thing there.
+FIELDS = {
+    "TREXT": one_of("0", "1"),
+    "LEVELS": digits("levels", 0, 132_000),
+    "BITS": digits("bits", 0, 8_240),
+    "EXPECT": ("rn16, epc, handle, same-HHHH, words-N-HHHH, any-HHHH or header-HHHH", expect),
+    "CODE": one_of("fm0", "m2", "m4", "m8"),
+    "THRESHOLD": number(0, 255),
+    "PER": number(1, 64),
+    "HEX": ("1 to 132,000 bytes of two hexadecimal digits", lambda it: bool(re.fullmatch("([0-9A-Fa-f]{2})+", it)) and len(it) <= 264_000),
+    "INTERVALS": LENGTH,
+    "TEXT": ANY,
+    "TARI": LENGTH,
+    "RTCAL": LENGTH,
+    "TRCAL": LENGTH,
+    "PW": LENGTH,
+    "DR": one_of("0", "1"),
+    "KILL": words(2, 2),
+    "ACCESS": words(2, 2),
+    "LOCKS": digits("locks", 10, 10),
+    "EPC": words(1, 32),
+    "TID": words(2, 16),
+    "USER": words(0, 512),
+    "WORDS": words(1, 255),
+    "E": number(1, 1_000_000),
+    "TAG": number(0, 4_095),
+    "FLAG": FLAG,
+    "K": number(0, 4_095),
+    "P": LENGTH,
+    "TARGET": one_of("a", "b"),
+    "ACTION": number(0, 7),
+    "BANK": one_of("res", "epc", "tid", "user"),
+    "POINTER": number(0, 268_435_455),
+    "MASK": digits("mask", 0, 255),
+    "SEL": one_of("all", "nsl", "sl"),
+    "SESSION": number(0, 3),
+    "Q": number(0, 15),
+    "C": number(100, 500),
+    "LIMIT": number(1, 70_000),
+    "PTR": number(0, 268_435_455),
+    "COUNT": number(0, 255),
+    "WORD": words(1, 1),
+    "PAYLOAD": matching("five upper-case hexadecimal digits", "[0-9A-F]{5}"),
+    "PASSWORD": words(2, 2),
+    "only EPC": words(0, 31),
+    "sgtin WORDS": words(1, 31),
+    "tag WORDS": words(1, 256),
+    "select TARGET": one_of("s0", "s1", "s2", "s3", "sl"),
+    "select BANK": one_of("epc", "tid", "user"),
+    "op blockerase COUNT": number(1, 255),
+}
+EVENTS = ("timeout TAG", "off TAG", "on TAG", "expire FLAG TAG")
+FORMS = {
+    "decode": [
+        *(f"{code} TREXT LEVELS" for code in ("fm0", "m2", "m4", "m8")),
+        "pie INTERVALS",
+        "command BITS",
+        "reply EXPECT BITS",
+        "heard CODE TREXT EXPECT LEVELS",
+        "samples THRESHOLD PER HEX",
+        "sgtin WORDS",
+        "uri TEXT",
+    ],
+    "run": [
+        "gen2 1",
+        "link TARI RTCAL TRCAL PW DR CODE TREXT",
+        "tag KILL ACCESS LOCKS EPC TID USER WORDS",
+        *(f"air E {event}" for event in EVENTS),
+        "air E miss TAG",
+        "air E pick K",
+        "air E silent",
+        "air E break P",
+        "select TARGET ACTION BANK POINTER MASK",
+        "nak",
+        *(f"event {event}" for event in EVENTS),
+        "round SEL SESSION TARGET Q C LIMIT",
+        "only EPC",
+        "op read BANK PTR COUNT",
+        "op write BANK PTR WORD",
+        "op blockwrite BANK PTR WORDS",
+        "op blockerase BANK PTR COUNT",
+        "op lock PAYLOAD",
+        "op access PASSWORD",
+        "op kill PASSWORD",
+        "end",
+    ],
+}
+REASONS = {
+    "version": "the first line of a scenario is: gen2 1",
+    "limit": "it is one tag, air line, step or operation too many",
+    "tag": "there is no tag of this number",
+    "order": "its exchange has a lower number than the one before, or what is said of one exchange stands in the wrong order: events, misses, a choice",
+    "twice": "its exchange has a choice already",
+    "pc": "the length in PC, the first five bits of the EPC bank, passes the bank's end",
+    "tari": "TARI is 6,250 to 25,000",
+    "rtcal": "RTCAL is 2.5 to 3 TARI",
+    "trcal": "TRCAL is 1.1 to 3 RTCAL",
+    "pw": "PW is at least 2,000, and 0.265 to 0.525 TARI",
+    "extra": "nothing may stand behind the end line",
+}
+
+
+def is_name(part):
+    return part.isupper()
+
+
+def forms_of(line, word):
+    """Gives the forms that the line may be meant for, by its first field, and by its kind where it has one."""
+    fields = line.split(" ")
+    found = [it.split(" ") for it in FORMS.get(word, []) if it.split(" ")[0] == fields[0]]
+    for at in (1, 2):
+        kinds = [it for it in found if at < len(it) and not is_name(it[at])]
+        if kinds and at < len(fields):
+            found = [it for it in found if at < len(it) and it[at] == fields[at]] or found
+    return [" ".join(it) for it in found]
+
+
+def faulty_field(line, form):
+    """Gives the name of the first field that isn't of its form, with the field and what it has to be, or None."""
+    parts, fields = form.split(" "), line.split(" ")
+    begin = " ".join(it for it in parts if not is_name(it))
+    for at, field in enumerate(fields[1:], 1):
+        name = parts[min(at, len(parts) - 1)]
+        if is_name(name):
+            said, holds = FIELDS.get(f"{begin} {name}") or FIELDS.get(f"{parts[0]} {name}") or FIELDS[name]
+            if not holds(field):
+                return name, field, said
+    return None
+
+
+def shown(text, most=160):
+    """Gives a text as a terminal may show it, and the front of a long one."""
+    front = "".join(it if it.isprintable() else repr(it)[1:-1] for it in text[:most])
+    return front if len(text) <= most else f"{front}.. ({len(text):,} characters)"
+
+
+def spelled(form):
+    return form + " .." if form == "pie INTERVALS" else form
+
+
+def explanation(text, word, fault):
+    """Gives the lines that tell of a fault in a text, or none where the fault is not one."""
+    found = re.fullmatch(r"fault (\d+) (\w+)", fault.strip())
+    if not found:
+        return []
+    number_of_line, reason = int(found[1]), found[2]
+    lines = text.split("\n")
+    if number_of_line == len(lines) and not lines[-1] or number_of_line > len(lines):
+        return [f"line {number_of_line}: a line is needed here, and the input ends before it"]
+    line = lines[number_of_line - 1]
+    said = [f"line {number_of_line}: {shown(line)}" if line else f"line {number_of_line} is empty"]
+    forms = forms_of(line, word)
+    if reason in ("shape", "number", "tari", "rtcal", "trcal", "pw", "pc") and len(forms) == 1:
+        said.append(f"its form: {spelled(forms[0])}")
+    if reason == "number" and len(forms) == 1:
+        faulty = faulty_field(line, forms[0])
+        if faulty:
+            said.append(f"{faulty[0]} is {shown(faulty[1], 80)}, and has to be {faulty[2]}")
+            if faulty[1].endswith("\r"):
+                said.append("it ends with a carriage return, as lines of a Windows editor do: tr -d '\\r' takes them out")
+    elif reason == "shape":
+        fields = line.split(" ")
+        if "" in fields:
+            said.append("a field is empty: one space stands between two fields, and none before or behind the line")
+        elif len(forms) == 1:
+            said.append(f"it has {len(fields)} fields")
+        elif forms:
+            said.append("its forms: " + "; ".join(forms))
+    elif reason == "word":
+        first = line.split(" ")[0]
+        begins = list(dict.fromkeys(it.split(" ")[0] for it in FORMS.get(word, [])))
+        if first in begins and len(forms) > 1:
+            said.append("its forms: " + "; ".join(forms))
+        elif first in begins:
+            said.append(f"a line that begins with {first} may not stand here")
+        else:
+            said.append(f"a line begins with one of: {' '.join(begins)}")
+    elif reason == "end":
+        said.append("it has no line feed at its end")
+    elif reason in REASONS:
+        said.append(REASONS[reason])
+    return said
+
+
+def main():
+    path, word, fault = sys.argv[1:]
+    with open(path, "rb") as it:
+        text = it.read().decode("utf-8", errors="replace")
+    for line in explanation(text, word, fault):
+        print(f"gen2run: {line}")
+
+
+if __name__ == "__main__":
+    main()
