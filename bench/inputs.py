@@ -6,8 +6,11 @@ Of decode lines each line is as long as a line may be (or a whole reply), and ea
 good one, so that the decoder goes over all of it. `scenario` is a scenario without steps, with as many tags of full banks as
 fit, and `long` one whose first tag line is as long as fits, so that its last field is refused. `run` is a scenario that is
 played: 256 tags, and rounds in each of which every tag is listed; `slots` rounds with Q 15 that come to
-their limit of 70,000 slots. `operations` is one round of `run`, with operations on each tag.
-`names` is list lines, each of an SGTIN-96.
+their limit of 70,000 slots. `operations` is one round of `run`, with operations on each tag. `raw` is a
+scenario of raw streams, each of the longest reply, a Read's of 512 words in Miller 8 with a pilot; it is played, and each comes in place
+of a tag's reply. `names` is list lines, each of an SGTIN-96. `encode-KIND` is lines
+of that kind for `encode`, as long as they may be, whose output has at most SIZE bytes. `probe` is SIZE lines for one tag: rounds of commands
+that it answers.
 """
 
 import random
@@ -25,14 +28,14 @@ def fm0(bits):
     return PREAMBLE + "".join("1" if x else "0" for x in levels)
 
 
-def miller(m, bits):
+def miller(m, bits, trext=False):
     def half(phase):
         return "".join("1" if (place % 2 == 0) != phase else "0" for place in range(m))
 
     def symbol(start, middle):
         return half(start) + half(middle)
 
-    lead = symbol(False, False) * 4 + "".join(
+    lead = symbol(False, False) * (16 if trext else 4) + "".join(
         symbol(bool(a), bool(b)) for a, b in [(0, 0), (0, 1), (1, 1), (1, 0), (0, 1), (1, 0)]
     )
     before, phase, out = 1, False, [lead]
@@ -95,6 +98,46 @@ def line(kind, rng):
         filter_value, company = rng.randrange(8), rng.randrange(10**7)
         return f"uri urn:epc:tag:sgtin-96:{filter_value}.{company:07}.{rng.randrange(10**6):06}.{rng.randrange(1 << 38)}"
     sys.exit(f"no such kind of line: {kind}")
+
+
+def encode_line(kind, rng):
+    """Gives a line for `encode`, and how many bytes its output has."""
+    bits = digits([rng.randrange(2) for _ in range(8_240)])
+    if kind in ("fm0", "m2", "m4", "m8"):
+        bits = bits[:8_225]
+        levels = len(PREAMBLE) + 2 * 8_226 if kind == "fm0" else (20 + 2 * 8_226) * int(kind[1])
+        return f"{kind} 0 {bits}", len(f"{kind} 0 ") + levels
+    if kind == "pie":
+        return f"pie 12500 31250 50000 6250 sync {bits}", len("pie 12500 6250 6250 25000 6250") + 10 * 8_240 + bits.count("1")
+    if kind == "command":
+        return f"command blockwrite user 0 {words(255, rng)} A1B2", len("command ") + 8 + 2 + 8 + 8 + 16 * 256 + 16
+    if kind == "reply":
+        return f"reply any-A1B2 words {words(512, rng)}", len("reply any-A1B2 ") + 8_225
+    if kind == "heard":
+        return f"heard m4 0 any-A1B2 words {words(512, rng)}", len("heard m4 0 any-A1B2 ") + (20 + 2 * 8_226) * 4
+    sys.exit(f"no such kind of line: {kind}")
+
+
+def probe(count, rng):
+    """Lines for one tag, in rounds. It has four draw words: in each round a slot, an RN16, the handle and a cover."""
+    text = ["probe 1\n", f"tag 00000000 00000000 0000000000 08001234 E2000001 {words(8, rng)} 0000A1B2C3D41111\n"]
+    for number in range(count):
+        turn, place = divmod(number, 10)
+        text.append(
+            [
+                f"query 1 m4 0 00 0 {'ab'[turn % 2]} 0\n",
+                "ack A1B2\n",
+                "req_rn A1B2\n",
+                "read user 0 8 C3D4\n",
+                "req_rn C3D4\n",
+                f"write user 3 {words(1, rng)} C3D4\n",
+                f"blockwrite user 0 {words(8, rng)} C3D4\n",
+                "event timeout\n",
+                "bits 11000000\n" if turn % 100 == 99 else "bits 1100\n",
+                "queryrep 0\n",
+            ][place]
+        )
+    return "".join(text) + END
 
 
 HEAD = "gen2 1\nlink 12500 31250 50000 6250 1 m4 0\n"
@@ -208,21 +251,44 @@ def operations(count, rng):
     return "".join(text) + END
 
 
+READS = 32
+
+
+def raw(size, rng):
+    """Rounds in each of which one tag is listed and asked for all words of its User bank, which is short, 32 times; and for each of these reads
+    a raw stream of 512 words. The tag has three draw words: in each round a slot, an RN16 and the handle."""
+    tag = "tag 00000000 00000000 0000000000 08001234 E2000001 0007 0000A1B2C3D4\n"
+    rounds = "".join(f"round all 0 {'ab'[number % 2]} 0 300 1\n" + "op read user 0 0\n" * READS for number in range(4))
+    head, streams, left = HEAD.replace("m4 0", "m8 1") + tag, [], size - len(HEAD + tag + rounds + END)
+    for number in range(4 * READS):
+        # Before the reads of a round come its Query, ACK and Req_RN.
+        exchange = number // READS * (READS + 3) + number % READS + 4
+        levels = miller(8, reply([rng.randrange(65_536) for _ in range(512)], 0xC3D4), True)
+        line = f"air {exchange} raw {levels}\n"
+        if len(line) > left:
+            break
+        streams.append(line)
+        left -= len(line)
+    return head + "".join(streams) + rounds + END
+
+
 def main():
     kind, size = sys.argv[1], int(sys.argv[2])
     rng = random.Random(7)
-    whole = {"scenario": scenario, "long": long, "run": run, "slots": slots, "operations": operations, "names": names}
+    whole = {"scenario": scenario, "long": long, "run": run, "slots": slots, "operations": operations, "raw": raw, "names": names, "probe": probe}
     if kind in whole:
         sys.stdout.write(whole[kind](size, rng))
         return
-    lines = [line(kind, rng) + "\n" for _ in range(4)]
+    of_encode, kind = kind.startswith("encode-"), kind.replace("encode-", "")
+    made = [encode_line(kind, rng) if of_encode else (line(kind, rng), 0) for _ in range(4)]
     written = 0
     while True:
-        for text in lines:
-            if written + len(text) > size:
+        for text, output in made:
+            length = (output or len(text)) + 1
+            if written + length > size:
                 return
-            sys.stdout.write(text)
-            written += len(text)
+            sys.stdout.write(f"{text}\n")
+            written += length
 
 
 main()

@@ -23,7 +23,8 @@ def one_of(*names):
 
 def digits(kind, least, most):
     empty = ", or - for an empty list" if least == 0 else ""
-    said = f"{least} digits 0 and 1" if least == most else f"at most {most:,} digits 0 and 1{empty}"
+    front = f"{least} to {most:,}" if least else f"at most {most:,}"
+    said = f"{most if least == most else front} digits 0 and 1{empty}"
     return said, lambda it: (least == 0 and it == "-") or bool(re.fullmatch("[01]+", it)) and max(least, 1) <= len(it) <= most
 
 
@@ -91,15 +92,46 @@ FIELDS = {
     "PTR": number(0, 268_435_455),
     "COUNT": number(0, 255),
     "WORD": words(1, 1),
+    "S": number(0, 3),
+    "RN": words(1, 1),
+    "COVERED": words(1, 1),
+    "HHHH": words(1, 1),
+    "PC": words(1, 1),
+    "UPDN": one_of("up", "same", "down"),
+    "LEAD": one_of("sync", "preamble"),
+    "CC": matching("two upper-case hexadecimal digits", "[0-9A-F]{2}"),
     "PAYLOAD": matching("five upper-case hexadecimal digits", "[0-9A-F]{5}"),
     "PASSWORD": words(2, 2),
     "only EPC": words(0, 31),
+    "raw LEVELS": digits("levels", 1, 131_968),
     "sgtin WORDS": words(1, 31),
     "tag WORDS": words(1, 256),
     "select TARGET": one_of("s0", "s1", "s2", "s3", "sl"),
     "select BANK": one_of("epc", "tid", "user"),
-    "op blockerase COUNT": number(1, 255),
+    "blockerase COUNT": number(1, 255),
+    "query SEL": digits("SEL", 2, 2),
+    "epc EPC": words(0, 31),
+    "words WORDS": words(1, 512),
+    **{f"{code} BITS": digits("bits", 0, 8_225) for code in ("fm0", "m2", "m4", "m8")},
 }
+COMMANDS = (
+    "queryrep S",
+    "ack RN",
+    "query DR CODE TREXT SEL S TARGET Q",
+    "queryadjust S UPDN",
+    "select TARGET ACTION BANK POINTER MASK",
+    "nak",
+    "req_rn RN",
+    "read BANK PTR COUNT RN",
+    "write BANK PTR COVERED RN",
+    "kill COVERED RN",
+    "lock PAYLOAD RN",
+    "access COVERED RN",
+    "blockwrite BANK PTR WORDS RN",
+    "blockerase BANK PTR COUNT RN",
+)
+REPLIES = ("rn16 HHHH", "epc PC EPC", "handle HHHH", "words WORDS", "header", "error CC")
+TAG = "tag KILL ACCESS LOCKS EPC TID USER WORDS"
 EVENTS = ("timeout TAG", "off TAG", "on TAG", "expire FLAG TAG")
 FORMS = {
     "decode": [
@@ -112,15 +144,23 @@ FORMS = {
         "sgtin WORDS",
         "uri TEXT",
     ],
+    "encode": [
+        *(f"{code} TREXT BITS" for code in ("fm0", "m2", "m4", "m8")),
+        "pie TARI RTCAL TRCAL PW LEAD BITS",
+        *(f"command {command}" for command in COMMANDS),
+        *(f"reply EXPECT {reply}" for reply in REPLIES),
+        *(f"heard CODE TREXT EXPECT {reply}" for reply in REPLIES),
+    ],
     "run": [
         "gen2 1",
         "link TARI RTCAL TRCAL PW DR CODE TREXT",
-        "tag KILL ACCESS LOCKS EPC TID USER WORDS",
+        TAG,
         *(f"air E {event}" for event in EVENTS),
         "air E miss TAG",
         "air E pick K",
         "air E silent",
         "air E break P",
+        "air E raw LEVELS",
         "select TARGET ACTION BANK POINTER MASK",
         "nak",
         *(f"event {event}" for event in EVENTS),
@@ -137,7 +177,6 @@ FORMS = {
     ],
 }
 REASONS = {
-    "version": "the first line of a scenario is: gen2 1",
     "limit": "it is one tag, air line, step or operation too many",
     "tag": "there is no tag of this number",
     "order": "its exchange has a lower number than the one before, or what is said of one exchange stands in the wrong order: events, misses, a choice",
@@ -159,9 +198,9 @@ def forms_of(line, word):
     """Gives the forms that the line may be meant for, by its first field, and by its kind where it has one."""
     fields = line.split(" ")
     found = [it.split(" ") for it in FORMS.get(word, []) if it.split(" ")[0] == fields[0]]
-    for at in (1, 2):
+    for at in range(1, len(fields)):
         kinds = [it for it in found if at < len(it) and not is_name(it[at])]
-        if kinds and at < len(fields):
+        if kinds:
             found = [it for it in found if at < len(it) and it[at] == fields[at]] or found
     return [" ".join(it) for it in found]
 
@@ -173,7 +212,8 @@ def faulty_field(line, form):
     for at, field in enumerate(fields[1:], 1):
         name = parts[min(at, len(parts) - 1)]
         if is_name(name):
-            said, holds = FIELDS.get(f"{begin} {name}") or FIELDS.get(f"{parts[0]} {name}") or FIELDS[name]
+            kind = begin.split(" ")[-1]
+            said, holds = FIELDS.get(f"{begin} {name}") or FIELDS.get(f"{kind} {name}") or FIELDS.get(f"{parts[0]} {name}") or FIELDS[name]
             if not holds(field):
                 return name, field, said
     return None
@@ -226,6 +266,8 @@ def explanation(text, word, fault):
             said.append(f"a line that begins with {first} may not stand here")
         else:
             said.append(f"a line begins with one of: {' '.join(begins)}")
+    elif reason == "version":
+        said.append(f"the first line is: {FORMS[word][0]}")
     elif reason == "end":
         said.append("it has no line feed at its end")
     elif reason in REASONS:

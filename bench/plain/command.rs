@@ -23,7 +23,9 @@ impl Flag {
 /// Which tags a Query asks, by their SL flag.
 #[derive(Clone, Copy)]
 pub enum Sel {
+    /// All, by the code 00 and by the code 01.
     All,
+    All01,
     NotSl,
     Sl,
 }
@@ -157,6 +159,7 @@ fn encode_query(query: &Query, bits: &mut Vec<bool>) {
     bits.push(query.trext);
     let sel = match query.sel {
         Sel::All => 0b00,
+        Sel::All01 => 0b01,
         Sel::NotSl => 0b10,
         Sel::Sl => 0b11,
     };
@@ -175,9 +178,10 @@ fn decode_query(bits: &[bool]) -> Option<Query> {
         code: value_of(&body[5..7]),
         trext: body[7],
         sel: match value_of(&body[8..10]) {
+            0b00 => Sel::All,
+            0b01 => Sel::All01,
             0b10 => Sel::NotSl,
-            0b11 => Sel::Sl,
-            _ => Sel::All,
+            _ => Sel::Sl,
         },
         session: value_of(&body[10..12]) as u8,
         target: if body[12] { Flag::B } else { Flag::A },

@@ -1,9 +1,9 @@
 //! Explains captures line by line, as `gen2run decode` does: each line is read and answered in one pass.
 
 mod command;
-mod fields;
+pub mod fields;
 mod pie;
-mod reply;
+pub mod reply;
 mod samples;
 mod sgtin;
 

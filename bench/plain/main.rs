@@ -1,4 +1,4 @@
-//! Explains captures as `gen2run decode` does, plays scenarios as `gen2run run` and `gen2run run trace` do, names what was listed
+//! Explains captures as `gen2run decode` does and makes them as `gen2run encode` does, probes a tag as `gen2run probe` does, plays scenarios as `gen2run run` and `gen2run run trace` do, names what was listed
 //! as `gen2run names` does, and summarises generated scenarios as `gen2run gen` does, in plain Rust and unproved, so that the time
 //! of the proved program can be compared with it. It does the same work: in a run each command is encoded as a frame and decoded,
 //! and each reply that the channel gives is encoded as a stream of levels and decoded.
@@ -7,6 +7,7 @@ mod access;
 mod bits;
 mod command;
 mod decode;
+mod encode;
 mod generated;
 mod line_code;
 mod locks;
@@ -14,6 +15,7 @@ mod memory;
 mod names;
 mod operation;
 mod pie;
+mod probe;
 mod scenario;
 mod tag;
 mod world;
@@ -38,7 +40,15 @@ fn main() -> ExitCode {
             Err(_) => ExitCode::from(4),
         };
     }
-    if !matches!(words[..], ["run"] | ["run", "trace"] | ["names"]) {
+    if words == ["encode"] {
+        let mut input = Vec::new();
+        return match io::stdin().read_to_end(&mut input).map(|_| encode::lines(&input)) {
+            Ok(Ok(lines)) => write(&lines, ExitCode::SUCCESS),
+            Ok(Err(fault)) => write(fault.as_bytes(), ExitCode::from(3)),
+            Err(_) => ExitCode::from(4),
+        };
+    }
+    if !matches!(words[..], ["run"] | ["run", "trace"] | ["names"] | ["probe"]) {
         return ExitCode::from(2);
     }
     let mut text = String::new();
@@ -47,6 +57,8 @@ fn main() -> ExitCode {
     }
     let result = if words == ["names"] {
         names::add_names(&text).map_err(|line| format!("fault {line} end\n"))
+    } else if words == ["probe"] {
+        probe::answers(&text).map_err(|line| format!("fault {line}\n"))
     } else {
         let trace = words.len() == 2;
         scenario::read(&text)

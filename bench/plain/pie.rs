@@ -10,6 +10,24 @@ pub struct Timing {
     pub pw: u32,
 }
 
+impl Timing {
+    /// The name of the first length that is out of its range (6.3.1.2.3, 6.3.1.2.8).
+    pub fn first_out_of_range(&self) -> Option<&'static str> {
+        let Timing { tari, rtcal, trcal, pw } = *self;
+        if !(6_250..=25_000).contains(&tari) {
+            Some("tari")
+        } else if 2 * rtcal < 5 * tari || rtcal > 3 * tari {
+            Some("rtcal")
+        } else if 10 * trcal < 11 * rtcal || trcal > 3 * rtcal {
+            Some("trcal")
+        } else if pw < 2_000 || 1_000 * pw < 265 * tari || 1_000 * pw > 525 * tari {
+            Some("pw")
+        } else {
+            None
+        }
+    }
+}
+
 const DELIMITER: u32 = 12_500;
 
 /// Writes the frame of the bits: delimiter, data-0, RTcal, TRcal where there is a preamble, and the bits.

@@ -4,6 +4,7 @@ use std::collections::BTreeMap;
 
 use crate::access::{Password, Place};
 use crate::command::{Bank, Flag, Sel, Select, Target};
+use crate::decode::fields::read_bits;
 use crate::line_code::{Code, LineCode};
 use crate::locks::Locks;
 use crate::memory::Memory;
@@ -18,12 +19,16 @@ pub struct Link {
     pub trext: bool,
 }
 
+/// The most levels of a raw stream, as many as the longest reply has in Miller 8 with a pilot.
+const MOST_LEVELS: usize = 131_968;
+
 /// What the channel does with the replies of an exchange.
-#[derive(Clone, Copy)]
 pub enum Choice {
     Pick(usize),
     Silent,
     Break(usize),
+    /// These levels come, whether or not a tag replies.
+    Raw(Vec<bool>),
 }
 
 /// What the scenario says of one exchange.
@@ -149,6 +154,7 @@ impl Scenario {
             ["pick", place] => entry.choice = Some(Choice::Pick(place.parse().ok()?)),
             ["silent"] => entry.choice = Some(Choice::Silent),
             ["break", place] => entry.choice = Some(Choice::Break(place.parse().ok()?)),
+            ["raw", levels] => entry.choice = Some(Choice::Raw(read_levels(levels)?)),
             _ => entry.events.push(self.read_event(fields)?),
         }
         self.air.insert(number.parse().ok()?, entry);
@@ -193,7 +199,13 @@ fn read_words(field: &str) -> Option<Vec<u16>> {
         .collect()
 }
 
-fn read_tag(fields: &[&str]) -> Option<Tag> {
+fn read_levels(field: &str) -> Option<Vec<bool>> {
+    let mut levels = Vec::new();
+    read_bits(field.as_bytes(), MOST_LEVELS, &mut levels).ok()?;
+    (!levels.is_empty()).then_some(levels)
+}
+
+pub fn read_tag(fields: &[&str]) -> Option<Tag> {
     let [kill, access, locks, epc, tid, user, draws] = fields else {
         return None;
     };

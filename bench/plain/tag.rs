@@ -8,20 +8,20 @@ use crate::memory::{Memory, Refusal};
 /// The session and Q of the round that a tag takes part in.
 #[derive(Clone, Copy)]
 pub struct Round {
-    session: u8,
-    q: u8,
+    pub session: u8,
+    pub q: u8,
 }
 
 /// What a tag holds in open and in secured.
 #[derive(Clone, Copy)]
 pub struct Held {
-    round: Round,
+    pub round: Round,
     pub secured: bool,
-    handle: u16,
+    pub handle: u16,
     /// What covers the next word or half of a password.
-    cover: Option<u16>,
+    pub cover: Option<u16>,
     /// The upper half of a password, where it came and the lower one is awaited.
-    half: Option<(Password, u16)>,
+    pub half: Option<(Password, u16)>,
 }
 
 #[derive(Clone, Copy)]
@@ -157,7 +157,7 @@ impl Tag {
             _ => {}
         }
         let selected = match query.sel {
-            Sel::All => true,
+            Sel::All | Sel::All01 => true,
             Sel::NotSl => !self.sl,
             Sel::Sl => self.sl,
         };

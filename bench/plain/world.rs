@@ -9,7 +9,7 @@ use crate::command::{Change, Command, Flag, Query};
 use crate::operation::{ask_number, operate, read_reply};
 use crate::operation::{Answer, Await, Exchange, Failure, Operations, Outcome};
 use crate::pie;
-use crate::scenario::{Choice, Entry, Round, Scenario, Step};
+use crate::scenario::{Choice, Round, Scenario, Step};
 use crate::tag::{Reply, State, Tag};
 
 /// What the interrogator makes of an exchange. The bits of a whole reply stand in `World::received`.
@@ -125,7 +125,7 @@ impl World {
             self.scenario.tags[tag].befall(event);
         }
         self.send(command, &entry.missed);
-        let gave = self.propagate(&entry);
+        let gave = self.propagate(entry.choice);
         if self.trace {
             self.write_exchange(gave);
         }
@@ -169,9 +169,13 @@ impl World {
     }
 
     /// Writes the levels that the channel gives of the replies, and answers whether it gives any.
-    fn propagate(&mut self, entry: &Entry) -> bool {
+    fn propagate(&mut self, choice: Option<Choice>) -> bool {
         let several = self.replies.len() > 1;
-        let (reply, broken) = match entry.choice {
+        let (reply, broken) = match choice {
+            Some(Choice::Raw(levels)) => {
+                self.levels = levels;
+                return true;
+            }
             None => (self.replies.first(), several.then_some(0)),
             Some(Choice::Pick(place)) => (self.replies.get(place), None),
             Some(Choice::Silent) => (None, None),
@@ -199,8 +203,10 @@ impl World {
             frame += 1;
             match heard {
                 Heard::Silence => q_fp = q_fp.saturating_sub(round.step),
-                Heard::Refused => q_fp = (q_fp + round.step).min(15_000),
-                Heard::Whole => self.acknowledge(number, slots, operations),
+                Heard::Whole if self.received.len() == 16 => {
+                    self.acknowledge(number, slots, operations);
+                }
+                Heard::Whole | Heard::Refused => q_fp = (q_fp + round.step).min(15_000),
             }
             all_silent &= heard == Heard::Silence;
             let whole_frame = frame == 1 << q;
@@ -369,25 +375,32 @@ fn write_outcome(report: &mut String, outcome: &Outcome) {
     report.push('\n');
 }
 
-fn write_tag(report: &mut String, number: usize, tag: &Tag) {
-    let state = match tag.state {
-        State::Off => "off",
-        State::Killed => "killed",
-        State::Ready => "ready",
-        State::Arbitrate { .. } => "arbitrate",
-        State::Reply { .. } => "reply",
-        State::Acknowledged { .. } => "acknowledged",
-        State::Held(held) if held.secured => "secured",
-        State::Held(_) => "open",
-    };
-    write!(report, "tag {number} {state} ").unwrap();
+/// Writes the name of the tag's state, and its flags.
+pub fn write_state_and_flags(report: &mut String, tag: &Tag) {
+    report.push_str(match tag.state {
+        State::Off => "off ",
+        State::Killed => "killed ",
+        State::Ready => "ready ",
+        State::Arbitrate { .. } => "arbitrate ",
+        State::Reply { .. } => "reply ",
+        State::Acknowledged { .. } => "acknowledged ",
+        State::Held(held) if held.secured => "secured ",
+        State::Held(_) => "open ",
+    });
     report.extend(
         tag.flags
             .iter()
             .map(|&flag| if flag == Flag::A { 'A' } else { 'B' }),
     );
+    report.push(if tag.sl { '1' } else { '0' });
+}
+
+/// Writes the line of a tag, as it is in the end.
+pub fn write_tag(report: &mut String, number: usize, tag: &Tag) {
+    write!(report, "tag {number} ").unwrap();
+    write_state_and_flags(report, tag);
     let memory = &tag.memory;
-    write!(report, "{} {}", u32::from(tag.sl), memory.locks).unwrap();
+    write!(report, " {}", memory.locks).unwrap();
     for bank in [&memory.reserved, &memory.epc, &memory.tid, &memory.user] {
         report.push(' ');
         push_words(report, bank);

@@ -11,9 +11,14 @@ pub struct Fields<'a> {
 }
 
 impl<'a> Fields<'a> {
+    /// All fields of a line.
+    pub fn new(line: &'a [u8]) -> Fields<'a> {
+        Fields { rest: Some(line) }
+    }
+
     /// The first field of a line, and the fields behind it.
     pub fn of_line(line: &'a [u8]) -> (&'a [u8], Fields<'a>) {
-        let mut fields = Fields { rest: Some(line) };
+        let mut fields = Fields::new(line);
         let first = fields.next().unwrap_or_default();
         (first, fields)
     }
@@ -30,6 +35,13 @@ impl<'a> Fields<'a> {
             return Err(Fault::Shape);
         }
         Ok(fields)
+    }
+}
+
+impl Fields<'_> {
+    /// Nothing, where no field is left.
+    pub fn end(self) -> Result<(), Fault> {
+        self.rest.map_or(Ok(()), |_| Err(Fault::Shape))
     }
 }
 

@@ -5,6 +5,7 @@ use Rattle.air_events.specs.declared.Entry.{Entry}
 use Rattle.air_events.specs.declared.Event.{Event}
 use Rattle.air_events.specs.declared.Several.{Several}
 use Rattle.command_grammar.specs.declared.commands.Command.{Command}
+use Rattle.pie_line.specs.Link.{LinkValue}
 use Rattle.tag_machine.specs.Answers.{Outcome}
 use Rattle.tag_machine.specs.TagValue.{TagValue}
 use Rattle.air_channel.proofs.TagsAtRest.{length-befallen}
@@ -60,7 +61,7 @@ pub record ChangedAir (old : AirValue) (command : Command) (entry : Entry) (outc
   pub heard_all : tags ≡ tags_after outcomes
   pub wave : frame ≡ wave_for old.link command
   pub stands : RepliesStandFor (replies_from 0 outcomes) kept
-  pub gives : (replies : List Replied) → RepliesStandFor replies kept → stream ≡ heard_levels old.link (given_of replies entry.choice old.several)
+  pub gives : (replies : List Replied) → RepliesStandFor replies kept → stream ≡ heard_levels old.link (given_of old.link replies entry.choice old.several)
   pub counts : exchanges ≡ next_exchange old.exchanges
 
 -- the steps of an exchange make the air after it
@@ -71,18 +72,18 @@ pub exchange_air : (old : AirValue) (command : Command) (entry : Entry) (is : Ex
 exchange_air old command entry is new =
     let outcomes = outcomes_are old.tags command entry is in
     let tags_are : new.tags ≡ tags_after (outcomes_in command entry old.tags) = new.heard_all ∙ ap (λ (l : List Outcome). tags_after l) outcomes in
-    let stream_is : new.stream ≡ heard_levels old.link (given_in old.several command entry old.tags) =
+    let stream_is : new.stream ≡ heard_levels old.link (given_in old.link old.several command entry old.tags) =
     new.gives (replies_from 0 (hearing_from 0 is.heard entry is.befallen)) new.stands
-    ∙ ap (λ (l : List Outcome). heard_levels old.link (given_of (replies_from 0 l) entry.choice old.several)) outcomes in
+    ∙ ap (λ (l : List Outcome). heard_levels old.link (given_of old.link (replies_from 0 l) entry.choice old.several)) outcomes in
     let count_is : new.kept.count ≡ length (replies_in command entry old.tags) = new.stands.count_is ∙ ap (λ (l : List Outcome). length (replies_from 0 l)) outcomes in
     rw (tags_are, new.wave, stream_is, count_is, new.counts) refl
 
-pub exchange_got : (several : Several) (old : List TagValue) (command : Command) (entry : Entry) (is : Exchanged old command entry) (kept : KeptReplies) (got : Got)
+pub exchange_got : (link : LinkValue) (several : Several) (old : List TagValue) (command : Command) (entry : Entry) (is : Exchanged old command entry) (kept : KeptReplies) (got : Got)
     → RepliesStandFor (replies_from 0 (hearing_from 0 is.heard entry is.befallen)) kept
-    → ((replies : List Replied) → RepliesStandFor replies kept → got ≡ got_of (given_of replies entry.choice several)) → got ≡ got_of (given_in several command entry old)
-exchange_got several old command entry is kept got stands gives =
+    → ((replies : List Replied) → RepliesStandFor replies kept → got ≡ got_of (given_of link replies entry.choice several)) → got ≡ got_of (given_in link several command entry old)
+exchange_got link several old command entry is kept got stands gives =
     let outcomes = outcomes_are old command entry is in
-    gives (replies_from 0 (hearing_from 0 is.heard entry is.befallen)) stands ∙ ap (λ (l : List Outcome). got_of (given_of (replies_from 0 l) entry.choice several)) outcomes
+    gives (replies_from 0 (hearing_from 0 is.heard entry is.befallen)) stands ∙ ap (λ (l : List Outcome). got_of (given_of link (replies_from 0 l) entry.choice several)) outcomes
 
 -- the numbers of steps: before the exchange, behind the events, and at its end
 pub record ExchangeSteps (events : List (Event × ℕ)) : Type 0 where

@@ -211,19 +211,38 @@ back_same participations now number seated between same back =
     back ∙ ap (λ (s : Option Participation). set seated number (tag_seated s (get_or seated number no_tag))) same
 
 -- the next tag is put where it takes part
-pub each_settled : (participations now after : List (Option Participation)) (number : ℕ) (seated between : List TagValue) (new : TagValue) (participation : Option Participation) → SettledBelow seated number now
-    → number < length seated → between ≡ seats_written_back participations number seated → participation ≡ participation_in new.state → after ≡ set now number participation
-    → SettledBelow (set between number new) (number + 1) after
-each_settled participations now after number seated between new participation so_far within back is put =
+pub record PutNext (participations now : List (Option Participation)) (number : ℕ) (seated : List TagValue) : Type 0 where
+  -- the seats when the slot counter was written back
+  pub between : List TagValue
+  pub new : TagValue
+  pub participation : Option Participation
+  pub after : List (Option Participation)
+  pub within : number < length seated
+  pub back : between ≡ seats_written_back participations number seated
+  pub is : participation ≡ participation_in new.state
+  pub put : after ≡ set now number participation
+
+pub each_settled : (participations now : List (Option Participation)) (number : ℕ) (seated : List TagValue) → SettledBelow seated number now → (next : PutNext participations now number seated)
+    → SettledBelow (set next.between number next.new) (number + 1) next.after
+each_settled participations now number seated so_far next =
     let written : TagValue = tag_seated (participation_at participations number) (get_or seated number no_tag) in
-    let long : length between ≡ length seated = ap (λ (l : List TagValue). length l) back ∙ length-set seated number written in
-    settled_next seated (set between number new) number now after participation new so_far within (length-set between number new ∙ long)
-    (get_or-set_same between number new no_tag (rw long within))
-    (λ other apart.
-    get_or-set_other between number other new no_tag apart
-    ∙ ap (λ (l : List TagValue). get_or l other no_tag) back
-    ∙ get_or-set_other seated number other written no_tag apart)
-    is put
+    let long : length next.between ≡ length seated = ap (λ (l : List TagValue). length l) next.back ∙ length-set seated number written in
+    settled_next seated number now so_far
+    (record {
+      became = set next.between number next.new;
+      after = next.after;
+      participation = next.participation;
+      seat = next.new;
+      within = next.within;
+      long = length-set next.between number next.new ∙ long;
+      at = get_or-set_same next.between number next.new no_tag (rw long next.within);
+      others = λ other apart.
+          get_or-set_other next.between number other next.new no_tag apart
+          ∙ ap (λ (l : List TagValue). get_or l other no_tag) next.back
+          ∙ get_or-set_other seated number other written no_tag apart;
+      is = next.is;
+      put = next.put;
+    })
 
 -- the tags behind it take part as before
 pub left_by_put : (participations now after : List (Option Participation)) (number : ℕ) (participation : Option Participation) → after ≡ set now number participation

@@ -73,25 +73,38 @@ pub called_most : (participations : List (Option Participation)) → called_in p
 called_most [] = omega arith
 called_most (participation ∷ participations) = omega (arith, one_called participation, called_most participations)
 
-pub call_tags : (participations called : List (Option Participation)) (seats seated : List TagValue) (number steps stepped : ℕ) → length participations ≡ length seats → number < length seats
-    → seated ≡ seats_written_back participations number seats → called ≡ set participations number (Some Called) → stepped ≤ steps + steps_back (participation_at participations number)
-    → (AreLegalTags seats → AreLegalTags seated) → CallsTags participations seats steps called seated stepped
-call_tags participations called seats seated number steps stepped same within back is counts legal =
+-- what is known where a tag is called
+pub record CallsOne (participations : List (Option Participation)) (seats : List TagValue) (steps : ℕ) : Type 0 where
+  pub number : ℕ
+  pub called : List (Option Participation)
+  pub seated : List TagValue
+  pub stepped : ℕ
+  pub whole : length participations ≡ length seats
+  pub within : number < length seats
+  pub back : seated ≡ seats_written_back participations number seats
+  pub is : called ≡ set participations number (Some Called)
+  pub counts : stepped ≤ steps + steps_back (participation_at participations number)
+  pub legal : AreLegalTags seats → AreLegalTags seated
+
+pub call_tags : (participations : List (Option Participation)) (seats : List TagValue) (steps : ℕ) (one : CallsOne participations seats steps)
+    → CallsTags participations seats steps one.called one.seated one.stepped
+call_tags participations seats steps one =
+    let number = one.number in
     let seat : TagValue = tag_seated (participation_at participations number) (get_or seats number no_tag) in
-    let room : number < length participations = rw same within in
+    let room : number < length participations = rw one.whole one.within in
     record {
       tags =
-          ap (λ (l : List (Option Participation)). tags_of l seated) is
-          ∙ ap (λ (l : List TagValue). tags_of (set participations number (Some Called)) l) back
-          ∙ tags-set participations seats number (Some Called) seat same
-          ∙ ap (λ (t : TagValue). set (tags_of participations seats) number t) (sym (tag_at participations seats number no_tag same within))
+          ap (λ (l : List (Option Participation)). tags_of l one.seated) one.is
+          ∙ ap (λ (l : List TagValue). tags_of (set participations number (Some Called)) l) one.back
+          ∙ tags-set participations seats number (Some Called) seat one.whole
+          ∙ ap (λ (t : TagValue). set (tags_of participations seats) number t) (sym (tag_at participations seats number no_tag one.whole one.within))
           ∙ set-get_or (tags_of participations seats) number no_tag;
-      whole = ap (λ (l : List (Option Participation)). length l) is ∙ length-set participations number (Some Called);
-      seats_whole = ap (λ (l : List TagValue). length l) back ∙ length-set seats number seat;
+      whole = ap (λ (l : List (Option Participation)). length l) one.is ∙ length-set participations number (Some Called);
+      seats_whole = ap (λ (l : List TagValue). length l) one.back ∙ length-set seats number seat;
       counted =
-          rw (ap (λ (l : List (Option Participation)). called_in l) is)
-          (omega (arith, called_in-set participations number room, back_and_called (participation_at participations number), counts));
-      legal = legal;
+          rw (ap (λ (l : List (Option Participation)). called_in l) one.is)
+          (omega (arith, called_in-set participations number room, back_and_called (participation_at participations number), one.counts));
+      legal = one.legal;
     }
 
 no_participation : (participation : Participation) → None ≡ Some participation → ⊥
@@ -105,13 +118,14 @@ participation_inside participations number participation is =
       | inr past ↦ absurd (no_participation participation (sym (get_or_past participations number None past) ∙ is))
     ]
 
--- The tags that miss a QueryRep are called, one after another.
+-- The tags that miss a QueryRep are called, one after another: so far those of the first names of an entry that wait in its session.
+abbrev pub IsMissedBelow : ℕ → Entry → ℕ → ℕ → Option Participation → Option Participation → Type 0
+IsMissedBelow session entry index number before after =
+    ((after ≡ before) × ((k : ℕ) → k < index → get_or entry.missed k 0 ≡ number → waits_in session before ≡ false)) ⊎ ((after ≡ Some Called) × (is_missed number entry ≡ true))
+
 pub record MissedBelow (session : ℕ) (entry : Entry) (participations : List (Option Participation)) (seats : List TagValue) (steps index : ℕ) (called : List (Option Participation)) (seated : List TagValue) (stepped : ℕ) : Type 0 where
   pub calls : CallsTags participations seats steps called seated stepped
-  pub each :
-      (number : ℕ)
-      → ((participation_at called number ≡ participation_at participations number) × ((k : ℕ) → k < index → get_or entry.missed k 0 ≡ number → waits_in session (participation_at participations number) ≡ false))
-      ⊎ ((participation_at called number ≡ Some Called) × (is_missed number entry ≡ true))
+  pub each : (number : ℕ) → IsMissedBelow session entry index number (participation_at participations number) (participation_at called number)
 
 missed_index : (number : ℕ) (missed : List ℕ) → list_any (λ tag. tag == number) missed ≡ true → (k : ℕ) × (k < length missed) × (get_or missed k 0 ≡ number)
 missed_index number [] any = cc
@@ -123,20 +137,16 @@ missed_index number (tag ∷ missed) any =
           (suc rest.0, omega (arith, rest.1), rest.2)
     ]
 
-pub missed_all : (session : ℕ) (entry : Entry) (participations called : List (Option Participation)) (seats seated : List TagValue) (steps stepped index : ℕ)
-    → MissedBelow session entry participations seats steps index called seated stepped → length entry.missed ≤ index
-    → (number : ℕ) → IsMissedCalled session (is_missed number entry) (participation_at participations number) (participation_at called number)
-missed_all session entry participations called seats seated steps stepped index so_far past number =
-    elim (so_far.each number) [
-      | inl waits ↦
-          inl (
-            waits.0,
-            λ misses.
-                let found = missed_index number entry.missed misses in
-                waits.1 found.0 (omega (arith, found.1, past)) found.2,
-          )
-      | inr there ↦ inr there
-    ]
+pub missed_all : (session : ℕ) (entry : Entry) (index number : ℕ) (before after : Option Participation) → IsMissedBelow session entry index number before after → length entry.missed ≤ index
+    → IsMissedCalled session (is_missed number entry) before after
+missed_all session entry index number before after (inl waits) past =
+    inl (
+      waits.0,
+      λ misses.
+          let found = missed_index number entry.missed misses in
+          waits.1 found.0 (omega (arith, found.1, past)) found.2,
+    )
+missed_all session entry index number before after (inr there) past = inr there
 
 -- The tags whose slot comes next are called, one after another.
 pub record DueSoFar (session : ℕ) (participations : List (Option Participation)) (seats : List TagValue) (steps : ℕ) (called : List (Option Participation)) (seated : List TagValue) (stepped : ℕ) : Type 0 where

@@ -10,7 +10,7 @@ use Rattle.air_channel.specs.declared.waiting.Participation.TheVariants.{Waits, 
 use Rattle.air_channel.specs.TagSets.{bit_of, IsIn, IsNextIn}
 use Rattle.air_channel.specs.Wheel.{place_of, IsTagOn}
 use Rattle.air_channel.proofs.WheelLinks.{stands_inside}
-use Rattle.air_channel.specs.Waiting.{participation_at, IsLegalParticipation, IsNextCalled, IsDue, counted_down, called_place, slot_place, slot_behind, slot_in, participation_there, participation_on, participations_on, AreBases, AreCalled, AreSlots}
+use Rattle.air_channel.specs.Waiting.{participation_at, IsNextCalled, IsDue, counted_down, called_place, slot_place, slot_behind, slot_in, participation_there, participation_on, participations_on, AreBases, AreCalled, AreSlots}
 
 -- the participation of the tag on a place
 pub participation_of_place : (bases : List ℕ) (places : List (Option ℕ)) (number : ℕ) → participation_at (participations_on bases places) number ≡ participation_on bases (place_of places number)
@@ -85,49 +85,43 @@ counted_places bases session (None ∷ places) are within = ap (λ (l : List (Op
 counted_places bases session (Some place ∷ places) are within =
     rw (counted_place bases session place are within, counted_places bases session places are within) refl
 
--- the calls of a waiting list
-pub counted_all : (bases : List ℕ) (places : List (Option ℕ)) (now : List (Option Participation)) (session at raised : ℕ) → AreBases bases → participations_on bases places ≡ now → at ≡ session → session ≤ 3
-    → raised ≡ (get_or bases at 0 + 1) % 32768 → participations_on (set bases at raised) places ≡ map (counted_down session) now
-counted_all bases places now session at raised are same here few is =
-    ap (λ n. participations_on (set bases n raised) places) here
-    ∙ ap (λ n. participations_on (set bases session n) places) (is ∙ ap (λ n. (get_or bases n 0 + 1) % 32768) here)
-    ∙ counted_places bases session places are (omega (arith, are.count, few))
-    ∙ ap (λ (l : List (Option Participation)). map (counted_down session) l) same
+-- The calls of a waiting list. Tags that take part so stand on places behind these bases.
+pub record OnPlaces (participations : List (Option Participation)) : Type 0 where
+  pub bases : List ℕ
+  pub places : List (Option ℕ)
+  pub are : AreBases bases
+  pub same : participations_on bases places ≡ participations
 
-pub put_waits : (bases : List ℕ) (places after : List (Option ℕ)) (now : List (Option Participation)) (number session slot place : ℕ) → AreBases bases → participations_on bases places ≡ now
-    → session ≤ 3 → slot < 32768 → place ≡ slot_place (get_or bases session 0) session slot → after ≡ set places number (Some place)
-    → participations_on bases after ≡ set now number (Some (Waits session slot))
-put_waits bases places after now number session slot place are same few range there put =
-    ap (λ (l : List (Option ℕ)). participations_on bases l) (put ∙ ap (λ n. set places number (Some n)) there)
-    ∙ participations-set bases places number (Some (slot_place (get_or bases session 0) session slot))
-    ∙ ap (λ (s : Option Participation). set (participations_on bases places) number s) (waits_there bases (get_or bases session 0) session slot are refl few range)
-    ∙ ap (λ (l : List (Option Participation)). set l number (Some (Waits session slot))) same
+pub counted_all : (participations : List (Option Participation)) (on : OnPlaces participations) (session at raised : ℕ) → at ≡ session → session ≤ 3
+    → raised ≡ (get_or on.bases at 0 + 1) % 32768 → participations_on (set on.bases at raised) on.places ≡ map (counted_down session) participations
+counted_all participations on session at raised here few is =
+    ap (λ n. participations_on (set on.bases n raised) on.places) here
+    ∙ ap (λ n. participations_on (set on.bases session n) on.places) (is ∙ ap (λ n. (get_or on.bases n 0 + 1) % 32768) here)
+    ∙ counted_places on.bases session on.places on.are (omega (arith, on.are.count, few))
+    ∙ ap (λ (l : List (Option Participation)). map (counted_down session) l) on.same
 
-pub put_called : (bases : List ℕ) (places after : List (Option ℕ)) (now : List (Option Participation)) (number : ℕ) → participations_on bases places ≡ now → after ≡ set places number (Some called_place)
-    → participations_on bases after ≡ set now number (Some Called)
-put_called bases places after now number same put =
-    ap (λ (l : List (Option ℕ)). participations_on bases l) put
-    ∙ participations-set bases places number (Some called_place)
-    ∙ ap (λ (l : List (Option Participation)). set l number (Some Called)) same
+pub put_waits : (participations : List (Option Participation)) (on : OnPlaces participations) (after : List (Option ℕ)) (number session slot : ℕ) → session ≤ 3 → slot < 32768
+    → after ≡ set on.places number (Some (slot_place (get_or on.bases session 0) session slot))
+    → participations_on on.bases after ≡ set participations number (Some (Waits session slot))
+put_waits participations on after number session slot few range put =
+    ap (λ (l : List (Option ℕ)). participations_on on.bases l) put
+    ∙ participations-set on.bases on.places number (Some (slot_place (get_or on.bases session 0) session slot))
+    ∙ ap (λ (s : Option Participation). set (participations_on on.bases on.places) number s) (waits_there on.bases (get_or on.bases session 0) session slot on.are refl few range)
+    ∙ ap (λ (l : List (Option Participation)). set l number (Some (Waits session slot))) on.same
 
-pub put_none : (bases : List ℕ) (places after : List (Option ℕ)) (now : List (Option Participation)) (number : ℕ) → participations_on bases places ≡ now → after ≡ set places number None
-    → participations_on bases after ≡ set now number None
-put_none bases places after now number same put =
-    ap (λ (l : List (Option ℕ)). participations_on bases l) put
-    ∙ participations-set bases places number None
-    ∙ ap (λ (l : List (Option Participation)). set l number None) same
+pub put_called : (participations : List (Option Participation)) (on : OnPlaces participations) (after : List (Option ℕ)) (number : ℕ) → after ≡ set on.places number (Some called_place)
+    → participations_on on.bases after ≡ set participations number (Some Called)
+put_called participations on after number put =
+    ap (λ (l : List (Option ℕ)). participations_on on.bases l) put
+    ∙ participations-set on.bases on.places number (Some called_place)
+    ∙ ap (λ (l : List (Option Participation)). set l number (Some Called)) on.same
 
-pub put_waiting : (bases : List ℕ) (places after : List (Option ℕ)) (now : List (Option Participation)) (number session slot place : ℕ) (participation : Participation)
-    → AreBases bases → participations_on bases places ≡ now → participation ≡ Waits session slot → IsLegalParticipation (Some participation)
-    → place ≡ slot_place (get_or bases session 0) session slot → after ≡ set places number (Some place) → participations_on bases after ≡ set now number (Some participation)
-put_waiting bases places after now number session slot place participation are same is legal there put =
-    let range : IsLegalParticipation (Some (Waits session slot)) = subst (λ (s : Participation). IsLegalParticipation (Some s)) is legal in
-    put_waits bases places after now number session slot place are same range.0 range.1 there put ∙ ap (λ (s : Participation). set now number (Some s)) (sym is)
-
-pub put_calling : (bases : List ℕ) (places after : List (Option ℕ)) (now : List (Option Participation)) (number : ℕ) (participation : Participation)
-    → participations_on bases places ≡ now → participation ≡ Called → after ≡ set places number (Some called_place) → participations_on bases after ≡ set now number (Some participation)
-put_calling bases places after now number participation same is put =
-    put_called bases places after now number same put ∙ ap (λ (s : Participation). set now number (Some s)) (sym is)
+pub put_none : (participations : List (Option Participation)) (on : OnPlaces participations) (after : List (Option ℕ)) (number : ℕ) → after ≡ set on.places number None
+    → participations_on on.bases after ≡ set participations number None
+put_none participations on after number put =
+    ap (λ (l : List (Option ℕ)). participations_on on.bases l) put
+    ∙ participations-set on.bases on.places number None
+    ∙ ap (λ (l : List (Option Participation)). set l number None) on.same
 
 pub length-participations : (bases : List ℕ) (places : List (Option ℕ)) (now : List (Option Participation)) → participations_on bases places ≡ now → length places ≡ length now
 length-participations bases places now same = sym (length-map places (λ place. participation_on bases place)) ∙ ap (λ (l : List (Option Participation)). length l) same
@@ -154,16 +148,15 @@ place_of_slot bases place session slot are is =
           omega (arith, same.0, counter, are.each session)
     ]
 
-not_due : (bases : List ℕ) (places : List (Option ℕ)) (session place number : ℕ) (stands : Option ℕ) → AreBases bases → place ≡ slot_place (get_or bases session 0) session 1
-    → IsTagOn places place None → place_of places number ≡ stands → participation_on bases stands ≢ Some (Waits session 1)
-not_due bases places session place number None are there none is = λ same. cc
-not_due bases places session place number (Some own) are there none is = λ same.
-    none number (is ∙ ap (λ n. Some n) (place_of_slot bases own session 1 are same ∙ sym there))
+not_due : (bases : List ℕ) (places : List (Option ℕ)) (session number : ℕ) (stands : Option ℕ) → AreBases bases → IsTagOn places (slot_place (get_or bases session 0) session 1) None
+    → place_of places number ≡ stands → participation_on bases stands ≢ Some (Waits session 1)
+not_due bases places session number None are none is = λ same. cc
+not_due bases places session number (Some own) are none is = λ same. none number (is ∙ ap (λ n. Some n) (place_of_slot bases own session 1 are same))
 
 pub due_there : (bases : List ℕ) (places : List (Option ℕ)) (session place : ℕ) (found : Option ℕ) → AreBases bases → session ≤ 3
     → place ≡ slot_place (get_or bases session 0) session 1 → IsTagOn places place found → IsDue (participations_on bases places) session found
 due_there bases places session place None are few there none = λ number waits.
-    not_due bases places session place number (place_of places number) are there none refl (sym (participation_of_place bases places number) ∙ waits)
+    not_due bases places session number (place_of places number) are (subst (λ p. IsTagOn places p None) there none) refl (sym (participation_of_place bases places number) ∙ waits)
 due_there bases places session place (Some due) are few there next =
     participation_of_place bases places due ∙ ap (λ p. participation_on bases p) (next ∙ ap (λ n. Some n) there) ∙ waits_there bases (get_or bases session 0) session 1 are refl few (omega arith)
 

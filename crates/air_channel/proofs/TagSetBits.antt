@@ -1,7 +1,7 @@
 -- The bits that the words of a set have for numbers.
 use Rattle.std.proofs.Common.{◌≡◌, ◌≢◌, ℕ, ◌+◌, ◌*◌, ◌/◌, ◌%◌, ◌^◌, ◌<◌, ◌≤◌, ◌==◌, ◌-◌, ◌↔◌, zero, suc, Bool, true, false, ◌||◌, List, [], ◌∷◌, length, Some, None, get_or, set, replicate, bit_and, bit_or, refl, sym, ap, ◌∙◌, arith, min, inl, inr}
 use Rattle.std.specs.Int.{bit_at, bit_not, trailing_zeros, w64}
-use Rattle.std.specs.List.{list_any, All}
+use Rattle.std.specs.List.{list_any}
 use Rattle.std.proofs.lemmas.Bool.{cases_lt, eq-eqb}
 use Rattle.std.proofs.lemmas.Bool.Decides.{eqb_tells}
 use Rattle.std.proofs.lemmas.List.{get_or-set_same, get_or-set_other, get_or_past, get_or-replicate, length-replicate, length-set}
@@ -117,15 +117,6 @@ pub emptied_set : (filled : ℕ) (words : List ℕ) (number word : ℕ) → (len
     → (length (set words (number / 64) word) * 64 ≡ most_tags) × IsFilled (without_bit filled (number / 64)) (set words (number / 64) word)
 emptied_set filled words number word is small none =
     (omega (arith, length-set words (number / 64) word, is.0), emptied_filled filled words number word is.1 is.0 small none)
-
-pub left_set : (filled : ℕ) (words : List ℕ) (number word : ℕ) → (length words * 64 ≡ most_tags) × IsFilled filled words → number < most_tags → word ≡ get_or words (number / 64) 0
-    → without_bit word (number % 64) ≢ 0
-    → (length (set words (number / 64) (without_bit word (number % 64))) * 64 ≡ most_tags) × IsFilled filled (set words (number / 64) (without_bit word (number % 64)))
-left_set filled words number word is small was some = (
-  omega (arith, length-set words (number / 64) (without_bit word (number % 64)), is.0),
-  removed_filled filled words number (without_bit word (number % 64)) is.1 is.0 small some
-      (λ none. some (ap (λ n. without_bit n (number % 64)) (was ∙ none) ∙ and_zero_l (bit_not w64 (1 * 2 ^ (number % 64) % 2 ^ 64)))),
-)
 
 -- the least place from one on at which a word has a 1: the bits below that one are masked
 masked : (word from bit : ℕ) → from ≤ bit → bit < 64 → bit_at (bit_and word (2 ^ 64 - 2 ^ from)) bit ≡ bit_at word bit
@@ -278,37 +269,6 @@ pub emptied_none : (words numbers : List ℕ) → IsSetOf words numbers → Empt
 emptied_none words numbers is = record {
   left = λ number one. let found = number_index number numbers ((is number).0 one) in (found.0, omega arith, found.1, found.2);
 }
-
-pub emptied_more : (words after numbers : List ℕ) (index number : ℕ) → EmptiedBelow words numbers index → number ≡ get_or numbers index 0 → bit_of after number ≡ 0
-    → ((other : ℕ) → other ≢ number → bit_of after other ≡ bit_of words other) → EmptiedBelow after numbers (index + 1)
-emptied_more words after numbers index number so_far is out others = record {
-  left = λ other one.
-      elim (eqb_tells other number) [
-        | inl same ↦ absurd (one_not_zero (bit_of after other) one (ap (λ n. bit_of after n) same.1 ∙ out))
-        | inr apart ↦
-            let found = so_far.left other (sym (others other apart.1) ∙ one) in
-            elim (eqb_tells found.0 index) [
-              | inl here ↦ absurd (apart.1 (sym found.3 ∙ ap (λ n. get_or numbers n 0) here.1 ∙ sym is))
-              | inr further ↦ (found.0, omega (arith, found.1, further.1), found.2, found.3)
-            ]
-      ];
-}
-
-pub emptied_all : (words numbers : List ℕ) (index : ℕ) → EmptiedBelow words numbers index → length numbers ≤ index → HasNone words
-emptied_all words numbers index so_far past = λ number.
-    elim (cases_lt (bit_of words number) 1) [
-      | inl less ↦ omega (arith, less)
-      | inr more ↦
-          let low = bit_at-lt (get_or words (number / 64) 0) (number % 64) in
-          let found = so_far.left number (omega (arith, more, low)) in
-          absurd (omega (arith, found.1, found.2, past))
-    ]
-
--- a number among small ones is small
-pub small_at : (items numbers : List ℕ) (index : ℕ) → items ≡ numbers → All (λ number. number < most_tags) numbers → index < length items → get_or items index 0 < most_tags
-small_at items numbers index same all within =
-    let below : get_or numbers index 0 < most_tags = all index 0 (rw (← same) within) in
-    omega (arith, ap (λ (l : List ℕ). get_or l index 0) same, below)
 
 pub same_true : (left right : Bool) → (left ≡ true → right ≡ true) → (right ≡ true → left ≡ true) → left ≡ right
 same_true true right there back = sym (there refl)

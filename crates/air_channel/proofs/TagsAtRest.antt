@@ -41,7 +41,14 @@ back_tags participations seats number same within =
     ∙ set-get_or (tags_of participations seats) number no_tag
 
 -- what is known once it is
-pub record WrittenBack (participations : List (Option Participation)) (items slice new : List TagValue) (number len : ℕ) : Type 0 where
+pub record WrittenBack : Type 0 where
+  pub participations : List (Option Participation)
+  -- the seats, those that were written to, and those afterwards
+  pub items : List TagValue
+  pub slice : List TagValue
+  pub new : List TagValue
+  pub number : ℕ
+  pub len : ℕ
   pub rest : AreAtRest participations items
   pub within : number < length items
   pub slice_is : slice ≡ items
@@ -49,33 +56,30 @@ pub record WrittenBack (participations : List (Option Participation)) (items sli
   pub legal : AreLegalTags slice → AreLegalTags new
   pub len_is : length items ≡ len
 
-back_is : (participations : List (Option Participation)) (items slice new : List TagValue) (number len : ℕ) → WrittenBack participations items slice new number len
-    → take len (new ++ drop (length new) items) ≡ seats_written_back participations number items
-back_is participations items slice new number len back =
-    let written : new ≡ seats_written_back participations number items = back.new_is ∙ ap (λ (l : List TagValue). seats_written_back participations number l) back.slice_is in
-    refilled len new items
-    (ap (λ (l : List TagValue). length l) written ∙ length-set items number (tag_seated (participation_at participations number) (get_or items number no_tag)) ∙ back.len_is)
+back_is : (back : WrittenBack) → take back.len (back.new ++ drop (length back.new) back.items) ≡ seats_written_back back.participations back.number back.items
+back_is back =
+    let written : back.new ≡ seats_written_back back.participations back.number back.items = back.new_is ∙ ap (λ (l : List TagValue). seats_written_back back.participations back.number l) back.slice_is in
+    refilled back.len back.new back.items
+    (ap (λ (l : List TagValue). length l) written ∙ length-set back.items back.number (tag_seated (participation_at back.participations back.number) (get_or back.items back.number no_tag)) ∙ back.len_is)
     ∙ written
 
-pub back_kept : (participations : List (Option Participation)) (items slice new : List TagValue) (number len : ℕ) → WrittenBack participations items slice new number len
-    → tags_of participations (take len (new ++ drop (length new) items)) ≡ tags_of participations items
-back_kept participations items slice new number len back =
-    ap (λ (l : List TagValue). tags_of participations l) (back_is participations items slice new number len back) ∙ back_tags participations items number back.rest.whole back.within
+pub back_kept : (back : WrittenBack) → tags_of back.participations (take back.len (back.new ++ drop (length back.new) back.items)) ≡ tags_of back.participations back.items
+back_kept back =
+    ap (λ (l : List TagValue). tags_of back.participations l) (back_is back) ∙ back_tags back.participations back.items back.number back.rest.whole back.within
 
-pub back_rest : (participations : List (Option Participation)) (items slice new : List TagValue) (number len : ℕ) → WrittenBack participations items slice new number len
-    → AreAtRest participations (take len (new ++ drop (length new) items))
-back_rest participations items slice new number len back =
-    let written : new ≡ seats_written_back participations number items = back.new_is ∙ ap (λ (l : List TagValue). seats_written_back participations number l) back.slice_is in
-    let seat : TagValue = tag_seated (participation_at participations number) (get_or items number no_tag) in
-    let legal : AreLegalTags (seats_written_back participations number items) =
+pub back_rest : (back : WrittenBack) → AreAtRest back.participations (take back.len (back.new ++ drop (length back.new) back.items))
+back_rest back =
+    let written : back.new ≡ seats_written_back back.participations back.number back.items = back.new_is ∙ ap (λ (l : List TagValue). seats_written_back back.participations back.number l) back.slice_is in
+    let seat : TagValue = tag_seated (participation_at back.participations back.number) (get_or back.items back.number no_tag) in
+    let legal : AreLegalTags (seats_written_back back.participations back.number back.items) =
     subst (λ (l : List TagValue). AreLegalTags l) written (back.legal (subst (λ (l : List TagValue). AreLegalTags l) (sym back.slice_is) back.rest.legal)) in
-    subst (λ (l : List TagValue). AreAtRest participations l) (sym (back_is participations items slice new number len back))
+    subst (λ (l : List TagValue). AreAtRest back.participations l) (sym (back_is back))
     (record {
-      few = rw (length-set items number seat) back.rest.few;
-      whole = back.rest.whole ∙ sym (length-set items number seat);
+      few = rw (length-set back.items back.number seat) back.rest.few;
+      whole = back.rest.whole ∙ sym (length-set back.items back.number seat);
       legal = legal;
       slots = back.rest.slots;
-      settled = back.rest.settled ∙ ap (λ (l : List TagValue). participations_of l) (sym (back_tags participations items number back.rest.whole back.within));
+      settled = back.rest.settled ∙ ap (λ (l : List TagValue). participations_of l) (sym (back_tags back.participations back.items back.number back.rest.whole back.within));
     })
 
 slice_at : (tags : List TagValue) (number : ℕ) (d : TagValue) → number < length tags → slice_get tags number ≡ Some (get_or tags number d)
@@ -83,15 +87,14 @@ slice_at [] number d within = absurd (omega (arith, within))
 slice_at (tag ∷ tags) zero d within = refl
 slice_at (tag ∷ tags) (suc number) d within = slice_at tags number d (omega (arith, within))
 
-pub back_lent : (participations : List (Option Participation)) (items slice new : List TagValue) (number len : ℕ) (lent d : TagValue) → WrittenBack participations items slice new number len
-    → lent ≡ get_or (take len (new ++ drop (length new) items)) number d → slice_get (tags_of participations items) number ≡ Some lent
-back_lent participations items slice new number len lent d back is =
-    let seat : TagValue = tag_seated (participation_at participations number) (get_or items number no_tag) in
-    let inside : number < length (tags_of participations items) = rw (length-tags_of participations items back.rest.whole) back.within in
+pub back_lent : (back : WrittenBack) (lent d : TagValue) → lent ≡ get_or (take back.len (back.new ++ drop (length back.new) back.items)) back.number d → slice_get (tags_of back.participations back.items) back.number ≡ Some lent
+back_lent back lent d is =
+    let seat : TagValue = tag_seated (participation_at back.participations back.number) (get_or back.items back.number no_tag) in
+    let inside : back.number < length (tags_of back.participations back.items) = rw (length-tags_of back.participations back.items back.rest.whole) back.within in
     let seated : lent ≡ seat =
-    is ∙ ap (λ (l : List TagValue). get_or l number d) (back_is participations items slice new number len back) ∙ get_or-set_same items number seat d back.within in
-    slice_at (tags_of participations items) number no_tag inside
-    ∙ ap (λ (t : TagValue). Some t) (tag_at participations items number no_tag back.rest.whole back.within ∙ sym seated)
+    is ∙ ap (λ (l : List TagValue). get_or l back.number d) (back_is back) ∙ get_or-set_same back.items back.number seat d back.within in
+    slice_at (tags_of back.participations back.items) back.number no_tag inside
+    ∙ ap (λ (t : TagValue). Some t) (tag_at back.participations back.items back.number no_tag back.rest.whole back.within ∙ sym seated)
 
 pub back_steps : (participation : Option Participation) → steps_back participation ≤ 1
 back_steps participation = omega (arith, back_and_called participation)
@@ -102,80 +105,93 @@ set_twice [] number first second = refl
 set_twice (item ∷ list) zero first second = refl
 set_twice (item ∷ list) (suc number) first second = ap (λ (l : List (Option Participation)). item ∷ l) (set_twice list number first second)
 
-pub record Befalls (participations called after : List (Option Participation)) (items slice seated : List TagValue) (number len : ℕ) (event : Event) (steps stepped : ℕ) (seat new d : TagValue) (participation : Option Participation) : Type 0 where
+pub record Befalls : Type 0 where
+  -- how tags take part before, once the tag is called, and after the event
+  pub participations : List (Option Participation)
+  pub called : List (Option Participation)
+  pub after : List (Option Participation)
+  -- the seats, those that were written to, and those once the tag is called
+  pub items : List TagValue
+  pub slice : List TagValue
+  pub seated : List TagValue
+  pub number : ℕ
+  pub len : ℕ
+  pub event : Event
+  pub steps : ℕ
+  pub stepped : ℕ
+  -- the tag before the event and after it
+  pub seat : TagValue
+  pub new : TagValue
+  pub other : TagValue
+  pub participation : Option Participation
   pub rest : AreAtRest participations items
   pub within : number < length items
   pub slice_is : slice ≡ items
   pub len_is : length items ≡ len
   pub calls : CallsTags participations slice steps called seated stepped
   pub called_is : called ≡ set participations number (Some Called)
-  pub seat_is : seat ≡ get_or (take len (seated ++ drop (length seated) items)) number d
+  pub seat_is : seat ≡ get_or (take len (seated ++ drop (length seated) items)) number other
   pub new_is : new ≡ tag_after_event event seat.state seat.body
   pub new_legal : IsLegalTag new
   pub participation_is : participation ≡ participation_in new.state
   pub after_is : after ≡ set called number participation
   pub slots : AreSlots after
 
-befalls_is : (participations called after : List (Option Participation)) (items slice seated : List TagValue) (number len : ℕ) (event : Event) (steps stepped : ℕ) (seat new d : TagValue) (participation : Option Participation)
-    → Befalls participations called after items slice seated number len event steps stepped seat new d participation → take len (seated ++ drop (length seated) items) ≡ seated
-befalls_is participations called after items slice seated number len event steps stepped seat new d participation b =
-    refilled len seated items (b.calls.seats_whole ∙ ap (λ (l : List TagValue). length l) b.slice_is ∙ b.len_is)
+befalls_is : (b : Befalls) → take b.len (b.seated ++ drop (length b.seated) b.items) ≡ b.seated
+befalls_is b =
+    refilled b.len b.seated b.items (b.calls.seats_whole ∙ ap (λ (l : List TagValue). length l) b.slice_is ∙ b.len_is)
 
-pub befalls_tags : (participations called after : List (Option Participation)) (items slice seated : List TagValue) (number len : ℕ) (event : Event) (steps stepped : ℕ) (seat new d : TagValue) (participation : Option Participation)
-    → Befalls participations called after items slice seated number len event steps stepped seat new d participation
-    → tags_of after (set (take len (seated ++ drop (length seated) items)) number new) ≡ tags_after_event 0 event number (tags_of participations items)
-befalls_tags participations called after items slice seated number len event steps stepped seat new d participation b =
-    let full = befalls_is participations called after items slice seated number len event steps stepped seat new d participation b in
-    let seated_long : length seated ≡ length items = b.calls.seats_whole ∙ ap (λ (l : List TagValue). length l) b.slice_is in
-    let called_long : length called ≡ length seated = b.calls.whole ∙ b.rest.whole ∙ sym seated_long in
-    let room : number < length seated = rw seated_long b.within in
-    let participation_room : number < length participations = rw b.rest.whole b.within in
-    let tags : tags_of called seated ≡ tags_of participations items = b.calls.tags ∙ ap (λ (l : List TagValue). tags_of participations l) b.slice_is in
-    let called_here : participation_at called number ≡ Some Called =
-    ap (λ (l : List (Option Participation)). participation_at l number) b.called_is ∙ get_or-set_same participations number (Some Called) None participation_room in
-    let seat_at : seat ≡ get_or (tags_of participations items) number no_tag =
+pub befalls_tags : (b : Befalls) → tags_of b.after (set (take b.len (b.seated ++ drop (length b.seated) b.items)) b.number b.new) ≡ tags_after_event 0 b.event b.number (tags_of b.participations b.items)
+befalls_tags b =
+    let full = befalls_is b in
+    let seated_long : length b.seated ≡ length b.items = b.calls.seats_whole ∙ ap (λ (l : List TagValue). length l) b.slice_is in
+    let called_long : length b.called ≡ length b.seated = b.calls.whole ∙ b.rest.whole ∙ sym seated_long in
+    let room : b.number < length b.seated = rw seated_long b.within in
+    let participation_room : b.number < length b.participations = rw b.rest.whole b.within in
+    let tags : tags_of b.called b.seated ≡ tags_of b.participations b.items = b.calls.tags ∙ ap (λ (l : List TagValue). tags_of b.participations l) b.slice_is in
+    let called_here : participation_at b.called b.number ≡ Some Called =
+    ap (λ (l : List (Option Participation)). participation_at l b.number) b.called_is ∙ get_or-set_same b.participations b.number (Some Called) None participation_room in
+    let seat_at : b.seat ≡ get_or (tags_of b.participations b.items) b.number no_tag =
     b.seat_is
-    ∙ ap (λ (l : List TagValue). get_or l number d) full
-    ∙ get_or_default seated number d no_tag room
-    ∙ ap (λ (s : Option Participation). tag_seated s (get_or seated number no_tag)) (sym called_here)
-    ∙ sym (tag_at called seated number no_tag called_long room)
-    ∙ ap (λ (l : List TagValue). get_or l number no_tag) tags in
-    ap (λ (l : List TagValue). tags_of after (set l number new)) full
-    ∙ ap (λ (l : List (Option Participation)). tags_of l (set seated number new)) b.after_is
-    ∙ tags-set called seated number participation new called_long
-    ∙ ap (λ (s : Option Participation). set (tags_of called seated) number (tag_seated s new)) b.participation_is
-    ∙ ap (λ (t : TagValue). set (tags_of called seated) number t) (seated_as_is new)
-    ∙ ap (λ (l : List TagValue). set l number new) tags
-    ∙ befallen_at number event (tags_of participations items) (tags_of participations items) seat new no_tag (rw (length-tags_of participations items b.rest.whole) b.within) refl seat_at b.new_is
+    ∙ ap (λ (l : List TagValue). get_or l b.number b.other) full
+    ∙ get_or_default b.seated b.number b.other no_tag room
+    ∙ ap (λ (s : Option Participation). tag_seated s (get_or b.seated b.number no_tag)) (sym called_here)
+    ∙ sym (tag_at b.called b.seated b.number no_tag called_long room)
+    ∙ ap (λ (l : List TagValue). get_or l b.number no_tag) tags in
+    ap (λ (l : List TagValue). tags_of b.after (set l b.number b.new)) full
+    ∙ ap (λ (l : List (Option Participation)). tags_of l (set b.seated b.number b.new)) b.after_is
+    ∙ tags-set b.called b.seated b.number b.participation b.new called_long
+    ∙ ap (λ (s : Option Participation). set (tags_of b.called b.seated) b.number (tag_seated s b.new)) b.participation_is
+    ∙ ap (λ (t : TagValue). set (tags_of b.called b.seated) b.number t) (seated_as_is b.new)
+    ∙ ap (λ (l : List TagValue). set l b.number b.new) tags
+    ∙ befallen_at b.number b.event (tags_of b.participations b.items) (tags_of b.participations b.items) b.seat b.new no_tag (rw (length-tags_of b.participations b.items b.rest.whole) b.within) refl seat_at b.new_is
 
-pub befalls_rest : (participations called after : List (Option Participation)) (items slice seated : List TagValue) (number len : ℕ) (event : Event) (steps stepped : ℕ) (seat new d : TagValue) (participation : Option Participation)
-    → Befalls participations called after items slice seated number len event steps stepped seat new d participation
-    → AreAtRest after (set (take len (seated ++ drop (length seated) items)) number new)
-befalls_rest participations called after items slice seated number len event steps stepped seat new d participation b =
-    let full = befalls_is participations called after items slice seated number len event steps stepped seat new d participation b in
-    let seated_long : length seated ≡ length items = b.calls.seats_whole ∙ ap (λ (l : List TagValue). length l) b.slice_is in
-    let called_long : length called ≡ length seated = b.calls.whole ∙ b.rest.whole ∙ sym seated_long in
-    let tags : tags_of called seated ≡ tags_of participations items = b.calls.tags ∙ ap (λ (l : List TagValue). tags_of participations l) b.slice_is in
-    let legal : AreLegalTags seated = b.calls.legal (subst (λ (l : List TagValue). AreLegalTags l) (sym b.slice_is) b.rest.legal) in
-    let after_tags : tags_of after (set seated number new) ≡ set (tags_of participations items) number new =
-    ap (λ (l : List (Option Participation)). tags_of l (set seated number new)) b.after_is
-    ∙ tags-set called seated number participation new called_long
-    ∙ ap (λ (s : Option Participation). set (tags_of called seated) number (tag_seated s new)) b.participation_is
-    ∙ ap (λ (t : TagValue). set (tags_of called seated) number t) (seated_as_is new)
-    ∙ ap (λ (l : List TagValue). set l number new) tags in
-    let after_stands : after ≡ set participations number participation =
-    b.after_is ∙ ap (λ (l : List (Option Participation)). set l number participation) b.called_is ∙ set_twice participations number (Some Called) participation in
-    subst (λ (l : List TagValue). AreAtRest after (set l number new)) (sym full)
+pub befalls_rest : (b : Befalls) → AreAtRest b.after (set (take b.len (b.seated ++ drop (length b.seated) b.items)) b.number b.new)
+befalls_rest b =
+    let full = befalls_is b in
+    let seated_long : length b.seated ≡ length b.items = b.calls.seats_whole ∙ ap (λ (l : List TagValue). length l) b.slice_is in
+    let called_long : length b.called ≡ length b.seated = b.calls.whole ∙ b.rest.whole ∙ sym seated_long in
+    let tags : tags_of b.called b.seated ≡ tags_of b.participations b.items = b.calls.tags ∙ ap (λ (l : List TagValue). tags_of b.participations l) b.slice_is in
+    let legal : AreLegalTags b.seated = b.calls.legal (subst (λ (l : List TagValue). AreLegalTags l) (sym b.slice_is) b.rest.legal) in
+    let after_tags : tags_of b.after (set b.seated b.number b.new) ≡ set (tags_of b.participations b.items) b.number b.new =
+    ap (λ (l : List (Option Participation)). tags_of l (set b.seated b.number b.new)) b.after_is
+    ∙ tags-set b.called b.seated b.number b.participation b.new called_long
+    ∙ ap (λ (s : Option Participation). set (tags_of b.called b.seated) b.number (tag_seated s b.new)) b.participation_is
+    ∙ ap (λ (t : TagValue). set (tags_of b.called b.seated) b.number t) (seated_as_is b.new)
+    ∙ ap (λ (l : List TagValue). set l b.number b.new) tags in
+    let after_stands : b.after ≡ set b.participations b.number b.participation =
+    b.after_is ∙ ap (λ (l : List (Option Participation)). set l b.number b.participation) b.called_is ∙ set_twice b.participations b.number (Some Called) b.participation in
+    subst (λ (l : List TagValue). AreAtRest b.after (set l b.number b.new)) (sym full)
     (record {
-      few = rw (length-set seated number new, seated_long) b.rest.few;
-      whole = ap (λ (l : List (Option Participation)). length l) b.after_is ∙ length-set called number participation ∙ called_long ∙ sym (length-set seated number new);
-      legal = legal-set seated number new legal b.new_legal;
+      few = rw (length-set b.seated b.number b.new, seated_long) b.rest.few;
+      whole = ap (λ (l : List (Option Participation)). length l) b.after_is ∙ length-set b.called b.number b.participation ∙ called_long ∙ sym (length-set b.seated b.number b.new);
+      legal = legal-set b.seated b.number b.new legal b.new_legal;
       slots = b.slots;
       settled =
           after_stands
-          ∙ ap (λ (l : List (Option Participation)). set l number participation) b.rest.settled
-          ∙ ap (λ (s : Option Participation). set (participations_of (tags_of participations items)) number s) b.participation_is
-          ∙ sym (map-set (λ (t : TagValue). participation_in t.state) (tags_of participations items) number new)
+          ∙ ap (λ (l : List (Option Participation)). set l b.number b.participation) b.rest.settled
+          ∙ ap (λ (s : Option Participation). set (participations_of (tags_of b.participations b.items)) b.number s) b.participation_is
+          ∙ sym (map-set (λ (t : TagValue). participation_in t.state) (tags_of b.participations b.items) b.number b.new)
           ∙ ap (λ (l : List TagValue). participations_of l) (sym after_tags);
     })
 
@@ -205,25 +221,36 @@ settled_more seats number participations so_far is = record {
 }
 
 -- ... where the next one has become another, and is put where it takes part
-pub settled_next : (seats became : List TagValue) (number : ℕ) (participations after : List (Option Participation)) (participation : Option Participation) (seat : TagValue) → SettledBelow seats number participations
-    → number < length seats → length became ≡ length seats → get_or became number no_tag ≡ seat → ((other : ℕ) → other ≢ number → get_or became other no_tag ≡ get_or seats other no_tag)
-    → participation ≡ participation_in seat.state → after ≡ set participations number participation → SettledBelow became (number + 1) after
-settled_next seats became number participations after participation seat so_far within long at others is put = record {
-  whole = ap (λ (l : List (Option Participation)). length l) put ∙ length-set participations number participation ∙ so_far.whole ∙ sym long;
+pub record SettlesNext (seats : List TagValue) (number : ℕ) (participations : List (Option Participation)) : Type 0 where
+  pub became : List TagValue
+  pub after : List (Option Participation)
+  pub participation : Option Participation
+  pub seat : TagValue
+  pub within : number < length seats
+  pub long : length became ≡ length seats
+  pub at : get_or became number no_tag ≡ seat
+  pub others : (other : ℕ) → other ≢ number → get_or became other no_tag ≡ get_or seats other no_tag
+  pub is : participation ≡ participation_in seat.state
+  pub put : after ≡ set participations number participation
+
+pub settled_next : (seats : List TagValue) (number : ℕ) (participations : List (Option Participation)) → SettledBelow seats number participations
+    → (next : SettlesNext seats number participations) → SettledBelow next.became (number + 1) next.after
+settled_next seats number participations so_far next = record {
+  whole = ap (λ (l : List (Option Participation)). length l) next.put ∙ length-set participations number next.participation ∙ so_far.whole ∙ sym next.long;
   each = λ other below.
       elim (eqb_tells other number) [
         | inl same ↦
-            ap (λ n. participation_at after n) same.1
-            ∙ ap (λ (l : List (Option Participation)). participation_at l number) put
-            ∙ get_or-set_same participations number participation None (rw so_far.whole within)
-            ∙ is
-            ∙ ap (λ (t : TagValue). participation_in t.state) (sym at)
-            ∙ ap (λ n. participation_in (get_or became n no_tag).state) (sym same.1)
+            ap (λ n. participation_at next.after n) same.1
+            ∙ ap (λ (l : List (Option Participation)). participation_at l number) next.put
+            ∙ get_or-set_same participations number next.participation None (rw so_far.whole next.within)
+            ∙ next.is
+            ∙ ap (λ (t : TagValue). participation_in t.state) (sym next.at)
+            ∙ ap (λ n. participation_in (get_or next.became n no_tag).state) (sym same.1)
         | inr apart ↦
-            ap (λ (l : List (Option Participation)). participation_at l other) put
-            ∙ get_or-set_other participations number other participation None apart.1
+            ap (λ (l : List (Option Participation)). participation_at l other) next.put
+            ∙ get_or-set_other participations number other next.participation None apart.1
             ∙ so_far.each other (omega (arith, below, apart.1))
-            ∙ ap (λ (t : TagValue). participation_in t.state) (sym (others other apart.1))
+            ∙ ap (λ (t : TagValue). participation_in t.state) (sym (next.others other apart.1))
       ];
 }
 

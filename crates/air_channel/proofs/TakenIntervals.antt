@@ -3,7 +3,7 @@ use Rattle.std.proofs.Common.{◌≡◌, ℕ, ◌+◌, ◌-◌, ◌≤◌, ◌�
 use Rattle.std.proofs.lemmas.List.{append-nil, length-append}
 use Rattle.command_grammar.specs.reading.Framing.{FramerValue, FramerStandsFor}
 use Rattle.pie_line.specs.Edges.{EdgesValue, EdgesStandFor}
-use Rattle.pie_line.proofs.IntervalsLeft.{behind_one, behind_two}
+use Rattle.pie_line.specs.laws.IntervalsLeft.{behind_one, behind_two}
 use Rattle.air_channel.specs.Taken.{HasTaken, TakesIntervals}
 
 -- it is given none

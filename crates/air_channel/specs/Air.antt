@@ -1,5 +1,5 @@
 -- Profile: what a contract sees of the air between one interrogator and a population of tags, and what an exchange makes of it.
-use Rattle.std.specs.Prelude.{ℕ, ◌+◌, ◌<◌, ◌==◌, Bool, List, length, All, if◌then◌else◌}
+use Rattle.std.specs.Prelude.{ℕ, ◌+◌, ◌<◌, Bool, List, length, min, All}
 use Rattle.air_events.specs.declared.Entry.{Entry}
 use Rattle.air_events.specs.declared.Event.{Event}
 use Rattle.air_events.specs.declared.Several.{Several}
@@ -25,7 +25,7 @@ abbrev pub last_exchange : ℕ
 last_exchange = 18446744073709551615
 
 abbrev pub next_exchange : ℕ → ℕ
-next_exchange exchanges = if exchanges == last_exchange then last_exchange else exchanges + 1
+next_exchange exchanges = min (exchanges + 1) last_exchange
 
 -- the air after an exchange
 abbrev pub air_after : AirValue → Command → Entry → AirValue
@@ -34,7 +34,7 @@ air_after air command entry = record {
   several = air.several;
   tags = tags_after (outcomes_in command entry air.tags);
   frame = wave_for air.link command;
-  stream = heard_levels air.link (given_in air.several command entry air.tags);
+  stream = heard_levels air.link (given_in air.link air.several command entry air.tags);
   replies = length (replies_in command entry air.tags);
   exchanges = next_exchange air.exchanges;
 }

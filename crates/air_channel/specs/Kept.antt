@@ -33,6 +33,7 @@ abbrev pub wanted_by : Option Choice → ℕ
 wanted_by (Some (choices.Pick number)) = number
 wanted_by (Some choices.Silent) = 0
 wanted_by (Some (choices.Break place)) = 0
+wanted_by (Some (choices.Raw levels)) = 0
 wanted_by None = 0
 
 -- the levels of the reply that is kept

@@ -1,8 +1,8 @@
 -- The room of the buffers of an air, and how long what stands in them is: the longest command has 4,162 bits and so a frame of
 -- at most 8,331 intervals, and the longest reply a stream of 131,968 levels (`longest_stream`).
 use Rattle.std.specs.Prelude.{ℕ, ◌≤◌, All, length}
+use Rattle.air_events.specs.Streams.{longest_stream}
 use Rattle.bit_strings.specs.BitString.{BitString}
-use Rattle.air_model.specs.Channel.{longest_stream}
 use Rattle.pie_line.specs.IntervalList.{IntervalList}
 use Rattle.pie_line.specs.Pie.{longest_interval}
 

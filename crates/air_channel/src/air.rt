@@ -1,14 +1,15 @@
 //! The air between one interrogator and a population of tags.
 ghost use Rattle.std.specs.Prelude.{◌≡◌, ◌+◌, ◌*◌, ◌<◌, ◌≤◌, [], All, Some, length, slice_get, IfOk};
 ghost use Rattle.std.specs.Borrow.{sem};
+ghost use Rattle.air_events.specs.Streams.{longest_stream};
 ghost use Rattle.air_events.specs.TagNumbers.{most_tags};
 ghost use Rattle.command_grammar.specs.Commands.{IsLegalCommand};
 ghost use Rattle.pie_line.specs.Pie.{longest_interval};
 ghost use Rattle.tag_machine.specs.Hearing.{tag_value_of};
 ghost use Rattle.tag_machine.specs.TagValue.{IsLegalTag};
 ghost use Rattle.air_model.specs.Exchange.{AreLegalTags, IsQueryRep, busy_from};
-ghost use Rattle.air_channel.specs.Air.{NamesTags, air_after, air_after_event, next_exchange};
-ghost use Rattle.air_model.specs.Channel.{given_in, got_of, longest_stream};
+ghost use Rattle.air_channel.specs.Air.{NamesTags, air_after, air_after_event};
+ghost use Rattle.air_model.specs.Channel.{HasFewLevels, given_in, got_of};
 ghost use Rattle.air_channel.specs.Lent.{KeepsAir};
 ghost use Rattle.air_channel.specs.Rooms.{longest_frame};
 
@@ -29,7 +30,7 @@ use tag_machine::{AnyTag, Entry, Event, Several, Steps};
 /// the 8,331 of the longest command.
 const FRAME_ROOM: u32 = 8400;
 
-/// How many levels there is room for: more than the 131,968 of the longest reply's stream.
+/// How many levels there is room for: more than the 131,968 of the longest stream.
 const STREAM_ROOM: u32 = 132_208;
 
 /// The air between one interrogator and a population of tags, with the buffers for what goes through it.
@@ -99,8 +100,9 @@ impl Air {
         steps: &mut Steps<L>,
     ) -> Got
         requires named { NamesTags (length self.old.tags) entry.now }
+        requires few { HasFewLevels entry.now.choice }
         ensures air { self.new ≡ air_after self.old command.now entry.now }
-        ensures got { result ≡ got_of (given_in self.old.several command.now entry.now self.old.tags) }
+        ensures got { result ≡ got_of (given_in self.old.link self.old.several command.now entry.now self.old.tags) }
         ensures counted { steps.new ≤ steps.old + length entry.now.events + 2 * length self.old.tags }
         ensures bound { IsQueryRep command.now → entry.now.events ≡ [] → steps.new ≤ steps.old + 2 * busy_from 0 command.now entry.now self.old.tags }
         ensures legal { AreLegalTags self.new.tags }
@@ -117,7 +119,7 @@ impl Air {
         self.replies.begin(&entry.choice);
         let heard = self.receiver.command();
         self.population.hear(heard, entry, &mut self.replies, steps);
-        self.exchanges = next_exchange(self.exchanges);
+        self.exchanges = self.exchanges.saturating_add(1);
         self.replies
             .give(&entry.choice, self.several, &self.link, &mut self.stream)
     }
@@ -200,16 +202,5 @@ impl Air {
         ensures { result ≡ self.now.exchanges }
     {
         self.exchanges
-    }
-}
-
-/// The number of exchanges with one more.
-fn next_exchange(exchanges: u64) -> u64
-    ensures { result ≡ next_exchange exchanges }
-{
-    if exchanges == u64::MAX {
-        exchanges
-    } else {
-        exchanges + 1
     }
 }

@@ -1,13 +1,15 @@
 //! The replies to one command, of which the channel gives one or none.
 ghost use Rattle.std.specs.Prelude.{◌≡◌, ℕ, ◌+◌, ◌%◌, ◌<◌, ◌≤◌, List, [], ◌++◌, Option, Some, length, slice_get, IfOk, if◌then◌else◌};
-ghost use Rattle.line_code.specs.Laws.{with_level_flipped};
+ghost use Rattle.air_events.specs.Streams.{longest_stream};
+ghost use Rattle.line_code.specs.TableFacts.{with_level_flipped};
+ghost use Rattle.pie_line.specs.Link.{LinkValue};
 ghost use Rattle.reply_grammar.specs.Table.{longest_reply};
 ghost use Rattle.tag_machine.specs.Answers.{Sent};
 ghost use Rattle.tag_machine.specs.Hearing.{mark_of};
 ghost use Rattle.tag_machine.specs.Step.{step};
 ghost use Rattle.tag_machine.specs.TagValue.{IsLegalTag};
 ghost use Rattle.air_model.specs.Exchange.{Replied, outcome_unless, reply_of};
-ghost use Rattle.air_model.specs.Channel.{default_given, first_broken, given_of, got_of, heard_levels, whole_or_silence, longest_stream};
+ghost use Rattle.air_model.specs.Channel.{HasFewLevels, default_given, first_broken, given_of, got_of, heard_levels, whole_or_silence};
 ghost use Rattle.air_channel.specs.Kept.{RepliesStandFor, kept_levels, wanted_by};
 ghost use Rattle.air_channel.specs.Giving.{Means};
 ghost use Rattle.air_channel.specs.Rooms.{room_for_streams};
@@ -52,15 +54,17 @@ impl Model for Replies {
     ghost invariant = { λ a. (reply_room ≤ a.kept.capacity) × (reply_room ≤ a.passing.capacity) };
 }
 
-/// What the channel gives of the replies.
+/// What the channel gives.
 #[derive(Clone, Copy)]
-pub(crate) enum Giving {
+pub(crate) enum Giving<'a> {
     /// Nothing.
     Nothing,
     /// The reply that is kept.
     Whole,
     /// The reply that is kept, with one level inverted: that at this number modulo the stream's length.
     Broken(u32),
+    /// These levels, whatever was replied.
+    Raw(&'a [bool]),
 }
 
 impl Replies {
@@ -170,7 +174,7 @@ impl Replies {
     }
 
     /// Writes the stream that the channel gives by this choice, or by the default for several replies, to
-    /// `stream`, in place of what that holds.
+    /// `stream`, in place of what that holds. A raw stream has at most 131,968 levels.
     pub(crate) fn give(
         &self,
         choice: &Option<Choice>,
@@ -180,9 +184,10 @@ impl Replies {
     ) -> Got
         requires stands { (replies : List Replied) × RepliesStandFor replies self.now }
         requires wanted { self.now.wanted ≡ wanted_by choice.now }
+        requires few { HasFewLevels choice.now }
         requires room { room_for_streams ≤ stream.old.capacity }
-        ensures stream { (replies : List Replied) → RepliesStandFor replies self.now → stream.new.items ≡ heard_levels link.now (given_of replies choice.now several) }
-        ensures got { (replies : List Replied) → RepliesStandFor replies self.now → result ≡ got_of (given_of replies choice.now several) }
+        ensures stream { (replies : List Replied) → RepliesStandFor replies self.now → stream.new.items ≡ heard_levels link.now (given_of link.now replies choice.now several) }
+        ensures got { (replies : List Replied) → RepliesStandFor replies self.now → result ≡ got_of (given_of link.now replies choice.now several) }
         ensures most { length stream.new.items ≤ longest_stream }
         ensures capacity { stream.new.capacity ≡ stream.old.capacity }
     {
@@ -198,6 +203,10 @@ impl Replies {
             Giving::Broken(place) => {
                 self.encode(link, stream);
                 invert_level(place, stream);
+                Got::Stream
+            }
+            Giving::Raw(levels) => {
+                put_levels(levels, stream);
                 Got::Stream
             }
         }
@@ -229,21 +238,31 @@ fn invert_level(number: u32, levels: &mut Levels)
     levels.flip(at);
 }
 
+/// Puts these levels in place of what a stream holds.
+fn put_levels(levels: &[bool], stream: &mut Levels)
+    requires { length levels.now ≤ stream.old.capacity }
+    ensures { stream.new ≡ record stream.old { items = levels.now } }
+{
+    stream.fill_zeros(levels.len());
+    stream.overwrite(0, levels);
+}
+
 /// What the channel gives of so many replies by this choice, or by the default for several.
-fn giving_of(choice: &Option<Choice>, several: Several, count: u32) -> Giving
-    ensures { (replies : List Replied) → count ≡ length replies → Means result replies (wanted_by choice.now) (given_of replies choice.now several) }
+fn giving_of(choice: &Option<Choice>, several: Several, count: u32) -> Giving<'_>
+    ensures { (link : LinkValue) (replies : List Replied) → count ≡ length replies → Means link result replies (wanted_by choice.now) (given_of link replies choice.now several) }
 {
     match choice {
         Some(Choice::Pick(number)) => picked(*number, count),
         Some(Choice::Silent) => Giving::Nothing,
         Some(Choice::Break(place)) => first_broken(*place, count),
+        Some(Choice::Raw(levels)) => Giving::Raw(levels.as_slice()),
         None => unchosen(several, count),
     }
 }
 
 /// What is given of so many replies where one is picked.
-fn picked(number: u32, count: u32) -> Giving
-    ensures { (replies : List Replied) → count ≡ length replies → Means result replies number (whole_or_silence (slice_get replies number)) }
+fn picked(number: u32, count: u32) -> Giving<'static>
+    ensures { (link : LinkValue) (replies : List Replied) → count ≡ length replies → Means link result replies number (whole_or_silence (slice_get replies number)) }
 {
     if number < count {
         Giving::Whole
@@ -253,8 +272,8 @@ fn picked(number: u32, count: u32) -> Giving
 }
 
 /// What is given of so many replies where the first is broken.
-fn first_broken(place: u32, count: u32) -> Giving
-    ensures { (replies : List Replied) → count ≡ length replies → Means result replies 0 (first_broken replies place) }
+fn first_broken(place: u32, count: u32) -> Giving<'static>
+    ensures { (link : LinkValue) (replies : List Replied) → count ≡ length replies → Means link result replies 0 (first_broken replies place) }
 {
     if count == 0 {
         Giving::Nothing
@@ -264,8 +283,8 @@ fn first_broken(place: u32, count: u32) -> Giving
 }
 
 /// What is given of so many replies where nothing is chosen.
-fn unchosen(several: Several, count: u32) -> Giving
-    ensures { (replies : List Replied) → count ≡ length replies → Means result replies 0 (default_given several replies) }
+fn unchosen(several: Several, count: u32) -> Giving<'static>
+    ensures { (link : LinkValue) (replies : List Replied) → count ≡ length replies → Means link result replies 0 (default_given several replies) }
 {
     if count == 0 {
         return Giving::Nothing;
@@ -285,7 +304,7 @@ fn wanted_by(choice: &Option<Choice>) -> u32
 {
     match choice {
         Some(Choice::Pick(number)) => *number,
-        Some(Choice::Silent | Choice::Break(_)) | None => 0,
+        Some(Choice::Silent | Choice::Break(_) | Choice::Raw(_)) | None => 0,
     }
 }
 

@@ -1,7 +1,7 @@
 //! Places on which tags stand, and the links between the tags of one place.
 ghost use Rattle.std.specs.Prelude.{◌≡◌, ◌<◌, ◌≤◌, ℕ, Some, None, length, replicate, slice_set, IfOk};
 ghost use Rattle.air_events.specs.TagNumbers.{most_tags};
-ghost use Rattle.air_channel.specs.Wheel.{most_places, IsTagOn, LeadNowhere, place_of};
+ghost use Rattle.air_channel.specs.Wheel.{most_places, IsTagOn, place_of};
 
 use air_events::{MOST_TAGS, TagNumber};
 use bit_strings::OutOfMemory;
@@ -42,9 +42,12 @@ impl Wheel {
         requires { count ≤ most_tags }
         ensures { IfOk result (λ wheel. wheel ≡ replicate count None) }
     {
-        let links = no_links(alloc)?;
+        let links = vec![in alloc; MOST_TAGS; PLACES + usize::from(MOST_TAGS)]?;
         let backs = vec![in alloc; 0; usize::from(MOST_TAGS) + 1]?;
-        let places = no_places(alloc, count)?;
+        let mut places = Vec::with_capacity(alloc, count)?;
+        for _number in 0..count {
+            places.push_reserved(None);
+        }
         Ok(Wheel {
             links,
             backs,
@@ -106,23 +109,4 @@ impl Wheel {
             self.places[at] = None;
         }
     }
-}
-
-/// Links that lead to no tag.
-fn no_links(alloc: Global) -> Result<Vec<u16>, OutOfMemory>
-    ensures { IfOk result (λ links. LeadNowhere links.items) }
-{
-    let links = vec![in alloc; MOST_TAGS; PLACES + usize::from(MOST_TAGS)]?;
-    Ok(links)
-}
-
-/// No place for each of so many tags.
-fn no_places(alloc: Global, count: usize) -> Result<Vec<Option<usize>>, OutOfMemory>
-    ensures { IfOk result (λ places. places.items ≡ replicate count None) }
-{
-    let mut places = Vec::with_capacity(alloc, count)?;
-    for _number in 0..count {
-        places.push_reserved(None);
-    }
-    Ok(places)
 }

@@ -1,3 +1,4 @@
 pub mod Entries
 pub mod Cursor
 pub mod TagNumbers
+pub mod Streams

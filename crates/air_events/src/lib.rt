@@ -7,7 +7,7 @@ mod cursor;
 mod tag_number;
 
 use bit_strings::List;
-use command_grammar::FlagName;
+use command_fields::FlagName;
 pub use cursor::{EntryCursor, empty_entry};
 pub use tag_number::{MOST_TAGS, TagNumber};
 
@@ -24,8 +24,11 @@ pub enum Event {
     Expire(FlagName),
 }
 
-/// What the channel gives of the replies to one command, in place of its default.
-#[derive(Clone, Copy, Debug, PartialEq, Eq)]
+/// How many levels the longest stream has that a tag sends, which are as many as a raw stream has at most.
+pub const LONGEST_STREAM: u32 = 131_968;
+
+/// What the channel gives in an exchange, in place of its default.
+#[derive(Drop)]
 pub enum Choice {
     /// The stream of the reply with this number, counted from 0 in the order of the tags, or silence
     /// where there is none.
@@ -34,6 +37,10 @@ pub enum Choice {
     Silent,
     /// The first reply's stream with one level inverted: that at this number modulo the stream's length.
     Break(u32),
+    /// Exactly these levels, whether or not a tag replies: those of a jammer, say, or of a reply that is
+    /// played back. There is one for each half period of the backscatter link frequency, from the first
+    /// on, and true is the high one. There are at most [`LONGEST_STREAM`] of them.
+    Raw(List<bool>),
 }
 
 /// What the channel gives where several tags reply and nothing is chosen.

@@ -1,8 +1,7 @@
 pub mod Flow
-pub mod FlowLaws
 pub mod Takes
 pub mod Puts
 pub mod Memory
 pub mod ReadEnds
-pub mod ReadLaws
 pub mod Standard
+pub mod laws

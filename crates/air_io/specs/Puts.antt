@@ -13,6 +13,11 @@ abbrev pub OnWriteFailed : Put → Type 0 → Type 0
 OnWriteFailed (Took count) P = ⊤
 OnWriteFailed Failed P = P
 
+-- A fact that holds where the write did not fail. Profile.
+abbrev pub UnlessWriteFailed : Put → Type 0 → Type 0
+UnlessWriteFailed (Took count) P = P
+UnlessWriteFailed Failed P = ⊤
+
 -- Whether the write failed. Profile.
 abbrev pub is_failed_write : Put → Bool
 is_failed_write (Took count) = false

@@ -21,6 +21,12 @@ OnReadFailed (Took count) P = ⊤
 OnReadFailed End P = ⊤
 OnReadFailed Failed P = P
 
+-- A fact that holds where the read did not fail. Profile.
+abbrev pub UnlessReadFailed : Take → Type 0 → Type 0
+UnlessReadFailed (Took count) P = P
+UnlessReadFailed End P = P
+UnlessReadFailed Failed P = ⊤
+
 -- Whether the read failed. Profile.
 abbrev pub is_failed_read : Take → Bool
 is_failed_read (Took count) = false

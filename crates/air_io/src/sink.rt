@@ -1,7 +1,7 @@
 //! Where bytes go.
 ghost use Rattle.std.specs.Prelude.{◌≡◌, ℕ, ◌<◌, ◌≤◌, List, Option, length, take};
 ghost use Rattle.air_io.specs.Flow.{Adds, FaultsRose};
-ghost use Rattle.air_io.specs.Puts.{IfPut, OnWriteFailed};
+ghost use Rattle.air_io.specs.Puts.{IfPut, OnWriteFailed, UnlessWriteFailed};
 
 /// What one write answers (profile).
 #[derive(Clone, Copy, Debug, PartialEq, Eq)]
@@ -17,7 +17,7 @@ pub trait Sink {
     /// The bytes written so far, or `None` where the sink doesn't tell them.
     ghost written: { Self → Option (List ℕ) };
 
-    /// How many writes failed so far. It never falls.
+    /// How many writes failed so far. It never falls, and rises at a write that fails alone.
     ghost faults: { Self → ℕ };
 
     /// Adds bytes from the front of the piece, which is not empty.
@@ -27,5 +27,6 @@ pub trait Sink {
             × Adds (written self.old) (written self.new) (take count piece.now)) }
         ensures failed { OnWriteFailed result (FaultsRose (faults self.old) (faults self.new)
             × (written self.new ≡ written self.old)) }
+        ensures steady { UnlessWriteFailed result (faults self.new ≡ faults self.old) }
         ensures count { faults self.old ≤ faults self.new };
 }

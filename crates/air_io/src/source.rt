@@ -1,7 +1,7 @@
 //! Where bytes come from.
 ghost use Rattle.std.specs.Prelude.{◌≡◌, ℕ, ◌<◌, ◌≤◌, List, Option, length, take};
 ghost use Rattle.air_io.specs.Flow.{Reads, AtEnd, FaultsRose};
-ghost use Rattle.air_io.specs.Takes.{IfTook, OnEnd, OnReadFailed};
+ghost use Rattle.air_io.specs.Takes.{IfTook, OnEnd, OnReadFailed, UnlessReadFailed};
 
 /// What one read answers (profile).
 #[derive(Clone, Copy, Debug, PartialEq, Eq)]
@@ -19,7 +19,7 @@ pub trait Source {
     /// The bytes not yet read, or `None` where the source doesn't tell them.
     ghost left: { Self → Option (List ℕ) };
 
-    /// How many reads failed so far. It never falls.
+    /// How many reads failed so far. It never falls, and rises at a read that fails alone.
     ghost faults: { Self → ℕ };
 
     /// Takes the next bytes, at most as many as the buffer holds, which is not empty.
@@ -30,5 +30,6 @@ pub trait Source {
         ensures end { OnEnd result (AtEnd (left self.old) × (left self.new ≡ left self.old)) }
         ensures failed { OnReadFailed result (FaultsRose (faults self.old) (faults self.new)
             × (left self.new ≡ left self.old)) }
+        ensures steady { UnlessReadFailed result (faults self.new ≡ faults self.old) }
         ensures count { faults self.old ≤ faults self.new };
 }

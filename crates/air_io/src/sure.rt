@@ -57,7 +57,7 @@ impl Source for SureSource {
 }
 
 /// Takes every piece whole and keeps none of it. A write never fails (profile).
-#[derive(Clone, Copy, Debug, PartialEq, Eq, Default)]
+#[derive(Clone, Copy, Debug, PartialEq, Eq)]
 pub struct SureSink;
 
 impl SureSink {

@@ -1,7 +1,7 @@
 //! Reading all of a source, and writing all of a piece.
 ghost use Rattle.std.specs.Prelude.{◌≡◌, ℕ, ◌+◌, ◌≤◌, List, length, take, IfOk, OnOk, OnErr, vec_len, IfErr, IsErrOf};
 ghost use Rattle.air_io.specs.Flow.{Reads, Adds, AtEnd, FaultsRose};
-ghost use Rattle.air_io.specs.ReadEnds.{most_read};
+ghost use Rattle.air_io.specs.ReadEnds.{UnlessFault, most_read};
 ghost use Rattle.air_io.specs.declared.transfer.ReadEnd.TheVariants.{OutOfMemory};
 
 use crate::{Put, Sink, Source, Take};
@@ -86,6 +86,9 @@ pub fn read_to_end<I: Source>(alloc: Global, src: &mut I, limit: u32) -> Result<
     ensures too_long { IsErrOf result ReadEnd.TooLong
         → ((bytes : List ℕ) × Reads (I.left src.old) (I.left src.new) bytes × (length bytes ≡ limit + 1)) }
     ensures fault { IsErrOf result ReadEnd.Fault → FaultsRose (I.faults src.old) (I.faults src.new) }
+    // No read failed where no failure is told.
+    ensures steady { OnOk result (I.faults src.new ≡ I.faults src.old) }
+    ensures unfailing { IfErr result (λ end. UnlessFault end (I.faults src.new ≡ I.faults src.old)) }
     ensures part { IfErr result (λ end. (bytes : List ℕ)
         × Reads (I.left src.old) (I.left src.new) bytes × (length bytes ≤ most_read end limit)) }
     ensures count { I.faults src.old ≤ I.faults src.new }
@@ -117,6 +120,7 @@ pub fn read_to_end<I: Source>(alloc: Global, src: &mut I, limit: u32) -> Result<
 pub fn write_all<O: Sink>(out: &mut O, piece: &[u8]) -> Result<(), WriteFailed>
     ensures ok { OnOk result (Adds (O.written out.old) (O.written out.new) piece.now) }
     ensures failed { OnErr result (FaultsRose (O.faults out.old) (O.faults out.new)) }
+    ensures steady { OnOk result (O.faults out.new ≡ O.faults out.old) }
     ensures part { OnErr result
         ((count : ℕ) × (count ≤ length piece.now)
         × Adds (O.written out.old) (O.written out.new) (take count piece.now)) }

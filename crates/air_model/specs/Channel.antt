@@ -1,15 +1,17 @@
--- Profile: what the channel gives the interrogator of the replies to one command. The standard leaves collisions and noise to
--- the world; here the channel gives one reply whole, breaks one, or is silent.
-use Rattle.std.specs.Prelude.{ℕ, ◌%◌, Bool, ◌||◌, List, [], ◌∷◌, length, Option, Some, None, slice_get}
+-- Profile: what the channel gives the interrogator behind one command. The standard leaves collisions, noise and jammers to the
+-- world; here the channel gives one reply whole, breaks one, is silent, or gives levels that no tag sent.
+use Rattle.std.specs.Prelude.{◌≡◌, ℕ, ◌≤◌, ◌%◌, Bool, ◌||◌, List, [], ◌∷◌, length, Option, Some, None, slice_get}
 use Rattle.air_events.specs.declared.Choice.{Choice}
 use Rattle.air_events.specs.declared.Choice.TheVariants as choices
 use Rattle.air_events.specs.declared.Entry.{Entry}
 use Rattle.air_events.specs.declared.Several.{Several}
 use Rattle.air_events.specs.declared.Several.TheVariants as severals
+use Rattle.air_events.specs.Streams.{longest_stream, HasStreamLength}
+use Rattle.bit_strings.specs.declared.code.Code.{Code}
 use Rattle.command_grammar.specs.declared.commands.Command.{Command}
 use Rattle.command_grammar.specs.declared.commands.Command.TheVariants as commands
 use Rattle.command_grammar.specs.Commands.{spelling_of}
-use Rattle.line_code.specs.Laws.{with_level_flipped}
+use Rattle.line_code.specs.TableFacts.{with_level_flipped}
 use Rattle.line_code.specs.Stream.{stream_of}
 use Rattle.line_codes.specs.Codes.{table_of}
 use Rattle.pie_line.specs.Link.{LinkValue}
@@ -32,12 +34,13 @@ lead_of command = FrameSync
 abbrev pub wave_for : LinkValue → Command → List ℕ
 wave_for link command = wave_of link (lead_of command) (spelling_of command)
 
--- what the channel gives: nothing, a tag's reply whole, or a tag's reply with one level inverted: that at the number modulo
--- the stream's length
+-- what the channel gives: nothing, a tag's reply whole, a tag's reply with one level inverted: that at the number modulo the
+-- stream's length, or a raw stream: levels that are no tag's reply, with the code and the TRext by which they are heard
 pub data Given : Type 0 where
   silence : Given
   whole : (replied : Replied) → Given
   broken : (replied : Replied) → (place : ℕ) → Given
+  raw : (code : Code) → (trext : Bool) → (levels : List Bool) → Given
 
 abbrev pub whole_or_silence : Option Replied → Given
 whole_or_silence None = silence
@@ -59,16 +62,18 @@ default_given several [] = silence
 default_given several (replied ∷ []) = whole replied
 default_given several (replied ∷ other ∷ others) = first_of_several several replied
 
--- what the channel gives of these replies, in the order of the tags, by what is chosen, or by the default for several
-abbrev pub given_of : List Replied → Option Choice → Several → Given
-given_of replies (Some (choices.Pick number)) several = whole_or_silence (slice_get replies number)
-given_of replies (Some choices.Silent) several = silence
-given_of replies (Some (choices.Break place)) several = first_broken replies place
-given_of replies None several = default_given several replies
+-- what the channel gives of these replies, in the order of the tags, by what is chosen, or by the default for several; raw
+-- levels it gives whether or not a tag replied
+abbrev pub given_of : LinkValue → List Replied → Option Choice → Several → Given
+given_of link replies (Some (choices.Pick number)) several = whole_or_silence (slice_get replies number)
+given_of link replies (Some choices.Silent) several = silence
+given_of link replies (Some (choices.Break place)) several = first_broken replies place
+given_of link replies (Some (choices.Raw levels)) several = raw link.code link.trext levels
+given_of link replies None several = default_given several replies
 
--- what it gives of what tags send in reply to a command
-abbrev pub given_in : Several → Command → Entry → List TagValue → Given
-given_in several command entry tags = given_of (replies_in command entry tags) entry.choice several
+-- what it gives where tags hear a command, or miss it
+abbrev pub given_in : LinkValue → Several → Command → Entry → List TagValue → Given
+given_in link several command entry tags = given_of link (replies_in command entry tags) entry.choice several
 
 -- the levels of a reply (6.3.1.3.2): with the extended preamble where the tag marked it so, else by the link's TRext
 abbrev pub levels_of : LinkValue → Sent → List Bool
@@ -80,13 +85,36 @@ heard_levels link silence = []
 heard_levels link (whole replied) = levels_of link replied.sent
 heard_levels link (broken replied place) =
     let levels = levels_of link replied.sent in with_level_flipped levels (place % length levels)
+heard_levels link (raw code trext levels) = levels
 
 -- whether the channel gives a stream
 abbrev pub got_of : Given → Got
 got_of silence = gots.Silence
 got_of (whole replied) = gots.Stream
 got_of (broken replied place) = gots.Stream
+got_of (raw code trext levels) = gots.Stream
 
--- how many levels the longest stream has: those of the longest lead, and 16 for each of 8,225 bits and for the dummy
-abbrev pub longest_stream : ℕ
-longest_stream = 131968
+-- where a raw stream is chosen, it has no more levels than the longest reply
+abbrev pub HasFewLevels : Option Choice → Type 0
+HasFewLevels (Some (choices.Raw levels)) = length levels ≤ longest_stream
+HasFewLevels choice = Unit {0}
+
+-- a raw stream has a level at least, and no more than the longest reply
+abbrev pub IsOfStreamLength : Given → Type 0
+IsOfStreamLength (raw code trext levels) = HasStreamLength levels
+IsOfStreamLength given = Unit {0}
+
+-- a raw stream is heard by the code and the TRext of the link
+abbrev pub IsReadBy : LinkValue → Given → Type 0
+IsReadBy link (raw code trext levels) = (code ≡ link.code) × (trext ≡ link.trext)
+IsReadBy link given = Unit {0}
+
+-- what is given comes of the replies: it is no raw stream ..
+abbrev pub IsOfReplies : Given → Type 0
+IsOfReplies (raw code trext levels) = ⊥
+IsOfReplies given = Unit {0}
+
+-- ... since no raw stream is chosen
+abbrev pub GoesByReplies : Option Choice → Type 0
+GoesByReplies (Some (choices.Raw levels)) = ⊥
+GoesByReplies choice = Unit {0}

@@ -1,6 +1,5 @@
 pub mod Exchange
 pub mod Channel
 pub mod Reception
-pub mod ReceptionLaws
-pub mod AwaitedLaws
 pub mod Past
+pub mod laws

@@ -103,7 +103,7 @@ next_record start round slot command past =
       entry = entry;
       hearers = hearers_of 0 entry tags;
       replies = replies_in command entry tags;
-      given = given_in start.several command entry tags;
+      given = given_in start.link start.several command entry tags;
     }
 
 -- the past behind a command

@@ -1,13 +1,14 @@
--- What the interrogator makes of what the channel gives, as a function of the reply that was sent. That it is what the levels
--- say by the line code and the table of replies (Received.antt) is a law.
+-- What the interrogator makes of what the channel gives, as a function of the reply that was sent, or of the levels of a raw
+-- stream. That it is what the levels say by the line code and the table of replies (Received.antt) is a law.
 use Rattle.std.specs.Prelude.{◌≡◌, ℕ, ◌==◌, ◌&&◌, ◌||◌, not, Bool, true, false, Some, if◌then◌else◌}
 use Rattle.reply_grammar.specs.Table.{AnswersExpected, handle_of, spelling, suits}
 use Rattle.reply_grammar.specs.declared.expected.Expect.{Expect}
 use Rattle.reply_grammar.specs.declared.expected.Reply.{Reply}
 use Rattle.reply_grammar.specs.declared.expected.Reply.TheVariants.{Rn16, Epc, Handle, Words, Header, Error}
-use Rattle.reply_grammar.specs.Reception.{Reception, no_stream, whole_reply, no_such_reply}
+use Rattle.reply_grammar.specs.Reception.{Reception, no_stream, whole_reply, no_such_reply, reception_from}
+use Rattle.reply_wire.specs.Receiving.{received_of}
 use Rattle.tag_machine.specs.Answers.{Sent, IsSent}
-use Rattle.air_model.specs.Channel.{Given, silence, whole, broken}
+use Rattle.air_model.specs.Channel.{Given, silence, whole, broken, raw}
 
 -- the handle in a reply is the one that is expected, where a reply of its kind has one
 abbrev pub has_handle : Reply → ℕ → ℕ → Bool
@@ -22,11 +23,12 @@ has_handle (Error code) handle expected = handle == expected
 abbrev pub is_expected : Expect → Sent → Bool
 is_expected expect sent = suits sent.reply expect && has_handle sent.reply sent.handle (handle_of expect)
 
--- no stream with one level inverted is a stream, so that a broken reply is never whole
+-- no stream with one level inverted is a stream, so that a broken reply is never whole; levels of a raw stream may be anything
 abbrev pub reception_of : Expect → Given → Reception
 reception_of expect silence = no_stream
 reception_of expect (whole replied) = if is_expected expect replied.sent then whole_reply replied.sent.reply else no_such_reply
 reception_of expect (broken replied place) = no_such_reply
+reception_of expect (raw code trext levels) = reception_from (received_of code trext expect levels)
 
 -- 6.3.2.11.3.3 Write: some replies come with the extended preamble whatever the TRext of the Query says. A reply has the
 -- preamble that is awaited.
@@ -38,6 +40,7 @@ has_preamble trext extended sent = trext || (if extended then sent.extended else
 abbrev pub reception_with : (trext extended : Bool) → Expect → Given → Reception
 reception_with trext extended expect (whole replied) =
     (if has_preamble trext extended replied.sent then reception_of expect (whole replied) else no_such_reply)
+reception_with trext extended expect (raw code own levels) = reception_from (received_of code (extended || own) expect levels)
 reception_with trext extended expect given = reception_of expect given
 
 -- this holds of what was sent, where the channel gives a reply, whole or broken
@@ -45,6 +48,7 @@ abbrev pub HoldsOfSent : (Sent → Type 0) → Given → Type 0
 HoldsOfSent P silence = Unit {0}
 HoldsOfSent P (whole replied) = P replied.sent
 HoldsOfSent P (broken replied place) = P replied.sent
+HoldsOfSent P (raw code trext levels) = Unit {0}
 
 -- the numbers of what the channel gives are in their ranges
 abbrev pub IsGiven : Given → Type 0

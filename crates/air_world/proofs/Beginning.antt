@@ -2,13 +2,16 @@
 use Rattle.std.proofs.Common.{◌≡◌, ◌⊎◌, ℕ, ◌+◌, ◌<◌, ◌==◌, Bool, true, false, List, [], ◌∷◌, ◌++◌, length, map, Option, Some, None, Result, Ok, Err, refl, sym, ◌∙◌, ap, subst, arith}
 use Rattle.std.proofs.lemmas.List.{length-map}
 use Rattle.std.proofs.lemmas.List.Elements.{All-head, All-tail, All-nil, All-weaker}
-use Rattle.std.specs.Prelude.{All, if◌then◌else◌}
+use Rattle.std.specs.Prelude.{All, IfSome, if◌then◌else◌}
 use Rattle.std.specs.Result.{IfErr, OnOk}
 use Rattle.air_channel.specs.Air.{AirValue, NamesTags}
 use Rattle.air_events.specs.Cursor.{IsLeft}
 use Rattle.air_events.specs.Entries.{entry_at}
+use Rattle.air_events.specs.declared.Choice.{Choice}
+use Rattle.air_events.specs.declared.Choice.TheVariants as choices
 use Rattle.air_events.specs.declared.Entry.{Entry}
 use Rattle.air_events.specs.declared.Event.{Event}
+use Rattle.air_model.specs.Channel.{HasFewLevels}
 use Rattle.air_model.specs.Exchange.{AreLegalTags}
 use Rattle.air_model.specs.Past.{tags_behind_from}
 use Rattle.air_world.proofs.Passing.{cut-behind, cut-longer, passes-then}
@@ -23,10 +26,10 @@ use Rattle.runs.specs.History.{past_behind}
 use Rattle.runs.specs.Listing.{listing_of}
 use Rattle.runs.specs.Report.{last_lines, tag_lines}
 use Rattle.runs.specs.ScenarioStart.{start_of, history, tag_of}
-use Rattle.scenario.specs.Limits.{IsScenario, IsEntry, IsStep}
+use Rattle.scenario.specs.Limits.{IsScenario, IsEntry}
 use Rattle.scenario.specs.declared.values.Scenario.{Scenario}
 use Rattle.scenario.specs.declared.values.Step.{Step}
-use Rattle.scenario_lines.specs.LineForm.{IsEvent, IsPlace}
+use Rattle.scenario_lines.specs.LineForm.{IsChoice, IsEvent, IsPlace}
 use Rattle.tag_machine.specs.TagValue.{TagValue}
 
 names-one : (tags : ℕ) (entry : ℕ × Entry) → IsEntry tags entry → NamesTags tags entry.1
@@ -49,6 +52,24 @@ pub scenario-names : (scenario : Scenario) → IsScenario scenario → NamesItsT
 scenario-names scenario is exchange =
     subst (λ n. NamesTags n (entry_at scenario.entries exchange)) (sym (length-map scenario.tags tag_of)) (names-all (length scenario.tags) scenario.entries is.entries exchange)
 
+-- a raw stream of a scenario has few levels
+chosen-few : (choice : Option Choice) → IfSome choice IsChoice → HasFewLevels choice
+chosen-few None is = tt
+chosen-few (Some (choices.Pick reply)) is = tt
+chosen-few (Some choices.Silent) is = tt
+chosen-few (Some (choices.Break place)) is = tt
+chosen-few (Some (choices.Raw levels)) is = is.1
+
+few-if : (b : Bool) (one other : Entry) → HasFewLevels one.choice → HasFewLevels other.choice → HasFewLevels (if b then one else other).choice
+few-if true one other is are = is
+few-if false one other is are = are
+
+few-all : (tags : ℕ) (entries : List (ℕ × Entry)) → All (IsEntry tags) entries → (exchange : ℕ) → HasFewLevels (entry_at entries exchange).choice
+few-all tags [] are exchange = tt
+few-all tags (entry ∷ entries) are exchange =
+    few-if (entry.0 == exchange) entry.1 (entry_at entries exchange) (chosen-few entry.1.choice (All-head (IsEntry tags) entry entries are).choice)
+    (few-all tags entries (All-tail (IsEntry tags) entry entries are) exchange)
+
 tags-before : (number : ℕ) (starts : List TagValue) → tags_behind_from number starts [] ≡ starts
 tags-before number [] = refl
 tags-before number (start ∷ starts) = ap (λ (t : List TagValue). start ∷ t) (tags-before (number + 1) starts)
@@ -59,6 +80,7 @@ pub at-first : (scenario : Scenario) (air : AirValue) (run : RunValue) → IsSce
 at-first scenario air run is fresh legal left left_is run_is = record {
   plays = record {
     names = scenario-names scenario is;
+    few = few-all (length scenario.tags) scenario.entries is.entries;
     link = ap (λ (a : AirValue). a.link) fresh;
     several = ap (λ (a : AirValue). a.several) fresh;
     tags = ap (λ (a : AirValue). a.tags) fresh ∙ sym (tags-before 0 (start_of scenario).tags);
@@ -79,11 +101,6 @@ between-first scenario air run is at = record {
   room = omega (arith, is.few_steps);
   rounds = omega (arith, is.few_steps);
 }
-
-pub steps-legal : (scenario : Scenario) (air : AirValue) → IsScenario scenario → air ≡ new_air (start_of scenario) → All (IsStep (length air.tags)) scenario.steps
-steps-legal scenario air is fresh =
-    let count : length air.tags ≡ length scenario.tags = ap (λ (a : AirValue). length a.tags) fresh ∙ length-map scenario.tags tag_of in
-    subst (λ n. All (IsStep n) scenario.steps) (sym count) is.steps
 
 -- what is told behind the steps is what the report has there
 last-told : (scenario : Scenario) (air : AirValue) (run : RunValue) → IsAt (start_of scenario) (history scenario) air run → run.out_of_memory ≡ false

@@ -19,10 +19,10 @@ use Rattle.report_lines.specs.SeenCounts.{Seen, distinct, same_pair, seen_among,
 use Rattle.report_lines.specs.declared.line.Line.{Line}
 use Rattle.report_lines.specs.declared.line.Line.TheVariants as lines
 use Rattle.report_lines.specs.declared.mode.Mode.TheVariants.{Trace}
-use Rattle.runs.proofs.Growth.{answer-keeps, few-outcomes, round-holds}
-use Rattle.runs.proofs.HeadlineCounts.{steps-exchanges, few-exchanges}
-use Rattle.runs.proofs.HeadlineLegal.{legal-steps}
-use Rattle.runs.proofs.Tags.{length-tags}
+use Rattle.runs.specs.laws.Growth.{answer-keeps, few-outcomes, round-holds}
+use Rattle.runs.specs.laws.HeadlineCounts.{steps-exchanges, few-exchanges}
+use Rattle.runs.specs.laws.HeadlineLegal.{legal-steps}
+use Rattle.runs.specs.laws.Tags.{length-tags}
 use Rattle.runs.specs.Headline.{AreLegalSteps, IsLegalStep}
 use Rattle.runs.specs.History.{past_behind, past_behind_slot, past_behind_step, slot_reception}
 use Rattle.runs.specs.Listing.{Listed, listed_by, listing_of}

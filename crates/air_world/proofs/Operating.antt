@@ -11,12 +11,12 @@ use Rattle.access_ops.specs.declared.op_next.OpNext.TheVariants as nexts
 use Rattle.access_ops.specs.declared.op_next.OpResult.{OpResult}
 use Rattle.air_channel.specs.Air.{AirValue}
 use Rattle.air_model.specs.Past.{Start, Record, Item, operated, past_behind_command, exchanges_in}
-use Rattle.air_model.specs.AwaitedLaws.{awaited_reception}
-use Rattle.air_model.specs.Channel.{Given, got_of, heard_levels}
+use Rattle.air_model.specs.laws.AwaitedLaws.{awaited_reception}
+use Rattle.air_model.specs.Channel.{Given, IsReadBy, got_of, heard_levels}
 use Rattle.reply_wire.specs.Received.{IsReceived}
 use Rattle.air_model.specs.Reception.{HoldsOfSent, IsUnmistakable, reception_with}
 use Rattle.air_model.specs.declared.got.Got.TheVariants as gots
-use Rattle.runs.proofs.Tags.{tags-operated}
+use Rattle.runs.specs.laws.Tags.{tags-operated}
 use Rattle.runs.specs.History.{operation_reception, past_behind_dialogue}
 use Rattle.runs.specs.Listing.{reception_of_ack, listed_from, listed_by}
 use Rattle.air_world.specs.Playing.{RunValue, IsAt, StandsAt}
@@ -39,12 +39,12 @@ received-answer t trext expect levels (Refused place) is = tt
 
 -- what is received of the stream of the last exchange, with the preamble that is awaited
 pub heard-awaited : (link : LinkValue) (given : Given) (air : AirValue) (expect : Expect) (extended : Bool) (received : Received) → air.link ≡ link → air.stream ≡ heard_levels link given
-    → got_of given ≡ gots.Stream → HoldsOfSent (IsUnmistakable expect) given → IsReceived (table_of air.link.code) (extended || air.link.trext) expect air.stream received
+    → got_of given ≡ gots.Stream → HoldsOfSent (IsUnmistakable expect) given → IsReadBy link given → IsReceived (table_of air.link.code) (extended || air.link.trext) expect air.stream received
     → reception_in (Got received) ≡ reception_with link.trext extended expect given
-heard-awaited link given air expect extended received link_is stream came is heard =
+heard-awaited link given air expect extended received link_is stream came is read heard =
     let at_link : IsReceived (table_of link.code) (extended || link.trext) expect air.stream received =
     subst (λ (l : LinkValue). IsReceived (table_of l.code) (extended || l.trext) expect air.stream received) link_is heard in
-    sym (awaited_reception link extended expect given received is came
+    sym (awaited_reception link extended expect given received is read came
     (subst (λ (levels : List Bool). IsReceived (table_of link.code) (extended || link.trext) expect levels received) stream at_link))
 
 -- between two moves of a dialogue whose end leaves a known past: the past and the moves so far, and how many commands are left
@@ -152,6 +152,7 @@ stands-operated Heard start past round slot index result air run at heard = reco
   at = record {
     plays = record {
       names = at.plays.names;
+      few = at.plays.few;
       link = at.plays.link;
       several = at.plays.several;
       tags = at.plays.tags ∙ sym (tags-operated start round slot index result past);

@@ -8,7 +8,7 @@ use Rattle.report_lines.specs.ReportLine.{ReportLine}
 use Rattle.report_lines.specs.declared.mode.Mode.TheVariants.{Trace}
 use Rattle.report_lines.specs.declared.mode.PlayFault.{PlayFault}
 use Rattle.report_lines.specs.declared.mode.PlayFault.TheVariants.{OutOfMemory}
-use Rattle.runs.proofs.Growth.{Grows, added_lines, past_lines-more}
+use Rattle.runs.specs.laws.Growth.{Grows, added_lines, past_lines-more}
 
 -- nothing was told
 pub passes-nothing : {A : Type 0} (hears : A → List ReportLine → A → Type 0) (before : List ReportLine) (old : A) → Passes hears before old old before

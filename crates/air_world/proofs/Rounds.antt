@@ -8,9 +8,7 @@ use Rattle.air_world.proofs.Passing.{cut-behind, cut-past, cut-same}
 use Rattle.air_world.specs.Playing.{RunValue, IsAt, StandsAt, most_in_slot}
 use Rattle.air_world.specs.Telling.{IsCutOff, Passes, lines_behind}
 use Rattle.command_grammar.specs.declared.commands.Command.{Command}
-use Rattle.command_grammar.specs.declared.commands.Command.TheVariants as commands
-use Rattle.q_round.specs.laws.RoundLaws.{IsSlotCommand, SendsSlotCommand}
-use Rattle.q_round.specs.laws.SlotLaws.{slots-underway, next-underway}
+use Rattle.q_round.specs.laws.SlotLaws.{slots-underway}
 use Rattle.q_round.specs.Rounds.{AreOutcomes, is_over, slots_of, next_command}
 use Rattle.q_round.specs.RoundValue.{RoundValue, RoundStandsFor, IsNextAnswer}
 use Rattle.q_round.specs.SpecValue.{SpecValue, IsLegalSpec}
@@ -18,16 +16,14 @@ use Rattle.q_round.specs.declared.frame.Outcome.{Outcome}
 use Rattle.q_round.specs.declared.round.Next.{Next}
 use Rattle.q_round.specs.declared.round.Next.TheVariants as nexts
 use Rattle.q_round.specs.declared.round.RoundEnd.{RoundEnd}
-use Rattle.reply_grammar.specs.declared.expected.Expect.TheVariants as expects
 use Rattle.report_lines.specs.ReportLine.{ReportLine, RoundLine}
 use Rattle.report_lines.specs.declared.mode.PlayFault.{PlayFault}
 use Rattle.report_lines.specs.declared.mode.PlayFault.TheVariants.{OutOfMemory}
-use Rattle.runs.proofs.Growth.{answer-keeps, turns-grow}
-use Rattle.runs.proofs.HeadlineCounts.{slot-exchanges}
-use Rattle.runs.proofs.Tags.{tags-ended}
+use Rattle.runs.specs.laws.Growth.{answer-keeps, turns-grow}
+use Rattle.runs.specs.laws.HeadlineCounts.{slot-exchanges}
+use Rattle.runs.specs.laws.Tags.{tags-ended}
 use Rattle.runs.specs.Headline.{most_operating}
 use Rattle.runs.specs.History.{outcome_of, slot_reception, past_behind_slot, past_behind_turn, past_behind_turns, past_behind_round}
-use Rattle.runs.specs.HistoryLaws.{expectation_of}
 
 -- between two slots of a round whose end leaves a known past: the past so far, the outcomes so far, the turns that are left,
 -- and the slot command that comes next
@@ -45,18 +41,6 @@ pub record RoundUnderway (Heard : List ReportLine → Type 0) (start : Start) (o
   pub rest : past_behind_turns (suc (suc left)) start operations number spec outcomes past ≡ whole
   pub few : exchanges_in past + most_in_slot * suc left ≤ exchanges_in first + most_in_slot * spec.limit
   pub rounds : number ≡ rounds_in past + 1
-
--- a command that a round sends is answered with an RN16
-sends-expected : (session : ℕ) (command : Command) → IsSlotCommand session command → expectation_of command ≡ Some expects.Rn16
-sends-expected session (commands.Query dr code trext sel named target q) is = refl
-sends-expected session (commands.QueryAdjust named updn) is = refl
-sends-expected session (commands.QueryRep named) is = refl
-sends-expected session command is = absurd is
-
-pub command-expected : (spec : SpecValue) (start : Start) (outcomes : List Outcome) (command : Command) → is_over spec outcomes ≡ false
-    → next_command spec start.link outcomes ≡ nexts.Send command → expectation_of command ≡ Some expects.Rn16
-command-expected spec start outcomes command on sends =
-    sends-expected spec.session command (subst (λ (n : Next). SendsSlotCommand spec.session n) sends (next-underway spec start.link outcomes on))
 
 abbrev pred : ℕ → ℕ
 pred zero = zero
@@ -184,6 +168,7 @@ stands-ended Heard start past number end slots air run after number_is at is hea
   at = record {
     plays = record {
       names = at.plays.names;
+      few = at.plays.few;
       link = at.plays.link;
       several = at.plays.several;
       tags = at.plays.tags ∙ sym (tags-ended start number end slots past);

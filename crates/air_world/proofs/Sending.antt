@@ -1,27 +1,34 @@
 -- What an exchange makes of the air and the run.
-use Rattle.std.proofs.Common.{◌≡◌, ℕ, ◌+◌, ◌<◌, false, List, [], ◌∷◌, length, refl, sym, ◌∙◌, ap, subst, arith}
-use Rattle.std.specs.Prelude.{◌==◌}
-use Rattle.std.proofs.lemmas.Bool.{ne_eqb}
+use Rattle.std.proofs.Common.{◌≡◌, ℕ, ◌+◌, ◌<◌, List, [], ◌∷◌, length, sym, ◌∙◌, ap, subst, arith}
 use Rattle.air_channel.specs.Air.{AirValue, NamesTags, air_after, next_exchange, last_exchange}
 use Rattle.air_model.specs.Exchange.{AreLegalTags, outcomes_in, replies_in, tags_after}
-use Rattle.air_model.specs.Channel.{given_in, heard_levels, wave_for}
+use Rattle.air_model.specs.Channel.{HasFewLevels, given_in, got_of, heard_levels, wave_for}
 use Rattle.air_model.specs.Past.{Start, Record, Item, next_record, past_behind_command, exchanges_in, tags_behind}
 use Rattle.air_events.specs.Entries.{entry_at}
 use Rattle.air_events.specs.declared.Entry.{Entry}
-use Rattle.runs.proofs.Tags.{tags-exchanged, length-tags}
+use Rattle.runs.specs.laws.Tags.{tags-exchanged, length-tags}
 use Rattle.air_world.specs.Playing.{RunValue, PlaysAt, HasRoom, last_exchange_lines}
 use Rattle.air_world.specs.Telling.{exchange_lines}
 use Rattle.command_grammar.specs.declared.commands.Command.{Command}
+use Rattle.pie_line.specs.Link.{LinkValue}
 use Rattle.report_lines.specs.ReportLine.{ReportLine, TxLine, RxLine}
 use Rattle.air_events.specs.Cursor.{IsLeft}
 use Rattle.tag_machine.specs.TagValue.{TagValue}
 
 next-below : (exchanges : ℕ) → exchanges < last_exchange → next_exchange exchanges ≡ exchanges + 1
-next-below exchanges few =
-    let other : (exchanges == last_exchange) ≡ false = ne_eqb exchanges last_exchange (λ same. omega arith) in
-    rw other refl
+next-below exchanges few = omega (arith, few)
 
--- the entry of the next exchange names tags that there are
+-- the cursor of the run stands behind the exchanges of the past
+pub cursor-stands : (start : Start) (past : List Item) (air : AirValue) (run : RunValue) (entries : List (ℕ × Entry)) → PlaysAt start past air run → run.entries ≡ entries
+    → IsLeft entries start.entries (exchanges_in past)
+cursor-stands start past air run entries plays cursor = subst (λ l. IsLeft l start.entries (exchanges_in past)) cursor plays.entries
+
+-- the number of the next exchange
+pub next-number : (start : Start) (past : List Item) (air : AirValue) (run : RunValue) (exchange : ℕ) → PlaysAt start past air run → exchange ≡ air.exchanges + 1
+    → exchange ≡ exchanges_in past + 1
+next-number start past air run exchange plays number = number ∙ ap (λ n. n + 1) plays.exchanges
+
+-- the entry of the next exchange names tags that there are ..
 pub entry-names : (start : Start) (past : List Item) (air : AirValue) (run : RunValue) (entry : Entry) → PlaysAt start past air run
     → entry ≡ entry_at start.entries (exchanges_in past + 1) → NamesTags (length air.tags) entry
 entry-names start past air run entry plays is =
@@ -29,81 +36,92 @@ entry-names start past air run entry plays is =
     let named : NamesTags (length start.tags) entry = subst (λ e. NamesTags (length start.tags) e) (sym is) (plays.names (exchanges_in past + 1)) in
     subst (λ n. NamesTags n entry) (sym count) named
 
--- what the channel gives is what the record says
-pub given-recorded : (start : Start) (past : List Item) (round slot : ℕ) (command : Command) (air : AirValue) (entry : Entry) → air.several ≡ start.several
-    → air.tags ≡ tags_behind start past → entry ≡ entry_at start.entries (exchanges_in past + 1)
-    → given_in air.several command entry air.tags ≡ (next_record start round slot command past).given
-given-recorded start past round slot command air entry several tags is =
-    ap (λ s. given_in s command entry air.tags) several
-    ∙ ap (λ e. given_in start.several command e air.tags) is
-    ∙ ap (λ t. given_in start.several command (entry_at start.entries (exchanges_in past + 1)) t) tags
+-- .. and gives few levels
+pub entry-fits : (start : Start) (past : List Item) (air : AirValue) (run : RunValue) (entry : Entry) → PlaysAt start past air run
+    → entry ≡ entry_at start.entries (exchanges_in past + 1) → HasFewLevels entry.choice
+entry-fits start past air run entry plays is = subst (λ (e : Entry). HasFewLevels e.choice) (sym is) (plays.few (exchanges_in past + 1))
 
-replies-recorded : (start : Start) (past : List Item) (round slot : ℕ) (command : Command) (air : AirValue) (entry : Entry) → air.tags ≡ tags_behind start past
-    → entry ≡ entry_at start.entries (exchanges_in past + 1)
-    → replies_in command entry air.tags ≡ (next_record start round slot command past).replies
-replies-recorded start past round slot command air entry tags is = ap (λ e. replies_in command e air.tags) is ∙ ap (λ t. replies_in command (entry_at start.entries (exchanges_in past + 1)) t) tags
+-- what is known of an exchange with which a run goes on
+pub record Sends (start : Start) (past : List Item) (command : Command) : Type 0 where
+  pub air : AirValue
+  pub run : RunValue
+  pub next : AirValue
+  pub entry : Entry
+  pub plays : PlaysAt start past air run
+  pub is : next ≡ air_after air command entry
+  pub entry_is : entry ≡ entry_at start.entries (exchanges_in past + 1)
+  pub legal : AreLegalTags next.tags
+  pub few : air.exchanges < last_exchange
+
+-- what the channel gives is what the record says
+given-recorded : (start : Start) (past : List Item) (round slot : ℕ) (command : Command) (sends : Sends start past command)
+    → given_in sends.air.link sends.air.several command sends.entry sends.air.tags ≡ (next_record start round slot command past).given
+given-recorded start past round slot command sends =
+    let air = sends.air in
+    let plays = sends.plays in
+    ap (λ (l : LinkValue). given_in l air.several command sends.entry air.tags) plays.link
+    ∙ ap (λ s. given_in start.link s command sends.entry air.tags) plays.several
+    ∙ ap (λ e. given_in start.link start.several command e air.tags) sends.entry_is
+    ∙ ap (λ t. given_in start.link start.several command (entry_at start.entries (exchanges_in past + 1)) t) plays.tags
+
+replies-recorded : (start : Start) (past : List Item) (round slot : ℕ) (command : Command) (sends : Sends start past command)
+    → replies_in command sends.entry sends.air.tags ≡ (next_record start round slot command past).replies
+replies-recorded start past round slot command sends =
+    ap (λ e. replies_in command e sends.air.tags) sends.entry_is ∙ ap (λ t. replies_in command (entry_at start.entries (exchanges_in past + 1)) t) sends.plays.tags
+
+-- the number of the exchange
+sent-number : (start : Start) (past : List Item) (command : Command) (sends : Sends start past command) → sends.next.exchanges ≡ exchanges_in past + 1
+sent-number start past command sends = ap (λ (a : AirValue). a.exchanges) sends.is ∙ next-below sends.air.exchanges sends.few ∙ ap (λ n. n + 1) sends.plays.exchanges
 
 -- after an exchange, air and run stand behind the longer past
-pub sent-plays : (start : Start) (past : List Item) (round slot : ℕ) (command : Command) (air next : AirValue) (run after : RunValue) (entry : Entry) (left : List (ℕ × Entry))
-    → PlaysAt start past air run → next ≡ air_after air command entry → entry ≡ entry_at start.entries (exchanges_in past + 1)
-    → IsLeft left start.entries (exchanges_in past + 1) → after ≡ record run { entries = left } → AreLegalTags next.tags → air.exchanges < last_exchange
-    → PlaysAt start (past_behind_command start round slot command past) next after
-sent-plays start past round slot command air next run after entry left plays is entry_is left_is after_is legal few =
+pub sent-plays : (start : Start) (past : List Item) (round slot : ℕ) (command : Command) (sends : Sends start past command) (after : RunValue)
+    → after ≡ record sends.run { entries = after.entries } → IsLeft after.entries start.entries (exchanges_in past + 1)
+    → PlaysAt start (past_behind_command start round slot command past) sends.next after
+sent-plays start past round slot command sends after after_is left_is =
     let sent : Record = next_record start round slot command past in
-    let moved : tags_after (outcomes_in command entry air.tags) ≡ tags_after (outcomes_in command sent.entry (tags_behind start past)) =
-    ap (λ (e : Entry). tags_after (outcomes_in command e air.tags)) entry_is ∙ ap (λ (t : List TagValue). tags_after (outcomes_in command sent.entry t)) plays.tags in
+    let air = sends.air in
+    let plays = sends.plays in
+    let moved : tags_after (outcomes_in command sends.entry air.tags) ≡ tags_after (outcomes_in command sent.entry (tags_behind start past)) =
+    ap (λ (e : Entry). tags_after (outcomes_in command e air.tags)) sends.entry_is ∙ ap (λ (t : List TagValue). tags_after (outcomes_in command sent.entry t)) plays.tags in
     record {
       names = plays.names;
-      link = ap (λ (a : AirValue). a.link) is ∙ plays.link;
-      several = ap (λ (a : AirValue). a.several) is ∙ plays.several;
-      tags = ap (λ (a : AirValue). a.tags) is ∙ moved ∙ sym (tags-exchanged start sent past);
-      legal = legal;
-      exchanges = ap (λ (a : AirValue). a.exchanges) is ∙ next-below air.exchanges few ∙ ap (λ n. n + 1) plays.exchanges;
-      entries = subst (λ l. IsLeft l start.entries (exchanges_in past + 1)) (sym (ap (λ (r : RunValue). r.entries) after_is)) left_is;
+      few = plays.few;
+      link = ap (λ (a : AirValue). a.link) sends.is ∙ plays.link;
+      several = ap (λ (a : AirValue). a.several) sends.is ∙ plays.several;
+      tags = ap (λ (a : AirValue). a.tags) sends.is ∙ moved ∙ sym (tags-exchanged start sent past);
+      legal = sends.legal;
+      exchanges = sent-number start past command sends;
+      entries = left_is;
       rounds = ap (λ (r : RunValue). r.rounds) after_is ∙ plays.rounds;
     }
 
 -- the levels that come are those of the record
-pub sent-stream : (start : Start) (past : List Item) (round slot : ℕ) (command : Command) (air next : AirValue) (run : RunValue) (entry : Entry)
-    → PlaysAt start past air run → next ≡ air_after air command entry → entry ≡ entry_at start.entries (exchanges_in past + 1)
-    → next.stream ≡ heard_levels start.link (next_record start round slot command past).given
-sent-stream start past round slot command air next run entry plays is entry_is =
-    ap (λ (a : AirValue). a.stream) is ∙ ap (λ l. heard_levels l (given_in air.several command entry air.tags)) plays.link
-    ∙ ap (λ g. heard_levels start.link g) (given-recorded start past round slot command air entry plays.several plays.tags entry_is)
+pub sent-stream : (start : Start) (past : List Item) (round slot : ℕ) (command : Command) (sends : Sends start past command)
+    → sends.next.stream ≡ heard_levels start.link (next_record start round slot command past).given
+sent-stream start past round slot command sends =
+    let air = sends.air in
+    ap (λ (a : AirValue). a.stream) sends.is ∙ ap (λ (l : LinkValue). heard_levels l (given_in air.link air.several command sends.entry air.tags)) sends.plays.link
+    ∙ ap (λ g. heard_levels start.link g) (given-recorded start past round slot command sends)
+
+-- whether any come is what the record says
+pub sent-got : (start : Start) (past : List Item) (round slot : ℕ) (command : Command) (sends : Sends start past command)
+    → got_of (given_in sends.air.link sends.air.several command sends.entry sends.air.tags) ≡ got_of (next_record start round slot command past).given
+sent-got start past round slot command sends = ap (λ g. got_of g) (given-recorded start past round slot command sends)
 
 -- what is told of the exchange is what a trace has of the record
-pub sent-lines : (start : Start) (past : List Item) (round slot : ℕ) (command : Command) (air next : AirValue) (run : RunValue) (entry : Entry)
-    → PlaysAt start past air run → next ≡ air_after air command entry → entry ≡ entry_at start.entries (exchanges_in past + 1) → air.exchanges < last_exchange
-    → last_exchange_lines next ≡ exchange_lines start (next_record start round slot command past)
-sent-lines start past round slot command air next run entry plays is entry_is few =
+pub sent-lines : (start : Start) (past : List Item) (round slot : ℕ) (command : Command) (sends : Sends start past command)
+    → last_exchange_lines sends.next ≡ exchange_lines start (next_record start round slot command past)
+sent-lines start past round slot command sends =
     let sent : Record = next_record start round slot command past in
-    let number : next.exchanges ≡ sent.exchange = ap (λ (a : AirValue). a.exchanges) is ∙ next-below air.exchanges few ∙ ap (λ n. n + 1) plays.exchanges in
-    let frame : next.frame ≡ wave_for start.link command = ap (λ (a : AirValue). a.frame) is ∙ ap (λ l. wave_for l command) plays.link in
-    let count : next.replies ≡ length sent.replies = ap (λ (a : AirValue). a.replies) is ∙ ap length (replies-recorded start past round slot command air entry plays.tags entry_is) in
-    let stream : next.stream ≡ heard_levels start.link sent.given = sent-stream start past round slot command air next run entry plays is entry_is in
+    let next = sends.next in
+    let plays = sends.plays in
+    let number : next.exchanges ≡ sent.exchange = sent-number start past command sends in
+    let frame : next.frame ≡ wave_for start.link command = ap (λ (a : AirValue). a.frame) sends.is ∙ ap (λ l. wave_for l command) plays.link in
+    let count : next.replies ≡ length sent.replies = ap (λ (a : AirValue). a.replies) sends.is ∙ ap length (replies-recorded start past round slot command sends) in
+    let stream : next.stream ≡ heard_levels start.link sent.given = sent-stream start past round slot command sends in
     let tx : TxLine next.exchanges next.frame ≡ TxLine sent.exchange (wave_for start.link command) = cc in
     let rx : RxLine next.exchanges next.replies next.stream ≡ RxLine sent.exchange (length sent.replies) (heard_levels start.link sent.given) = cc in
     ap (λ (line : ReportLine). line ∷ RxLine next.exchanges next.replies next.stream ∷ []) tx ∙ ap (λ (line : ReportLine). TxLine sent.exchange (wave_for start.link command) ∷ line ∷ []) rx
-
--- the cursor gives the entry of the next exchange
-pub entry-next : (start : Start) (past : List Item) (air : AirValue) (run : RunValue) (entries : List (ℕ × Entry)) (exchange : ℕ) (entry : Entry) → PlaysAt start past air run
-    → run.entries ≡ entries → exchange ≡ air.exchanges + 1
-    → ((all : List (ℕ × Entry)) (played : ℕ) → IsLeft entries all played → exchange ≡ played + 1 → entry ≡ entry_at all exchange)
-    → entry ≡ entry_at start.entries (exchanges_in past + 1)
-entry-next start past air run entries exchange entry plays cursor number found =
-    let next : exchange ≡ exchanges_in past + 1 = number ∙ ap (λ n. n + 1) plays.exchanges in
-    found start.entries (exchanges_in past) (subst (λ l. IsLeft l start.entries (exchanges_in past)) cursor plays.entries) next
-    ∙ ap (λ n. entry_at start.entries n) next
-
--- ... and stands behind it
-pub left-next : (start : Start) (past : List Item) (air : AirValue) (run : RunValue) (entries left : List (ℕ × Entry)) (exchange : ℕ) → PlaysAt start past air run
-    → run.entries ≡ entries → exchange ≡ air.exchanges + 1
-    → ((all : List (ℕ × Entry)) (played : ℕ) → IsLeft entries all played → exchange ≡ played + 1 → IsLeft left all exchange)
-    → IsLeft left start.entries (exchanges_in past + 1)
-left-next start past air run entries left exchange plays cursor number found =
-    let next : exchange ≡ exchanges_in past + 1 = number ∙ ap (λ n. n + 1) plays.exchanges in
-    subst (λ n. IsLeft left start.entries n) next
-    (found start.entries (exchanges_in past) (subst (λ l. IsLeft l start.entries (exchanges_in past)) cursor plays.entries) next)
 
 -- the exchanges fit the counter
 pub few-exchanges : (start : Start) (past : List Item) (air : AirValue) (run : RunValue) (more : ℕ) → PlaysAt start past air run → HasRoom (more + 1) past → air.exchanges < last_exchange

@@ -6,12 +6,12 @@ use Rattle.access_ops.specs.declared.OpList.{OpList}
 use Rattle.air_channel.specs.Air.{AirValue}
 use Rattle.air_events.specs.Cursor.{IsLeft}
 use Rattle.air_events.specs.declared.Entry.{Entry}
-use Rattle.air_model.specs.Exchange.{AreLegalTags}
+use Rattle.air_model.specs.Exchange.{AreLegalTags, replies_in}
 use Rattle.air_model.specs.Channel.{Given, got_of, heard_levels}
 use Rattle.air_model.specs.Past.{Start, Record, Item, befell, exchanged, operated, ended, next_entry, next_record, past_behind_command, tags_behind, exchanges_in}
-use Rattle.air_model.specs.Reception.{reception_of, IsGivenFor}
-use Rattle.air_model.specs.ReceptionLaws.{stream_reception}
-use Rattle.air_model.specs.declared.got.Got.{Got}
+use Rattle.air_model.specs.Reception.{reception_of}
+use Rattle.air_model.specs.laws.GivenLaws.{given_is_read}
+use Rattle.air_model.specs.laws.ReceptionLaws.{stream_reception}
 use Rattle.air_model.specs.declared.got.Got.TheVariants as gots
 use Rattle.air_world.proofs.Passing.{passes-then}
 use Rattle.air_world.specs.Heard.{pair_received, rn16_received}
@@ -32,29 +32,39 @@ use Rattle.reply_wire.specs.Received.{IsReceived}
 use Rattle.report_lines.specs.ReportLine.{ReportLine}
 use Rattle.report_lines.specs.SeenCounts.{Seen, seen_in, count_of}
 use Rattle.report_lines.specs.SeenLaws.{count_of-few}
-use Rattle.runs.proofs.Answering.{AnswersByRow, SendsInRange, StaysLegal, given-in-expected}
+use Rattle.runs.proofs.Answering.{TagLaws, given-in-expected}
+use Rattle.tag_machine.specs.TagValue.{TagValue}
 use Rattle.runs.specs.History.{past_behind_dialogue, past_behind_listing, ack_reception, past_behind_ack, past_behind_answer, slot_reception, past_behind_slot}
-use Rattle.runs.specs.HistoryLaws.{expectation_of}
+use Rattle.runs.specs.NextItem.{expectation_of}
 use Rattle.runs.specs.Listing.{Listed, reception_of_ack, listed_from, listed_by, listing_of}
 use Rattle.runs.specs.Report.{list_line}
 
--- what is received of the stream of the last exchange
-heard-reception : (link : LinkValue) (given : Given) (air : AirValue) (expect : Expect) (answer : Received) → air.link ≡ link → air.stream ≡ heard_levels link given → got_of given ≡ gots.Stream
-    → IsGivenFor expect given → IsReceived (table_of air.link.code) air.link.trext expect air.stream answer → reception_from answer ≡ reception_of expect given
-heard-reception link given air expect answer link_is stream came is received =
-    let at_link : IsReceived (table_of link.code) link.trext expect air.stream answer = subst (λ l. IsReceived (table_of l.code) l.trext expect air.stream answer) link_is received in
-    sym (stream_reception link expect given answer is came (subst (λ levels. IsReceived (table_of link.code) link.trext expect levels answer) stream at_link))
+-- what is known of a stream that came in an exchange whose command expects such a reply
+pub record StreamCame (start : Start) (past : List Item) (round slot : ℕ) (command : Command) (expect : Expect) : Type 0 where
+  -- the air behind the exchange, and what is received of its stream
+  pub air : AirValue
+  pub received : Received
+  pub asked : expectation_of command ≡ Some expect
+  pub legal : AreLegalTags (tags_behind start past)
+  pub link : air.link ≡ start.link
+  pub stream : air.stream ≡ heard_levels start.link (next_record start round slot command past).given
+  pub came : got_of (next_record start round slot command past).given ≡ gots.Stream
+  pub heard : IsReceived (table_of air.link.code) air.link.trext expect air.stream received
 
--- ... where its command expects such a reply
-pub asked-reception : (start : Start) (past : List Item) (round slot : ℕ) (command : Command) (expect : Expect) (air after : AirValue) (run later : RunValue) (got : Got) (received : Received)
-    → expectation_of command ≡ Some expect → AnswersByRow → SendsInRange → StaysLegal → PlaysAt start past air run
-    → PlaysAt start (past_behind_command start round slot command past) after later
-    → after.stream ≡ heard_levels start.link (next_record start round slot command past).given → got ≡ got_of (next_record start round slot command past).given → got ≡ gots.Stream
-    → IsReceived (table_of after.link.code) after.link.trext expect after.stream received
-    → reception_from received ≡ reception_of expect (next_record start round slot command past).given
-asked-reception start past round slot command expect air after run later got received asked rows range stays plays behind stream is came heard =
-    heard-reception start.link (next_record start round slot command past).given after expect received behind.link stream (sym is ∙ came)
-    (given-in-expected start.several command expect (next_entry start past) (tags_behind start past) asked rows range stays (subst AreLegalTags plays.tags plays.legal)) heard
+-- what is received of it is what the record says
+pub asked-reception : TagLaws → (start : Start) (past : List Item) (round slot : ℕ) (command : Command) (expect : Expect) (s : StreamCame start past round slot command expect)
+    → reception_from s.received ≡ reception_of expect (next_record start round slot command past).given
+asked-reception laws start past round slot command expect s =
+    let given : Given = (next_record start round slot command past).given in
+    let entry : Entry = next_entry start past in
+    let tags : List TagValue = tags_behind start past in
+    let at_link : IsReceived (table_of start.link.code) start.link.trext expect s.air.stream s.received =
+    subst (λ (l : LinkValue). IsReceived (table_of l.code) l.trext expect s.air.stream s.received) s.link s.heard in
+    let by_record : IsReceived (table_of start.link.code) start.link.trext expect (heard_levels start.link given) s.received =
+    subst (λ (levels : List Bool). IsReceived (table_of start.link.code) start.link.trext expect levels s.received) s.stream at_link in
+    sym
+    (stream_reception start.link expect given s.received (given-in-expected laws start command expect entry tags s.asked s.legal)
+    (given_is_read start.link (replies_in command entry tags) entry.choice start.several) s.came by_record)
 
 -- what a slot command with a stream brings, by the RN16 that comes whole
 abbrev pub rn16_reception : Option ℕ → Reception
@@ -134,6 +144,7 @@ pub plays-listed : (start : Start) (past : List Item) (air : AirValue) (run afte
     → PlaysAt start past air run → PlaysAt start past air after
 plays-listed start past air run after seen short is plays = record {
   names = plays.names;
+  few = plays.few;
   link = plays.link;
   several = plays.several;
   tags = plays.tags;

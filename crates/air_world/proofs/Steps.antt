@@ -18,13 +18,13 @@ use Rattle.command_grammar.specs.declared.commands.Command.TheVariants as comman
 use Rattle.reply_grammar.specs.Reception.{Reception, no_stream}
 use Rattle.report_lines.specs.ReportLine.{ReportLine}
 use Rattle.report_lines.specs.declared.mode.PlayFault.{PlayFault}
-use Rattle.runs.proofs.Growth.{steps-grow, round-holds}
-use Rattle.runs.proofs.HeadlineCounts.{round-exchanges}
-use Rattle.runs.proofs.HeadlineLegal.{legal-step}
-use Rattle.runs.proofs.Tags.{tags-befell, length-tags}
+use Rattle.runs.specs.laws.Growth.{steps-grow, round-holds}
+use Rattle.runs.specs.laws.HeadlineCounts.{round-exchanges}
+use Rattle.runs.specs.laws.HeadlineLegal.{legal-step}
+use Rattle.runs.specs.laws.Tags.{tags-befell, length-tags}
 use Rattle.runs.specs.Headline.{most_operating}
 use Rattle.runs.specs.History.{past_behind, past_behind_step}
-use Rattle.runs.specs.HistoryLaws.{expectation_of}
+use Rattle.runs.specs.NextItem.{expectation_of}
 use Rattle.runs.specs.Listing.{reception_of_ack, listed_from, listed_by}
 use Rattle.scenario.specs.Limits.{IsStep}
 use Rattle.scenario.specs.declared.values.Step.{Step}
@@ -38,11 +38,6 @@ command-unlisted sent command asked = refl
 pub alone-unlisted : (sent : Record) → expectation_of sent.command ≡ None → listed_by sent ≡ []
 alone-unlisted sent asked = ap (λ (r : Reception). listed_from sent r) (command-unlisted sent sent.command asked)
 
--- no reply is expected to the Select of a step
-pub select-alone : (tags : ℕ) (command : Command) → IsStep tags (steps.Select command) → expectation_of command ≡ None
-select-alone tags (commands.Select target action bank pointer mask) is = refl
-select-alone tags command is = absurd is
-
 -- behind an event
 pub stands-befell : (Heard : List ReportLine → Type 0) (start : Start) (past : List Item) (event : Event) (number : ℕ) (air next : AirValue) (run : RunValue)
     → IsAt start past air run → Heard (lines_behind start past) → next ≡ air_after_event air event number → AreLegalTags next.tags → StandsAt Heard start (befell event number ∷ past) next run
@@ -53,6 +48,7 @@ stands-befell Heard start past event number air next run at told is legal =
       at = record {
         plays = record {
           names = at.plays.names;
+          few = at.plays.few;
           link = ap (λ (a : AirValue). a.link) is ∙ at.plays.link;
           several = ap (λ (a : AirValue). a.several) is ∙ at.plays.several;
           tags = moved;

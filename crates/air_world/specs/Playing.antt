@@ -4,6 +4,7 @@ use Rattle.air_channel.specs.Air.{AirValue, NamesTags}
 use Rattle.air_events.specs.Cursor.{IsLeft}
 use Rattle.air_events.specs.Entries.{entry_at}
 use Rattle.air_events.specs.declared.Entry.{Entry}
+use Rattle.air_model.specs.Channel.{HasFewLevels}
 use Rattle.air_model.specs.Exchange.{AreLegalTags}
 use Rattle.air_model.specs.Past.{Start, Item, exchanges_in, rounds_in, tags_behind}
 use Rattle.air_world.specs.Telling.{lines_behind}
@@ -23,9 +24,14 @@ pub record RunValue : Type 0 where
 abbrev pub NamesItsTags : Start → Type 0
 NamesItsTags start = (exchange : ℕ) → NamesTags (length start.tags) (entry_at start.entries exchange)
 
+-- what is said of each exchange gives no more levels than the longest stream has
+abbrev pub GivesFewLevels : Start → Type 0
+GivesFewLevels start = (exchange : ℕ) → HasFewLevels (entry_at start.entries exchange).choice
+
 -- the air and the run are what a past made of them, but for the listing
 pub record PlaysAt (start : Start) (past : List Item) (air : AirValue) (run : RunValue) : Type 0 where
   pub names : NamesItsTags start
+  pub few : GivesFewLevels start
   pub link : air.link ≡ start.link
   pub several : air.several ≡ start.several
   pub tags : air.tags ≡ tags_behind start past

@@ -5,14 +5,14 @@ ghost use Rattle.air_model.specs.Past.{exchanges_in, tags_behind};
 ghost use Rattle.air_world.specs.NewAir.{new_air};
 ghost use Rattle.air_world.specs.Telling.{Ends, IsCutOff, IsPlayed, lines_of_run};
 ghost use Rattle.runs.specs.CompleteRounds.{RoundsAreComplete};
-ghost use Rattle.runs.specs.Headline.{Headline};
+ghost use Rattle.runs.specs.Headline.{AreHeardAsListed, Headline};
 ghost use Rattle.runs.specs.Report.{report_of, report_text_of};
 ghost use Rattle.runs.specs.ScenarioStart.{history, start_of};
 ghost use Rattle.scenario.specs.Limits.{IsScenario};
 
 use crate::run::{Run, tell_link};
 use air_channel::Air;
-use air_events::{EntryCursor, empty_entry};
+use air_events::{EntryCursor, MOST_TAGS, empty_entry};
 use air_io::Sink;
 use report_lines::{Listener, Mode, PlayFault, TextReport};
 use runs::{headline, rounds_are_complete};
@@ -49,6 +49,7 @@ pub fn play<O: Sink>(
     ensures write { IsErrOf result PlayFault.Write → FaultsRose (O.faults out.old) (O.faults out.new) }
     ensures part { OnErr result ((front : List ℕ) × (rest : List ℕ) × (report_text_of mode scenario.now ≡ front ++ rest) × Adds (O.written out.old) (O.written out.new) front) }
     ensures count { O.faults out.old ≤ O.faults out.new }
+    ensures heard_as_listed { OnOk result (AreHeardAsListed (start_of scenario.now) (history scenario.now) (report_of mode (start_of scenario.now) scenario.now.steps)) }
     ensures headline { OnOk result (Headline (start_of scenario.now) scenario.now.steps (history scenario.now) (report_of mode (start_of scenario.now) scenario.now.steps)) }
     ensures inventory { OnOk result (RoundsAreComplete scenario.now) }
 {
@@ -76,7 +77,7 @@ pub(crate) fn tell_run<L: Ledger, R: Listener>(
     ensures { Ends result (IsPlayed R.hears R.failed scenario.now report.old report.new air.new)
         (IsCutOff R.hears R.failed [] report.old report.new (lines_of_run (start_of scenario.now) scenario.now.steps)) }
 {
-    prove!(air.len() <= 4096);
+    prove!(air.len() <= u32::from(MOST_TAGS));
     let empty = empty_entry(alloc);
     let entries = EntryCursor::new(scenario.entries.as_slice(), &empty);
     let mut run = Run::<L>::new(alloc, entries, Steps::new(blank))?;

@@ -11,7 +11,7 @@ ghost use Rattle.reply_wire.specs.Received.{IsReceived};
 ghost use Rattle.report_lines.specs.ReportLine.{ReportLine, ListLine, RoundLine};
 ghost use Rattle.report_lines.specs.SeenCounts.{count_of, seen_in};
 ghost use Rattle.runs.specs.History.{outcome_of, past_behind_ack, past_behind_round, past_behind_slot, slot_reception};
-ghost use Rattle.runs.specs.HistoryLaws.{expectation_of};
+ghost use Rattle.runs.specs.NextItem.{expectation_of};
 
 mod operating;
 mod report;
@@ -19,7 +19,7 @@ mod steps;
 
 use access_ops::OpList;
 use air_channel::{Air, Got};
-use air_events::{Entry, EntryCursor};
+use air_events::{Entry, EntryCursor, LONGEST_STREAM};
 use bit_strings::{Bits, OutOfMemory};
 use command_grammar::Command;
 use q_round::{Next, Outcome, Round, RoundEnd, RoundSpec, round_laws};
@@ -31,9 +31,6 @@ use std::alloc::Global;
 use std::marker::Model;
 use std::sync::ledger::Ledger;
 use tag_machine::{Steps, answers_are_replies, steps_keep_tags_legal};
-
-/// Room for the bits of a reply: as many as the longest stream has levels.
-const BIT_ROOM: u32 = 131_968;
 
 /// What is kept of a run beside the air. What it tells, it tells a listener.
 ///
@@ -51,7 +48,7 @@ pub(crate) struct Run<'a, L: Ledger> {
 
 impl<'a, L: Ledger> Model for Run<'a, L> {
     ghost use Rattle.std.specs.Prelude.{◌≤◌};
-    ghost use Rattle.air_model.specs.Channel.{longest_stream};
+    ghost use Rattle.air_events.specs.Streams.{longest_stream};
     ghost use Rattle.air_world.specs.Playing.{RunValue};
 
     ghost Value = { RunValue };
@@ -70,7 +67,7 @@ impl<'a, L: Ledger> Run<'a, L> {
     ) -> Result<Run<'a, L>, OutOfMemory>
         ensures { IfOk result (λ run. run ≡ record { entries = entries.entry; seen = []; rounds = 0; out_of_memory = false }) }
     {
-        let bits = Bits::new(alloc, BIT_ROOM)?;
+        let bits = Bits::new(alloc, LONGEST_STREAM)?;
         Ok(Run {
             entries,
             seen: SeenCounts::new(alloc),

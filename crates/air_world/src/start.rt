@@ -5,37 +5,21 @@ ghost use Rattle.runs.specs.ScenarioStart.{start_of, tag_of};
 ghost use Rattle.scenario.specs.Limits.{IsScenario};
 ghost use Rattle.scenario_lines.specs.TagForm.{IsTag};
 ghost use Rattle.tag_machine.specs.Hearing.{tag_value_of};
-ghost use Rattle.tag_memory.specs.Image.{banks_of};
 
 use air_channel::{Air, Population};
 use bit_strings::OutOfMemory;
 use scenario::{Scenario, TagSpec};
 use session_flags::DrawWords;
-use std::alloc::{AllocError, Global};
+use std::alloc::Global;
 use tag_machine::{AnyTag, Several};
-use tag_memory::{ImageRefusal, Memory};
-
-/// The memory of a tag of a scenario, whose banks have sizes that a tag's banks may have.
-fn memory_of(alloc: Global, spec: &TagSpec) -> Result<Memory, OutOfMemory>
-    requires { IsTag spec.now }
-    ensures { IfOk result (λ memory. memory ≡ banks_of spec.now.image) }
-{
-    match Memory::new(alloc, &spec.image) {
-        Ok(memory) => Ok(memory),
-        Err(ImageRefusal::OutOfMemory) => Err(AllocError),
-        // The text of a scenario has neither.
-        Err(ImageRefusal::Size | ImageRefusal::Pc) => unreachable!(),
-    }
-}
 
 /// A tag as a scenario gives it: ready, with the flags of a new tag and no draw made.
 fn new_tag(alloc: Global, spec: &TagSpec) -> Result<AnyTag, OutOfMemory>
     requires { IsTag spec.now }
     ensures { IfOk result (λ tag. tag_value_of tag ≡ tag_of spec.now) }
 {
-    let memory = memory_of(alloc, spec)?;
     let words = DrawWords::new(alloc, spec.words.words())?;
-    Ok(AnyTag::new(memory, spec.locks, words))
+    AnyTag::of_image(alloc, &spec.image, spec.locks, words)
 }
 
 /// The tags of a scenario, in order.

@@ -2,7 +2,7 @@
 use Rattle.std.proofs.Common.{◌≡◌, ◌+◌, ◌*◌, ◌^◌, ◌<◌, ◌≤◌, ℕ, Bool, true, false, List, length, take, get_or, ◌/◌, ◌%◌, ◌∷◌, ◌++◌, [], append_assoc, append-nil, refl, ap, sym, ◌∙◌, arith, length-take}
 use Rattle.std.specs.Prelude.{◌==◌}
 use Rattle.bit_strings.specs.Numbers.{value_of, digit_of, field_of}
-use Rattle.bit_strings.specs.NumberLaws.{value_of-take_more, value_of-within, field_of-more, field_of-none}
+use Rattle.bit_strings.specs.laws.Numbers.{value_of-take_more, value_of-within, field_of-more, field_of-none}
 use Rattle.bit_strings.specs.BitString.{BitString}
 use mir.Val.{bool_byte}
 

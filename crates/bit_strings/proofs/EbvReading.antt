@@ -3,14 +3,14 @@ use Rattle.std.proofs.Common.{◌≡◌, ◌≢◌, ℕ, suc, ◌+◌, ◌-◌, 
 use Rattle.std.proofs.Math.Nat.{pow-suc, pow-le-pow_right}
 use Rattle.std.proofs.lemmas.Bool.{cases_lt}
 use Rattle.std.specs.Prelude.{slice_get, get_or, take, drop, Some, ◌⊎◌}
-use Rattle.std.proofs.lemmas.List.{length-replicate, nil_from_length, get_or-drop, take_more, take_all, take_at, drop_at, take-append-drop, take-append-le, drop-append-le}
+use Rattle.std.proofs.lemmas.List.{length-replicate, nil_from_length, get_or-drop, take_more, take_at, drop_at, take-append-drop, take-append-le, drop-append-le}
 use Rattle.std.proofs.lemmas.List.Elements.{All-push, All-cons}
 use Rattle.bit_strings.specs.Numbers.{value_of, field_of, digit_of, part_of}
-use Rattle.bit_strings.specs.NumberLaws.{value_of-within, value_of-push, value_of-append, value_of-field, length-field_of, same_from_value}
-use Rattle.bit_strings.specs.Ebv.{number_of, blocks_of, IsShortest, IsEbv, IsCutEbv, IsTooLong, BeginsWithNothing}
-use Rattle.bit_strings.specs.EbvLaws.{AreSevens, seven-head, seven-tail, nothing-digit, digit-nothing, shortest-some, nothing-more, too_long-more}
+use Rattle.bit_strings.specs.laws.Numbers.{value_of-within, value_of-push, value_of-append, value_of-field, length-field_of, same_from_value}
+use Rattle.bit_strings.specs.Ebv.{number_of_digits, blocks_of, IsShortest, IsEbv, IsCutEbv, IsTooLong, BeginsWithNothing}
+use Rattle.bit_strings.specs.laws.Ebv.{AreSevens, seven-head, seven-tail, nothing-digit, digit-nothing, shortest-some, nothing-more, too_long-more}
 use Rattle.bit_strings.specs.EbvAnswers.{HasEbvAt}
-use Rattle.bit_strings.specs.ListLaws.{slice_get-append_left, slice_get-append_right}
+use Rattle.bit_strings.specs.laws.Lists.{slice_get-append_left, slice_get-append_right}
 use Rattle.bit_strings.proofs.Digits.{digit_of-byte}
 use mir.Val.{bool_byte}
 
@@ -48,11 +48,11 @@ blocks_of-push (e ∷ []) d = ap (λ (b : List Bool). true ∷ b) (ap (λ (b : L
 blocks_of-push (e ∷ e' ∷ ds) d =
     ap (λ (b : List Bool). true ∷ e ++ b) (blocks_of-push (e' ∷ ds) d) ∙ ap (λ (b : List Bool). true ∷ b) (sym (append_assoc e (open_blocks (e' ∷ ds)) (false ∷ d)))
 
-number_of-push : (ds : List (List Bool)) (d : List Bool) → number_of (ds ++ d ∷ []) ≡ 128 * number_of ds + value_of d
-number_of-push [] d = omega arith
-number_of-push (e ∷ ds) d =
+number_of_digits-push : (ds : List (List Bool)) (d : List Bool) → number_of_digits (ds ++ d ∷ []) ≡ 128 * number_of_digits ds + value_of d
+number_of_digits-push [] d = omega arith
+number_of_digits-push (e ∷ ds) d =
     let power : 128 ^ (length ds + 1) ≡ 128 ^ length ds * 128 = ap (λ n. 128 ^ n) (add-one (length ds)) ∙ pow-suc 128 (length ds) in
-    rw (length-append ds (d ∷ []), number_of-push ds d, power) (omega arith)
+    rw (length-append ds (d ∷ []), number_of_digits-push ds d, power) (omega arith)
 
 sevens-push : (ds : List (List Bool)) (d : List Bool) → AreSevens ds → length d ≡ 7 → AreSevens (ds ++ d ∷ [])
 sevens-push ds d sevens seven = All-push (λ digit. length digit ≡ 7) ds d sevens seven
@@ -71,13 +71,13 @@ length-open_blocks [] sevens = refl
 length-open_blocks (d ∷ ds) sevens = omega (arith, length-append d (open_blocks ds), seven-head d ds sevens, length-open_blocks ds (seven-tail d ds sevens))
 
 -- blocks that say that another follows, and one that does not
-closed : (ds : List (List Bool)) (seven : List Bool) → AreSevens ds → IsProper ds → length ds ≤ 3 → length seven ≡ 7 → IsEbv (128 * number_of ds + value_of seven) (open_blocks ds ++ false ∷ seven)
+closed : (ds : List (List Bool)) (seven : List Bool) → AreSevens ds → IsProper ds → length ds ≤ 3 → length seven ≡ 7 → IsEbv (128 * number_of_digits ds + value_of seven) (open_blocks ds ++ false ∷ seven)
 closed ds seven sevens proper few long = record {
   digits = ds ++ seven ∷ [];
   sevens = sevens-push ds seven sevens long;
   few = omega (arith, length-append ds (seven ∷ []));
   shortest = shortest-push ds seven proper;
-  value = sym (number_of-push ds seven);
+  value = sym (number_of_digits-push ds seven);
   spelled = sym (blocks_of-push ds seven);
 }
 
@@ -108,7 +108,7 @@ cut_bits bits [] ds split sevens proper few short last =
     let f : Filled [] = filled [] (omega arith) in
     let whole : bits ++ (false ∷ f.more) ≡ open_blocks ds ++ false ∷ f.more = ap (λ (b : List Bool). b ++ (false ∷ f.more)) (split ∙ append-nil (open_blocks ds)) in
     record {
-      number = 128 * number_of ds + value_of f.more;
+      number = 128 * number_of_digits ds + value_of f.more;
       more = false ∷ f.more;
       some_more = λ none. cc;
       whole = rw whole (closed ds f.more sevens proper few f.length_is);
@@ -117,7 +117,7 @@ cut_bits bits (false ∷ part) ds split sevens proper few short last =
     let f : Filled part = filled part (omega arith) in
     let whole : bits ++ f.more ≡ open_blocks ds ++ false ∷ (part ++ f.more) = ap (λ (b : List Bool). b ++ f.more) split ∙ append_assoc (open_blocks ds) (false ∷ part) f.more in
     record {
-      number = 128 * number_of ds + value_of (part ++ f.more);
+      number = 128 * number_of_digits ds + value_of (part ++ f.more);
       more = f.more;
       some_more = f.some_more;
       whole = rw whole (closed ds (part ++ f.more) sevens proper few f.length_is);
@@ -132,7 +132,7 @@ cut_bits bits (true ∷ part) ds split sevens proper few short last =
     let whole : bits ++ (f.more ++ (false ∷ g.more)) ≡ open_blocks es ++ false ∷ g.more =
     sym (append_assoc bits f.more (false ∷ g.more)) ∙ ap (λ (b : List Bool). b ++ (false ∷ g.more)) front in
     record {
-      number = 128 * number_of es + value_of g.more;
+      number = 128 * number_of_digits es + value_of g.more;
       more = f.more ++ (false ∷ g.more);
       some_more = λ none. omega (arith, ap length none, length-append f.more (false ∷ g.more));
       whole = rw whole (closed es g.more (sevens-push ds (part ++ f.more) sevens f.length_is) (proper-push ds (part ++ f.more) proper (λ none. f.says)) (omega (arith, length-append ds ((part ++ f.more) ∷ []))) g.length_is);
@@ -381,7 +381,7 @@ whole_front bits bit all f last same zero_bit =
     let e : Ended (bits ++ bit ∷ []) = ended bits bit f last in
     let extension : e.extension ≡ false = digit_zero e.extension (extension_in (bits ++ bit ∷ []) all e same ∙ zero_bit) in
     let spelled : bits ++ bit ∷ [] ≡ open_blocks e.digits ++ false ∷ e.seven = e.whole ∙ ap (λ (b : Bool). open_blocks e.digits ++ b ∷ e.seven) extension in
-    (128 * number_of e.digits + value_of e.seven, rw spelled (closed e.digits e.seven e.sevens e.proper e.few e.long))
+    (128 * number_of_digits e.digits + value_of e.seven, rw spelled (closed e.digits e.seven e.sevens e.proper e.few e.long))
 
 -- bits that begin with a 1
 large : (bits : List Bool) → 15 ≤ length bits → 32768 ≤ value_of (true ∷ bits)
@@ -474,7 +474,7 @@ number_in bits = bits % 128 + bits / 256 % 128 * 128 + bits / 65536 % 128 * 1638
 small_seven : (digit : List Bool) → length digit ≡ 7 → value_of digit < 128
 small_seven digit long = value_of-within digit 7 (omega (arith, long))
 
-digits_in : (ds : List (List Bool)) (bits : ℕ) → AreSevens ds → 0 < length ds → length ds ≤ 4 → bits ≡ value_of (blocks_of ds) → number_in bits ≡ number_of ds
+digits_in : (ds : List (List Bool)) (bits : ℕ) → AreSevens ds → 0 < length ds → length ds ≤ 4 → bits ≡ value_of (blocks_of ds) → number_in bits ≡ number_of_digits ds
 digits_in [] bits sevens some few same = absurd (omega arith)
 digits_in (a ∷ []) bits sevens some few same =
     let a7 = seven-head a [] sevens in

@@ -4,9 +4,9 @@ use Rattle.std.specs.Prelude.{nat_lt}
 use Rattle.std.proofs.Math.Nat.{div-one}
 use Rattle.std.proofs.lemmas.Bool.{cases_lt}
 use Rattle.bit_strings.specs.Numbers.{field_of}
-use Rattle.bit_strings.specs.NumberLaws.{length-field_of, field_of-mod}
+use Rattle.bit_strings.specs.laws.Numbers.{length-field_of, field_of-mod}
 use Rattle.bit_strings.specs.Ebv.{ebv_of}
-use Rattle.bit_strings.specs.EbvLaws.{ebv_of-one, ebv_of-two, ebv_of-three, ebv_of-four}
+use Rattle.bit_strings.specs.laws.Ebv.{ebv_of-one, ebv_of-two, ebv_of-three, ebv_of-four}
 
 -- the last so many blocks of a number
 unfoldable pub last_blocks : ℕ → ℕ → List Bool

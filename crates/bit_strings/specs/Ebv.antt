@@ -4,9 +4,9 @@ use Rattle.std.specs.Prelude.{◌≡◌, ◌≢◌, ℕ, ◌+◌, ◌*◌, ◌^�
 use Rattle.bit_strings.specs.Numbers.{value_of, field_of}
 
 -- the number that the blocks' data are as digits to the base 128, most significant first
-abbrev pub number_of : List (List Bool) → ℕ
-number_of [] = 0
-number_of (digit ∷ digits) = value_of digit * 128 ^ length digits + number_of digits
+abbrev pub number_of_digits : List (List Bool) → ℕ
+number_of_digits [] = 0
+number_of_digits (digit ∷ digits) = value_of digit * 128 ^ length digits + number_of_digits digits
 
 -- the blocks of these digits: the extension bit is 1 in all but the last
 abbrev pub blocks_of : List (List Bool) → List Bool
@@ -26,7 +26,7 @@ pub record IsEbv (number : ℕ) (bits : List Bool) : Type 0 where
   pub sevens : All (λ digit. length digit ≡ 7) digits
   pub few : length digits ≤ 4
   pub shortest : IsShortest digits
-  pub value : number ≡ number_of digits
+  pub value : number ≡ number_of_digits digits
   pub spelled : bits ≡ blocks_of digits
 
 -- the bits begin with a first block that says only that another follows: its extension bit is 1 and its digit is 0

@@ -1,11 +1,7 @@
 pub mod BitString
 pub mod Ebv
 pub mod EbvAnswers
-pub mod EbvLaws
-pub mod ListLaws
 pub mod Family
-pub mod FamilyLaws
-pub mod NumberLaws
 pub mod Numbers
-pub mod WordLaws
 pub mod Words
+pub mod laws

@@ -1,6 +1,7 @@
 //! A list of bits with a capacity.
 ghost use Rattle.std.specs.Prelude.{◌≡◌, ◌+◌, ◌<◌, ◌≤◌, ◌↔◌, List, [], ◌∷◌, ◌++◌, length, take, drop, replicate, Bool, false, not, Some, IsErr, IsTrue, IsNone, IfSome, IfNone, OnErr, IfOk, slice_get, slice_set, map, ◌==◌};
 
+use crate::list::List;
 use std::alloc::{AllocError, Global};
 use std::marker::Model;
 use thiserror::Error;
@@ -177,6 +178,14 @@ impl Bits {
         ensures capacity { self.new.capacity ≡ self.old.capacity }
     {
         self.bits[at as usize] = !self.bits[at as usize];
+    }
+
+    /// The bits as a list without free places.
+    pub fn into_list(self) -> List<bool>
+        ensures { result ≡ self.items }
+    {
+        let Bits { bits, room: _ } = self;
+        List::new(bits)
     }
 }
 

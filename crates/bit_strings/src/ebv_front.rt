@@ -25,7 +25,7 @@ impl Model for EbvFront {
     ghost use Rattle.std.specs.Prelude.{◌^◌, ◌<◌, Bool, List, length};
     ghost use Rattle.bit_strings.specs.Numbers.{value_of, field_of};
     ghost use Rattle.bit_strings.specs.Ebv.{IsCutEbv};
-    ghost use Rattle.bit_strings.specs.NumberLaws.{value_and_width};
+    ghost use Rattle.bit_strings.specs.laws.Numbers.{value_and_width};
 
     ghost Value = { List Bool };
 
@@ -49,14 +49,6 @@ pub enum EbvStep {
     NotShortest,
     /// Four blocks are begun and each says that another follows.
     TooLong,
-}
-
-impl Default for EbvFront {
-    fn default() -> EbvFront
-        ensures { result ≡ [] }
-    {
-        EbvFront::new()
-    }
 }
 
 impl EbvFront {
@@ -140,7 +132,7 @@ impl EbvFront {
         let bits = 2 * self.bits + u32::from(bit);
         // Where the block's extension bit is 0 it is the last one.
         if bits / 128 % 2 == 0 {
-            return EbvStep::Value(number_of(bits));
+            return EbvStep::Value(number_of_blocks(bits));
         }
         if bits == NOTHING {
             return EbvStep::NotShortest;
@@ -150,7 +142,7 @@ impl EbvFront {
 }
 
 /// The number that the digits of at most four blocks are.
-fn number_of(bits: u32) -> u32
+fn number_of_blocks(bits: u32) -> u32
     ensures { (number : ℕ) (vector : List Bool) → IsEbv number vector → bits ≡ value_of vector → result ≡ number }
 {
     bits % 128

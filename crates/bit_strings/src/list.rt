@@ -3,7 +3,7 @@ ghost use Rattle.std.specs.Prelude.{◌≡◌, ◌^◌, ◌<◌, ◌≤◌, ◌�
 
 use std::marker::Model;
 
-/// A list of fewer than 4,294,967,296 items, made from a `Vec` and giving it back without taking memory.
+/// A list of fewer than 4,294,967,296 items, made from a `Vec` without taking memory.
 ///
 /// A contract sees it as the list of its items.
 #[derive(Drop)]
@@ -58,14 +58,5 @@ impl<T> List<T> {
         ensures few { length self.now < 2 ^ 32 }
     {
         self.items.as_slice()
-    }
-
-    /// The `Vec` that the list was made from.
-    pub fn into_vec(self) -> Vec<T>
-        ensures value { result.items ≡ self }
-        ensures few { vec_len result < 2 ^ 32 }
-    {
-        let List { items } = self;
-        items
     }
 }

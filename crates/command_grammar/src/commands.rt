@@ -15,9 +15,8 @@ pub(crate) mod req_rn;
 pub(crate) mod select;
 pub(crate) mod write;
 
-use crate::command_lists::{BlockWords, Mask};
-use crate::field_values::{Bank, FlagName, MaskBank, Sel, Side, UpDn};
 use bit_strings::{Action, Code, Count1, Payload, Pointer, QValue, Session};
+use command_fields::{Bank, BlockWords, FlagName, Mask, MaskBank, Sel, Side, UpDn};
 
 /// A command of an interrogator to the tags in its field (6.3.2.11 Interrogator commands and tag
 /// replies), with the values of its fields. Its check number is no field: the spelling adds it.

@@ -3,9 +3,7 @@
 #![tactic(auto)]
 
 mod choices;
-mod command_lists;
 mod commands;
-mod field_values;
 mod kinds;
 mod laws;
 mod reader;
@@ -14,11 +12,10 @@ mod spelling;
 mod writing;
 
 pub use bit_strings::{Action, Code, Count1, Payload, Pointer, QValue, Session};
-pub use command_lists::{BlockWords, Mask};
+pub use command_fields::{Bank, BlockWords, FlagName, Mask, MaskBank, Sel, Side, UpDn};
 pub use commands::Command;
-pub use field_values::{Bank, FlagName, MaskBank, Sel, Side, UpDn};
 pub use kinds::CommandKind;
 pub use laws::{one_outcome, one_refusal, spelling_laws};
-pub use reader::{Framer, decode_command, decode_command_to};
+pub use reader::{Framer, decode_command_to};
 pub use refusal::{CommandRefusal, Pushed, Reason};
 pub use spelling::encode_command;

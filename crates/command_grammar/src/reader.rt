@@ -8,5 +8,5 @@ mod framer;
 mod stage;
 mod state;
 
-pub use decoding::{decode_command, decode_command_to};
+pub use decoding::decode_command_to;
 pub use framer::Framer;

@@ -1,1 +1,5 @@
+mod EmptyTexts
+mod MaskDigits
+mod NoSelect
+mod PayloadDigits
 mod Pieces

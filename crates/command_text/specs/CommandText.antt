@@ -5,18 +5,23 @@ use Rattle.text_fields.specs.Lines.{line_with}
 use Rattle.text_fields.specs.Binary.{binary, binary_digit}
 use Rattle.text_fields.specs.Hexadecimal.{hex_digit, hex_word, hex_words}
 use Rattle.text_fields.specs.CodeNames.{code_word}
-use Rattle.command_grammar.specs.declared.field_values.Sel.{Sel}
-use Rattle.command_grammar.specs.declared.field_values.Sel.TheVariants as sels
-use Rattle.command_grammar.specs.declared.field_values.Side.{Side}
-use Rattle.command_grammar.specs.declared.field_values.Side.TheVariants.{A, B}
-use Rattle.command_grammar.specs.declared.field_values.UpDn.{UpDn}
-use Rattle.command_grammar.specs.declared.field_values.UpDn.TheVariants.{Up, Same, Down}
-use Rattle.command_grammar.specs.declared.field_values.Bank.{Bank}
-use Rattle.command_grammar.specs.declared.field_values.Bank.TheVariants as banks
-use Rattle.command_grammar.specs.declared.field_values.MaskBank.{MaskBank}
-use Rattle.command_grammar.specs.declared.field_values.MaskBank.TheVariants as mask_banks
-use Rattle.command_grammar.specs.declared.field_values.FlagName.{FlagName}
-use Rattle.command_grammar.specs.declared.field_values.FlagName.TheVariants as flags
+use Rattle.text_fields.specs.NamedFields.{AreFaulty, AreSpelling, SpellBehind, Vocabulary}
+use Rattle.text_fields.specs.declared.fields_fault.FieldsFault.{FieldsFault}
+use Rattle.command_grammar.specs.Commands.{IsLegalCommand}
+use Rattle.command_grammar.specs.declared.kinds.CommandKind.{CommandKind}
+use Rattle.command_grammar.specs.declared.kinds.CommandKind.TheVariants as kinds
+use Rattle.command_fields.specs.declared.choices.Sel.{Sel}
+use Rattle.command_fields.specs.declared.choices.Sel.TheVariants as sels
+use Rattle.command_fields.specs.declared.choices.Side.{Side}
+use Rattle.command_fields.specs.declared.choices.Side.TheVariants.{A, B}
+use Rattle.command_fields.specs.declared.choices.UpDn.{UpDn}
+use Rattle.command_fields.specs.declared.choices.UpDn.TheVariants.{Up, Same, Down}
+use Rattle.command_fields.specs.declared.choices.Bank.{Bank}
+use Rattle.command_fields.specs.declared.choices.Bank.TheVariants as banks
+use Rattle.command_fields.specs.declared.choices.MaskBank.{MaskBank}
+use Rattle.command_fields.specs.declared.choices.MaskBank.TheVariants as mask_banks
+use Rattle.command_fields.specs.declared.choices.FlagName.{FlagName}
+use Rattle.command_fields.specs.declared.choices.FlagName.TheVariants as flags
 use Rattle.command_grammar.specs.declared.commands.Command.{Command}
 use Rattle.command_grammar.specs.declared.commands.Command.TheVariants.{QueryRep, Ack, Query, QueryAdjust, Select, Nak, ReqRn, Read, Write, Kill, Lock, Access, BlockWrite, BlockErase}
 use Rattle.command_grammar.specs.declared.refusal.CommandRefusal.{CommandRefusal}
@@ -72,30 +77,99 @@ bank_word banks.User = codes "user"
 abbrev pub payload_digits : ℕ → List ℕ
 payload_digits payload = hex_digit (payload / 65536) ∷ hex_word (payload % 65536)
 
--- Profile: a command as a line, without its line feed: its name, and its fields in the order in which they are sent
--- (6.3.2.11), without the check number
+-- Profile: the name of a command
+abbrev pub command_name : CommandKind → List ℕ
+command_name kinds.QueryRep = codes "queryrep"
+command_name kinds.Ack = codes "ack"
+command_name kinds.Query = codes "query"
+command_name kinds.QueryAdjust = codes "queryadjust"
+command_name kinds.Select = codes "select"
+command_name kinds.Nak = codes "nak"
+command_name kinds.ReqRn = codes "req_rn"
+command_name kinds.Read = codes "read"
+command_name kinds.Write = codes "write"
+command_name kinds.Kill = codes "kill"
+command_name kinds.Lock = codes "lock"
+command_name kinds.Access = codes "access"
+command_name kinds.BlockWrite = codes "blockwrite"
+command_name kinds.BlockErase = codes "blockerase"
+
+-- Profile: how many fields stand behind the name
+abbrev pub command_field_count : CommandKind → ℕ
+command_field_count kinds.QueryRep = 1
+command_field_count kinds.Ack = 1
+command_field_count kinds.Query = 7
+command_field_count kinds.QueryAdjust = 2
+command_field_count kinds.Select = 5
+command_field_count kinds.Nak = 0
+command_field_count kinds.ReqRn = 1
+command_field_count kinds.Read = 4
+command_field_count kinds.Write = 4
+command_field_count kinds.Kill = 2
+command_field_count kinds.Lock = 2
+command_field_count kinds.Access = 2
+command_field_count kinds.BlockWrite = 4
+command_field_count kinds.BlockErase = 4
+
+-- which command it is
+abbrev pub command_kind : Command → CommandKind
+command_kind (QueryRep session) = kinds.QueryRep
+command_kind (Ack rn) = kinds.Ack
+command_kind (Query dr code trext sel session target q) = kinds.Query
+command_kind (QueryAdjust session updn) = kinds.QueryAdjust
+command_kind (Select target action bank pointer mask) = kinds.Select
+command_kind Nak = kinds.Nak
+command_kind (ReqRn rn) = kinds.ReqRn
+command_kind (Read bank pointer count rn) = kinds.Read
+command_kind (Write bank pointer covered rn) = kinds.Write
+command_kind (Kill covered rn) = kinds.Kill
+command_kind (Lock payload rn) = kinds.Lock
+command_kind (Access covered rn) = kinds.Access
+command_kind (BlockWrite bank pointer words rn) = kinds.BlockWrite
+command_kind (BlockErase bank pointer count rn) = kinds.BlockErase
+
+-- Profile: the fields behind the name, in the order in which they are sent (6.3.2.11), without the check number
+abbrev pub other_command_fields : Command → List (List ℕ)
+other_command_fields (QueryRep session) = decimal session ∷ []
+other_command_fields (Ack rn) = hex_word rn ∷ []
+other_command_fields (Query dr code trext sel session target q) =
+    (binary_digit dr ∷ []) ∷ code_word code ∷ (binary_digit trext ∷ []) ∷ sel_word sel ∷ decimal session ∷ side_word target ∷ decimal q ∷ []
+other_command_fields (QueryAdjust session updn) = decimal session ∷ updn_word updn ∷ []
+other_command_fields (Select target action bank pointer mask) =
+    flag_word target ∷ decimal action ∷ mask_bank_word bank ∷ decimal pointer ∷ binary mask ∷ []
+other_command_fields Nak = []
+other_command_fields (ReqRn rn) = hex_word rn ∷ []
+other_command_fields (Read bank pointer count rn) = bank_word bank ∷ decimal pointer ∷ decimal count ∷ hex_word rn ∷ []
+other_command_fields (Write bank pointer covered rn) = bank_word bank ∷ decimal pointer ∷ hex_word covered ∷ hex_word rn ∷ []
+other_command_fields (Kill covered rn) = hex_word covered ∷ hex_word rn ∷ []
+other_command_fields (Lock payload rn) = payload_digits payload ∷ hex_word rn ∷ []
+other_command_fields (Access covered rn) = hex_word covered ∷ hex_word rn ∷ []
+other_command_fields (BlockWrite bank pointer words rn) = bank_word bank ∷ decimal pointer ∷ hex_words words ∷ hex_word rn ∷ []
+other_command_fields (BlockErase bank pointer count rn) = bank_word bank ∷ decimal pointer ∷ decimal count ∷ hex_word rn ∷ []
+
+-- the commands as what may be spelled
+abbrev pub commands : Vocabulary CommandKind Command
+commands = record { name = command_name; count = command_field_count; kind = command_kind; others = other_command_fields }
+
+-- the fields of a command: its name, and those behind that
+abbrev pub command_fields : Command → List (List ℕ)
+command_fields command = command_name (command_kind command) ∷ other_command_fields command
+
+-- a command as a line, without its line feed
 abbrev pub command_line : Command → List ℕ
-command_line (QueryRep session) = line_with (codes "queryrep" ∷ decimal session ∷ [])
-command_line (Ack rn) = line_with (codes "ack" ∷ hex_word rn ∷ [])
-command_line (Query dr code trext sel session target q) =
-    line_with (codes "query" ∷ (binary_digit dr ∷ []) ∷ code_word code ∷ (binary_digit trext ∷ []) ∷ sel_word sel
-    ∷ decimal session ∷ side_word target ∷ decimal q ∷ [])
-command_line (QueryAdjust session updn) = line_with (codes "queryadjust" ∷ decimal session ∷ updn_word updn ∷ [])
-command_line (Select target action bank pointer mask) =
-    line_with (codes "select" ∷ flag_word target ∷ decimal action ∷ mask_bank_word bank ∷ decimal pointer ∷ binary mask ∷ [])
-command_line Nak = codes "nak"
-command_line (ReqRn rn) = line_with (codes "req_rn" ∷ hex_word rn ∷ [])
-command_line (Read bank pointer count rn) =
-    line_with (codes "read" ∷ bank_word bank ∷ decimal pointer ∷ decimal count ∷ hex_word rn ∷ [])
-command_line (Write bank pointer covered rn) =
-    line_with (codes "write" ∷ bank_word bank ∷ decimal pointer ∷ hex_word covered ∷ hex_word rn ∷ [])
-command_line (Kill covered rn) = line_with (codes "kill" ∷ hex_word covered ∷ hex_word rn ∷ [])
-command_line (Lock payload rn) = line_with (codes "lock" ∷ payload_digits payload ∷ hex_word rn ∷ [])
-command_line (Access covered rn) = line_with (codes "access" ∷ hex_word covered ∷ hex_word rn ∷ [])
-command_line (BlockWrite bank pointer words rn) =
-    line_with (codes "blockwrite" ∷ bank_word bank ∷ decimal pointer ∷ hex_words words ∷ hex_word rn ∷ [])
-command_line (BlockErase bank pointer count rn) =
-    line_with (codes "blockerase" ∷ bank_word bank ∷ decimal pointer ∷ decimal count ∷ hex_word rn ∷ [])
+command_line command = line_with (command_fields command)
+
+-- the fields spell the command, each of whose numbers is within its field
+abbrev pub IsCommandText : List (List ℕ) → Command → Type 0
+IsCommandText fields command = AreSpelling commands IsLegalCommand fields command
+
+-- behind the name of this command, the fields spell the command
+abbrev pub IsCommandBehind : CommandKind → List (List ℕ) → Command → Type 0
+IsCommandBehind kind fields command = SpellBehind commands IsLegalCommand kind fields command
+
+-- the first reason for which fields spell no command
+abbrev pub IsFaultyCommand : List (List ℕ) → FieldsFault → Type 0
+IsFaultyCommand fields fault = AreFaulty commands IsLegalCommand fields fault
 
 -- Profile: the field in which a refused bit stands
 abbrev pub reason_word : Reason → List ℕ

@@ -11,11 +11,12 @@ ghost use Rattle.command_text.specs.CommandText.{bank_word, command_line, flag_w
 use crate::names::{
     bank_name, bit_name, flag_name, mask_bank_name, sel_name, side_name, updn_name,
 };
+use crate::payloads::push_next_payload;
 use bit_strings::{Action, Code, OutOfMemory, Payload, Pointer, QValue, Session};
 use command_grammar::{Bank, BlockWords, Command, FlagName, Mask, MaskBank, Sel, Side, UpDn};
 use text_fields::{
-    name_of, push_hex_digit, push_named_number, push_named_word, push_next_bits, push_next_name,
-    push_next_number, push_next_word, push_next_words, push_word,
+    name_of, push_named_number, push_named_word, push_next_bits, push_next_name, push_next_number,
+    push_next_word, push_next_words,
 };
 
 /// Writes a command at the end of the text, without a line feed. After an error the text may hold a part
@@ -201,17 +202,6 @@ fn push_half(text: &mut String, name: &str, covered: u16, rn: u16) -> Result<(),
 {
     push_named_word(text, name, covered)?;
     push_next_word(text, rn)
-}
-
-/// Writes the payload of a Lock as the next field, in five upper-case hexadecimal digits. After an error
-/// the text may hold a part of it.
-pub fn push_next_payload(text: &mut String, payload: &Payload) -> Result<(), OutOfMemory>
-    ensures { OnOk result (string_bytes text.new ≡ string_bytes text.old ++ space ∷ payload_digits payload.now) }
-{
-    let number = payload.get();
-    text.push(' ')?;
-    push_hex_digit(text, (number / 65536) as u8)?;
-    push_word(text, (number % 65536) as u16)
 }
 
 /// Writes a Lock.

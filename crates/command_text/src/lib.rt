@@ -2,12 +2,24 @@
 #![tactic(auto)]
 
 mod commands;
+mod kinds;
+mod laws;
+mod lists;
 mod names;
+mod payloads;
+mod reading;
 mod refusals;
 
-pub use commands::{push_command, push_next_payload};
+pub use commands::push_command;
+pub use laws::{
+    command_lines_come_back, commands_are_field_texts, commands_are_told_apart,
+    commands_have_one_fault, spelled_commands_are_not_faulty,
+};
+pub use lists::{block_of, mask_of};
 pub use names::{
     bank_name, bank_named, bit_name, flag_name, flag_named, mask_bank_named, side_letter,
     side_name, side_named,
 };
+pub use payloads::{payload_of, push_next_payload};
+pub use reading::read_command;
 pub use refusals::push_command_refusal;

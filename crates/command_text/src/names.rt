@@ -1,5 +1,4 @@
-//! The words that stand for the choices in a command, written and, where a text is read that has them, read; and those for the
-//! reasons of a refusal.
+//! The words that stand for the choices in a command, written and read; and those for the reasons of a refusal.
 ghost use Rattle.std.specs.Prelude.{◌≡◌, [], ◌∷◌, IfSome, Some};
 ghost use Rattle.text_fields.specs.Binary.{binary_digit};
 ghost use Rattle.command_text.specs.CommandText.{bank_word, flag_word, mask_bank_word, reason_word, sel_word, side_letter, side_word, updn_word};
@@ -22,6 +21,20 @@ pub(crate) fn sel_name(sel: Sel) -> &'static str
         Sel::All01 => "01",
         Sel::NotSl => "10",
         Sel::Sl => "11",
+    }
+}
+
+/// The Sel that two bits spell.
+pub(crate) fn sel_named(field: &[u8]) -> Option<Sel>
+    ensures value { IfSome result (λ sel. field.now ≡ sel_word sel) }
+    ensures only { (sel : Sel) → field.now ≡ sel_word sel → result ≡ Some sel }
+{
+    match field {
+        b"00" => Some(Sel::All00),
+        b"01" => Some(Sel::All01),
+        b"10" => Some(Sel::NotSl),
+        b"11" => Some(Sel::Sl),
+        _ => None,
     }
 }
 
@@ -65,6 +78,19 @@ pub(crate) fn updn_name(updn: UpDn) -> &'static str
         UpDn::Up => "up",
         UpDn::Same => "same",
         UpDn::Down => "down",
+    }
+}
+
+/// What becomes of Q by this name.
+pub(crate) fn updn_named(field: &[u8]) -> Option<UpDn>
+    ensures value { IfSome result (λ updn. field.now ≡ updn_word updn) }
+    ensures only { (updn : UpDn) → field.now ≡ updn_word updn → result ≡ Some updn }
+{
+    match field {
+        b"up" => Some(UpDn::Up),
+        b"same" => Some(UpDn::Same),
+        b"down" => Some(UpDn::Down),
+        _ => None,
     }
 }
 

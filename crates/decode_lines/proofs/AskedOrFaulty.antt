@@ -6,17 +6,19 @@ use Rattle.pie_text.specs.Numbers.{RefusesNumbers, SpellsNumbers}
 use Rattle.pie_text.specs.declared.numbers.NotNumbers.{NotNumbers}
 use Rattle.pie_text.specs.declared.numbers.NotNumbers.TheVariants as reasons
 use Rattle.pie_line.specs.Pie.{longest_interval}
-use Rattle.decode_lines.specs.Request.{request_word, most_intervals, AsksForRequest, AsksBehind, AreFaulty, IsFaultyRequest}
+use Rattle.decode_lines.specs.Request.{request_word, most_intervals, AsksBehind, AreFaulty, IsFaultyRequest}
+use Rattle.checked_lines.specs.laws.OneLine.{AsksOrIsFaulty}
+use Rattle.decode_lines.specs.Answer.{decode_rules}
 use Rattle.decode_lines.specs.declared.request.RequestKind.{RequestKind}
 use Rattle.decode_lines.specs.declared.request.RequestKind.TheVariants.{Pie as PieKind}
 use Rattle.decode_lines.specs.declared.request.Request.{Request}
 use Rattle.decode_lines.specs.declared.request.Request.TheVariants.{Stream, Samples, Reply, Heard, Pie, Command, Sgtin, Uri}
-use Rattle.decode_lines.specs.declared.fault.FaultReason.{FaultReason}
-use Rattle.decode_lines.specs.declared.fault.FaultReason.TheVariants.{End, Word, Shape, Number}
+use Rattle.checked_lines.specs.declared.fault.FaultReason.{FaultReason}
+use Rattle.checked_lines.specs.declared.fault.FaultReason.TheVariants.{End, Word, Shape, Number}
 
 -- what a line does or is
 abbrev pub AskedOrFaulty : List ℕ → Type 0
-AskedOrFaulty line = ((request : Request) × AsksForRequest line request) ⊎ ((reason : FaultReason) × IsFaultyRequest (fields_of line) reason)
+AskedOrFaulty = AsksOrIsFaulty decode_rules
 
 faulty_line : (line : List ℕ) (kind : RequestKind) (others : List (List ℕ)) (reason : FaultReason) → fields_of line ≡ request_word kind ∷ others → AreFaulty kind others reason
     → IsFaultyRequest (fields_of line) reason

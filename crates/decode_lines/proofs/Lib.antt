@@ -1,10 +1,8 @@
 pub mod AnsweredLines
 pub mod AskedOrFaulty
-pub mod CheckedLines
 pub mod OneAnswer
 pub mod OneReading
 pub mod OneRequest
 pub mod OneText
 pub mod RightAnswers
 pub mod SomeAnswer
-pub mod SomeText

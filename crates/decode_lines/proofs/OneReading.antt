@@ -1,12 +1,12 @@
 -- A line that asks for something is not faulty, and a grammatical input has no faulty line.
-use Rattle.std.proofs.Common.{◌≡◌, ◌≢◌, ℕ, List, [], ◌∷◌, ◌++◌, length, map, Option, Some, None, refl, sym, ◌∙◌, ap, arith, subst, ◌≤◌, Ok, if◌then◌else◌}
+use Rattle.std.proofs.Common.{◌≡◌, ◌≢◌, ℕ, List, [], ◌∷◌, length, map, Option, Some, None, refl, sym, ◌∙◌, ap, arith, subst, ◌≤◌, Ok, if◌then◌else◌}
 use Rattle.std.specs.Prelude.{codes}
 use Rattle.std.specs.Str.{bytes_eq}
 use Rattle.std.proofs.lemmas.List.Elements.{All-nil, All-cons, All-head, All-tail}
 use Rattle.std.proofs.lemmas.List.{length-map}
 use Rattle.reply_text.specs.ReplyText.{expect_word}
-use Rattle.reply_text.specs.FieldTextLaws.{expect_word_is_field_text}
-use Rattle.std.specs.List.{AllZip, All}
+use Rattle.reply_text.specs.laws.FieldTexts.{expect_word_is_field_text}
+use Rattle.std.specs.List.{All}
 use Rattle.text_fields.specs.Lines.{fields_of}
 use Rattle.text_fields.specs.Binary.{binary, binary_digit}
 use Rattle.text_fields.specs.CodeNames.{code_word}
@@ -18,14 +18,12 @@ use Rattle.std.specs.Fmt.{decimal}
 use Rattle.text_fields.specs.FieldTextLaws.{IsFieldText-decimal, IsFieldText-binary, IsFieldText-hex_words}
 use Rattle.text_fields.specs.Hexadecimal.{hex_words}
 use Rattle.decode_lines.specs.Request.{most_intervals, request_word, HasShape, request_kind, AreSpelled, IsWithinLimits, AsksBehind, AsksForRequest, AreFaulty, IsFaultyRequest}
-use Rattle.decode_lines.specs.DecodeLines.{IsGrammatical, IsFaultyBefore, IsFirstFault}
 use Rattle.decode_lines.specs.declared.request.RequestKind.{RequestKind}
 use Rattle.decode_lines.specs.declared.request.RequestKind.TheVariants.{Stream as StreamKind, Samples as SamplesKind, Reply as ReplyKind, Heard as HeardKind, Pie as PieKind, Command as CommandKind, Sgtin as SgtinKind, Uri as UriKind}
 use Rattle.decode_lines.specs.declared.request.Request.{Request}
 use Rattle.decode_lines.specs.declared.request.Request.TheVariants.{Stream, Samples, Reply, Heard, Pie, Command, Sgtin, Uri}
-use Rattle.decode_lines.specs.declared.fault.FaultReason.{FaultReason}
-use Rattle.decode_lines.specs.declared.fault.FaultReason.TheVariants.{End, Word, Shape, Number}
-use Rattle.decode_lines.specs.declared.fault.DecodeFault.{DecodeFault}
+use Rattle.checked_lines.specs.declared.fault.FaultReason.{FaultReason}
+use Rattle.checked_lines.specs.declared.fault.FaultReason.TheVariants.{End, Word, Shape, Number}
 use Rattle.pie_line.specs.Pie.{longest_interval}
 
 -- the kind that a first field says
@@ -147,25 +145,3 @@ spelled_not_faulty line request Word spells faulty = faulty spells.kind spells.o
 spelled_not_faulty line request End spells faulty = faulty.3
 spelled_not_faulty line request Shape spells faulty = behind_not_faulty line request Shape faulty.0 faulty.1 spells faulty.2 faulty.3
 spelled_not_faulty line request Number spells faulty = behind_not_faulty line request Number faulty.0 faulty.1 spells faulty.2 faulty.3
-
--- a line that asks for something stands in no faulty place
-clash : (lines : List (List ℕ)) (asked : List Request) (before : List (List ℕ)) (line : List ℕ) (behind : List (List ℕ)) (reason : FaultReason) → AllZip AsksForRequest lines asked → lines ++ [] ∷ [] ≡ before ++ line ∷ behind → IsFaultyBefore behind line reason → ⊥
-clash [] [] [] line [] reason each cut faulty = let e : line ≡ [] = cc in faulty.0 e
-clash [] [] [] line (next ∷ more) reason each cut faulty = cc
-clash [] [] (b ∷ []) line behind reason each cut faulty = cc
-clash [] [] (b ∷ c ∷ before) line behind reason each cut faulty = cc
-clash [] (r ∷ asked) before line behind reason each cut faulty = each
-clash (l ∷ lines) [] before line behind reason each cut faulty = each
-clash (l ∷ []) (r ∷ asked) [] line [] reason each cut faulty = cc
-clash (l ∷ m ∷ lines) (r ∷ asked) [] line [] reason each cut faulty = cc
-clash (l ∷ lines) (r ∷ asked) [] line (next ∷ more) reason each cut faulty =
-    let e : line ≡ l = cc in
-    spelled_not_faulty l r reason each.0 (subst (λ x. IsFaultyRequest (fields_of x) reason) e faulty)
-clash (l ∷ lines) (r ∷ asked) (b ∷ before) line behind reason each cut faulty =
-    let e : lines ++ [] ∷ [] ≡ before ++ line ∷ behind = cc in
-    clash lines asked before line behind reason each.1 e faulty
-
--- a grammatical input has no faulty line
-pub grammatical_not_faulty : (bytes : List ℕ) (fault : DecodeFault) → IsGrammatical bytes → IsFirstFault bytes fault → ⊥
-grammatical_not_faulty bytes fault asks first =
-    clash asks.1.lines asks.0 first.before first.line first.behind fault.reason asks.1.each (sym asks.1.cut ∙ first.cut) first.faulty

@@ -9,7 +9,7 @@ use Rattle.text_fields.specs.ToldApart.{decimal_told, binary_told, hex_words_tol
 use Rattle.text_fields.specs.Hexadecimal.{hex_words}
 use Rattle.bit_strings.specs.declared.code.Code.{Code}
 use Rattle.reply_text.specs.ReplyText.{expect_word}
-use Rattle.reply_text.specs.ToldApart.{expect_told}
+use Rattle.reply_text.specs.laws.ToldApart.{expect_told}
 use Rattle.decode_lines.specs.Request.{request_kind, AreSpelled, IsWithinLimits, AsksForRequest}
 use Rattle.decode_lines.specs.declared.request.RequestKind.TheVariants.{Stream as StreamKind}
 use Rattle.decode_lines.specs.declared.request.Request.{Request}

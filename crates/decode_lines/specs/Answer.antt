@@ -1,6 +1,5 @@
 -- Profile: what is answered to a decode line.
-use Rattle.std.specs.Prelude.{◌≡◌, ℕ, Bool, List, [], ◌∷◌, ◌++◌, codes, Result, Ok, Err}
-use Rattle.std.specs.List.{AllZip, flat_map}
+use Rattle.std.specs.Prelude.{ℕ, Bool, List, [], ◌∷◌, ◌++◌, codes, Result, Ok, Err}
 use Rattle.line_code.specs.declared.refusal.LineRefusal.{LineRefusal}
 use Rattle.line_code.specs.declared.refusal.LineRefusal.TheVariants.{Invalid, Unfinished}
 use Rattle.line_code.specs.Stream.{IsStream, Streams}
@@ -37,7 +36,9 @@ use Rattle.epc_sgtin.specs.UriFaults.{RefusesUri}
 use Rattle.epc_sgtin.specs.declared.encoding.EpcFault.{EpcFault}
 use Rattle.epc_sgtin.specs.declared.tag_uri.UriFault.{UriFault}
 use Rattle.sgtin_text.specs.SgtinText.{name_line, sgtin_words_line, epc_fault_line, uri_fault_line}
-use Rattle.decode_lines.specs.Request.{AsksBehind, AsksForRequest}
+use Rattle.checked_lines.specs.LineRules.{LineRules}
+use Rattle.checked_lines.specs.Answered.{AddsLine, AddsLineFor}
+use Rattle.decode_lines.specs.Request.{AsksBehind, AsksForRequest, IsFaultyRequest}
 use Rattle.decode_lines.specs.declared.request.Request.{Request}
 use Rattle.decode_lines.specs.declared.request.RequestKind.{RequestKind}
 use Rattle.decode_lines.specs.declared.request.Request.TheVariants.{Stream, Samples, Reply as ReplyLine, Heard as HeardLine, Pie as PieLine, Command as CommandLine, Sgtin as SgtinLine, Uri as UriLine}
@@ -104,26 +105,20 @@ answer_line (named (Err fault)) = epc_fault_line fault ++ line_feed ∷ []
 answer_line (worded (Ok words)) = sgtin_words_line words ++ line_feed ∷ []
 answer_line (worded (Err fault)) = uri_fault_line fault ++ line_feed ∷ []
 
--- the text is the answers to the requests, each on a line of its own, in order
-pub record AreAnswers (requests : List Request) (text : List ℕ) : Type 0 where
-  pub answers : List Answer
-  pub each : AllZip IsLineAnswer requests answers
-  pub lines : text ≡ flat_map answer_line answers
+-- what is said of one decode line
+abbrev pub decode_rules : LineRules Request Answer
+decode_rules = record { asks = AsksForRequest; is_faulty = IsFaultyRequest; answers = IsLineAnswer; line_of = answer_line }
 
 -- the text is the one before with the line of the request's answer at its end
-pub record AddsAnswer (request : Request) (old new : List ℕ) : Type 0 where
-  pub answer : Answer
-  pub right : IsLineAnswer request answer
-  pub line : new ≡ old ++ answer_line answer
+abbrev pub AddsAnswer : Request → (old new : List ℕ) → Type 0
+AddsAnswer = AddsLine decode_rules
+
+-- the text is the one before with the line of the answer to what the line asks for at its end
+abbrev pub AnswersLine : (line old new : List ℕ) → Type 0
+AnswersLine = AddsLineFor decode_rules
 
 -- the text is the one before with the line of the answer to what these fields ask for behind a first field of this kind at its end
 pub record AnswersBehind (kind : RequestKind) (others : List (List ℕ)) (old new : List ℕ) : Type 0 where
   pub request : Request
   pub asks : AsksBehind kind others request
-  pub adds : AddsAnswer request old new
-
--- the text is the one before with the line of the answer to what the line asks for at its end
-pub record AnswersLine (line old new : List ℕ) : Type 0 where
-  pub request : Request
-  pub asks : AsksForRequest line request
   pub adds : AddsAnswer request old new

@@ -12,8 +12,8 @@ use Rattle.decode_lines.specs.declared.request.RequestKind.{RequestKind}
 use Rattle.decode_lines.specs.declared.request.RequestKind.TheVariants.{Stream as StreamKind, Samples as SamplesKind, Reply as ReplyKind, Heard as HeardKind, Pie as PieKind, Command as CommandKind, Sgtin as SgtinKind, Uri as UriKind}
 use Rattle.decode_lines.specs.declared.request.Request.{Request}
 use Rattle.decode_lines.specs.declared.request.Request.TheVariants.{Stream, Samples, Reply, Heard, Pie, Command, Sgtin, Uri}
-use Rattle.decode_lines.specs.declared.fault.FaultReason.{FaultReason}
-use Rattle.decode_lines.specs.declared.fault.FaultReason.TheVariants.{End, Word, Shape, Number}
+use Rattle.checked_lines.specs.declared.fault.FaultReason.{FaultReason}
+use Rattle.checked_lines.specs.declared.fault.FaultReason.TheVariants.{End, Word, Shape, Number}
 use Rattle.pie_line.specs.Pie.{longest_interval}
 use Rattle.sample_slicer.specs.Samples.{most_samples}
 

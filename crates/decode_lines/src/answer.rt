@@ -11,13 +11,13 @@ ghost use Rattle.epc_sgtin.specs.Epc.{IsSgtin};
 ghost use Rattle.epc_sgtin.specs.Uri.{IsUriOf};
 ghost use Rattle.epc_sgtin.specs.UriFaults.{RefusesUri};
 
-use crate::fault::FaultReason;
 use crate::raw_field::RawField;
 use crate::request::{
     MOST_INTERVALS, MOST_LEVELS, MOST_SAMPLES, MOST_WORDS, Request, RequestKind, kind_of_line,
     read_intervals, request_of,
 };
 use bit_strings::{Bits, Code, Levels, OutOfMemory};
+use checked_lines::FaultReason;
 use command_grammar::{Command, CommandRefusal, decode_command_to};
 use command_text::{push_command, push_command_refusal};
 use epc_sgtin::{EpcFault, Sgtin, UriFault};

@@ -1,8 +1,8 @@
 //! The laws of decode lines and their texts.
 ghost use Rattle.std.specs.Prelude.{◌≡◌, ◌⊎◌, ℕ, List};
 ghost use Rattle.decode_lines.specs.declared.request.Request.{Request};
-ghost use Rattle.decode_lines.specs.declared.fault.DecodeFault.{DecodeFault};
-ghost use Rattle.decode_lines.specs.declared.fault.FaultReason.{FaultReason};
+ghost use Rattle.checked_lines.specs.declared.fault.FaultyLine.{FaultyLine};
+ghost use Rattle.checked_lines.specs.declared.fault.FaultReason.{FaultReason};
 ghost use Rattle.text_fields.specs.Lines.{fields_of};
 ghost use Rattle.decode_lines.specs.Request.{AsksForRequest, IsFaultyRequest, IsWithinLimits};
 ghost use Rattle.decode_lines.specs.Answer.{Answer, IsLineAnswer};
@@ -30,7 +30,7 @@ pub fn decode_lines_have_one_text()
 
 /// Where each line asks for something there is no faulty line.
 pub fn decode_lines_are_not_faulty()
-    ensures { (bytes : List ℕ) (fault : DecodeFault) → IsGrammatical bytes → IsFirstFault bytes fault → ⊥ }
+    ensures { (bytes : List ℕ) (fault : FaultyLine) → IsGrammatical bytes → IsFirstFault bytes fault → ⊥ }
 {}
 
 /// Each request within its limits has an answer.

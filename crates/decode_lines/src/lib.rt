@@ -3,14 +3,13 @@
 #![tactic(auto)]
 
 mod answer;
-mod fault;
 mod laws;
 mod lines;
 mod raw_field;
 mod request;
 mod source;
 
-pub use fault::{DecodeFault, FaultReason, fault_text};
+pub use checked_lines::{FaultReason, FaultyLine, fault_text};
 pub use laws::{
     decode_lines_are_not_faulty, decode_lines_have_a_text, decode_lines_have_one_text,
     requests_have_an_answer,

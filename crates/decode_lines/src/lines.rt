@@ -8,8 +8,8 @@ ghost use Rattle.decode_lines.specs.DecodeLines.{Decodes, IsFirstFault};
 ghost use Rattle.decode_lines.specs.Request.{IsFaultyRequest};
 
 use crate::answer::Workspace;
-use crate::fault::{DecodeFault, FaultReason};
 use bit_strings::OutOfMemory;
+use checked_lines::{FaultReason, FaultyLine};
 use std::alloc::Global;
 use text_fields::split_line;
 
@@ -25,7 +25,7 @@ pub(crate) struct Answering {
     /// The number of the next line, counted from 1.
     number: u32,
     /// The first faulty line. What comes behind it is not looked at.
-    fault: Option<DecodeFault>,
+    fault: Option<FaultyLine>,
 }
 
 impl Answering {
@@ -57,7 +57,7 @@ impl Answering {
         let mut rest = piece;
         while let Some((end, behind)) = split_line(rest) {
             if let Err(reason) = self.end_line(end)? {
-                self.fault = Some(DecodeFault {
+                self.fault = Some(FaultyLine {
                     line: self.number,
                     reason,
                 });
@@ -87,7 +87,7 @@ impl Answering {
     }
 
     /// The answers to all lines, where the input ended; or its first faulty line.
-    pub(crate) fn end(self) -> Result<String, DecodeFault>
+    pub(crate) fn end(self) -> Result<String, FaultyLine>
         ensures ok { IfOk result (λ text. (input : List ℕ) → Stands self.fault input self.part.items (string_bytes self.text) self.number → Decodes input (string_bytes text)) }
         ensures refused { IfErr result (λ fault. (input : List ℕ) → Stands self.fault input self.part.items (string_bytes self.text) self.number → IsFirstFault input fault) }
     {
@@ -104,7 +104,7 @@ impl Answering {
         if part.is_empty() {
             return Ok(text);
         }
-        Err(DecodeFault {
+        Err(FaultyLine {
             line: number,
             reason: FaultReason::End,
         })

@@ -3,9 +3,9 @@ ghost use Rattle.std.specs.Prelude.{◌≡◌, ◌≢◌, ◌≤◌, ℕ, List, 
 ghost use Rattle.text_fields.specs.Lines.{fields_of};
 ghost use Rattle.decode_lines.specs.Request.{request_word, NamesNoCode, AsksBehind, AreFaulty, most_intervals};
 
-use crate::fault::FaultReason;
 use crate::raw_field::RawField;
 use bit_strings::Code;
+use checked_lines::FaultReason;
 use pie_line::Intervals;
 use pie_text::{NotNumbers, Numbers, read_numbers};
 use reply_grammar::Expect;

@@ -5,9 +5,9 @@ ghost use Rattle.air_io.specs.ReadEnds.{most_read};
 ghost use Rattle.decode_lines.specs.DecodeLines.{Decodes, IsFirstFault};
 ghost use Rattle.std.specs.String.{string_bytes};
 
-use crate::fault::DecodeFault;
 use crate::lines::Answering;
 use air_io::{ReadEnd, Source, Take};
+use checked_lines::FaultyLine;
 use std::alloc::{AllocError, Global};
 
 /// How many bytes one read may take.
@@ -33,7 +33,7 @@ pub fn answer_source<I: Source>(
     alloc: Global,
     source: &mut I,
     limit: u32,
-) -> Result<Result<String, DecodeFault>, ReadEnd>
+) -> Result<Result<String, FaultyLine>, ReadEnd>
     requires { limit + 1 < 2 ^ 32 }
     ensures ok { IfOk result (λ answered. (input : List ℕ) × Reads (I.left source.old) (I.left source.new) input
         × (length input ≤ limit) × AtEnd (I.left source.new)

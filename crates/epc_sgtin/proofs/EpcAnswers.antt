@@ -1,15 +1,15 @@
 -- Words are those of one SGTIN, or have one first fault.
-use Rattle.std.proofs.Common.{◌≡◌, ◌⊎◌, ℕ, ◌+◌, ◌-◌, ◌*◌, ◌/◌, ◌%◌, ◌^◌, ◌<◌, List, [], ◌∷◌, length, refl, sym, ◌∙◌, ap, arith, inl, inr, length-append}
+use Rattle.std.proofs.Common.{◌≡◌, ◌⊎◌, ℕ, ◌+◌, ◌-◌, ◌*◌, ◌/◌, ◌%◌, ◌^◌, ◌<◌, List, [], ◌∷◌, length, Result, Ok, Err, refl, sym, ◌∙◌, ap, arith, inl, inr, length-append}
 use Rattle.std.specs.Prelude.{All}
 use Rattle.std.proofs.lemmas.Bool.{cases_eq, cases_lt}
 use Rattle.std.proofs.lemmas.List.Elements.{All-head, All-tail}
-use Rattle.bit_strings.specs.NumberLaws.{length-field_of}
+use Rattle.bit_strings.specs.laws.Numbers.{length-field_of}
 use Rattle.bit_strings.specs.Words.{bits_of_words}
-use Rattle.bit_strings.specs.WordLaws.{length-bits_of_words, bits_of_words-same}
+use Rattle.bit_strings.specs.laws.Words.{length-bits_of_words, bits_of_words-same}
 use Rattle.epc_sgtin.specs.SgtinValue.{SgtinValue, IsLegalSgtin}
 use Rattle.epc_sgtin.specs.Partitions.{partition_row}
 use Rattle.epc_sgtin.specs.Epc.{IsSgtin, header}
-use Rattle.epc_sgtin.specs.EpcFaults.{RefusesEpc, header_in, partition_in, company_in, item_in, digits_in}
+use Rattle.epc_sgtin.specs.EpcFaults.{RefusesEpc, header_in, partition_in, company_in, item_in, digits_in, IsEpcAnswer}
 use Rattle.epc_sgtin.specs.declared.encoding.EpcFault.{EpcFault}
 use Rattle.epc_sgtin.specs.declared.encoding.EpcFault.TheVariants.{Length, Header, Partition, Company, Item}
 use Rattle.epc_sgtin.proofs.BitFields.{three_words}
@@ -124,7 +124,7 @@ item_answer words front back partition are e at row small =
             serial_range = omega arith;
           } in
           inl (sgtin, right_words words front back sgtin are legal e refl (at ∙ sym digits) (rw digits) (rw digits) refl)
-      | inr more ↦ inr (Item, wrong_item words front back company item partition are e at row refl small refl more)
+      | inr more ↦ inr (Item, wrong_item words front back partition (record { halved = are; header_is = e; partition_is = at; has_row = row }) small more)
     ]
 
 halved_answer : (words : List ℕ) (front back : ℕ) → AreHalved words front back → HasAnswer words
@@ -138,7 +138,7 @@ halved_answer words front back are =
             let row' : partition < 7 = omega arith in
             elim (cases_lt (both_of front back / 2 ^ item_bits_of partition) (10 ^ (12 - partition))) [
               | inl less ↦ item_answer words front back partition are e refl row' less
-              | inr more ↦ inr (Company, wrong_company words front back (both_of front back / 2 ^ item_bits_of partition) partition are e refl row' refl more)
+              | inr more ↦ inr (Company, wrong_company words front back partition (record { halved = are; header_is = e; partition_is = refl; has_row = row' }) more)
             ]
       ]
     ]
@@ -169,3 +169,9 @@ some_answer (a ∷ b ∷ c ∷ d ∷ e ∷ f ∷ []) all =
     let first = three_words (a * 2 ^ 32 + b * 2 ^ 16 + c) a b c (omega arith) (omega arith) (omega arith) in
     let second = three_words (d * 2 ^ 32 + e * 2 ^ 16 + f) d e f (omega arith) (omega arith) (omega arith) in
     halved_answer (a ∷ b ∷ c ∷ d ∷ e ∷ f ∷ []) front back (six_words a b c d e f front back all (omega arith) (omega arith) first second)
+
+pub one_answer : (words : List ℕ) (one other : Result SgtinValue EpcFault) → IsEpcAnswer one words → IsEpcAnswer other words → one ≡ other
+one_answer words (Ok one) (Ok other) l r = ap (λ (sgtin : SgtinValue). Ok sgtin) (one_sgtin one other words l r)
+one_answer words (Ok one) (Err fault) l r = absurd (apart one words fault l r)
+one_answer words (Err fault) (Ok other) l r = absurd (apart other words fault r l)
+one_answer words (Err one) (Err other) l r = ap (λ (fault : EpcFault). Err fault) (one_fault one other words l r)

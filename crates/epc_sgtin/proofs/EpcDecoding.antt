@@ -11,7 +11,7 @@ use Rattle.epc_sgtin.specs.Epc.{IsSgtin, header}
 use Rattle.epc_sgtin.specs.EpcFaults.{RefusesEpc}
 use Rattle.epc_sgtin.specs.declared.encoding.EpcFault.TheVariants.{Company, Item}
 use Rattle.epc_sgtin.proofs.PartitionRows.{fits_row}
-use Rattle.epc_sgtin.proofs.EpcWords.{item_bits_of, both_of, AreHalved, six_words, right_words, wrong_company, wrong_item}
+use Rattle.epc_sgtin.proofs.EpcWords.{item_bits_of, both_of, company_of, item_of, AreHalved, HasRow, six_words, right_words, wrong_company, wrong_item}
 
 -- six words that are read one by one
 pub read_words : (words : List ℕ) (front back : ℕ) → 6 ≤ length words → length words < 7 → ((i : ℕ) → get_or words i 0 < 2 ^ 16) → front < 2 ^ 48 → back < 2 ^ 48
@@ -64,37 +64,61 @@ item_right front back partition bits small row is =
 pub row_read : (front : ℕ) → partition_read front ≢ 7 → partition_read front < 7
 row_read front other = omega (arith, and_mask (front / 2 ^ 34) 3)
 
-pub company_refused : (words : List ℕ) (front back bits limit : ℕ) → AreHalved words front back → front / 2 ^ 40 ≡ header → partition_read front ≢ 7
-    → bits ≡ (partition_row (partition_read front)).company_bits → limit ≡ 10 ^ (12 - partition_read front) → limit ≤ company_read front back bits → RefusesEpc Company words
-company_refused words front back bits limit are e other is limit_is large =
-    let row = row_read front other in
-    wrong_company words front back (company_read front back bits) (partition_read front) are e (partition_right front) row (company_right front back (partition_read front) bits are.front_small row is) (subst (λ n. n ≤ company_read front back bits) limit_is large)
+-- the words have these halves, with the header and a partition that has a row, whose company has so many bits
+pub record IsRead (words : List ℕ) (front back bits : ℕ) : Type 0 where
+  pub row : HasRow words front back (partition_read front)
+  pub bits_are : bits ≡ (partition_row (partition_read front)).company_bits
 
-pub item_refused : (words : List ℕ) (front back bits limit limit' : ℕ) → AreHalved words front back → front / 2 ^ 40 ≡ header → partition_read front ≢ 7
-    → bits ≡ (partition_row (partition_read front)).company_bits → limit ≡ 10 ^ (12 - partition_read front) → company_read front back bits < limit
-    → limit' ≡ 10 ^ (13 - (12 - partition_read front)) → limit' ≤ item_read front back bits → RefusesEpc Item words
-item_refused words front back bits limit limit' are e other is limit_is small limit_is' large =
-    let row = row_read front other in
-    wrong_item words front back (company_read front back bits) (item_read front back bits) (partition_read front) are e (partition_right front) row
-    (company_right front back (partition_read front) bits are.front_small row is) (subst (λ n. company_read front back bits < n) limit_is small)
-    (item_right front back (partition_read front) bits are.front_small row is) (subst (λ n. n ≤ item_read front back bits) limit_is' large)
+pub is_read : (words : List ℕ) (front back bits : ℕ) → AreHalved words front back → front / 2 ^ 40 ≡ header → partition_read front ≢ 7
+    → bits ≡ (partition_row (partition_read front)).company_bits → IsRead words front back bits
+is_read words front back bits are e other is = record {
+  row = record { halved = are; header_is = e; partition_is = partition_right front; has_row = row_read front other };
+  bits_are = is;
+}
 
-pub accepted : (words : List ℕ) (front back bits limit limit' : ℕ) → AreHalved words front back → front / 2 ^ 40 ≡ header → partition_read front ≢ 7
-    → bits ≡ (partition_row (partition_read front)).company_bits → limit ≡ 10 ^ (12 - partition_read front) → company_read front back bits < limit
-    → limit' ≡ 10 ^ (13 - (12 - partition_read front)) → item_read front back bits < limit'
+-- what is computed is the company and the item
+company_there : (words : List ℕ) (front back bits : ℕ) → IsRead words front back bits → company_read front back bits ≡ company_of front back (partition_read front)
+company_there words front back bits r = company_right front back (partition_read front) bits r.row.halved.front_small r.row.has_row r.bits_are
+
+item_there : (words : List ℕ) (front back bits : ℕ) → IsRead words front back bits → item_read front back bits ≡ item_of front back (partition_read front)
+item_there words front back bits r = item_right front back (partition_read front) bits r.row.halved.front_small r.row.has_row r.bits_are
+
+pub company_refused : (words : List ℕ) (front back bits limit : ℕ) → IsRead words front back bits → limit ≡ 10 ^ (12 - partition_read front) → limit ≤ company_read front back bits
+    → RefusesEpc Company words
+company_refused words front back bits limit r limit_is large =
+    wrong_company words front back (partition_read front) r.row
+    (subst (λ n. n ≤ company_of front back (partition_read front)) limit_is (subst (λ n. limit ≤ n) (company_there words front back bits r) large))
+
+-- ... and the company has no more digits than the partition says
+pub record HasCompany (words : List ℕ) (front back bits : ℕ) : Type 0 where
+  pub read : IsRead words front back bits
+  pub small : company_read front back bits < 10 ^ (12 - partition_read front)
+
+pub has_company : (words : List ℕ) (front back bits limit : ℕ) → IsRead words front back bits → limit ≡ 10 ^ (12 - partition_read front) → company_read front back bits < limit
+    → HasCompany words front back bits
+has_company words front back bits limit r limit_is small = record { read = r; small = subst (λ n. company_read front back bits < n) limit_is small }
+
+pub item_refused : (words : List ℕ) (front back bits limit : ℕ) → HasCompany words front back bits → limit ≡ 10 ^ (13 - (12 - partition_read front)) → limit ≤ item_read front back bits
+    → RefusesEpc Item words
+item_refused words front back bits limit h limit_is large =
+    wrong_item words front back (partition_read front) h.read.row (subst (λ n. n < 10 ^ (12 - partition_read front)) (company_there words front back bits h.read) h.small)
+    (subst (λ n. n ≤ item_of front back (partition_read front)) limit_is (subst (λ n. limit ≤ n) (item_there words front back bits h.read) large))
+
+pub accepted : (words : List ℕ) (front back bits limit : ℕ) → HasCompany words front back bits → limit ≡ 10 ^ (13 - (12 - partition_read front)) → item_read front back bits < limit
     → IsSgtin (record { filter = bit_and (front / 2 ^ 37) 7; digits = 12 - partition_read front; company = company_read front back bits; item = item_read front back bits; serial = bit_and back 274877906943 }) words
-accepted words front back bits limit limit' are e other is limit_is small limit_is' small' =
-    let row = row_read front other in
+accepted words front back bits limit h limit_is small =
+    let row = h.read.row.has_row in
+    let are = h.read.row.halved in
     let sgtin : SgtinValue = record { filter = bit_and (front / 2 ^ 37) 7; digits = 12 - partition_read front; company = company_read front back bits; item = item_read front back bits; serial = bit_and back 274877906943 } in
     let digits : 12 - (12 - partition_read front) ≡ partition_read front = omega arith in
     let legal : IsLegalSgtin sgtin = record {
       filter_range = omega (arith, and_mask (front / 2 ^ 37) 3);
       digits_range = (omega arith, omega arith);
-      company_range = subst (λ n. company_read front back bits < n) limit_is small;
-      item_range = subst (λ n. item_read front back bits < n) limit_is' small';
+      company_range = h.small;
+      item_range = subst (λ n. item_read front back bits < n) limit_is small;
       serial_range = omega (arith, and_mask back 38);
     } in
-    right_words words front back sgtin are legal e (sym (and_mask (front / 2 ^ 37) 3)) (partition_right front ∙ sym digits)
-    (rw digits (sym (company_right front back (partition_read front) bits are.front_small row is)))
-    (rw digits (sym (item_right front back (partition_read front) bits are.front_small row is)))
+    right_words words front back sgtin are legal h.read.row.header_is (sym (and_mask (front / 2 ^ 37) 3)) (partition_right front ∙ sym digits)
+    (rw digits (sym (company_there words front back bits h.read)))
+    (rw digits (sym (item_there words front back bits h.read)))
     (sym (and_mask back 38))

@@ -21,6 +21,13 @@ item_bits_of partition = (partition_row partition).item_bits
 abbrev pub both_of : ℕ → ℕ → ℕ
 both_of front back = front % 2 ^ 34 * 2 ^ 10 + back / 2 ^ 38
 
+-- the company and the item that stand in two halves, by the partition
+abbrev pub company_of : ℕ → ℕ → ℕ → ℕ
+company_of front back partition = both_of front back / 2 ^ item_bits_of partition
+
+abbrev pub item_of : ℕ → ℕ → ℕ → ℕ
+item_of front back partition = both_of front back % 2 ^ item_bits_of partition
+
 -- the two halves have these fields
 pub record AreHalvesOf (front back : ℕ) (f : Fields) : Type 0 where
   pub front_small : front < 2 ^ 48
@@ -140,27 +147,44 @@ has_partition : (words : List ℕ) (front back : ℕ) → AreHalved words front 
 has_partition words front back are same row =
     (has_header words front back are same, λ seven. omega (arith, (front_of_words words front back are).1))
 
+-- the words have these halves, with the header, and with a partition that has a row
+pub record HasRow (words : List ℕ) (front back partition : ℕ) : Type 0 where
+  pub halved : AreHalved words front back
+  pub header_is : front / 2 ^ 40 ≡ header
+  pub partition_is : front / 2 ^ 34 % 2 ^ 3 ≡ partition
+  pub has_row : partition < 7
+
+-- the partition, the company, the item and the digits in such words
+partition_there : (words : List ℕ) (front back partition : ℕ) → HasRow words front back partition → HasPartition words
+partition_there words front back partition h =
+    has_partition words front back h.halved h.header_is (subst (λ n. n < 7) (sym h.partition_is) h.has_row)
+
+parts_there : (words : List ℕ) (front back partition : ℕ) → HasRow words front back partition
+    → (company_in (bits_of_words words) ≡ company_of front back partition) × (item_in (bits_of_words words) ≡ item_of front back partition)
+    × (digits_in (bits_of_words words) ≡ 12 - partition)
+parts_there words front back partition h =
+    let at = h.partition_is in
+    let read = back_of_words words front back h.halved (subst (λ n. n < 7) (sym at) h.has_row) in
+    (read.0 ∙ ap (λ n. company_of front back n) at, read.1 ∙ ap (λ n. item_of front back n) at, read.2 ∙ ap (λ n. 12 - n) at)
+
 -- the company has too many digits
-pub wrong_company : (words : List ℕ) (front back company partition : ℕ) → AreHalved words front back → front / 2 ^ 40 ≡ header → front / 2 ^ 34 % 2 ^ 3 ≡ partition → partition < 7
-    → company ≡ both_of front back / 2 ^ item_bits_of partition → 10 ^ (12 - partition) ≤ company → RefusesEpc Company words
-wrong_company words front back company partition are same at row is large =
-    let read = back_of_words words front back are (subst (λ n. n < 7) (sym at) row) in
-    let number : company_in (bits_of_words words) ≡ company = read.0 ∙ rw at (sym is) in
-    let digits : digits_in (bits_of_words words) ≡ 12 - partition = read.2 ∙ ap (λ n. 12 - n) at in
-    (has_partition words front back are same (subst (λ n. n < 7) (sym at) row), λ small. let small' : company < 10 ^ (12 - partition) = subst (λ n. company < 10 ^ n) digits (subst (λ n. n < 10 ^ digits_in (bits_of_words words)) number small) in omega arith)
+pub wrong_company : (words : List ℕ) (front back partition : ℕ) → HasRow words front back partition → 10 ^ (12 - partition) ≤ company_of front back partition → RefusesEpc Company words
+wrong_company words front back partition h large =
+    let read = parts_there words front back partition h in
+    let company = company_of front back partition in (
+      partition_there words front back partition h,
+      λ small. let small' : company < 10 ^ (12 - partition) = subst (λ n. company < 10 ^ n) read.2 (subst (λ n. n < 10 ^ digits_in (bits_of_words words)) read.0 small) in omega (arith, small', large),
+    )
 
 -- the item has too many digits
-pub wrong_item : (words : List ℕ) (front back company item partition : ℕ) → AreHalved words front back → front / 2 ^ 40 ≡ header → front / 2 ^ 34 % 2 ^ 3 ≡ partition → partition < 7
-    → company ≡ both_of front back / 2 ^ item_bits_of partition → company < 10 ^ (12 - partition) → item ≡ both_of front back % 2 ^ item_bits_of partition
-    → 10 ^ (13 - (12 - partition)) ≤ item → RefusesEpc Item words
-wrong_item words front back company item partition are same at row is small is' large =
-    let read = back_of_words words front back are (subst (λ n. n < 7) (sym at) row) in
-    let number : company_in (bits_of_words words) ≡ company = read.0 ∙ rw at (sym is) in
-    let number' : item_in (bits_of_words words) ≡ item = read.1 ∙ rw at (sym is') in
-    let digits : digits_in (bits_of_words words) ≡ 12 - partition = read.2 ∙ ap (λ n. 12 - n) at in (
-      has_partition words front back are same (subst (λ n. n < 7) (sym at) row),
-      subst (λ n. IsCompany n (company_in (bits_of_words words))) (sym digits) (subst (λ n. n < 10 ^ (12 - partition)) (sym number) small),
-      λ few. let few' : item < 10 ^ (13 - (12 - partition)) = subst (λ n. IsItem n item) digits (subst (λ n. IsItem (digits_in (bits_of_words words)) n) number' few) in omega arith,
+pub wrong_item : (words : List ℕ) (front back partition : ℕ) → HasRow words front back partition → company_of front back partition < 10 ^ (12 - partition)
+    → 10 ^ (13 - (12 - partition)) ≤ item_of front back partition → RefusesEpc Item words
+wrong_item words front back partition h small large =
+    let read = parts_there words front back partition h in
+    let item = item_of front back partition in (
+      partition_there words front back partition h,
+      subst (λ n. IsCompany n (company_in (bits_of_words words))) (sym read.2) (subst (λ n. n < 10 ^ (12 - partition)) (sym read.0) small),
+      λ few. let few' : item < 10 ^ (13 - (12 - partition)) = subst (λ n. IsItem n item) read.2 (subst (λ n. IsItem (digits_in (bits_of_words words)) n) read.1 few) in omega (arith, few', large),
     )
 
 -- the words are an SGTIN-96

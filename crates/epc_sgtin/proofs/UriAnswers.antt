@@ -1,5 +1,5 @@
 -- A text is the URI of one SGTIN, or has one first fault.
-use Rattle.std.proofs.Common.{◌≡◌, ◌≢◌, ◌⊎◌, ℕ, ◌+◌, ◌-◌, ◌^◌, ◌<◌, Bool, true, false, List, [], ◌∷◌, ◌++◌, length, drop, get_or, refl, sym, ◌∙◌, ap, subst, arith, inl, inr, lit<, nat_lt}
+use Rattle.std.proofs.Common.{◌≡◌, ◌≢◌, ◌⊎◌, ℕ, ◌+◌, ◌-◌, ◌^◌, ◌<◌, Bool, true, false, List, [], ◌∷◌, ◌++◌, length, drop, get_or, Result, Ok, Err, refl, sym, ◌∙◌, ap, subst, arith, inl, inr, lit<, nat_lt}
 use Rattle.std.specs.Fmt.{decimal}
 use Rattle.std.specs.List.{join_with_byte, list_all}
 use Rattle.std.specs.Str.Parse.{digits_value}
@@ -15,7 +15,7 @@ use Rattle.text_fields.specs.Lines.{Lacks, pieces_between}
 use Rattle.text_fields.specs.LineLaws.{pieces_between-cut, whole_piece}
 use Rattle.epc_sgtin.specs.SgtinValue.{SgtinValue, IsLegalSgtin, IsCompanyDigits, all_digits}
 use Rattle.epc_sgtin.specs.Uri.{padded, dot, prefix, uri_parts, uri_of, IsUriOf}
-use Rattle.epc_sgtin.specs.UriFaults.{is_digit, AreDigits, IsFilterPart, IsCompanyPart, IsItemPart, IsSerialPart, UriParts, RefusesUri}
+use Rattle.epc_sgtin.specs.UriFaults.{is_digit, AreDigits, IsFilterPart, IsCompanyPart, IsItemPart, IsSerialPart, UriParts, RefusesUri, IsUriAnswer}
 use Rattle.epc_sgtin.specs.declared.tag_uri.UriFault.{UriFault}
 use Rattle.epc_sgtin.specs.declared.tag_uri.UriFault.TheVariants.{Prefix, Parts, Filter, Company, Item, Serial}
 use Rattle.epc_sgtin.proofs.EpcAnswers.{same_parts}
@@ -342,3 +342,9 @@ some_answer text = elim (cut_front prefix text) [
   | inr none ↦ inr (Prefix, none)
   | inl cut ↦ pieces_answer text cut.0 (pieces_between dot cut.0) cut.1 refl
 ]
+
+pub one_answer : (text : List ℕ) (one other : Result SgtinValue UriFault) → IsUriAnswer one text → IsUriAnswer other text → one ≡ other
+one_answer text (Ok one) (Ok other) l r = ap (λ (sgtin : SgtinValue). Ok sgtin) (one_sgtin one other text l r)
+one_answer text (Ok one) (Err fault) l r = absurd (apart one text fault l r)
+one_answer text (Err fault) (Ok other) l r = absurd (apart other text fault r l)
+one_answer text (Err one) (Err other) l r = ap (λ (fault : UriFault). Err fault) (one_fault one other text l r)

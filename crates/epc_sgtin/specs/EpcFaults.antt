@@ -1,10 +1,10 @@
 -- Why words are no SGTIN-96: five things are asked in order, and the first that fails is the answer. The order is profile.
-use Rattle.std.specs.Prelude.{◌≡◌, ◌≢◌, ℕ, ◌+◌, Bool, List, length}
+use Rattle.std.specs.Prelude.{◌≡◌, ◌≢◌, ℕ, ◌+◌, Bool, List, length, Result, Ok, Err}
 use Rattle.bit_strings.specs.Numbers.{value_of, part_of}
 use Rattle.bit_strings.specs.Words.{bits_of_words}
-use Rattle.epc_sgtin.specs.SgtinValue.{IsCompany, IsItem}
+use Rattle.epc_sgtin.specs.SgtinValue.{SgtinValue, IsCompany, IsItem}
 use Rattle.epc_sgtin.specs.Partitions.{partition_row}
-use Rattle.epc_sgtin.specs.Epc.{header}
+use Rattle.epc_sgtin.specs.Epc.{header, IsSgtin}
 use Rattle.epc_sgtin.specs.declared.encoding.EpcFault.{EpcFault}
 use Rattle.epc_sgtin.specs.declared.encoding.EpcFault.TheVariants.{Length, Header, Partition, Company, Item}
 
@@ -43,3 +43,8 @@ RefusesEpc Company words =
 RefusesEpc Item words =
     let bits = bits_of_words words in
     HasPartition words × IsCompany (digits_in bits) (company_in bits) × (¬ IsItem (digits_in bits) (item_in bits))
+
+-- the answer to words: the SGTIN whose words they are, or why they are those of none
+abbrev pub IsEpcAnswer : Result SgtinValue EpcFault → List ℕ → Type 0
+IsEpcAnswer (Ok sgtin) words = IsSgtin sgtin words
+IsEpcAnswer (Err fault) words = RefusesEpc fault words

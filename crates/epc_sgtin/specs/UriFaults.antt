@@ -1,11 +1,11 @@
 -- Why a text is no EPC Tag URI of an SGTIN-96: six things are asked in order, and the first that fails is the answer. The
 -- order is profile.
-use Rattle.std.specs.Prelude.{◌≡◌, ◌≢◌, ℕ, ◌+◌, nat_le, Bool, ◌&&◌, List, [], ◌∷◌, ◌++◌, length}
+use Rattle.std.specs.Prelude.{◌≡◌, ◌≢◌, ℕ, ◌+◌, nat_le, Bool, ◌&&◌, List, [], ◌∷◌, ◌++◌, length, Result, Ok, Err}
 use Rattle.std.specs.List.{AllPass}
 use Rattle.std.specs.Fmt.{decimal}
 use Rattle.text_fields.specs.Lines.{pieces_between}
-use Rattle.epc_sgtin.specs.SgtinValue.{IsFilter, IsCompanyDigits, IsSerial, all_digits}
-use Rattle.epc_sgtin.specs.Uri.{prefix, dot}
+use Rattle.epc_sgtin.specs.SgtinValue.{SgtinValue, IsFilter, IsCompanyDigits, IsSerial, all_digits}
+use Rattle.epc_sgtin.specs.Uri.{prefix, dot, IsUriOf}
 use Rattle.epc_sgtin.specs.declared.tag_uri.UriFault.{UriFault}
 use Rattle.epc_sgtin.specs.declared.tag_uri.UriFault.TheVariants.{Prefix, Parts, Filter, Company, Item, Serial}
 
@@ -53,3 +53,8 @@ RefusesUri Item text =
 RefusesUri Serial text =
     (parts : UriParts text) × IsFilterPart parts.filter × IsCompanyPart parts.company × IsItemPart parts.company parts.item
     × (¬ IsSerialPart parts.serial)
+
+-- the answer to a text: the SGTIN whose URI it is, or why it is that of none
+abbrev pub IsUriAnswer : Result SgtinValue UriFault → List ℕ → Type 0
+IsUriAnswer (Ok sgtin) text = IsUriOf sgtin text
+IsUriAnswer (Err fault) text = RefusesUri fault text

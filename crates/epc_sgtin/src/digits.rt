@@ -1,5 +1,5 @@
 //! Decimal digits with leading zeros.
-ghost use Rattle.std.specs.Prelude.{◌≡◌, ℕ, ◌+◌, ◌^◌, ◌<◌, ◌≤◌, length, IfSome, IfNone};
+ghost use Rattle.std.specs.Prelude.{◌≡◌, ◌+◌, ◌^◌, ◌<◌, ◌≤◌, length, IfSome, IfNone};
 ghost use Rattle.std.specs.Fmt.{decimal};
 ghost use Rattle.epc_sgtin.specs.Uri.{padded};
 ghost use Rattle.epc_sgtin.specs.UriFaults.{AreDigits, is_digit};

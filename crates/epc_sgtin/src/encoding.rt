@@ -3,7 +3,7 @@
 //! The 96 bits are handled as two halves of 48. The front half has the header in 8 bits, the filter and the
 //! partition in 3 each, and the first 34 bits of the company and the item, which have 44 together. The back half
 //! has their last 10 bits, and the serial in 38.
-ghost use Rattle.std.specs.Prelude.{IfOk, IfErr};
+ghost use Rattle.std.specs.Prelude.{◌≡◌, Result, IfOk, IfErr};
 
 use crate::halves::{half_of, words_of};
 use crate::partitions::{ITEM_AND_COMPANY_BITS, ITEM_AND_COMPANY_DIGITS, company_bits, ten_to};
@@ -35,7 +35,9 @@ pub enum EpcFault {
 
 impl Sgtin {
     ghost use Rattle.epc_sgtin.specs.Epc.{IsSgtin};
-    ghost use Rattle.epc_sgtin.specs.EpcFaults.{RefusesEpc};
+    ghost use Rattle.epc_sgtin.specs.EpcFaults.{RefusesEpc, IsEpcAnswer};
+    ghost use Rattle.epc_sgtin.specs.SgtinValue.{SgtinValue};
+    ghost use Rattle.epc_sgtin.specs.declared.encoding.EpcFault.{EpcFault};
 
     /// The words of the EPC.
     pub fn encode(&self) -> [u16; 6]
@@ -54,6 +56,8 @@ impl Sgtin {
     pub fn decode(words: &[u16]) -> Result<Sgtin, EpcFault>
         ensures ok { IfOk result (λ sgtin. IsSgtin sgtin words.now) }
         ensures refused { IfErr result (λ fault. RefusesEpc fault words.now) }
+        // What the words are is answered.
+        ensures only { (answer : Result SgtinValue EpcFault) → IsEpcAnswer answer words.now → result ≡ answer }
     {
         let [first, second, third, fourth, fifth, sixth] = words else {
             return Err(EpcFault::Length);

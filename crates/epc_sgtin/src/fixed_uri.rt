@@ -25,14 +25,6 @@ impl Model for Uri {
     ghost inverse = { λ bytes. record { bytes = record { items = bytes } } };
 }
 
-impl Default for Uri {
-    fn default() -> Uri
-        ensures { result ≡ [] }
-    {
-        Uri::new()
-    }
-}
-
 impl Uri {
     /// The empty text.
     pub fn new() -> Uri

@@ -1,10 +1,10 @@
 //! The URI of an SGTIN (GS1 Tag Data Standard, EPC Tag URI).
-ghost use Rattle.std.specs.Prelude.{◌≡◌, ◌≢◌, ℕ, ◌+◌, ◌≤◌, ◌<◌, ◌^◌, ◌↔◌, List, [], ◌∷◌, ◌++◌, length, take, drop, IfOk, IfErr, IfSome, IfNone};
+ghost use Rattle.std.specs.Prelude.{◌≡◌, ◌≢◌, ℕ, ◌+◌, ◌≤◌, ◌<◌, ◌^◌, ◌↔◌, List, [], ◌∷◌, ◌++◌, length, take, drop, Result, IfOk, IfErr, IfSome, IfNone};
 ghost use Rattle.std.specs.Fmt.{decimal};
 ghost use Rattle.text_fields.specs.Lines.{Lacks, pieces_between};
 ghost use Rattle.epc_sgtin.specs.SgtinValue.{all_digits, IsFilter, IsSerial};
 ghost use Rattle.epc_sgtin.specs.Uri.{dot, padded, prefix};
-ghost use Rattle.epc_sgtin.specs.UriFaults.{AreDigits, IsFilterPart, IsCompanyPart, IsItemPart, IsSerialPart};
+ghost use Rattle.epc_sgtin.specs.UriFaults.{AreDigits, IsFilterPart, IsCompanyPart, IsSerialPart};
 
 use crate::digits::{digit_count, number_of, write_digits};
 use crate::fixed_uri::Uri;
@@ -47,8 +47,10 @@ pub enum UriFault {
 }
 
 impl Sgtin {
-    ghost use Rattle.epc_sgtin.specs.Uri.{uri_of, IsUriOf};
-    ghost use Rattle.epc_sgtin.specs.UriFaults.{RefusesUri};
+    ghost use Rattle.epc_sgtin.specs.Uri.{IsUriOf};
+    ghost use Rattle.epc_sgtin.specs.UriFaults.{RefusesUri, IsUriAnswer};
+    ghost use Rattle.epc_sgtin.specs.SgtinValue.{SgtinValue};
+    ghost use Rattle.epc_sgtin.specs.declared.tag_uri.UriFault.{UriFault};
 
     /// Writes the URI in place of what the text holds.
     pub fn write_uri(&self, out: &mut Uri)
@@ -74,6 +76,8 @@ impl Sgtin {
     pub fn read_uri(text: &[u8]) -> Result<Sgtin, UriFault>
         ensures ok { IfOk result (λ sgtin. IsUriOf sgtin text.now) }
         ensures refused { IfErr result (λ fault. RefusesUri fault text.now) }
+        // What the text is is answered.
+        ensures only { (answer : Result SgtinValue UriFault) → IsUriAnswer answer text.now → result ≡ answer }
     {
         let Some(rest) = behind_prefix(text) else {
             return Err(UriFault::Prefix);

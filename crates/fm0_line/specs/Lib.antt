@@ -1,2 +1,2 @@
 pub mod Fm0
-pub mod Fm0Laws
+pub mod laws

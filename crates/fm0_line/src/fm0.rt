@@ -1,7 +1,7 @@
 //! FM0 baseband and its preamble.
-ghost use Rattle.std.specs.Prelude.{◌≡◌, ◌<◌, Some, slice_get};
-ghost use Rattle.fm0_line.specs.Fm0.{fm0, fm0_preamble, fm0_second};
-ghost use Rattle.fm0_line.specs.Fm0Laws.{fm0_even, fm0_has_lead, fm0_tells_bits, fm0_refuses_flips, fm0_hides_lead};
+ghost use Rattle.std.specs.Prelude.{◌≡◌, ◌<◌, Some};
+ghost use Rattle.fm0_line.specs.Fm0.{fm0, fm0_second};
+ghost use Rattle.fm0_line.specs.laws.Fm0.{fm0_even, fm0_has_lead, fm0_tells_bits, fm0_refuses_flips, fm0_hides_lead};
 
 use line_code::LineCode;
 

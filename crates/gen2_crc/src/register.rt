@@ -34,14 +34,6 @@ impl Model for Crc16 {
     ghost inverse = { λ n. record { register = n } };
 }
 
-impl Default for Crc16 {
-    fn default() -> Crc16
-        ensures { RegisterStandsFor result [] }
-    {
-        Crc16::new()
-    }
-}
-
 impl Crc16 {
     /// Stands for no bits.
     pub fn new() -> Crc16

@@ -31,14 +31,6 @@ impl Model for Crc5 {
     ghost inverse = { λ n. record { register = n } };
 }
 
-impl Default for Crc5 {
-    fn default() -> Crc5
-        ensures { result ≡ value_of (crc5_of []) }
-    {
-        Crc5::new()
-    }
-}
-
 impl Crc5 {
     /// Stands for no bits.
     pub fn new() -> Crc5

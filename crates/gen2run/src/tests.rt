@@ -31,6 +31,24 @@ const REPORT: &str = "list 1 1 0800 1234\nround 1 quiet 2\nseen 1 0800 1234\n\
 
 const SUMMARY: &str = "tags 256\nlisted 256\ndistinct 256\nslots 746\nend quiet\ndone\n";
 
+/// Two tags that reply at once in one slot of six.
+const COLLISION: &str = "gen2 1\nlink 12500 31250 50000 6250 1 fm0 0\n\
+    tag 00000000 00000000 0000000000 08001234 E2000001 - 0000111100022222\n\
+    tag 00000000 00000000 0000000000 08005678 E2000002 - 0000333300014444\n\
+    round all 0 a 1 300 20\nend\n";
+
+/// The report of them, line by line.
+const COLLISION_LINES: &[&str] = &[
+    "list 1 3 0800 1234\n",
+    "list 1 4 0800 5678\n",
+    "round 1 quiet 6\n",
+    "seen 1 0800 1234\n",
+    "seen 1 0800 5678\n",
+    "tag 0 ready BAAA0 0000000000 0000000000000000 ED3A08001234 E2000001 -\n",
+    "tag 1 ready BAAA0 0000000000 0000000000000000 A57A08005678 E2000002 -\n",
+    "done\n",
+];
+
 /// A line that has a name, and both.
 const LISTED: &str = "list 1 1 3000 3074257BF7194E4000001A85\n";
 
@@ -58,6 +76,7 @@ const ROWS: &[Row] = &[
         Status::WriteFault,
         "list 1 1 0800 1234\nround 1 quiet 2\n",
     ),
+    (&["run"], COLLISION, 1, 0, Status::ReadFault, ""),
     (&["gen", "7", "256"], "x", 1, 0, Status::Done, SUMMARY),
     (&["gen", "7", "256"], "", 0, 1, Status::WriteFault, ""),
     (&["names"], LISTED, 0, 0, Status::Done, NAMED),
@@ -100,6 +119,37 @@ fn failing_devices(rt: HostRuntime) {
     for row in ROWS {
         assert!(rt; does(rt.alloc(), row) == Ok(true), "{row:?}");
     }
+}
+
+/// The first lines of the report of two tags, as many as said.
+fn first_lines(alloc: Global, count: usize) -> Result<Vec<u8>, AllocError> {
+    let mut text = Vec::new(alloc);
+    for (at, line) in COLLISION_LINES.iter().enumerate() {
+        if at < count {
+            text.extend_from_slice(line.as_bytes())?;
+        }
+    }
+    Ok(text)
+}
+
+/// How the run of two tags ends where the write behind so many lines fails, and whether just these lines are written.
+fn cut_behind(alloc: Global, count: usize) -> Result<(Status, bool), AllocError> {
+    let mut source = SureSource::new(Vec::from_slice(alloc, COLLISION.as_bytes())?);
+    let failing = (count as u64).saturating_add(1);
+    let (status, sink) = ran(alloc, &["run"], &mut source, failing)?;
+    let lines = first_lines(alloc, count)?;
+    Ok((status, sink.as_slice() == lines.as_slice()))
+}
+
+/// Each write of the run of two tags fails in turn. A report has a write for each line.
+#[test]
+fn each_write_fails(rt: HostRuntime) {
+    for count in 0..COLLISION_LINES.len() {
+        let cut = cut_behind(rt.alloc(), count);
+        assert!(rt; cut == Ok((Status::WriteFault, true)), "{count}");
+    }
+    let whole = cut_behind(rt.alloc(), COLLISION_LINES.len());
+    assert!(rt; whole == Ok((Status::Done, true)));
 }
 
 /// Whether a run over a source that never fails ends so, with this output, where the write of this number fails.

@@ -1,9 +1,4 @@
-pub mod Splits
-pub mod Reading
-pub mod LeadLevels
-pub mod Answered
 pub mod Buffer
 pub mod Whole
 pub mod Steps
 pub mod Writing
-pub mod Existence

@@ -1,43 +1,21 @@
 -- From one place of the levels to the whole list, and what a decoder may then answer.
-use Rattle.std.proofs.Common.{◌<◌, ◌≡◌, ℕ, ◌+◌, ◌≤◌, Bool, true, List, [], ◌∷◌, ◌++◌, length, take, Result, Ok, Err, IsOk, IsErr, OnOk, IfErr, refl, sym, ap, ◌∙◌, subst, arith, length-append, length-take}
-use Rattle.std.proofs.lemmas.List.{take-take}
-use Rattle.bit_strings.specs.Family.{IsBadAt}
+use Rattle.std.proofs.Common.{◌<◌, ◌≡◌, ℕ, ◌+◌, ◌≤◌, Bool, true, List, [], ◌∷◌, ◌++◌, length, Result, Ok, Err, IsOk, IsErr, OnOk, IfErr, refl, sym, ap, ◌∙◌, subst, arith, length-append, mul-le-mul_right}
 use Rattle.line_code.specs.Table.{Context, Table}
 use Rattle.line_code.specs.Stream.{blocks, IsStream, Streams}
 use Rattle.line_code.specs.States.{InsideValue, Reads}
-use Rattle.line_code.specs.Laws.{IsEven, TellsBits, RefusesFlips, HidesLead, with_level_flipped}
+use Rattle.line_code.specs.TableFacts.{IsEven, TellsBits, RefusesFlips, HidesLead, with_level_flipped}
 use Rattle.line_code.specs.Refusal.{RefusesStream}
-use Rattle.line_code.specs.StreamLaws.{one_stream, refused_is_none}
+use Rattle.line_code.specs.laws.Streams.{length-blocks, one_stream, refused_is_none}
 use Rattle.line_code.specs.declared.refusal.LineRefusal.{LineRefusal}
 
--- a front that is refused at a place refuses the whole list there
-pub bad_in_front : (X : List Bool → Type 0) (levels : List Bool) (n place : ℕ) → IsBadAt X (take n levels) place → IsBadAt X levels place
-bad_in_front X levels n place bad =
-    let inside = bad.inside in
-    let size = length-take n levels in
-    record {
-      inside = omega arith;
-      begins = rw (← take-take place n levels (omega arith)) bad.begins;
-      stops = rw (← take-take (place + 1) n levels (omega arith)) bad.stops;
-    }
-
 -- no more bits than levels
-pub length-blocks : (t : Table) (chips : ℕ) → IsEven t chips → (bits : List Bool) (c : Context) → length bits ≤ length (blocks t c bits)
-length-blocks t chips even [] c = omega arith
-length-blocks t chips even (bit ∷ bits) c =
-    let least = even.least in
-    let size = even.blocks_even c bit in
-    let more = length-blocks t chips even bits (t.next c bit) in
-    let joined = length-append (t.block c bit) (blocks t (t.next c bit) bits) in
-    omega arith
-
 pub bits_within : (t : Table) (chips : ℕ) → IsEven t chips → (trext : Bool) (state : InsideValue) (levels bits : List Bool) → Reads t trext state levels bits → length bits ≤ length levels
 bits_within t chips even trext state levels bits r =
     let whole = ap length r.levels_are in
     let outer = length-append (t.lead trext) (blocks t t.start bits ++ r.part) in
     let inner = length-append (blocks t t.start bits) r.part in
-    let few = length-blocks t chips even bits t.start in
-    omega arith
+    let few : length bits ≤ length (blocks t t.start bits) = omega (arith, length-blocks t chips even bits t.start, mul-le-mul_right (length bits) even.least) in
+    omega (arith, whole, outer, inner, few)
 
 -- where the levels are a stream, a true answer is its bits
 pub decided : (t : Table) (chips : ℕ) → IsEven t chips → TellsBits t → (trext : Bool) (result : Result (Unit {0}) LineRefusal) (levels out bits : List Bool)

@@ -1,14 +1,13 @@
 -- What the encoder has written, and how much room it takes.
 use Rattle.std.proofs.Common.{◌≡◌, ℕ, ◌+◌, ◌*◌, ◌<◌, ◌≤◌, Bool, true, false, List, [], ◌∷◌, ◌++◌, length, take, drop, get_or, sym, ap, ◌∙◌, arith, append_assoc, length-append}
-use Rattle.std.proofs.Math.Nat.{mul-suc, mul-zero}
 use Rattle.std.proofs.lemmas.List.{append-nil, take_more, take_all, length-take-le, length-drop}
 use Rattle.std.proofs.Math.Seq.{take-append_seam}
 use Rattle.bit_strings.specs.BitString.{BitString}
 use Rattle.line_code.specs.Table.{Context, Table}
 use Rattle.line_code.specs.Stream.{blocks}
 use Rattle.line_code.specs.States.{context_after}
-use Rattle.line_code.specs.Laws.{IsEven}
-use Rattle.line_code.proofs.Splits.{blocks-append, context_after-push}
+use Rattle.line_code.specs.TableFacts.{IsEven}
+use Rattle.line_code.specs.laws.Splits.{blocks-append, context_after-push}
 
 -- what levels are up to the end of those that were put over others
 overwritten : (items block : List Bool) (at : ℕ) → at ≤ length items
@@ -33,15 +32,6 @@ pub more_blocks : (t : Table) (lead bits : List Bool) (bit : Bool) (c : Context)
 more_blocks t lead bits bit c =
     append_assoc lead (blocks t c bits) (t.block (context_after t c bits) bit)
     ∙ ap (λ ls. lead ++ ls) (ap (λ ls. blocks t c bits ++ ls) (sym (append-nil (t.block (context_after t c bits) bit))) ∙ sym (blocks-append t bits (bit ∷ []) c))
-
-pub length-blocks : (t : Table) (chips : ℕ) → IsEven t chips → (bits : List Bool) (c : Context) → length (blocks t c bits) ≡ chips * length bits
-length-blocks t chips even [] c = sym (mul-zero chips)
-length-blocks t chips even (bit ∷ bits) c =
-    let size = even.blocks_even c bit in
-    let more = length-blocks t chips even bits (t.next c bit) in
-    let joined = length-append (t.block c bit) (blocks t (t.next c bit) bits) in
-    let product = mul-suc chips (length bits) in
-    omega arith
 
 pub capacity_of : (new old : BitString) (items : List Bool) → new ≡ record { items = items; capacity = old.capacity } → new.capacity ≡ old.capacity
 capacity_of new old items e = ap (λ (s : BitString). s.capacity) e

@@ -1,13 +1,12 @@
 pub mod Table
 pub mod Stream
-pub mod Laws
-pub mod Flips
+pub mod TableFacts
 pub mod States
 pub mod Refusal
 pub mod AfterSeeking
 pub mod AfterInside
 pub mod AfterEnd
 pub mod Answer
-pub mod StreamLaws
+pub mod laws
 pub use Rattle.bit_strings.specs.BitString
 pub use Rattle.bit_strings.specs.Family

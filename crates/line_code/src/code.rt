@@ -1,7 +1,7 @@
 //! What a line code is.
 ghost use Rattle.std.specs.Prelude.{◌≡◌, ◌≢◌, ℕ, ◌<◌, ◌≤◌, length, Bool, Some, IfSome, IfNone, slice_get};
 ghost use Rattle.line_code.specs.Table.{Context, Table};
-ghost use Rattle.line_code.specs.Laws.{IsEven, HasLead, TellsBits, RefusesFlips, HidesLead, longest_lead};
+ghost use Rattle.line_code.specs.TableFacts.{IsEven, HasLead, TellsBits, RefusesFlips, HidesLead, longest_lead};
 
 /// A line code of the link from tag to interrogator (6.3.1.3.2 of the standard).
 ///

@@ -2,7 +2,7 @@
 ghost use Rattle.std.specs.Prelude.{◌≡◌, ◌≤◌, ◌<◌, ℕ, List, Bool, [], length, take, IfSome, IfOk, OnOk, IfErr, OnErr, IsOk, IsErr};
 ghost use Rattle.line_code.specs.Table.{Context};
 ghost use Rattle.line_code.specs.Stream.{IsStream, Streams, blocks};
-ghost use Rattle.line_code.specs.Laws.{with_level_flipped};
+ghost use Rattle.line_code.specs.TableFacts.{with_level_flipped};
 ghost use Rattle.line_code.specs.Refusal.{RefusesStream};
 ghost use Rattle.line_code.specs.States.{Reads};
 ghost use Rattle.bit_strings.specs.BitString.{most_counted};

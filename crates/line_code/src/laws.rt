@@ -1,7 +1,7 @@
 //! What holds of the streams of every line code.
 ghost use Rattle.std.specs.Prelude.{◌≡◌, ℕ, Bool, List, Result};
 ghost use Rattle.line_code.specs.Table.{Table};
-ghost use Rattle.line_code.specs.Laws.{IsEven, TellsBits};
+ghost use Rattle.line_code.specs.TableFacts.{IsEven, TellsBits};
 ghost use Rattle.line_code.specs.Stream.{IsStream, Streams};
 ghost use Rattle.line_code.specs.States.{SeekingValue, InsideValue, Seeks, Reads};
 ghost use Rattle.bit_strings.specs.Family.{Begins};

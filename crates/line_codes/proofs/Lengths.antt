@@ -1,10 +1,10 @@
 -- How many levels a stream has in the code that was found.
 use Rattle.std.proofs.Common.{◌≡◌, ◌+◌, ◌*◌, ◌≤◌, Bool, List, length, sym, ◌∙◌, ap, subst}
 use Rattle.bit_strings.specs.declared.code.Code.{Code}
-use Rattle.line_code.specs.Laws.{longest_lead}
+use Rattle.line_code.specs.TableFacts.{longest_lead}
 use Rattle.line_code.specs.Stream.{IsStream, stream_of}
 use Rattle.line_codes.specs.Codes.{table_of, chips_of}
-use Rattle.line_codes.specs.CodeLaws.{length-stream, stream_most}
+use Rattle.line_codes.specs.laws.Codes.{length-stream, stream_most}
 
 same_stream : (code found : Code) (trext : Bool) (bits levels : List Bool) → code ≡ found → IsStream (table_of found) trext bits levels → levels ≡ stream_of (table_of code) trext bits
 same_stream code found trext bits levels is stream = stream ∙ ap (λ (c : Code). stream_of (table_of c) trext bits) (sym is)

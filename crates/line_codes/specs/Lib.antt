@@ -1,7 +1,6 @@
-pub mod CodeLaws
 pub mod Codes
-pub mod PreambleLaws
 pub mod Preambles
-pub use Rattle.line_code.specs.Laws
+pub mod laws
+pub use Rattle.line_code.specs.TableFacts
 pub use Rattle.line_code.specs.Stream
 pub use Rattle.line_code.specs.Refusal

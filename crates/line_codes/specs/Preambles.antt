@@ -1,6 +1,6 @@
 -- That a lead with the extension of its pilot is told from one without it, as facts on a code's table.
 use Rattle.std.specs.Prelude.{ℕ, ◌+◌, ◌≤◌, Bool, true, false, not, List, [], ◌∷◌}
-use Rattle.line_code.specs.Laws.{with_level_flipped}
+use Rattle.line_code.specs.TableFacts.{with_level_flipped}
 use Rattle.line_code.specs.Stream.{Streams}
 use Rattle.line_code.specs.Table.{Table}
 

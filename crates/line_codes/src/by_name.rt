@@ -1,9 +1,8 @@
 //! Encoding and decoding in the code that is named.
 ghost use Rattle.std.specs.Prelude.{◌≡◌, ℕ, ◌+◌, ◌*◌, ◌<◌, ◌≤◌, List, Bool, [], length, OnOk, OnErr, IfErr, IsOk, IsErr};
-ghost use Rattle.line_code.specs.Laws.{longest_lead, with_level_flipped};
+ghost use Rattle.line_code.specs.TableFacts.{longest_lead, with_level_flipped};
 ghost use Rattle.line_code.specs.Stream.{IsStream, Streams};
 ghost use Rattle.line_code.specs.Refusal.{RefusesStream};
-ghost use Rattle.line_code.specs.Table.{Table};
 ghost use Rattle.line_codes.specs.Codes.{table_of, chips_of};
 ghost use Rattle.bit_strings.specs.BitString.{most_counted};
 

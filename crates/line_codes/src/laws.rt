@@ -1,7 +1,7 @@
 //! What holds of the four codes, and of the lengths of their streams.
-ghost use Rattle.std.specs.Prelude.{◌≡◌, ℕ, ◌+◌, ◌*◌, ◌≤◌, Bool, List, length};
+ghost use Rattle.std.specs.Prelude.{◌≡◌, ◌+◌, ◌*◌, ◌≤◌, Bool, List, length};
 ghost use Rattle.bit_strings.specs.declared.code.Code.{Code};
-ghost use Rattle.line_code.specs.Laws.{IsEven, HasLead, TellsBits, RefusesFlips, HidesLead, longest_lead};
+ghost use Rattle.line_code.specs.TableFacts.{IsEven, HasLead, TellsBits, RefusesFlips, HidesLead, longest_lead};
 ghost use Rattle.line_code.specs.Stream.{stream_of};
 ghost use Rattle.line_codes.specs.Codes.{table_of, chips_of};
 ghost use Rattle.line_codes.specs.Preambles.{PreamblesDiffer, HasOnePreamble, KeepsPreamble};

@@ -8,7 +8,7 @@ use Rattle.pie_line.specs.Link.{IsLegalLink}
 use Rattle.scenario.specs.Limits.{IsScenario, IsEntry, IsStep, IsOpList, no_operations}
 use Rattle.access_ops.specs.laws.OperationLaws.{IsLegalOp}
 use Rattle.scenario_lines.specs.LineForm.{IsRound}
-use Rattle.value_text.specs.ValueText.{IsWordList}
+use Rattle.text_fields.specs.WordLists.{IsWordList}
 use Rattle.scenario_lines.specs.TagForm.{IsTag}
 
 -- what holds of each item holds of the image of each

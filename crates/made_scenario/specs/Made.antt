@@ -1,8 +1,8 @@
 -- Profile: the scenario of the words `gen SEED TAGS`. The tags' random words come from a generator, PCG32 (XSH RR 64/32, O'Neill).
 use Rattle.std.specs.Prelude.{ℕ, zero, suc, ◌+◌, ◌*◌, ◌%◌, ◌^◌, true, false, List, [], ◌∷◌, ◌++◌, map}
 use Rattle.bit_strings.specs.declared.code.Code.TheVariants as codes
-use Rattle.command_grammar.specs.declared.field_values.Sel.TheVariants as sels
-use Rattle.command_grammar.specs.declared.field_values.Side.TheVariants as sides
+use Rattle.command_fields.specs.declared.choices.Sel.TheVariants as sels
+use Rattle.command_fields.specs.declared.choices.Side.TheVariants as sides
 use Rattle.lock_rules.specs.Lock.{locks_of}
 use Rattle.pie_line.specs.Link.{LinkValue}
 use Rattle.q_round.specs.SpecValue.{SpecValue}

@@ -2,7 +2,7 @@
 use Rattle.std.specs.Prelude.{◌≡◌, ◌≤◌, ℕ, ◌-◌, ◌*◌, Bool, true, false, List, length, take, drop, refl}
 use Rattle.std.proofs.Common.{arith, inl, inr, length-append}
 use Rattle.miller_line.specs.Miller.{IsOneOfThree, miller_lead}
-use Rattle.miller_line.specs.MillerLaws.{length-carrier}
+use Rattle.miller_line.specs.laws.Miller.{length-carrier}
 
 most_levels : (m : ℕ) (trext : Bool) → m ≤ 8 → length (miller_lead m trext) ≤ 352
 most_levels m true most = simp (length-append, length-carrier) (omega (arith, most))

@@ -1,3 +1,3 @@
 pub mod Miller
 pub mod SymbolContext
-pub mod MillerLaws
+pub mod laws

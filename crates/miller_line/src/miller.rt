@@ -1,7 +1,7 @@
 //! The three codes.
 ghost use Rattle.miller_line.specs.Miller.{miller};
 ghost use Rattle.miller_line.specs.SymbolContext.{context};
-ghost use Rattle.miller_line.specs.MillerLaws.{two, four, eight, miller_even, miller_has_lead, miller_tells_bits, miller_refuses_flips, miller_hides_lead};
+ghost use Rattle.miller_line.specs.laws.Miller.{two, four, eight, miller_even, miller_has_lead, miller_tells_bits, miller_refuses_flips, miller_hides_lead};
 
 use crate::subcarrier::{self, SymbolBefore};
 use line_code::LineCode;

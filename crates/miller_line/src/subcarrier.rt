@@ -1,8 +1,8 @@
 //! What the three codes share. The number `m` is M of the standard: a symbol has `2 * m` levels, two
 //! halves of `m` levels each, and the subcarrier inverts at each level.
-ghost use Rattle.std.specs.Prelude.{◌≡◌, ◌≢◌, ◌↔◌, ℕ, ◌*◌, ◌<◌, ◌≤◌, Bool, false, true, ◌++◌, Some, IfSome, IfNone, IsTrue, length, slice_get};
-ghost use Rattle.line_code.specs.Laws.{longest_lead};
-ghost use Rattle.miller_line.specs.Miller.{IsOneOfThree, carrier, symbol, start_phase, middle_phase, miller_preamble, miller_lead, miller_block, miller_next};
+ghost use Rattle.std.specs.Prelude.{◌≡◌, ◌≢◌, ◌↔◌, ◌*◌, ◌<◌, ◌≤◌, Bool, false, true, ◌++◌, Some, IfSome, IfNone, IsTrue, length};
+ghost use Rattle.line_code.specs.TableFacts.{longest_lead};
+ghost use Rattle.miller_line.specs.Miller.{IsOneOfThree, symbol, start_phase, middle_phase, miller_lead, miller_block, miller_next};
 ghost use Rattle.miller_line.specs.SymbolContext.{context};
 
 /// The symbol before a bit's block.

@@ -9,12 +9,12 @@ use Rattle.bit_strings.specs.BitString.{BitString}
 use Rattle.pie_line.specs.declared.frame.FrameKind.{FrameKind}
 use Rattle.pie_line.specs.declared.frame.PieRefusal.{PieRefusal}
 use Rattle.pie_line.specs.Pie.{IsFrame, Frames, longest_interval}
-use Rattle.pie_line.specs.FrameLaws.{refuses-no_frame}
+use Rattle.pie_line.specs.laws.Frames.{refuses-no_frame}
 use Rattle.pie_line.specs.Refusal.{IsFrameRefusedAt, RefusesFrame}
 use Rattle.pie_line.specs.Edges.{EdgesValue, EdgesStandFor, IsEdgesAnswer}
 use Rattle.pie_line.specs.declared.edges.Edge.TheVariants.{Refused}
 use Rattle.pie_line.specs.DataSymbols.{GoesOver}
-use Rattle.pie_line.proofs.IntervalsLeft.{behind_one, left_all}
+use Rattle.pie_line.specs.laws.IntervalsLeft.{behind_one, left_all}
 use Rattle.pie_line.proofs.Leads.{refused-more}
 use Rattle.pie_line.proofs.DecoderStandsFor.{stands-refused}
 
@@ -58,15 +58,6 @@ gone_over edges edges' out out' capacity intervals behind rest so_far over room 
   room = room ∙ so_far.room;
   each = each;
 }
-
--- there are as many places as intervals
-pub has_room : (edges : EdgesValue) (out : BitString) (capacity : ℕ) (intervals rest : List ℕ) → IsDecoding edges out capacity intervals rest
-    → length intervals ≤ capacity → (length out.items + length rest ≤ out.capacity) × (edges.count + length rest ≤ length intervals)
-has_room edges out capacity intervals rest so_far room =
-    let count = ap length so_far.cut in (
-      omega (arith, count, length-append so_far.taken rest, so_far.read, so_far.room, room),
-      omega (arith, count, length-append so_far.taken rest, so_far.counted),
-    )
 
 -- what is refused is no frame
 pub refused-no_frame : (result : Result FrameKind PieRefusal) (xs : List ℕ) → is_err result ≡ true → IfErr result (λ refusal. RefusesFrame refusal xs) → ¬ Frames xs

@@ -11,10 +11,10 @@ use Rattle.pie_line.specs.Pie.{HasSums, IsFrame, Frames}
 use Rattle.pie_line.specs.FrameState.{IsSoundState, Completes, rtcal_of}
 use Rattle.pie_line.specs.Edges.{LeadsToState}
 use Rattle.pie_line.specs.FrameAnswer.{HasOneAnswer}
-use Rattle.pie_line.specs.FrameLaws.{refusal-one}
+use Rattle.pie_line.specs.laws.Frames.{refusal-one}
 use Rattle.pie_line.proofs.Completions.{no_symbols, sync}
 use Rattle.pie_line.proofs.Decisions.{moves-or_stops}
-use Rattle.bit_strings.specs.FamilyLaws.{bad-more, bad-last, bad-one, member-not_bad, short-not_bad}
+use Rattle.bit_strings.specs.laws.Family.{bad-more, bad-last, bad-one, member-not_bad, short-not_bad}
 use Rattle.pie_line.proofs.Leads.{leads-moves, leads-begins, leads-stops, leads-ends}
 
 -- no header ends before its second pair

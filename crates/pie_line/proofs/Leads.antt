@@ -14,7 +14,7 @@ use Rattle.pie_line.specs.FrameState.{Completes, Moves, Stops}
 use Rattle.pie_line.specs.Refusal.{refusal_at, IsFrameRefusedAt, RefusesFrame}
 use Rattle.pie_line.specs.Edges.{LeadsToState, EdgesStandFor}
 use Rattle.pie_line.proofs.Completions.{completion}
-use Rattle.bit_strings.specs.FamilyLaws.{bad-last, bad-more, begins-take}
+use Rattle.bit_strings.specs.laws.Family.{bad-last, bad-more, begins-take}
 
 pub leads-moves : (place next : FrameState) (bit : Option Bool) (bits : List Bool) (xs : List ℕ) (x : ℕ) → LeadsToState place bits xs → Moves place x next bit →
     LeadsToState next (bits ++ option_to_list bit) (xs ++ x ∷ [])

@@ -5,8 +5,8 @@ pub mod DecoderStandsFor
 pub mod Decoding
 pub mod FrameAnswers
 pub mod GoneOver
-pub mod IntervalsLeft
 pub mod Leads
+pub mod OneAnswer
 pub mod Symbols
 pub mod TakenSymbols
 pub mod Writing

@@ -9,7 +9,7 @@ use Rattle.pie_line.specs.Edges.{LeadsToState}
 use Rattle.pie_line.specs.DataSymbols.{IsDataSymbol, TakesSymbols}
 use Rattle.pie_line.proofs.Leads.{leads-moves}
 use Rattle.pie_line.proofs.Symbols.{symbol-moves}
-use Rattle.pie_line.proofs.IntervalsLeft.{behind_two}
+use Rattle.pie_line.specs.laws.IntervalsLeft.{behind_two}
 
 -- the high of a data symbol
 high-moves : (kind : FrameKind) (high : ℕ) → IsHeader kind → 1 ≤ high → high < 4 * rtcal_of kind → Moves (High kind) high (Low kind high) None

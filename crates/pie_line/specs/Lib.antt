@@ -1,10 +1,10 @@
 pub mod DataSymbols
 pub mod Edges
 pub mod FrameAnswer
-pub mod FrameLaws
 pub mod IntervalList
 pub mod Link
 pub mod LinkRefusal
 pub mod Pie
 pub mod FrameState
 pub mod Refusal
+pub mod laws

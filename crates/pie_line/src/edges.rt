@@ -1,5 +1,5 @@
 //! A decoder that takes one interval at a time.
-ghost use Rattle.std.specs.Prelude.{◌≡◌, ◌+◌, ◌<◌, ◌≤◌, ℕ, Bool, List, [], ◌∷◌, ◌++◌, All, MatchResult, IfSome, IfNone, length};
+ghost use Rattle.std.specs.Prelude.{◌≡◌, ◌+◌, ◌<◌, ◌≤◌, ℕ, Bool, List, [], ◌∷◌, ◌++◌, All, MatchResult, Ok, Err, IfSome, IfNone, length};
 ghost use Rattle.pie_line.specs.Refusal.{refusal_at};
 ghost use Rattle.bit_strings.specs.BitString.{most_counted};
 ghost use Rattle.pie_line.specs.Pie.{longest_interval};
@@ -60,20 +60,12 @@ fn refusal_of(place: u32, interval: u32) -> PieRefusal
     }
 }
 
-impl Default for Edges {
-    ghost use Rattle.pie_line.specs.Edges.{EdgesStandFor};
-
-    fn default() -> Edges
-        ensures stands { EdgesStandFor result [] [] }
-        ensures count { result.count ≡ 0 }
-    {
-        Edges::new()
-    }
-}
-
 impl Edges {
     ghost use Rattle.pie_line.specs.Pie.{IsFrame};
-    ghost use Rattle.pie_line.specs.Refusal.{RefusesFrame};
+    ghost use Rattle.pie_line.specs.Refusal.{RefusesFrame, IsFrameRefusedAt};
+    ghost use Rattle.pie_line.specs.declared.frame.FrameKind.{FrameKind};
+    ghost use Rattle.pie_line.specs.declared.frame.PieRefusal.{PieRefusal};
+    ghost use Rattle.pie_line.specs.declared.edges.Edge.TheVariants.{Refused};
     ghost use Rattle.pie_line.specs.Edges.{EdgesValue, EdgesStandFor, IsEdgesAnswer};
     ghost use Rattle.pie_line.specs.DataSymbols.{IsBeforeSymbol, GoesOver};
 
@@ -95,6 +87,9 @@ impl Edges {
         // The decoder stands for a list of intervals and for the bits that were read from it.
         ensures answer { (bits : List Bool) (intervals : List ℕ) → EdgesStandFor self.old bits intervals →
             IsEdgesAnswer result self.new bits (intervals ++ interval ∷ []) }
+        // Where the intervals are refused, so they are here.
+        ensures only { (bits : List Bool) (intervals : List ℕ) (refusal : PieRefusal) (place : ℕ) → EdgesStandFor self.old bits intervals →
+            IsFrameRefusedAt refusal (intervals ++ interval ∷ []) place → result ≡ Refused refusal }
         ensures count { self.new.count ≤ self.old.count + 1 }
     {
         let place = match self.standing {
@@ -159,6 +154,11 @@ impl Edges {
     pub fn finish(self) -> Result<FrameKind, PieRefusal>
         ensures answer { (bits : List Bool) (intervals : List ℕ) → EdgesStandFor self bits intervals →
             MatchResult result (λ kind. IsFrame kind bits intervals) (λ refusal. RefusesFrame refusal intervals) }
+        // What the intervals are is answered.
+        ensures only { (bits read : List Bool) (intervals : List ℕ) (kind : FrameKind) → EdgesStandFor self bits intervals →
+            IsFrame kind read intervals → (result ≡ Ok kind) × (bits ≡ read) }
+        ensures first { (bits : List Bool) (intervals : List ℕ) (refusal : PieRefusal) → EdgesStandFor self bits intervals →
+            RefusesFrame refusal intervals → result ≡ Err refusal }
     {
         let Edges { standing, count } = self;
         let place = match standing {

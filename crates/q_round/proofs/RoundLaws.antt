@@ -1,7 +1,7 @@
 -- The laws of rounds, by what is known at each turn.
 use Rattle.std.proofs.Common.{◌≡◌, ℕ, ◌+◌, ◌^◌, ◌<◌, ◌≤◌, Bool, true, false, List, [], ◌∷◌, ◌++◌, length, refl, ap, sym, ◌∙◌, subst, add-one, arith}
 use Rattle.std.specs.List.{AllByRecursion}
-use Rattle.command_grammar.specs.declared.field_values.UpDn.TheVariants.{Up, Same, Down}
+use Rattle.command_fields.specs.declared.choices.UpDn.TheVariants.{Up, Same, Down}
 use Rattle.command_grammar.specs.declared.commands.Command.TheVariants.{QueryRep}
 use Rattle.pie_line.specs.Link.{LinkValue}
 use Rattle.q_round.specs.declared.frame.Frame.{Frame}

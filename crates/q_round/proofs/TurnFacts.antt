@@ -2,7 +2,7 @@
 use Rattle.std.proofs.Common.{◌≡◌, ◌≢◌, ℕ, ◌+◌, ◌-◌, ◌^◌, ◌<◌, ◌==◌, ◌&&◌, nat_lt, Bool, true, false, refl, if◌then◌else◌, arith}
 use Rattle.std.proofs.Math.Nat.{one-le-pow}
 use Rattle.std.proofs.lemmas.Bool.Decides.{nat_tests}
-use Rattle.command_grammar.specs.declared.field_values.UpDn.TheVariants.{Up, Same, Down}
+use Rattle.command_fields.specs.declared.choices.UpDn.TheVariants.{Up, Same, Down}
 use Rattle.q_round.specs.declared.frame.Frame.{Frame}
 use Rattle.q_round.specs.declared.frame.Outcome.{Outcome}
 use Rattle.q_round.specs.declared.frame.Outcome.TheVariants.{Silence, Whole, Refused}

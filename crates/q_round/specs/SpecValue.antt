@@ -1,7 +1,7 @@
 -- The parameters of a round: the fields of its Query (6.3.2.11.2.1) and the numbers of the rule for Q (Annex D, with ranges of this profile).
 use Rattle.std.specs.Prelude.{ℕ, ◌≤◌}
-use Rattle.command_grammar.specs.declared.field_values.Sel.{Sel}
-use Rattle.command_grammar.specs.declared.field_values.Side.{Side}
+use Rattle.command_fields.specs.declared.choices.Sel.{Sel}
+use Rattle.command_fields.specs.declared.choices.Side.{Side}
 
 -- what a contract sees of a round's parameters
 pub record SpecValue : Type 0 where

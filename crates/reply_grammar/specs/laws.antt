@@ -1,4 +1,7 @@
 -- Laws of the definitions of replies, which crates above use as well.
 pub mod Passing
+pub mod PassingReplies
+pub mod Reading
 pub mod Replies
+pub mod SomeReply
 pub mod Suiting

@@ -3,7 +3,7 @@ ghost use Rattle.std.specs.Prelude.{◌≡◌, ℕ, ◌+◌, ◌*◌, ◌≤◌,
 ghost use Rattle.bit_strings.specs.Numbers.{value_of, part_of};
 ghost use Rattle.bit_strings.specs.Words.{bits_of_words};
 ghost use Rattle.reply_grammar.specs.Table.{AnswersExpected, AreWords};
-ghost use Rattle.reply_grammar.specs.Refusals.{RefusesReply, FitsLength, PassesCheck, PassesHeader, PassesNumber, EndsWithCheck, HasHeader, HasHandle, Passes};
+ghost use Rattle.reply_grammar.specs.Refusals.{RefusesReply, FitsLength, PassesCheck, PassesHeader, PassesNumber, EndsWithCheck, HasHandle, Passes};
 ghost use Rattle.reply_grammar.specs.declared.expected.Expect.TheVariants.{Epc as OneEpc};
 ghost use Rattle.reply_grammar.specs.declared.expected.Reply.{Reply};
 ghost use Rattle.reply_grammar.specs.declared.expected.ReplyRefusal.{ReplyRefusal};

@@ -1,5 +1,5 @@
 //! Lists of words in fixed room, which take no memory.
-ghost use Rattle.std.specs.Prelude.{◌≡◌, ◌^◌, ◌<◌, ◌≤◌, ◌↔◌, [], ◌∷◌, ◌++◌, length, All, IsErr, IsNone, OnErr, OnOk, slice_get};
+ghost use Rattle.std.specs.Prelude.{◌≡◌, ◌^◌, ◌<◌, ◌≤◌, ◌↔◌, [], ◌∷◌, ◌++◌, length, All, IsErr, IsNone, OnErr, slice_get};
 
 use arrayvec::ArrayVec;
 use bit_strings::Full;
@@ -24,14 +24,6 @@ impl Model for EpcWords {
     ghost invariant = { λ a. (length a.words.items ≤ 31) × All (λ word. word < 2 ^ 16) a.words.items };
 
     ghost inverse = { λ words. record { words = record { items = words } } };
-}
-
-impl Default for EpcWords {
-    fn default() -> EpcWords
-        ensures { result ≡ [] }
-    {
-        EpcWords::new()
-    }
 }
 
 impl EpcWords {
@@ -116,14 +108,6 @@ impl Model for ReadWords {
     ghost invariant = { λ a. (length a.words.items ≤ 512) × All (λ word. word < 2 ^ 16) a.words.items };
 
     ghost inverse = { λ words. record { words = record { items = words } } };
-}
-
-impl Default for ReadWords {
-    fn default() -> ReadWords
-        ensures { result ≡ [] }
-    {
-        ReadWords::new()
-    }
 }
 
 impl ReadWords {

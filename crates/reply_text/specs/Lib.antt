@@ -1,4 +1,2 @@
 pub mod ReplyText
-pub mod ToldApart
-pub mod FieldTextLaws
-pub mod Cuts
+pub mod laws

@@ -1,2 +1,3 @@
 pub mod Received
-pub mod ReceivedLaws
+pub mod Receiving
+pub mod laws

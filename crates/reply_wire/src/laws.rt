@@ -11,20 +11,18 @@ ghost use Rattle.reply_grammar.specs.declared.expected.Reply.TheVariants.{Rn16, 
 ghost use Rattle.reply_grammar.specs.declared.expected.Received.{Received};
 ghost use Rattle.reply_grammar.specs.declared.expected.Received.TheVariants.{Whole, Refused};
 ghost use Rattle.reply_wire.specs.Received.{IsReceived};
+ghost use Rattle.reply_wire.specs.Receiving.{received_of};
 
-use line_code::one_answer;
-use reply_grammar::reply_laws;
-
-/// What is received is one: in each code and for each expectation, levels have exactly one answer.
+/// What is received is one: in each code and for each expectation, levels have exactly one answer, which is
+/// a function of them.
 pub fn one_received()
     ensures one { (code : Code) (trext : Bool) (expect : Expect) (levels : List Bool) (left right : Received)
         → IsReceived (table_of code) trext expect levels left → IsReceived (table_of code) trext expect levels right → left ≡ right }
     ensures some { (code : Code) (trext : Bool) (expect : Expect) (levels : List Bool)
         → (answer : Received) × IsReceived (table_of code) trext expect levels answer }
-{
-    one_answer();
-    reply_laws();
-}
+    ensures function { (code : Code) (trext : Bool) (expect : Expect) (levels : List Bool) (received : Received)
+        → IsReceived (table_of code) trext expect levels received → received_of code trext expect levels ≡ received }
+{}
 
 /// How the stream of a reply is received: whole, where the reply suits what is expected and carries the
 /// handle that is expected; refused behind its last level, where its bits are no reply that is
@@ -36,9 +34,7 @@ pub fn reply_received()
     ensures unexpected { (code : Code) (trext : Bool) (expect : Expect) (bits levels : List Bool)
         → IsStream (table_of code) trext bits levels → ((reply : Reply) → ¬ AnswersExpected reply expect bits)
         → IsReceived (table_of code) trext expect levels (Refused (length levels)) }
-{
-    reply_laws();
-}
+{}
 
 /// An RN16, an EPC and a handle are received whole where each is expected.
 pub fn kinds_received()

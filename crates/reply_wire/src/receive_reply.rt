@@ -1,6 +1,6 @@
 //! Levels to replies.
 ghost use Rattle.std.specs.Prelude.{◌≡◌, ℕ, ◌<◌, ◌≤◌, List, Bool, [], length};
-ghost use Rattle.line_code.specs.Laws.{with_level_flipped};
+ghost use Rattle.line_code.specs.TableFacts.{with_level_flipped};
 ghost use Rattle.line_code.specs.Stream.{IsStream};
 ghost use Rattle.line_codes.specs.Codes.{table_of};
 ghost use Rattle.reply_grammar.specs.Table.{AnswersExpected};

@@ -3,7 +3,7 @@ use Rattle.std.proofs.Common.{◌≡◌, ℕ, ◌≤◌, List, [], ◌++◌, tak
 use Rattle.std.proofs.lemmas.List.{append-nil, take-append-drop}
 use Rattle.std.specs.Result.{result_err, IsErrAnd}
 use Rattle.air_io.specs.Flow.{Adds, FaultsRose}
-use Rattle.air_io.specs.FlowLaws.{Adds-more}
+use Rattle.air_io.specs.laws.Flow.{Adds-more}
 use Rattle.report_lines.specs.TextReport.{IsAdded}
 use Rattle.report_lines.specs.declared.mode.PlayFault.{PlayFault}
 use Rattle.report_lines.specs.declared.mode.PlayFault.TheVariants.{Write, OutOfMemory}

@@ -2,7 +2,7 @@
 use Rattle.std.proofs.Common.{◌≡◌, ℕ, List, [], ◌∷◌, ◌++◌, Option, Some, refl, ap, ◌∙◌, arith, append_assoc}
 use Rattle.std.proofs.lemmas.List.{append-nil}
 use Rattle.std.proofs.lemmas.Grind.{flat_map-append}
-use Rattle.air_io.specs.FlowLaws.{Adds-nothing}
+use Rattle.air_io.specs.laws.Flow.{Adds-nothing}
 use Rattle.report_lines.specs.ReportLine.{ReportLine, text_by}
 use Rattle.report_lines.specs.TextReport.{HearsText, IsAdded}
 use Rattle.report_lines.specs.declared.mode.PlayFault.{PlayFault}

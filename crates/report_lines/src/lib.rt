@@ -26,5 +26,5 @@ pub use naming::named;
 pub use results::push_op_line;
 pub use seen::SeenCounts;
 pub use spelling::{Spelling, push_line};
-pub use tags::push_tag_line;
+pub use tags::{push_next_flags, push_next_state, push_tag_line};
 pub use text_report::TextReport;

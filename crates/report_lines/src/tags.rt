@@ -35,8 +35,16 @@ fn state_text(state: StateName) -> &'static str
     }
 }
 
-/// Writes the inventoried flags of S0 to S3 and the selected flag as the next field.
-fn next_flags(text: &mut String, flags: &Flags) -> Result<(), OutOfMemory>
+/// Writes the name of a state as the next field. After an error the text may hold a part of it.
+pub fn push_next_state(text: &mut String, state: StateName) -> Result<(), OutOfMemory>
+    ensures { OnOk result (string_bytes text.new ≡ string_bytes text.old ++ space ∷ state_word state) }
+{
+    push_next_name(text, state_text(state))
+}
+
+/// Writes the inventoried flags of S0 to S3 and the selected flag as the next field. After an error the text may hold a part of
+/// them.
+pub fn push_next_flags(text: &mut String, flags: &Flags) -> Result<(), OutOfMemory>
     ensures { OnOk result (string_bytes text.new ≡ string_bytes text.old ++ space ∷ flags_word flags.now) }
 {
     text.push(' ')?;
@@ -79,8 +87,8 @@ fn push_standing(
 {
     text.push_str("tag")?;
     push_next_number(text, number)?;
-    push_next_name(text, state_text(state))?;
-    next_flags(text, flags)?;
+    push_next_state(text, state)?;
+    push_next_flags(text, flags)?;
     next_locks(text, locks)
 }
 

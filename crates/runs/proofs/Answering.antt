@@ -8,12 +8,13 @@ use Rattle.access_ops.specs.laws.OperationLaws.{Expects}
 use Rattle.access_ops.specs.Operations.{words_expected}
 use Rattle.air_model.specs.Exchange.{AreLegalTags, outcomes_in, replies_in, Replied, tag_after_own_event, tag_after_events, is_missed, outcome_unless, outcomes_from, reply_of, replies_from}
 use Rattle.air_model.specs.Channel.{given_in}
+use Rattle.air_model.specs.Past.{Start}
 use Rattle.air_model.specs.Reception.{has_handle, is_expected, HoldsOfSent, IsReplyFor, IsGivenFor, IsUnmistakable}
 use Rattle.air_events.specs.declared.Entry.{Entry}
 use Rattle.air_events.specs.declared.Event.{Event}
-use Rattle.air_events.specs.declared.Several.{Several}
-use Rattle.air_model.specs.ReceptionLaws.{expected_answers, given_of_sent}
-use Rattle.runs.specs.HistoryLaws.{expectation_of}
+use Rattle.air_model.specs.laws.ReceptionLaws.{expected_answers}
+use Rattle.air_model.specs.laws.GivenLaws.{given_of_sent}
+use Rattle.runs.specs.NextItem.{expectation_of}
 use Rattle.command_grammar.specs.declared.commands.Command.{Command}
 use Rattle.command_grammar.specs.declared.commands.Command.TheVariants as commands
 use Rattle.reply_grammar.specs.laws.Passing.{answers_pass}
@@ -41,6 +42,12 @@ SendsInRange = (command : Command) (state : StateValue) (body : BodyValue) (sent
 
 abbrev pub StaysLegal : Type 0
 StaysLegal = (event : Event) (state : StateValue) (body : BodyValue) → IsLegalTag (record { state = state; body = body }) → IsLegalTag (tag_after_event event state body)
+
+-- what is used of the laws of tag_machine
+pub record TagLaws : Type 0 where
+  pub rows : AnswersByRow
+  pub range : SendsInRange
+  pub stays : StaysLegal
 
 rn16-expected : (sent : Sent) (rn : ℕ) → IsSent (Some sent) → sent.reply ≡ Rn16 rn → sent.extended ≡ false → IsReplyFor expects.Rn16 sent
 rn16-expected sent rn legal reply plain = record {
@@ -126,17 +133,19 @@ replies-answered P number (outcome ∷ outcomes) are =
     both-parts P (reply_of number outcome.answer) (replies_from (number + 1) outcomes) (reply-answered P number outcome.answer are.0) (replies-answered P (number + 1) outcomes are.1)
 
 -- what holds of whatever legal tags answer to a command holds of what the channel gives
-pub given-of-answers : (P : Sent → Type 0) (several : Several) (command : Command) (entry : Entry) (tags : List TagValue) → AnswersSo P command → StaysLegal → AreLegalTags tags
-    → HoldsOfSent P (given_in several command entry tags)
-given-of-answers P several command entry tags answers stays legal =
-    given_of_sent P (replies_in command entry tags) entry.choice several (replies-answered P 0 (outcomes_in command entry tags) (outcomes-answered P 0 command entry tags answers stays legal))
+pub given-of-answers : (P : Sent → Type 0) (start : Start) (command : Command) (entry : Entry) (tags : List TagValue) → AnswersSo P command → StaysLegal → AreLegalTags tags
+    → HoldsOfSent P (given_in start.link start.several command entry tags)
+given-of-answers P start command entry tags answers stays legal =
+    given_of_sent P start.link (replies_in command entry tags) entry.choice start.several
+    (replies-answered P 0 (outcomes_in command entry tags) (outcomes-answered P 0 command entry tags answers stays legal))
 
 -- what the channel gives of the answers of legal tags is expected
-pub given-in-expected : (several : Several) (command : Command) (expect : Expect) (entry : Entry) (tags : List TagValue) → expectation_of command ≡ Some expect → AnswersByRow → SendsInRange → StaysLegal
-    → AreLegalTags tags → IsGivenFor expect (given_in several command entry tags)
-given-in-expected several command expect entry tags asked rows range stays legal =
-    given-of-answers (IsReplyFor expect) several command entry tags
-    (λ tag lawful sent is. row-expected command expect tag.state tag.body sent asked (range command tag.state tag.body sent lawful is) (rows command tag.state tag.body sent lawful is)) stays legal
+pub given-in-expected : TagLaws → (start : Start) (command : Command) (expect : Expect) (entry : Entry) (tags : List TagValue) → expectation_of command ≡ Some expect
+    → AreLegalTags tags → IsGivenFor expect (given_in start.link start.several command entry tags)
+given-in-expected laws start command expect entry tags asked legal =
+    given-of-answers (IsReplyFor expect) start command entry tags
+    (λ tag lawful sent is.
+    row-expected command expect tag.state tag.body sent asked (laws.range command tag.state tag.body sent lawful is) (laws.rows command tag.state tag.body sent lawful is)) laws.stays legal
 
 -- what suits, with the handle that is named, is expected
 suiting-expected : (expect : Expect) (sent : Sent) → Suits sent.reply expect → has_handle sent.reply sent.handle (handle_of expect) ≡ true → is_expected expect sent ≡ true
@@ -235,8 +244,10 @@ row-unmistakable (commands.Kill covered rn) expect extended state body sent aske
 row-unmistakable command expect extended state body sent asked legal is = absurd asked
 
 -- what the channel gives of the answers of legal tags to a command of a dialogue is unmistakable
-pub given-unmistakable : (several : Several) (command : Command) (expect : Expect) (extended : Bool) (entry : Entry) (tags : List TagValue) → Expects command expect extended → AnswersByRow → SendsInRange
-    → StaysLegal → AreLegalTags tags → HoldsOfSent (IsUnmistakable expect) (given_in several command entry tags)
-given-unmistakable several command expect extended entry tags asked rows range stays legal =
-    given-of-answers (IsUnmistakable expect) several command entry tags
-    (λ tag lawful sent is. row-unmistakable command expect extended tag.state tag.body sent asked (range command tag.state tag.body sent lawful is) (rows command tag.state tag.body sent lawful is)) stays legal
+pub given-unmistakable : TagLaws → (start : Start) (command : Command) (expect : Expect) (extended : Bool) (entry : Entry) (tags : List TagValue) → Expects command expect extended
+    → AreLegalTags tags → HoldsOfSent (IsUnmistakable expect) (given_in start.link start.several command entry tags)
+given-unmistakable laws start command expect extended entry tags asked legal =
+    given-of-answers (IsUnmistakable expect) start command entry tags
+    (λ tag lawful sent is.
+    row-unmistakable command expect extended tag.state tag.body sent asked (laws.range command tag.state tag.body sent lawful is) (laws.rows command tag.state tag.body sent lawful is))
+    laws.stays legal

@@ -12,7 +12,8 @@ use Rattle.runs.specs.Listed.{is_of_round, is_of_slot, tags_listed_in, tags_list
 use Rattle.runs.specs.Moments.{Ending, ending_of, past_after_query, tag_after_query, is_matched_in, flags_after_query}
 use Rattle.runs.specs.TagAtEnd.{StandsAtQuiet, StandsAtEnd, IsListedOnce}
 use Rattle.runs.specs.TagInRound.{is_matched, flags_in_round, StandsBeforeSlot}
-use Rattle.runs.proofs.Others.{AllRecords, records-at, records-behind, records-all, AreOfOthers, of-others, listed-others, query-others, ending-others, records-others, Adds, RoundsKeepLimit, step-adds, steps-add}
+use Rattle.runs.proofs.Others.{AllRecords, records-at, records-behind, records-all, AreOfOthers, of-others, listed-others, query-others, ending-others, records-others, Adds, step-adds, steps-add}
+use Rattle.runs.specs.laws.Growth.{RoundsKeepLimit}
 use Rattle.runs.proofs.TagsInRound.{StepsFlagsOf, ListsOwnEpc, StandsNext, known-once}
 use Rattle.runs.proofs.TagEnds.{listed-once, quiet-stands, end-stands}
 use Rattle.runs.proofs.Times.{bit}
@@ -350,7 +351,7 @@ history-told keeps facts start before after spec operations legal honest apart =
     (subst (λ (items : List Item). IsTold start spec round past items) (sym here)
     (told-behind start spec round past rest.own behind none_behind
     (subst (AllRecords (IsFairIn start round)) here (subst (λ n. AllRecords (IsFairIn start n) history) same_round fair))
-    (round-stands start operations spec past (keeps spec legal_after.0.legal) (facts spec start.link legal_after.0.legal) honest.no_operations none_before)))
+    (round-stands keeps start operations spec past legal_after.0.legal (facts spec start.link legal_after.0.legal) honest.no_operations none_before)))
 
 pub complete-inventory : RoundsKeepLimit → RoundsHaveFacts → (start : Start) (taken before after : List Step) (spec : SpecValue) (operations : OpList)
     → AreLegalSteps taken → taken ≡ before ++ steps.Round spec operations ∷ after → IsHonest (history_of start taken) (rounds_of before + 1) operations

@@ -7,14 +7,14 @@ use Rattle.std.specs.Cmp.Lexicographic.{pointwise, same_text}
 use Rattle.std.specs.List.{AllByRecursion}
 use Rattle.std.specs.Prelude.{nat_eq}
 use Rattle.access_ops.specs.declared.OpList.{OpList}
-use Rattle.air_model.specs.Channel.{Given, silence, whole, broken}
+use Rattle.air_model.specs.Channel.{Given, silence, whole, broken, raw, IsOfReplies}
 use Rattle.air_model.specs.Exchange.{Replied}
 use Rattle.air_model.specs.Past.{Start, Record, Item, befell, exchanged, operated, ended, tag_behind, next_entry}
 use Rattle.air_model.specs.Reception.{is_expected, reception_of}
 use Rattle.air_events.specs.Entries.{no_entry, entry_at}
 use Rattle.air_events.specs.declared.Entry.{Entry}
 use Rattle.air_events.specs.declared.Several.TheVariants as severals
-use Rattle.runs.specs.Headline.{IsLegalRound}
+use Rattle.runs.specs.Headline.{IsLegalRound, Acknowledges, HasNoRawStream}
 use Rattle.runs.specs.History.{past_behind_round, history_of}
 use Rattle.runs.specs.Listing.{Listed, reception_of_ack, listed_from, listed_by, listing_of}
 use Rattle.command_grammar.specs.declared.commands.Command.{Command}
@@ -27,14 +27,16 @@ use Rattle.runs.specs.Listed.{listed_as, sender_where, sender_listed_by, is_of_r
 use Rattle.runs.specs.Moments.{Ending, ending_of, tag_after_query}
 use Rattle.runs.specs.TagInRound.{is_matched, flags_behind_query}
 use Rattle.runs.proofs.CompleteRound.{IsTold, IsToldBy, RoundsHaveFacts, history-told, told-counted}
-use Rattle.runs.proofs.Others.{AllRecords, records-at, records-all, RoundsKeepLimit}
+use Rattle.runs.proofs.MadeRecords.{made-record, none-given}
+use Rattle.runs.proofs.Others.{AllRecords, records-at, records-all}
+use Rattle.runs.specs.laws.Growth.{RoundsKeepLimit}
 use Rattle.runs.proofs.Population.{tag_stepped, tag-steps}
 use Rattle.runs.proofs.TagQuery.{query-matched, query-memory}
 use Rattle.runs.proofs.Times.{times-append, times-one, times-first, bit, bit-if, lists-one}
-use Rattle.runs.proofs.Turns.{HasFewOutcomes, round-holds}
+use Rattle.runs.proofs.Turns.{round-holds}
 use Rattle.runs.proofs.WholeRound.{query_command}
 use Rattle.pie_line.specs.Link.{LinkValue}
-use Rattle.q_round.specs.SpecValue.{SpecValue}
+use Rattle.q_round.specs.SpecValue.{SpecValue, IsLegalSpec}
 use Rattle.q_round.specs.declared.round.RoundEnd.{RoundEnd}
 use Rattle.q_round.specs.declared.round.RoundEnd.TheVariants as ends
 use Rattle.reply_grammar.specs.Reception.{whole_reply, no_such_reply}
@@ -52,9 +54,9 @@ abbrev AreOfRound : ℕ → List Item → Type 0
 AreOfRound round past = AllRecords (λ sent earlier. sent.round ≡ round) past
 
 -- in a run of one round they are
-one-round : (start : Start) (operations : OpList) (spec : SpecValue) → HasFewOutcomes spec → AreOfRound 1 (past_behind_round start operations spec [])
-one-round start operations spec few =
-    round-holds (λ outcomes now. AreOfRound 1 now) (λ outcomes sent now. AreOfRound 1 (exchanged sent ∷ now)) (AreOfRound 1) start operations spec [] few
+one-round : RoundsKeepLimit → (start : Start) (operations : OpList) (spec : SpecValue) → IsLegalSpec spec → AreOfRound 1 (past_behind_round start operations spec [])
+one-round keeps start operations spec legal =
+    round-holds (λ outcomes now. AreOfRound 1 now) (λ outcomes sent now. AreOfRound 1 (exchanged sent ∷ now)) (AreOfRound 1) start operations spec [] keeps legal
     (record {
       slot = λ outcomes now command are is holds. (refl, holds);
       no_answer = λ outcomes now command reception heard none holds. holds;
@@ -83,7 +85,7 @@ if_listed-is : (listed : List Listed) (replied : Replied) → if_listed listed r
 if_listed-is [] replied = refl
 if_listed-is (one ∷ more) replied = refl
 
--- a record lists nobody, or one tag
+-- a record lists nobody, or one tag, where no raw stream answers its ACK
 pub data Lists (listed : List Listed) (senders : List ℕ) : Type 0 where
   nobody : listed ≡ [] → senders ≡ [] → Lists listed senders
   somebody : (one : Listed) (number : ℕ) → listed ≡ one ∷ [] → senders ≡ number ∷ [] → Lists listed senders
@@ -101,36 +103,41 @@ lists-expected : (sent : Record) (expected : Bool) (reply : Reply) (number : ℕ
 lists-expected sent true reply number = lists-reply sent reply number
 lists-expected sent false reply number = nobody refl refl
 
-lists-given : (sent : Record) (given : Given) → let listed = listed_from sent (reception_of expects.Epc given) in Lists listed (sender_where listed given)
-lists-given sent silence = nobody refl refl
-lists-given sent (whole replied) =
+lists-given : (sent : Record) (given : Given) → IsOfReplies given → let listed = listed_from sent (reception_of expects.Epc given) in Lists listed (sender_where listed given)
+lists-given sent silence of = nobody refl refl
+lists-given sent (whole replied) of =
     let listed = listed_from sent (reception_of expects.Epc (whole replied)) in
     subst (λ (senders : List ℕ). Lists listed senders) (if_listed-is listed replied) (lists-expected sent (is_expected expects.Epc replied.sent) replied.sent.reply replied.number)
-lists-given sent (broken replied place) = nobody refl refl
+lists-given sent (broken replied place) of = nobody refl refl
+lists-given sent (raw code trext levels) of = absurd of
 
-lists-by : (sent : Record) (command : Command) → let listed = listed_from sent (reception_of_ack sent command) in Lists listed (sender_where listed sent.given)
-lists-by sent (commands.Ack rn) = lists-given sent sent.given
-lists-by sent command = nobody refl refl
+lists-by : (sent : Record) (command : Command) → ((rn : ℕ) → command ≡ commands.Ack rn → IsOfReplies sent.given) → let listed = listed_from sent (reception_of_ack sent command) in Lists listed (sender_where listed sent.given)
+lists-by sent (commands.Ack rn) of = lists-given sent sent.given (of rn refl)
+lists-by sent command of = nobody refl refl
 
-pub lists : (sent : Record) → Lists (listed_by sent) (sender_listed_by sent)
-lists sent = lists-by sent sent.command
+pub lists : (sent : Record) → ((rn : ℕ) → Acknowledges sent rn → IsOfReplies sent.given) → Lists (listed_by sent) (sender_listed_by sent)
+lists sent of = lists-by sent sent.command of
 
 as-many : (listed : List Listed) (senders : List ℕ) → Lists listed senders → length senders ≡ length listed
 as-many listed senders (nobody none no_sender) = ap length no_sender ∙ sym (ap length none)
 as-many listed senders (somebody one number listed_one sender) = ap length sender ∙ sym (ap length listed_one)
 
+-- no record of a past was given a raw stream
+abbrev AreOfReplies : List Item → Type 0
+AreOfReplies past = AllRecords (λ sent earlier. IsOfReplies sent.given) past
+
 -- as many tags are listed as there are list lines
-listed-as-many : (past : List Item) → length (tags_listed_where (λ sent. true) past) ≡ length (listing_of past)
-listed-as-many [] = refl
-listed-as-many (befell event number ∷ past) = listed-as-many past
-listed-as-many (exchanged sent ∷ past) =
-    let before = listed-as-many past in
-    let here = as-many (listed_by sent) (sender_listed_by sent) (lists sent) in
+listed-as-many : (past : List Item) → AreOfReplies past → length (tags_listed_where (λ sent. true) past) ≡ length (listing_of past)
+listed-as-many [] of = refl
+listed-as-many (befell event number ∷ past) of = listed-as-many past of
+listed-as-many (exchanged sent ∷ past) of =
+    let before = listed-as-many past of.1 in
+    let here = as-many (listed_by sent) (sender_listed_by sent) (lists sent (λ rn ack. of.0)) in
     length-append (tags_listed_where (λ sent. true) past) (sender_listed_by sent)
     ∙ omega (arith, before, here)
     ∙ sym (length-append (listing_of past) (listed_by sent))
-listed-as-many (operated at slot index result ∷ past) = listed-as-many past
-listed-as-many (ended number end slots ∷ past) = listed-as-many past
+listed-as-many (operated at slot index result ∷ past) of = listed-as-many past of
+listed-as-many (ended number end slots ∷ past) of = listed-as-many past of
 
 -- the PC and the EPC of the tag of a number
 abbrev key_of : Option TagValue → ℕ × List ℕ
@@ -160,16 +167,16 @@ keys-of start listed senders (nobody none no_sender) each = ap (map pair_of) non
 keys-of start listed senders (somebody one number listed_one sender) each = each number sender ∙ ap (map (key start)) (sym sender)
 
 -- so that the pairs that are listed are those of the tags that are
-pairs-are-keys : (start : Start) (past : List Item) → AllRecords (ListsKey start) past → pairs_listed past ≡ map (key start) (tags_listed_where (λ sent. true) past)
-pairs-are-keys start [] all = refl
-pairs-are-keys start (befell event number ∷ past) all = pairs-are-keys start past all
-pairs-are-keys start (exchanged sent ∷ past) all =
+pairs-are-keys : (start : Start) (past : List Item) → AreOfReplies past → AllRecords (ListsKey start) past → pairs_listed past ≡ map (key start) (tags_listed_where (λ sent. true) past)
+pairs-are-keys start [] of all = refl
+pairs-are-keys start (befell event number ∷ past) of all = pairs-are-keys start past of all
+pairs-are-keys start (exchanged sent ∷ past) of all =
     map-append pair_of (listing_of past) (listed_by sent)
-    ∙ ap (λ pairs. pairs ++ map pair_of (listed_by sent)) (pairs-are-keys start past all.1)
-    ∙ ap (λ pairs. map (key start) (tags_listed_where (λ sent. true) past) ++ pairs) (keys-of start (listed_by sent) (sender_listed_by sent) (lists sent) all.0)
+    ∙ ap (λ pairs. pairs ++ map pair_of (listed_by sent)) (pairs-are-keys start past of.1 all.1)
+    ∙ ap (λ pairs. map (key start) (tags_listed_where (λ sent. true) past) ++ pairs) (keys-of start (listed_by sent) (sender_listed_by sent) (lists sent (λ rn ack. of.0)) all.0)
     ∙ sym (map-append (key start) (tags_listed_where (λ sent. true) past) (sender_listed_by sent))
-pairs-are-keys start (operated at slot index result ∷ past) all = pairs-are-keys start past all
-pairs-are-keys start (ended number end slots ∷ past) all = pairs-are-keys start past all
+pairs-are-keys start (operated at slot index result ∷ past) of all = pairs-are-keys start past of all
+pairs-are-keys start (ended number end slots ∷ past) of all = pairs-are-keys start past of all
 
 -- the numbers of a list stand in it once
 abbrev StandOnce : List ℕ → Type 0
@@ -328,12 +335,16 @@ every-tag keeps facts start spec operations slots past legal part own silent hon
     λ number tag numbered.
     sym (by.spoken number tag numbered)
     ∙ first-matched spec link number tag (tag_after_query 1 history number tag) (after number tag) (part.ready number tag numbered) (part.matching number tag numbered) in
-    let round : AreOfRound 1 history = one-round start operations spec (keeps spec legal.legal) in
+    let round : AreOfRound 1 history = one-round keeps start operations spec legal.legal in
     let numbers = tags_listed_where (λ sent. true) history in
     let in_round : numbers ≡ tags_listed_in 1 history = all-in-round 1 history round in
     let count : length numbers ≡ length start.tags =
     ap length in_round ∙ counted.as_many ends_quiet
     ∙ all-spoken-to spec 1 history 0 start.tags (λ place tag at. subst (λ n. is_spoken_to spec (tag_after_query 1 history n tag) ≡ true) (omega arith) (spoken place tag at)) in
+    let of : AreOfReplies history =
+    records-all (λ sent earlier. IsOfReplies sent.given) history
+    (λ sent earlier recorded.
+    none-given start sent earlier (subst HasNoRawStream (sym silent) tt) (made-record start (steps.Round spec operations ∷ []) sent earlier recorded)) in
     let there : (number : ℕ) → 1 ≤ times number (tags_listed_in 1 history) → IsThere start number =
     λ number some. let found = counted.numbered number some in record { tag = found.tag; numbered = found.numbered } in
     let keys : AllRecords (ListsKey start) history =
@@ -350,6 +361,6 @@ every-tag keeps facts start spec operations slots past legal part own silent hon
     all-of (IsThere start) numbers (λ number some. there number (subst (λ (tags : List ℕ). 1 ≤ times number tags) in_round some)) in
     let once : StandOnce numbers = stand-once numbers (λ number. subst (λ (tags : List ℕ). times number tags ≤ 1) (sym in_round) (counted.each_once number)) in
     record {
-      listed = sym (listed-as-many history) ∙ count;
-      distinct_pairs = distinct-length start history numbers (pairs-are-keys start history keys) (distinct-keys start numbers own all_there once) ∙ count;
+      listed = sym (listed-as-many history of) ∙ count;
+      distinct_pairs = distinct-length start history numbers (pairs-are-keys start history of keys) (distinct-keys start numbers own all_there once) ∙ count;
     }

@@ -6,7 +6,7 @@ use Rattle.runs.specs.Headline.{AreLegalSteps, rounds_of, KeepsLimit, Headline}
 use Rattle.runs.specs.History.{history_of}
 use Rattle.runs.specs.Report.{report_of}
 use Rattle.report_lines.specs.declared.mode.Mode.{Mode}
-use Rattle.runs.proofs.Growth.{RoundsKeepLimit}
+use Rattle.runs.specs.laws.Growth.{RoundsKeepLimit}
 use Rattle.runs.proofs.HeadlineListed.{listed-once}
 use Rattle.runs.proofs.HeadlineSent.{sent-by-a-tag}
 use Rattle.runs.proofs.HeadlineSlots.{round-keeps}
@@ -25,7 +25,7 @@ round-of-steps keeps mode start taken before after spec operations legal is =
 pub headline-holds : RoundsKeepLimit → (mode : Mode) (start : Start) (taken : List Step) → AreLegalSteps taken
     → Headline start taken (history_of start taken) (report_of mode start taken)
 headline-holds keeps mode start taken legal = record {
-  sent_by_a_tag = λ round slot pc epc contains. sent-by-a-tag keeps mode start taken round slot pc epc legal contains;
+  sent_by_a_tag = λ none round slot pc epc contains. sent-by-a-tag keeps mode start taken round slot pc epc legal none contains;
   listed_once = λ sent earlier rn pc epc replied recorded acknowledges given.
       listed-once keeps mode start taken sent earlier rn pc epc replied legal recorded acknowledges given;
   tags_as_heard = report-tags mode start (history_of start taken);

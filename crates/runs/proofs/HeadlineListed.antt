@@ -14,7 +14,7 @@ use Rattle.runs.specs.Listing.{Listed, reception_of_ack, listed_from, listed_by}
 use Rattle.runs.specs.Report.{list_line, past_lines, last_lines}
 use Rattle.report_lines.specs.declared.mode.Mode.{Mode}
 use Rattle.report_lines.specs.declared.mode.Mode.TheVariants.{Plain, Trace}
-use Rattle.runs.proofs.Growth.{RoundsKeepLimit, answer-holds, ack-keeps, round-holds, steps-hold}
+use Rattle.runs.specs.laws.Growth.{RoundsKeepLimit, answer-holds, ack-keeps, round-holds, steps-hold}
 use Rattle.runs.proofs.HeadlineLines.{list-lines-pass, sent-passes, befell-passes, operated-passes, report-passes, and-false}
 use Rattle.runs.proofs.HeadlineSlots.{next-begins, slot-rounds}
 use Rattle.command_grammar.specs.declared.commands.Command.{Command}

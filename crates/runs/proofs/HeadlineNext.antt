@@ -8,9 +8,9 @@ use Rattle.air_model.specs.Past.{Start, Record, Item, exchanged, operated, ended
 use Rattle.reply_grammar.specs.Reception.{Reception}
 use Rattle.runs.specs.Headline.{IsSelect, IsLegalStep, AreLegalSteps, begins_slot, begins_slot_of, slot_records}
 use Rattle.runs.specs.History.{outcome_of, operation_reception, past_behind_dialogue, dialogue_begun, ack_reception, past_behind_ack, past_behind_answer, slot_reception, past_behind_round, past_behind_step, past_behind, history_of}
-use Rattle.runs.specs.HistoryLaws.{finished_in, reception_of_slot, outcomes_of_round, rn_of, rn_received, item_by_rule, dialogue_behind_record, dialogue_behind_result, dialogue_behind_exchange, dialogue_left, results_behind_exchange, results_told, item_of_slots, item_in_round, item_of_step, next_item, GrowsByNext}
+use Rattle.runs.specs.NextItem.{finished_in, reception_of_slot, outcomes_of_round, rn_of, rn_received, item_by_rule, dialogue_behind_record, dialogue_behind_result, dialogue_behind_exchange, dialogue_left, results_behind_exchange, results_told, item_of_slots, item_in_round, item_of_step, next_item, GrowsByNext}
 use Rattle.report_lines.specs.declared.mode.Mode.TheVariants.{Plain}
-use Rattle.runs.proofs.Growth.{RoundsKeepLimit, dialogue-holds, begun-awaits, answer-cases, next_at_end, round-holds}
+use Rattle.runs.specs.laws.Growth.{RoundsKeepLimit, dialogue-holds, begun-awaits, answer-cases, next_at_end, round-holds}
 use Rattle.runs.proofs.HeadlineLines.{and-true}
 use Rattle.runs.proofs.HeadlineSlots.{Fresh, step-fresh, first-fresh, next-begins, expects-begins-none}
 use Rattle.command_grammar.specs.declared.commands.Command.{Command}

@@ -12,7 +12,7 @@ use Rattle.runs.specs.Report.{past_lines, last_lines, report_of}
 use Rattle.report_lines.specs.declared.mode.Mode.{Mode}
 use Rattle.report_lines.specs.declared.mode.Mode.TheVariants.{Plain, Trace}
 use Rattle.runs.proofs.HeadlineLines.{round-lines-pass, sent-adds-none, befell-passes, operated-passes, report-passes, and-false, and-true}
-use Rattle.runs.proofs.Growth.{RoundsKeepLimit, answer-keeps, round-holds, few-outcomes}
+use Rattle.runs.specs.laws.Growth.{RoundsKeepLimit, answer-keeps, round-holds, few-outcomes}
 use Rattle.command_grammar.specs.declared.commands.Command.{Command}
 use Rattle.command_grammar.specs.declared.commands.Command.TheVariants as commands
 use Rattle.pie_line.specs.Link.{LinkValue}

@@ -18,7 +18,9 @@ use Rattle.runs.specs.Complete.{HasNumber}
 use Rattle.runs.specs.Honest.{AreApart}
 use Rattle.runs.specs.Listed.{sender_where, sender_listed_by, listed_as}
 use Rattle.runs.specs.TagInRound.{slot_answer_of, is_acknowledged_by}
-use Rattle.runs.proofs.Population.{answer_behind, Among, reply_by, replies_behind, contains-of, answer-replied, IsAnswerer, replied-answerer}
+use Rattle.runs.proofs.Among.{Among, contains-of}
+use Rattle.runs.proofs.HeadlineSent.{whole-reply}
+use Rattle.runs.proofs.Population.{answer_behind, reply_by, replies_behind, answer-replied, IsAnswerer, replied-answerer}
 use Rattle.q_round.specs.declared.frame.Outcome.TheVariants as outcomes
 use Rattle.reply_grammar.specs.declared.expected.Expect.TheVariants as expects
 use Rattle.reply_grammar.specs.declared.expected.Reply.{Reply}
@@ -31,11 +33,11 @@ use Rattle.tag_machine.specs.TagValue.{TagValue, StateValue, BodyValue, ReadySta
 pub slot-heard : (start : Start) (round slot : ℕ) (command : Command) (past : List Item) (reception : Reception) → next_entry start past ≡ no_entry
     → slot_reception start round slot command past ≡ reception → reception_of expects.Rn16 (default_given start.several (replies_behind 0 command start.tags past)) ≡ reception
 slot-heard start round slot command past reception unsaid is =
-    sym (ap (λ (entry : Entry). reception_of expects.Rn16 (given_in start.several command entry (tags_behind start past))) unsaid) ∙ is
+    sym (ap (λ (entry : Entry). reception_of expects.Rn16 (given_in start.link start.several command entry (tags_behind start past))) unsaid) ∙ is
 
 pub given-by-default : (start : Start) (round slot : ℕ) (command : Command) (past : List Item) → next_entry start past ≡ no_entry
     → (next_record start round slot command past).given ≡ default_given start.several (replies_behind 0 command start.tags past)
-given-by-default start round slot command past unsaid = ap (λ (entry : Entry). given_in start.several command entry (tags_behind start past)) unsaid
+given-by-default start round slot command past unsaid = ap (λ (entry : Entry). given_in start.link start.several command entry (tags_behind start past)) unsaid
 
 one-not-silent : (expected : Bool) (reply : Reply) → outcome_of (if expected then whole_reply reply else no_such_reply) ≡ outcomes.Silence → ⊥
 one-not-silent true reply is = absurd (cc)
@@ -55,10 +57,6 @@ pub record IsOneReply (all : List Replied) (rn : ℕ) : Type 0 where
   pub reply : replied.sent.reply ≡ replies.Rn16 rn
   pub only : (other : Replied) → Among other all → other.sent.reply ≡ replies.Rn16 rn → other.number ≡ replied.number
 
-whole-one : (expected : Bool) (reply : Reply) (rn : ℕ) → (if expected then whole_reply reply else no_such_reply) ≡ whole_reply (replies.Rn16 rn) → reply ≡ replies.Rn16 rn
-whole-one true reply rn is = cc
-whole-one false reply rn is = absurd (cc)
-
 alone-same : (one other : Replied) → Among other (one ∷ []) → other.number ≡ one.number
 alone-same one other (inl is) = ap (λ (r : Replied). r.number) (sym is)
 alone-same one other (inr none) = absurd none
@@ -70,13 +68,13 @@ heard-one several [] rn apart is = absurd (cc)
 heard-one several (one ∷ []) rn apart is = record {
   replied = one;
   among = inl refl;
-  reply = whole-one (is_expected expects.Rn16 one.sent) one.sent.reply rn is;
+  reply = whole-reply (is_expected expects.Rn16 one.sent) one.sent.reply (replies.Rn16 rn) is;
   only = λ other among same. alone-same one other among;
 }
 heard-one severals.Break (one ∷ other ∷ others) rn apart is = absurd (cc)
 heard-one severals.Capture (one ∷ other ∷ others) rn apart is =
     let all = one ∷ other ∷ others in
-    let reply : one.sent.reply ≡ replies.Rn16 rn = whole-one (is_expected expects.Rn16 one.sent) one.sent.reply rn is in
+    let reply : one.sent.reply ≡ replies.Rn16 rn = whole-reply (is_expected expects.Rn16 one.sent) one.sent.reply (replies.Rn16 rn) is in
     record {
       replied = one;
       among = inl refl;

@@ -1,5 +1,5 @@
 -- The tags behind each past of a history are legal, since each command that is sent has its numbers in their fields.
-use Rattle.std.proofs.Common.{◌≡◌, ℕ, suc, ◌+◌, Bool, true, false, ◌&&◌, List, [], ◌∷◌, ◌++◌, length, Some, if◌then◌else◌, refl, ap, sym, ◌∙◌, subst}
+use Rattle.std.proofs.Common.{◌≡◌, ℕ, suc, ◌+◌, Bool, true, false, ◌&&◌, ◌||◌, List, [], ◌∷◌, ◌++◌, length, Some, if◌then◌else◌, refl, ap, sym, ◌∙◌, subst}
 use Rattle.std.proofs.lemmas.List.Elements.{recursion_from_All}
 use Rattle.std.specs.List.{AllByRecursion}
 use Rattle.access_ops.specs.laws.OperationLaws.{IsLegalOp}
@@ -11,35 +11,41 @@ use Rattle.access_ops.specs.declared.op_next.OpNext.{OpNext}
 use Rattle.access_ops.specs.declared.op_next.OpNext.TheVariants.{Send, Result}
 use Rattle.access_ops.specs.declared.op_next.OpResult.{OpResult}
 use Rattle.air_model.specs.Exchange.{AreLegalTags, outcome_unless, outcomes_from, tags_after, tags_after_event, tag_after_events, is_missed}
-use Rattle.air_model.specs.Channel.{given_in, Given, silence, whole, broken}
+use Rattle.air_model.specs.Channel.{given_in, Given, silence, whole, broken, raw}
 use Rattle.air_model.specs.Past.{Start, Item, befell, operated, ended, next_record, next_entry, past_behind_command, rounds_in, tags_behind, tags_behind_from}
 use Rattle.air_model.specs.Reception.{has_handle, has_preamble, is_expected, reception_of, reception_with, IsGiven}
 use Rattle.air_events.specs.declared.Entry.{Entry}
 use Rattle.air_events.specs.declared.Event.{Event}
-use Rattle.air_events.specs.declared.Several.{Several}
+use Rattle.air_model.specs.laws.ReceptionLaws.{from_whole}
+use Rattle.bit_strings.specs.declared.code.Code.{Code}
 use Rattle.runs.proofs.Answering.{SendsInRange, StaysLegal, events-legal, given-of-answers}
-use Rattle.runs.proofs.Growth.{dialogue-holds, listing-holds, answer-holds, always-holds, steps-hold}
+use Rattle.runs.specs.laws.Growth.{dialogue-holds, listing-holds, answer-holds, always-holds, steps-hold}
 use Rattle.runs.proofs.LegalStart.{start-legal, selection-legal}
-use Rattle.runs.proofs.Tags.{tags-exchanged, tags-befell, tags-operated, tags-ended}
+use Rattle.runs.specs.laws.Tags.{tags-exchanged, tags-befell, tags-operated, tags-ended}
 use Rattle.runs.specs.History.{operation_reception, past_behind_dialogue, ack_reception, past_behind_ack, slot_reception, past_behind_slot, past_behind_round, past_behind_step}
 use Rattle.runs.specs.ScenarioStart.{start_of, history}
 use Rattle.command_grammar.specs.Commands.{IsWord, IsLegalCommand}
 use Rattle.command_grammar.specs.declared.commands.Command.{Command}
 use Rattle.command_grammar.specs.declared.commands.Command.TheVariants as commands
+use Rattle.line_codes.specs.Codes.{table_of}
 use Rattle.pie_line.specs.Link.{LinkValue}
 use Rattle.q_round.specs.laws.RoundLaws.{IsLegalNext}
 use Rattle.q_round.specs.Rounds.{next_command}
 use Rattle.q_round.specs.SpecValue.{SpecValue, IsLegalSpec}
 use Rattle.q_round.specs.declared.frame.Outcome.{Outcome}
 use Rattle.q_round.specs.declared.round.RoundEnd.{RoundEnd}
-use Rattle.reply_grammar.specs.Reception.{Reception, no_stream, whole_reply, no_such_reply}
+use Rattle.reply_grammar.specs.Reception.{Reception, no_stream, whole_reply, no_such_reply, reception_from}
 use Rattle.reply_grammar.specs.laws.Suiting.{suits-true}
 use Rattle.reply_grammar.specs.Table.{Suits, suits, handle_of, IsReply}
 use Rattle.reply_grammar.specs.declared.expected.Expect.{Expect}
 use Rattle.reply_grammar.specs.declared.expected.Expect.TheVariants as expects
+use Rattle.reply_grammar.specs.declared.expected.Received.{Received}
 use Rattle.reply_grammar.specs.declared.expected.Received.TheVariants.{Whole, Refused}
 use Rattle.reply_grammar.specs.declared.expected.Reply.{Reply}
 use Rattle.reply_grammar.specs.declared.expected.Reply.TheVariants as replies
+use Rattle.reply_wire.specs.Received.{IsReceived}
+use Rattle.reply_wire.specs.Receiving.{received_of}
+use Rattle.reply_wire.specs.laws.ReceivedLaws.{received_there}
 use Rattle.scenario.specs.Limits.{IsStep, IsScenario}
 use Rattle.scenario.specs.declared.values.Scenario.{Scenario}
 use Rattle.scenario.specs.declared.values.Step.{Step}
@@ -123,9 +129,9 @@ legal-ended : (start : Start) (round : ℕ) (end : RoundEnd) (slots : ℕ) (past
 legal-ended start round end slots past are = (subst AreLegalTags (sym (tags-ended start round end slots past)) (now-legal start past are), are)
 
 -- what the channel gives of the answers of legal tags is in its ranges
-given-legal : Laws → (several : Several) (command : Command) (entry : Entry) (tags : List TagValue) → AreLegalTags tags → IsGiven (given_in several command entry tags)
-given-legal laws several command entry tags legal =
-    given-of-answers (λ sent. IsSent (Some sent)) several command entry tags (λ tag lawful sent is. laws.range command tag.state tag.body sent lawful is) laws.befallen legal
+given-legal : Laws → (start : Start) (command : Command) (entry : Entry) (tags : List TagValue) → AreLegalTags tags → IsGiven (given_in start.link start.several command entry tags)
+given-legal laws start command entry tags legal =
+    given-of-answers (λ sent. IsSent (Some sent)) start command entry tags (λ tag lawful sent is. laws.range command tag.state tag.body sent lawful is) laws.befallen legal
 
 first-true : (one other : Bool) → (one && other) ≡ true → one ≡ true
 first-true true other both = refl
@@ -140,10 +146,20 @@ whole-suits true expect sent reply is range heard =
     (subst (λ (r : Reply). Suits r expect) same suit, subst IsReply same range.0)
 whole-suits false expect sent reply is range heard = absurd (cc)
 
+-- ... also where the levels are a raw stream
+received-suits : (code : Code) (trext : Bool) (expect : Expect) (levels : List Bool) (reply : Reply) → reception_from (received_of code trext expect levels) ≡ whole_reply reply
+    → Suits reply expect × IsReply reply
+received-suits code trext expect levels reply heard =
+    let whole_is = from_whole (received_of code trext expect levels) reply heard in
+    let is : IsReceived (table_of code) trext expect levels (Whole reply) =
+    subst (λ (r : Received). IsReceived (table_of code) trext expect levels r) whole_is (received_there code trext expect levels) in
+    (is.answers.suits, is.answers.in_range)
+
 reception-suits : (expect : Expect) (given : Given) (reply : Reply) → IsGiven given → reception_of expect given ≡ whole_reply reply → Suits reply expect × IsReply reply
 reception-suits expect silence reply range heard = absurd (cc)
 reception-suits expect (whole replied) reply range heard = whole-suits (is_expected expect replied.sent) expect replied.sent reply refl range heard
 reception-suits expect (broken replied place) reply range heard = absurd (cc)
+reception-suits expect (raw code trext levels) reply range heard = received-suits code trext expect levels reply heard
 
 whole-awaited : (awaited : Bool) (reception : Reception) (reply : Reply) → (if awaited then reception else no_such_reply) ≡ whole_reply reply → reception ≡ whole_reply reply
 whole-awaited true reception reply heard = heard
@@ -155,6 +171,7 @@ awaited-suits trext extended expect silence reply range heard = absurd (cc)
 awaited-suits trext extended expect (whole replied) reply range heard =
     reception-suits expect (whole replied) reply range (whole-awaited (has_preamble trext extended replied.sent) (reception_of expect (whole replied)) reply heard)
 awaited-suits trext extended expect (broken replied place) reply range heard = absurd (cc)
+awaited-suits trext extended expect (raw code own levels) reply range heard = received-suits code (extended || own) expect levels reply heard
 
 -- what is made of an answer is this
 record IsAnswered (expect : Expect) (reception : Reception) : Type 0 where
@@ -182,7 +199,7 @@ dialogue-legal laws start list epc rn round slot past ops word legal =
       command = λ index command expect extended go_on now here.
           let next : next_operation list epc rn here.moves ≡ Send command expect extended = ap first_of here.left_is in
           let given : Given = (next_record start round slot command now).given in
-          let range : IsGiven given = given-legal laws start.several command (next_entry start now) (tags_behind start now) (now-legal start now here.legal) in
+          let range : IsGiven given = given-legal laws start command (next_entry start now) (tags_behind start now) (now-legal start now here.legal) in
           let came : IsAnswered expect (operation_reception start round slot command expect extended now) =
           answer-for expect (operation_reception start round slot command expect extended now)
           (λ reply heard. awaited-suits start.link.trext extended expect given reply range heard) in
@@ -218,7 +235,7 @@ slot-legal laws start operations round slot command past ops lawful legal =
     let sent = past_behind_command start round slot command past in
     let behind : AreLegalBehind start sent = legal-sent laws start round slot command past lawful legal in
     let given : Given = (next_record start round slot command past).given in
-    let range : IsGiven given = given-legal laws start.several command (next_entry start past) (tags_behind start past) (now-legal start past legal) in
+    let range : IsGiven given = given-legal laws start command (next_entry start past) (tags_behind start past) (now-legal start past legal) in
     answer-holds (AreLegalBehind start) start operations round slot (slot_reception start round slot command past) sent behind
     (λ rn heard. ack-legal laws start operations round slot rn sent ops (reception-suits expects.Rn16 given (replies.Rn16 rn) range heard).1 behind)
 

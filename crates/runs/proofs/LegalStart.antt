@@ -4,7 +4,7 @@ use Rattle.std.proofs.lemmas.List.Elements.{All-cons, All-from_recursion, recurs
 use Rattle.std.specs.List.{AllByRecursion}
 use Rattle.air_model.specs.Exchange.{AreLegalTags}
 use Rattle.runs.specs.ScenarioStart.{start_of, tag_of}
-use Rattle.bit_strings.specs.NumberLaws.{value_of-below}
+use Rattle.bit_strings.specs.laws.Numbers.{value_of-below}
 use Rattle.bit_strings.specs.Words.{bits_of_words}
 use Rattle.command_grammar.specs.Commands.{IsWord, IsLegalCommand}
 use Rattle.command_grammar.specs.declared.commands.Command.{Command}

@@ -1,8 +1,7 @@
+pub mod Among
 pub mod Answering
-pub mod Growth
 pub mod HeadlineAll
-pub mod HeadlineCounts
-pub mod HeadlineLegal
+pub mod HeadlineHeard
 pub mod HeadlineLines
 pub mod HeadlineListed
 pub mod HeadlineNext
@@ -10,11 +9,12 @@ pub mod HeadlineOperations
 pub mod HeadlineSent
 pub mod HeadlineSlots
 pub mod HeadlineTags
+pub mod HeadlineTold
 pub mod HeardRecords
 pub mod LegalPasts
 pub mod LegalStart
+pub mod MadeRecords
 pub mod OnePast
-pub mod Tags
 pub mod Times
 pub mod Turns
 pub mod EveryTag

@@ -1,15 +1,17 @@
 -- The list lines of a round and the tags that are listed in it come of the same records, one by one.
-use Rattle.std.proofs.Common.{◌≡◌, ℕ, ◌==◌, Bool, true, false, List, [], ◌∷◌, ◌++◌, filter, if◌then◌else◌, refl, ap, sym, ◌∙◌, subst, append-nil}
+use Rattle.std.proofs.Common.{◌≡◌, ℕ, ◌==◌, Bool, true, false, List, [], ◌∷◌, ◌++◌, filter, if◌then◌else◌, refl, ap, sym, ◌∙◌, subst, eq-eqb}
 use Rattle.std.proofs.lemmas.Bool.{eqb-true}
+use Rattle.std.proofs.lemmas.List.Elements.{filter-append}
 use Rattle.std.specs.List.{AllZip}
 use Rattle.air_model.specs.Past.{Record, Item, befell, exchanged, operated, ended}
-use Rattle.runs.specs.Headline.{IsRecordOf}
+use Rattle.air_model.specs.Channel.{IsOfReplies}
+use Rattle.runs.specs.Headline.{IsRecordOf, Acknowledges}
 use Rattle.runs.specs.Listing.{Listed, reception_of_ack, listed_from, listed_by, listing_of}
 use Rattle.reply_grammar.specs.Reception.{Reception, no_stream, whole_reply, no_such_reply}
 use Rattle.reply_grammar.specs.declared.expected.Reply.{Reply}
 use Rattle.reply_grammar.specs.declared.expected.Reply.TheVariants as replies
-use Rattle.runs.specs.ListLines.{entries_in, IsEntryOf}
-use Rattle.runs.specs.Listed.{sender_listed_by, is_of_round, tags_listed_where, tags_listed_in}
+use Rattle.runs.specs.ListLines.{entries_in, IsOfRepliesIn, IsEntryOf}
+use Rattle.runs.specs.Listed.{sender_listed_by, is_of_round, tags_listed_in}
 use Rattle.runs.proofs.EveryTag.{Lists, nobody, somebody, lists}
 
 zip-append : {A B : Type 0} (R : A → B → Type 0) (xs : List A) (ys : List B) (us : List A) (vs : List B) → AllZip R xs ys → AllZip R us vs → AllZip R (xs ++ us) (ys ++ vs)
@@ -23,15 +25,6 @@ zip-map R S [] [] more all = tt
 zip-map R S [] (y ∷ ys) more all = absurd all
 zip-map R S (x ∷ xs) [] more all = absurd all
 zip-map R S (x ∷ xs) (y ∷ ys) more all = (more x y all.0, zip-map R S xs ys more all.1)
-
-filter-one : {A : Type 0} (test : A → Bool) (x : A) (passes : Bool) (xs ys : List A) → filter test (xs ++ ys) ≡ filter test xs ++ filter test ys
-    → (if passes then x ∷ filter test (xs ++ ys) else filter test (xs ++ ys)) ≡ (if passes then x ∷ filter test xs else filter test xs) ++ filter test ys
-filter-one test x true xs ys same = ap (λ tail. x ∷ tail) same
-filter-one test x false xs ys same = same
-
-filter-append : {A : Type 0} (test : A → Bool) (xs ys : List A) → filter test (xs ++ ys) ≡ filter test xs ++ filter test ys
-filter-append test [] ys = refl
-filter-append test (x ∷ xs) ys = filter-one test x (test x) xs ys (filter-append test xs ys)
 
 -- a record of a history that grew is one of it still
 later-record : (item : Item) (history : List Item) (sent : Record) (earlier : List Item) → IsRecordOf history sent earlier → IsRecordOf (item ∷ history) sent earlier
@@ -51,6 +44,9 @@ later-entries : (item : Item) (history : List Item) (round : ℕ) → AllZip (Is
     → AllZip (IsEntryOf (item ∷ history) round) (entries_in round history) (tags_listed_in round history)
 later-entries item history round all =
     zip-map (IsEntryOf history round) (IsEntryOf (item ∷ history) round) (entries_in round history) (tags_listed_in round history) (later-entry item history round) all
+
+later-replies : (item : Item) (history : List Item) (round : ℕ) → IsOfRepliesIn round (item ∷ history) → IsOfRepliesIn round history
+later-replies item history round of = λ sent earlier rn recorded same ack. of sent earlier rn (later-record item history sent earlier recorded) same ack
 
 -- what a record lists is told with its round
 reply-round : (sent : Record) (reply : Reply) (one : Listed) → listed_from sent (whole_reply reply) ≡ one ∷ [] → one.round ≡ sent.round
@@ -73,43 +69,57 @@ entry-round sent one is = reception-round sent (reception_of_ack sent sent.comma
 abbrev of_round : ℕ → List Listed → List Listed
 of_round round listing = filter (λ listed. listed.round == round) listing
 
-if-none : (passes : Bool) (senders : List ℕ) → senders ≡ [] → (if passes then senders else []) ≡ []
-if-none true senders none = none
-if-none false senders none = refl
+none-elsewhere : (sent : Record) (reception : Reception) (round : ℕ) → is_of_round round sent ≡ false → of_round round (listed_from sent reception) ≡ []
+none-elsewhere sent no_stream round other = refl
+none-elsewhere sent no_such_reply round other = refl
+none-elsewhere sent (whole_reply (replies.Epc pc epc)) round other = rw other refl
+none-elsewhere sent (whole_reply (replies.Rn16 rn)) round other = refl
+none-elsewhere sent (whole_reply (replies.Handle rn)) round other = refl
+none-elsewhere sent (whole_reply (replies.Words words)) round other = refl
+none-elsewhere sent (whole_reply replies.Header) round other = refl
+none-elsewhere sent (whole_reply (replies.Error code)) round other = refl
 
--- one entry and its sender both count where the record is of the round
-zip-one : (history : List Item) (round : ℕ) (here passes : Bool) (one : Listed) (number : ℕ) → here ≡ passes → (passes ≡ true → IsEntryOf history round one number)
-    → AllZip (IsEntryOf history round) (if here then one ∷ [] else []) (if passes then number ∷ [] else [])
-zip-one history round true true one number same entry = (entry refl, tt)
-zip-one history round false false one number same entry = tt
-zip-one history round true false one number same entry = absurd (cc)
-zip-one history round false true one number same entry = absurd (cc)
+-- one entry and its sender count where the record is of the round
+zip-one : (history : List Item) (round : ℕ) (here : Bool) (one : Listed) (number : ℕ) → here ≡ true → IsEntryOf history round one number
+    → AllZip (IsEntryOf history round) (if here then one ∷ [] else []) (number ∷ [])
+zip-one history round true one number same entry = (entry, tt)
+zip-one history round false one number same entry = absurd (cc)
 
-entries-here : (sent : Record) (past : List Item) (round : ℕ) → Lists (listed_by sent) (sender_listed_by sent)
-    → AllZip (IsEntryOf (exchanged sent ∷ past) round) (of_round round (listed_by sent)) (if is_of_round round sent then sender_listed_by sent else [])
-entries-here sent past round (nobody none no_sender) =
-    subst (λ (entries : List Listed). AllZip (IsEntryOf (exchanged sent ∷ past) round) entries (if is_of_round round sent then sender_listed_by sent else []))
-    (sym (ap (of_round round) none))
-    (subst (λ (senders : List ℕ). AllZip (IsEntryOf (exchanged sent ∷ past) round) [] senders) (sym (if-none (is_of_round round sent) (sender_listed_by sent) no_sender)) tt)
-entries-here sent past round (somebody one number listed_one sender) =
+entries-of-round : (sent : Record) (past : List Item) (round : ℕ) → sent.round ≡ round → Lists (listed_by sent) (sender_listed_by sent)
+    → AllZip (IsEntryOf (exchanged sent ∷ past) round) (of_round round (listed_by sent)) (sender_listed_by sent)
+entries-of-round sent past round same (nobody none no_sender) =
     let history = exchanged sent ∷ past in
-    let same : (one.round == round) ≡ is_of_round round sent = ap (λ (r : ℕ). r == round) (entry-round sent one listed_one) in
-    let entry : is_of_round round sent ≡ true → IsEntryOf history round one number =
-    (λ passes. record { sent = sent; earlier = past; recorded = record { later = []; is = refl }; round_is = eqb-true sent.round round passes; entry = listed_one; sender = sender }) in
-    subst (λ (entries : List Listed). AllZip (IsEntryOf history round) entries (if is_of_round round sent then sender_listed_by sent else []))
-    (sym (ap (of_round round) listed_one))
-    (subst (λ (senders : List ℕ). AllZip (IsEntryOf history round) (of_round round (one ∷ [])) (if is_of_round round sent then senders else [])) (sym sender)
-    (zip-one history round (one.round == round) (is_of_round round sent) one number same entry))
+    subst (λ (entries : List Listed). AllZip (IsEntryOf history round) entries (sender_listed_by sent)) (sym (ap (of_round round) none))
+    (subst (λ (senders : List ℕ). AllZip (IsEntryOf history round) [] senders) (sym no_sender) tt)
+entries-of-round sent past round same (somebody one number listed_one sender) =
+    let history = exchanged sent ∷ past in
+    let here : (one.round == round) ≡ true = eq-eqb one.round round (entry-round sent one listed_one ∙ same) in
+    let entry : IsEntryOf history round one number =
+    record { sent = sent; earlier = past; recorded = record { later = []; is = refl }; round_is = same; entry = listed_one; sender = sender } in
+    subst (λ (entries : List Listed). AllZip (IsEntryOf history round) entries (sender_listed_by sent)) (sym (ap (of_round round) listed_one))
+    (subst (λ (senders : List ℕ). AllZip (IsEntryOf history round) (of_round round (one ∷ [])) senders) (sym sender)
+    (zip-one history round (one.round == round) one number here entry))
 
-pub entries-listed : (round : ℕ) (history : List Item) → AllZip (IsEntryOf history round) (entries_in round history) (tags_listed_in round history)
-entries-listed round [] = tt
-entries-listed round (befell event number ∷ past) = later-entries (befell event number) past round (entries-listed round past)
-entries-listed round (exchanged sent ∷ past) =
+entries-here : (sent : Record) (past : List Item) (round : ℕ) (here : Bool) → is_of_round round sent ≡ here
+    → (here ≡ true → (rn : ℕ) → Acknowledges sent rn → IsOfReplies sent.given)
+    → AllZip (IsEntryOf (exchanged sent ∷ past) round) (of_round round (listed_by sent)) (if here then sender_listed_by sent else [])
+entries-here sent past round true is of = entries-of-round sent past round (eqb-true sent.round round is) (lists sent (of refl))
+entries-here sent past round false is of =
+    subst (λ (entries : List Listed). AllZip (IsEntryOf (exchanged sent ∷ past) round) entries []) (sym (none-elsewhere sent (reception_of_ack sent sent.command) round is)) tt
+
+pub entries-listed : (round : ℕ) (history : List Item) → IsOfRepliesIn round history → AllZip (IsEntryOf history round) (entries_in round history) (tags_listed_in round history)
+entries-listed round [] of = tt
+entries-listed round (befell event number ∷ past) of =
+    later-entries (befell event number) past round (entries-listed round past (later-replies (befell event number) past round of))
+entries-listed round (exchanged sent ∷ past) of =
     let history = exchanged sent ∷ past in
     subst (λ (entries : List Listed). AllZip (IsEntryOf history round) entries (tags_listed_in round history))
     (sym (filter-append (λ (listed : Listed). listed.round == round) (listing_of past) (listed_by sent)))
     (zip-append (IsEntryOf history round) (entries_in round past) (tags_listed_in round past) (of_round round (listed_by sent)) (if is_of_round round sent then sender_listed_by sent else [])
-    (later-entries (exchanged sent) past round (entries-listed round past))
-    (entries-here sent past round (lists sent)))
-entries-listed round (operated at slot index result ∷ past) = later-entries (operated at slot index result) past round (entries-listed round past)
-entries-listed round (ended number end slots ∷ past) = later-entries (ended number end slots) past round (entries-listed round past)
+    (later-entries (exchanged sent) past round (entries-listed round past (later-replies (exchanged sent) past round of)))
+    (entries-here sent past round (is_of_round round sent) refl
+    (λ here rn ack. of sent past rn (record { later = []; is = refl }) (eqb-true sent.round round here) ack)))
+entries-listed round (operated at slot index result ∷ past) of =
+    later-entries (operated at slot index result) past round (entries-listed round past (later-replies (operated at slot index result) past round of))
+entries-listed round (ended number end slots ∷ past) of =
+    later-entries (ended number end slots) past round (entries-listed round past (later-replies (ended number end slots) past round of))

@@ -8,7 +8,8 @@ use Rattle.command_grammar.specs.declared.commands.Command.{Command}
 use Rattle.command_grammar.specs.declared.commands.Command.TheVariants as commands
 use Rattle.runs.specs.Listed.{sender_listed_by, tags_listed_where}
 use Rattle.runs.specs.Moments.{is_query, is_query_of, past_after_query, ending_of}
-use Rattle.runs.proofs.Turns.{HasFewOutcomes, round-holds}
+use Rattle.runs.proofs.Turns.{round-holds}
+use Rattle.runs.specs.laws.Growth.{RoundsKeepLimit}
 use Rattle.q_round.specs.SpecValue.{SpecValue, IsLegalSpec}
 use Rattle.scenario.specs.declared.values.Step.{Step}
 use Rattle.scenario.specs.declared.values.Step.TheVariants as steps
@@ -117,10 +118,10 @@ adds-command start past now slot command within = record {
   of = (inr (omega arith, omega arith), within.of);
 }
 
-round-adds : (start : Start) (operations : OpList) (spec : SpecValue) (past : List Item) → HasFewOutcomes spec → Adds past (past_behind_round start operations spec past) 1
-round-adds start operations spec past few =
+round-adds : RoundsKeepLimit → (start : Start) (operations : OpList) (spec : SpecValue) (past : List Item) → IsLegalSpec spec → Adds past (past_behind_round start operations spec past) 1
+round-adds keeps start operations spec past legal =
     let round : ℕ = rounds_in past + 1 in
-    round-holds (λ outcomes now. AddsWithin past now) (λ outcomes sent now. AddsWithin past (exchanged sent ∷ now)) (λ now. Adds past now 1) start operations spec past few
+    round-holds (λ outcomes now. AddsWithin past now) (λ outcomes sent now. AddsWithin past (exchanged sent ∷ now)) (λ now. Adds past now 1) start operations spec past keeps legal
     (record {
       slot = λ outcomes now command are is within. adds-command start past now (length outcomes + 1) command within;
       no_answer = λ outcomes now command reception heard none within. within;
@@ -142,10 +143,6 @@ round-adds start operations spec past few =
     })
     (record { own = []; is = refl; rounds_are = refl; of = tt })
 
--- a law of rounds, for each round of the steps
-abbrev pub RoundsKeepLimit : Type 0
-RoundsKeepLimit = (spec : SpecValue) → IsLegalSpec spec → HasFewOutcomes spec
-
 pub step-adds : RoundsKeepLimit → (start : Start) (step : Step) (past : List Item) → IsLegalStep step → Adds past (past_behind_step start step past) (rounds_of (step ∷ []))
 step-adds keeps start (steps.Select command) past legal = record {
   own = exchanged (next_record start 0 0 command past) ∷ [];
@@ -165,7 +162,7 @@ step-adds keeps start (steps.Event event number) past legal = record {
   rounds_are = omega arith;
   of = tt;
 }
-step-adds keeps start (steps.Round spec operations) past legal = round-adds start operations spec past (keeps spec legal.legal)
+step-adds keeps start (steps.Round spec operations) past legal = round-adds keeps start operations spec past legal.legal
 
 rounds_of-more : (step : Step) (later : List Step) → rounds_of (step ∷ later) ≡ rounds_of (step ∷ []) + rounds_of later
 rounds_of-more (steps.Select command) later = omega arith

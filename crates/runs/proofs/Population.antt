@@ -1,11 +1,12 @@
 -- Who answers a command among the tags of a start, where nothing is said of the exchange: from each tag's own answer to the replies
 -- of the exchange, and back.
-use Rattle.std.proofs.Common.{◌≡◌, ◌≢◌, ℕ, zero, suc, ◌+◌, ◌⊎◌, inl, inr, List, [], ◌∷◌, ◌++◌, Contains, Option, Some, None, slice_get, refl, ap, sym, ◌∙◌, subst, arith}
+use Rattle.std.proofs.Common.{◌≡◌, ◌≢◌, ℕ, zero, suc, ◌+◌, inl, inr, List, [], ◌∷◌, ◌++◌, Option, Some, None, slice_get, refl, ap, sym, ◌∙◌, subst, arith}
 use Rattle.air_model.specs.Exchange.{Replied, reply_of, replies_from, outcome_in, outcomes_from}
 use Rattle.air_model.specs.Past.{Start, Item, tag_behind, tags_behind_from, past_behind_command, next_entry}
 use Rattle.air_events.specs.Entries.{no_entry}
 use Rattle.air_events.specs.declared.Entry.{Entry}
 use Rattle.command_grammar.specs.declared.commands.Command.{Command}
+use Rattle.runs.proofs.Among.{Among, among-left, among-right, among-split}
 use Rattle.tag_machine.specs.Answers.{Sent}
 use Rattle.tag_machine.specs.Step.{step}
 use Rattle.tag_machine.specs.TagValue.{TagValue}
@@ -24,35 +25,6 @@ pub tag-steps : (start : Start) (round slot : ℕ) (command : Command) (past : L
     → tag_behind number tag (past_behind_command start round slot command past) ≡ tag_stepped command past number tag
 tag-steps start round slot command past number tag unsaid =
     ap (λ (entry : Entry). (outcome_in number command entry (tag_behind number tag past)).tag) unsaid
-
--- an item is one of a list
-abbrev pub Among : {A : Type 0} → A → List A → Type 0
-Among item [] = ⊥
-Among item (first ∷ others) = (first ≡ item) ⊎ Among item others
-
-pub contains-of : {A : Type 0} (item : A) (list : List A) → Among item list → Contains list item
-contains-of item [] among = absurd among
-contains-of item (first ∷ others) (inl here) = (zero, omega arith, here)
-contains-of item (first ∷ others) (inr there) =
-    let rest = contains-of item others there in (suc rest.0, omega (arith, rest.1), rest.2)
-
-among-left : {A : Type 0} (item : A) (left right : List A) → Among item left → Among item (left ++ right)
-among-left item [] right among = absurd among
-among-left item (first ∷ left) right (inl is) = inl is
-among-left item (first ∷ left) right (inr among) = inr (among-left item left right among)
-
-among-right : {A : Type 0} (item : A) (left right : List A) → Among item right → Among item (left ++ right)
-among-right item [] right among = among
-among-right item (first ∷ left) right among = inr (among-right item left right among)
-
-among-split : {A : Type 0} (item : A) (left right : List A) → Among item (left ++ right) → Among item left ⊎ Among item right
-among-split item [] right among = inr among
-among-split item (first ∷ left) right (inl is) = inl (inl is)
-among-split item (first ∷ left) right (inr among) =
-    elim (among-split item left right among) [
-      | inl found ↦ inl (inr found)
-      | inr found ↦ inr found
-    ]
 
 -- the replies of the tags that are numbered from a number on, where nothing is said of the exchange
 abbrev pub replies_behind : ℕ → Command → List TagValue → List Item → List Replied

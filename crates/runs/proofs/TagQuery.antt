@@ -1,8 +1,8 @@
 -- What the Query that begins a round makes of a tag, whatever the tag was before.
 use Rattle.std.proofs.Common.{◌≡◌, ◌≢◌, ℕ, ◌==◌, ◌&&◌, Bool, true, false, [], if◌then◌else◌, refl, ap, ◌∙◌, inl, eq-eqb}
 use Rattle.bit_strings.specs.declared.code.Code.{Code}
-use Rattle.command_grammar.specs.declared.field_values.Sel.{Sel}
-use Rattle.command_grammar.specs.declared.field_values.Side.{Side}
+use Rattle.command_fields.specs.declared.choices.Sel.{Sel}
+use Rattle.command_fields.specs.declared.choices.Side.{Side}
 use Rattle.command_grammar.specs.declared.commands.Command.TheVariants as commands
 use Rattle.session_flags.specs.declared.flags.Flags.{Flags}
 use Rattle.session_flags.specs.Flags.{matches, flags_after_inversion}
@@ -23,36 +23,33 @@ record Begins (session q : ℕ) (there takes_part : Bool) (flags : Flags) (befor
   present : is_present outcome.tag.state ≡ there
   flags_are : outcome.tag.body.flags ≡ flags
   memory : outcome.tag.body.memory ≡ before.memory
-  locks : outcome.tag.body.locks ≡ before.locks
 
 -- a slot is drawn
-drawn : (session q : ℕ) (body after : BodyValue) (test : Bool) → (test ≡ false → slot_of_draw q body ≢ 0) → after.flags ≡ body.flags → after.memory ≡ body.memory → after.locks ≡ body.locks
+drawn : (session q : ℕ) (body after : BodyValue) (test : Bool) → (test ≡ false → slot_of_draw q body ≢ 0) → after.flags ≡ body.flags → after.memory ≡ body.memory
     → Begins session q true true body.flags body (if test then begin_reply session q after else silent (ArbitrateState session q (slot_of_draw q body)) after)
-drawn session q body after true some flags memory locks = record {
+drawn session q body after true some flags memory = record {
   state = record { session_is = refl; q_is = refl; takes_part = refl; not_listed = refl };
   answer = refl;
   matched = refl;
   present = refl;
   flags_are = flags;
   memory = memory;
-  locks = locks;
 }
-drawn session q body after false some flags memory locks = record {
+drawn session q body after false some flags memory = record {
   state = record { unlisted = record { session_is = refl; q_is = refl; takes_part = refl; not_listed = refl }; counter = inl (slot_drawn q body (some refl)) };
   answer = refl;
   matched = refl;
   present = refl;
   flags_are = flags;
   memory = memory;
-  locks = locks;
 }
 
 entered : (session q : ℕ) (body : BodyValue) → Begins session q true true body.flags body (enter session q body)
-entered session q body = drawn session q body (body_after_draw body) (slot_of_draw q body == 0) (λ is e. let is_zero = eq-eqb (slot_of_draw q body) 0 e in cc) refl refl refl
+entered session q body = drawn session q body (body_after_draw body) (slot_of_draw q body == 0) (λ is e. let is_zero = eq-eqb (slot_of_draw q body) 0 e in cc) refl refl
 
 took_part : (session q : ℕ) (body : BodyValue) (test : Bool) → Begins session q true test body.flags body (if test then enter session q body else silent ReadyState body)
 took_part session q body true = entered session q body
-took_part session q body false = record { state = refl; answer = refl; matched = refl; present = refl; flags_are = refl; memory = refl; locks = refl }
+took_part session q body false = record { state = refl; answer = refl; matched = refl; present = refl; flags_are = refl; memory = refl }
 
 -- a tag that was inventoried in a session
 closed_flags : (session : ℕ) (body : BodyValue) (test : Bool)
@@ -63,10 +60,6 @@ closed_flags session body false = refl
 closed_memory : (session : ℕ) (body : BodyValue) (test : Bool) → (if test then body_after_inversion session body else body).memory ≡ body.memory
 closed_memory session body true = refl
 closed_memory session body false = refl
-
-closed_locks : (session : ℕ) (body : BodyValue) (test : Bool) → (if test then body_after_inversion session body else body).locks ≡ body.locks
-closed_locks session body true = refl
-closed_locks session body false = refl
 
 closed-begins : (sel : Sel) (session : ℕ) (target : Side) (q own : ℕ) (body : BodyValue)
     → Begins session q true (matches sel session target (flags_closed own session body.flags)) (flags_closed own session body.flags) body (take_part sel session target q (body_after_close own session body))
@@ -81,7 +74,6 @@ closed-begins sel session target q own body =
       present = known.present;
       flags_are = known.flags_are ∙ flags;
       memory = known.memory ∙ closed_memory session body (own == session);
-      locks = known.locks ∙ closed_locks session body (own == session);
     }
 
 query-begins : (sel : Sel) (session : ℕ) (target : Side) (q : ℕ) (state : StateValue) (body : BodyValue)
@@ -99,7 +91,6 @@ query-begins sel session target q KilledState body = record {
   present = refl;
   flags_are = refl;
   memory = refl;
-  locks = refl;
 }
 query-begins sel session target q UnpoweredState body = record {
   state = record { no_part = refl; not_listed = refl };
@@ -108,7 +99,6 @@ query-begins sel session target q UnpoweredState body = record {
   present = refl;
   flags_are = refl;
   memory = refl;
-  locks = refl;
 }
 
 -- Behind the Query each tag stands in the first slot of the round, and isn't listed.
@@ -130,27 +120,15 @@ pub query-matched : (dr : Bool) (code : Code) (trext : Bool) (sel : Sel) (sessio
     ≡ (is_present tag.state && matches sel session target (flags_behind_query session tag.state tag.body.flags))
 query-matched dr code trext sel session target q tag = (query-begins sel session target q tag.state tag.body).matched
 
-pub query-flags : (dr : Bool) (code : Code) (trext : Bool) (sel : Sel) (session : ℕ) (target : Side) (q : ℕ) (tag : TagValue)
-    → (step (commands.Query dr code trext sel session target q) tag.state tag.body).tag.body.flags ≡ flags_behind_query session tag.state tag.body.flags
-query-flags dr code trext sel session target q tag = (query-begins sel session target q tag.state tag.body).flags_are
-
--- A Query makes no tag present or absent.
-pub query-present : (dr : Bool) (code : Code) (trext : Bool) (sel : Sel) (session : ℕ) (target : Side) (q : ℕ) (tag : TagValue)
-    → is_present (step (commands.Query dr code trext sel session target q) tag.state tag.body).tag.state ≡ is_present tag.state
-query-present dr code trext sel session target q tag = (query-begins sel session target q tag.state tag.body).present
-
--- ... so that the tags that matched are, behind the Query, those that are present and whose flags the Query speaks to.
+-- A Query makes no tag present or absent, so that the tags that matched are, behind it, those that are present and whose flags it
+-- speaks to.
 pub query-spoken : (dr : Bool) (code : Code) (trext : Bool) (sel : Sel) (session : ℕ) (target : Side) (q : ℕ) (tag : TagValue)
     → let after = (step (commands.Query dr code trext sel session target q) tag.state tag.body).tag in is_matched after.state ≡ (is_present after.state && matches sel session target after.body.flags)
 query-spoken dr code trext sel session target q tag =
     let known = query-begins sel session target q tag.state tag.body in
     rw (known.present, known.flags_are) known.matched
 
--- It changes neither memory nor locks.
+-- It changes no memory.
 pub query-memory : (dr : Bool) (code : Code) (trext : Bool) (sel : Sel) (session : ℕ) (target : Side) (q : ℕ) (tag : TagValue)
     → (step (commands.Query dr code trext sel session target q) tag.state tag.body).tag.body.memory ≡ tag.body.memory
 query-memory dr code trext sel session target q tag = (query-begins sel session target q tag.state tag.body).memory
-
-pub query-locks : (dr : Bool) (code : Code) (trext : Bool) (sel : Sel) (session : ℕ) (target : Side) (q : ℕ) (tag : TagValue)
-    → (step (commands.Query dr code trext sel session target q) tag.state tag.body).tag.body.locks ≡ tag.body.locks
-query-locks dr code trext sel session target q tag = (query-begins sel session target q tag.state tag.body).locks

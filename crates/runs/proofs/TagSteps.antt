@@ -4,8 +4,8 @@ use Rattle.std.proofs.Math.Nat.{pow-le-pow_right}
 use Rattle.std.proofs.lemmas.Bool.{ne_eqb}
 use Rattle.std.proofs.lemmas.List.{length-append}
 use Rattle.std.proofs.lemmas.Nat.{mod_below, pow_pos}
-use Rattle.command_grammar.specs.declared.field_values.UpDn.{UpDn}
-use Rattle.command_grammar.specs.declared.field_values.UpDn.TheVariants.{Up, Same, Down}
+use Rattle.command_fields.specs.declared.choices.UpDn.{UpDn}
+use Rattle.command_fields.specs.declared.choices.UpDn.TheVariants.{Up, Same, Down}
 use Rattle.command_grammar.specs.declared.commands.Command.{Command}
 use Rattle.command_grammar.specs.declared.commands.Command.TheVariants as commands
 use Rattle.session_flags.specs.declared.flags.Flags.{Flags}

@@ -1,31 +1,23 @@
 -- What holds after each command that a round may send, and from there at both of its ends, holds of the round.
-use Rattle.std.proofs.Common.{◌≡◌, ℕ, zero, suc, ◌+◌, ◌≤◌, ◌≢◌, Bool, true, false, List, [], ◌∷◌, length, None, if◌then◌else◌, refl, ap, sym, ◌∙◌, subst, arith}
-use Rattle.access_ops.specs.Operations.{Dialogue, sends, tells, done, operations_from_rn16, denials, is_for, dialogue_of}
+use Rattle.std.proofs.Common.{◌≡◌, ℕ, ◌+◌, ◌≢◌, Bool, true, false, List, [], ◌∷◌, length, None, if◌then◌else◌, refl, ap, sym, ◌∙◌, subst}
+use Rattle.access_ops.specs.Operations.{Dialogue, done, operations_from_rn16, denials, is_for, dialogue_of}
 use Rattle.access_ops.specs.declared.Op.{Op}
 use Rattle.access_ops.specs.declared.OpList.{OpList}
 use Rattle.access_ops.specs.declared.op_next.OpResult.{OpResult}
 use Rattle.air_model.specs.Past.{Start, Record, Item, operated, ended, next_record, past_behind_command, rounds_in}
 use Rattle.reply_grammar.specs.Reception.{Reception, no_stream, whole_reply, no_such_reply}
-use Rattle.runs.specs.History.{outcome_of, operation_reception, past_behind_dialogue, dialogue_begun, ack_reception, past_behind_ack, past_behind_answer, slot_reception, past_behind_slot, past_behind_turn, past_behind_turns, past_behind_round}
-use Rattle.runs.specs.HistoryLaws.{rn_of}
+use Rattle.runs.specs.History.{outcome_of, past_behind_dialogue, dialogue_begun, ack_reception, past_behind_ack, past_behind_answer, slot_reception, past_behind_slot, past_behind_round}
+use Rattle.runs.specs.NextItem.{rn_of}
+use Rattle.runs.specs.laws.Growth.{RoundsKeepLimit, dialogue-holds, next_at_end, round-holds as behind-round}
 use Rattle.command_grammar.specs.declared.commands.Command.{Command}
 use Rattle.command_grammar.specs.declared.commands.Command.TheVariants as commands
-use Rattle.q_round.specs.laws.SlotLaws.{slots-underway, slots-over, next-over}
-use Rattle.q_round.specs.SpecValue.{SpecValue}
-use Rattle.q_round.specs.laws.RoundLaws.{IsEnd}
-use Rattle.q_round.specs.Rounds.{is_over, AreOutcomes, slots_of, next_command}
+use Rattle.q_round.specs.SpecValue.{SpecValue, IsLegalSpec}
+use Rattle.q_round.specs.Rounds.{AreOutcomes, next_command}
 use Rattle.q_round.specs.declared.frame.Outcome.{Outcome}
 use Rattle.q_round.specs.declared.frame.Outcome.TheVariants.{Whole}
-use Rattle.q_round.specs.declared.round.Next.{Next}
 use Rattle.q_round.specs.declared.round.Next.TheVariants as nexts
 use Rattle.q_round.specs.declared.round.RoundEnd.{RoundEnd}
-use Rattle.q_round.specs.declared.round.RoundEnd.TheVariants as ends
 use Rattle.reply_grammar.specs.declared.expected.Reply.TheVariants as replies
-
--- how a round ends, where this comes next
-abbrev pub IsEndOf : RoundEnd → Next → Type 0
-IsEndOf ends.Quiet next = next ≡ nexts.Quiet
-IsEndOf ends.Limit next = next ≡ nexts.Limit
 
 -- What holds in a round. `Before` speaks of the outcomes so far, the latest first, and the past, just before a slot command, an
 -- operation or the end; `Sent` of the outcomes so far, the record of the slot command, and the past behind which it was sent; `After`
@@ -49,19 +41,7 @@ pub record CommandSteps (Before : List Outcome → List Item → Type 0) (Sent :
   pub result : operations.ops ≢ [] → (outcomes : List Outcome) (past : List Item) (index : ℕ) (result : OpResult) → Before (Whole ∷ outcomes) past
       → Before (Whole ∷ outcomes) (operated round (length outcomes + 1) index result ∷ past)
   pub end : (outcomes : List Outcome) (past : List Item) (end : RoundEnd) → AreOutcomes spec outcomes
-      → IsEndOf end (next_command spec start.link outcomes) → Before outcomes past → After (ended round end (length outcomes) ∷ past)
-
--- what each command and each result of a dialogue keeps holds behind it
-dialogue-holds : (Holds : List Item → Type 0) (start : Start) (round slot : ℕ)
-    → ((past : List Item) (command : Command) → Holds past → Holds (past_behind_command start round slot command past))
-    → ((past : List Item) (index : ℕ) (result : OpResult) → Holds past → Holds (operated round slot index result ∷ past))
-    → (index : ℕ) (dialogue : Dialogue) (past : List Item) → Holds past → Holds (past_behind_dialogue start round slot index dialogue past)
-dialogue-holds Holds start round slot each told index (sends command expect extended go_on) past holds =
-    dialogue-holds Holds start round slot each told index (go_on (operation_reception start round slot command expect extended past))
-    (past_behind_command start round slot command past) (each past command holds)
-dialogue-holds Holds start round slot each told index (tells result later) past holds =
-    dialogue-holds Holds start round slot each told (index + 1) later (operated round slot index result ∷ past) (told past index result holds)
-dialogue-holds Holds start round slot each told index done past holds = holds
+      → next_command spec start.link outcomes ≡ next_at_end end → Before outcomes past → After (ended round end (length outcomes) ∷ past)
 
 nothing-either : (test : Bool) → (if test then done else done) ≡ done
 nothing-either true = refl
@@ -92,7 +72,13 @@ begun-holds Holds start operations round slot rn reception past [] none each tol
     subst (λ (dialogue : Dialogue). Holds (past_behind_dialogue start round slot 1 dialogue past)) (sym (nothing-begun operations rn reception none)) holds
 begun-holds Holds start operations round slot rn reception past (op ∷ ops) some each told holds =
     let many : operations.ops ≢ [] = λ none. let both : op ∷ ops ≡ [] = sym some ∙ none in cc in
-    dialogue-holds Holds start round slot (each many) (told many) 1 (dialogue_begun operations rn reception) past holds
+    dialogue-holds (λ index left now. Holds now) Holds start round slot
+    (record {
+      command = λ index command expect extended go_on now here. each many now command here;
+      result = λ index result later now here. told many now index result here;
+      end = λ index now here. here;
+    })
+    1 (dialogue_begun operations rn reception) past holds
 
 -- behind a slot command there is an ACK where an RN16 came whole, with what follows it in the slot, and nothing else
 answer-holds : (P : Outcome → List Item → Type 0) (start : Start) (operations : OpList) (round slot : ℕ) (reception : Reception) (past : List Item)
@@ -126,53 +112,10 @@ slot-holds Before Sent After start operations round spec each outcomes past comm
     (λ some. each.operation some outcomes) (λ some. each.result some outcomes)
     (each.ack outcomes past command rn heard sent))
 
--- a round that sends a command is not over
-sends-underway : (spec : SpecValue) (outcomes : List Outcome) (start : Start) (command : Command) (over : Bool) → is_over spec outcomes ≡ over
-    → next_command spec start.link outcomes ≡ nexts.Send command → is_over spec outcomes ≡ false
-sends-underway spec outcomes start command false is next = is
-sends-underway spec outcomes start command true is next =
-    absurd (subst IsEnd next (next-over spec start.link outcomes is))
-
-turn-holds : (Before : List Outcome → List Item → Type 0) (Sent : List Outcome → Record → List Item → Type 0) (After : List Item → Type 0) (start : Start) (operations : OpList) (round : ℕ) (spec : SpecValue)
-    → CommandSteps Before Sent After start operations round spec
-    → (go_on : List Outcome → List Item → List Item) (outcomes : List Outcome) (past : List Item) → AreOutcomes spec outcomes → Before outcomes past
-    → ((outcome : Outcome) (behind : List Item) → AreOutcomes spec (outcome ∷ outcomes) → Before (outcome ∷ outcomes) behind → After (go_on (outcome ∷ outcomes) behind))
-    → (next : Next) → next_command spec start.link outcomes ≡ next → After (past_behind_turn go_on start operations round outcomes past next)
-turn-holds Before Sent After start operations round spec each go_on outcomes past are holds later (nexts.Send command) is =
-    later _ _ (sends-underway spec outcomes start command (is_over spec outcomes) refl is, are) (slot-holds Before Sent After start operations round spec each outcomes past command are is holds)
-turn-holds Before Sent After start operations round spec each go_on outcomes past are holds later nexts.Quiet is = each.end outcomes past ends.Quiet are is holds
-turn-holds Before Sent After start operations round spec each go_on outcomes past are holds later nexts.Limit is = each.end outcomes past ends.Limit are is holds
-
--- a round has no more outcomes than its limit
-abbrev pub HasFewOutcomes : SpecValue → Type 0
-HasFewOutcomes spec = (outcomes : List Outcome) → AreOutcomes spec outcomes → length outcomes ≤ spec.limit
-
-outcomes-within : (spec : SpecValue) (outcomes : List Outcome) (over : Bool) → is_over spec outcomes ≡ over → AreOutcomes spec outcomes → length outcomes ≤ slots_of spec outcomes
-outcomes-within spec outcomes false on are = let count = slots-underway spec outcomes are on in omega arith
-outcomes-within spec outcomes true over are = let count = slots-over spec outcomes are over in omega arith
-
--- ... since it gives no more slot commands: a law of rounds
-pub few-outcomes : (spec : SpecValue) → ((outcomes : List Outcome) → AreOutcomes spec outcomes → slots_of spec outcomes ≤ spec.limit) → HasFewOutcomes spec
-few-outcomes spec keeps outcomes are =
-    let within : slots_of spec outcomes ≤ spec.limit = keeps outcomes are in
-    let few : length outcomes ≤ slots_of spec outcomes = outcomes-within spec outcomes (is_over spec outcomes) refl are in
-    omega arith
-
-turns-hold : (Before : List Outcome → List Item → Type 0) (Sent : List Outcome → Record → List Item → Type 0) (After : List Item → Type 0) (start : Start) (operations : OpList) (round : ℕ) (spec : SpecValue)
-    → HasFewOutcomes spec → CommandSteps Before Sent After start operations round spec
-    → (left : ℕ) (outcomes : List Outcome) (past : List Item) → left + length outcomes ≡ spec.limit + 1 → AreOutcomes spec outcomes → Before outcomes past
-    → After (past_behind_turns left start operations round spec outcomes past)
-turns-hold Before Sent After start operations round spec few each zero outcomes past count are holds =
-    let within : length outcomes ≤ spec.limit = few outcomes are in
-    absurd (omega arith)
-turns-hold Before Sent After start operations round spec few each (suc left) outcomes past count are holds =
-    turn-holds Before Sent After start operations round spec each (past_behind_turns left start operations round spec) outcomes past are holds
-    (λ outcome behind more during. turns-hold Before Sent After start operations round spec few each left (outcome ∷ outcomes) behind (omega arith) more during)
-    (next_command spec start.link outcomes) refl
-
 -- what holds just before the Query of a round, after each command, and from there at both ends, holds behind the round
 pub round-holds : (Before : List Outcome → List Item → Type 0) (Sent : List Outcome → Record → List Item → Type 0) (After : List Item → Type 0) (start : Start) (operations : OpList) (spec : SpecValue) (past : List Item)
-    → HasFewOutcomes spec → CommandSteps Before Sent After start operations (rounds_in past + 1) spec → Before [] past
+    → RoundsKeepLimit → IsLegalSpec spec → CommandSteps Before Sent After start operations (rounds_in past + 1) spec → Before [] past
     → After (past_behind_round start operations spec past)
-round-holds Before Sent After start operations spec past few each holds =
-    turns-hold Before Sent After start operations (rounds_in past + 1) spec few each (suc spec.limit) [] past (omega arith) tt holds
+round-holds Before Sent After start operations spec past keeps legal each holds =
+    behind-round Before After start operations spec past keeps legal
+    (record { slot = slot-holds Before Sent After start operations (rounds_in past + 1) spec each; end = each.end }) holds

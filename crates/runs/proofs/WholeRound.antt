@@ -23,12 +23,13 @@ use Rattle.runs.proofs.Population.{tag-steps, replies_behind}
 use Rattle.runs.proofs.TagsInRound.{StepsFlagsOf, ListsOwnEpc, lists-nobody, StandsSent, StandsNext, slot-no-sender, stands-unacknowledged, stands-acknowledged, stands-sent}
 use Rattle.runs.proofs.TagQuery.{query-stands, query-answer, query-spoken}
 use Rattle.runs.proofs.Times.{lists-none}
-use Rattle.runs.proofs.Turns.{IsEndOf, HasFewOutcomes, round-holds}
+use Rattle.runs.proofs.Turns.{round-holds}
+use Rattle.runs.specs.laws.Growth.{RoundsKeepLimit, next_at_end}
 use Rattle.pie_line.specs.Link.{LinkValue}
 use Rattle.q_round.specs.laws.RoundFacts.{IsNextSlot, IsNextTurn, RoundFacts}
 use Rattle.q_round.specs.laws.RoundLaws.{IsSilentFrame}
 use Rattle.q_round.specs.Rounds.{AreOutcomes, next_command, q_of, frame_of}
-use Rattle.q_round.specs.SpecValue.{SpecValue}
+use Rattle.q_round.specs.SpecValue.{SpecValue, IsLegalSpec}
 use Rattle.q_round.specs.declared.frame.Outcome.{Outcome}
 use Rattle.q_round.specs.declared.round.Next.{Next}
 use Rattle.q_round.specs.declared.round.Next.TheVariants as nexts
@@ -160,19 +161,19 @@ slot-sent start spec round before facts others (outcome ∷ earlier) now command
     stands-sent start spec round (past_at_query start spec round before) outcome earlier now command (facts.range earlier are.1) (facts.range (outcome ∷ earlier) are) next
     (unsaid.0 refl).unsaid (holds unsaid.1)
 
-no-end-yet : (spec : SpecValue) (link : LinkValue) (end : RoundEnd) → RoundFacts spec link → IsEndOf end (next_command spec link []) → ⊥
+no-end-yet : (spec : SpecValue) (link : LinkValue) (end : RoundEnd) → RoundFacts spec link → next_command spec link [] ≡ next_at_end end → ⊥
 no-end-yet spec link ends.Quiet facts is = let both : nexts.Send (query_command spec link) ≡ nexts.Quiet = sym facts.begins ∙ is in cc
 no-end-yet spec link ends.Limit facts is = let both : nexts.Send (query_command spec link) ≡ nexts.Limit = sym facts.begins ∙ is in cc
 
 silent-end : (spec : SpecValue) (link : LinkValue) (outcome : Outcome) (earlier : List Outcome) (end : RoundEnd) → RoundFacts spec link → AreOutcomes spec (outcome ∷ earlier)
-    → IsEndOf end (next_command spec link (outcome ∷ earlier)) → end ≡ ends.Quiet → IsSilentFrame (q_of spec earlier) (outcome ∷ frame_of spec earlier)
+    → next_command spec link (outcome ∷ earlier) ≡ next_at_end end → end ≡ ends.Quiet → IsSilentFrame (q_of spec earlier) (outcome ∷ frame_of spec earlier)
 silent-end spec link outcome earlier ends.Quiet facts are is quiet =
     subst (λ (next : Next). IsNextTurn next spec.session (q_of spec earlier) (outcome ∷ frame_of spec earlier) (q_of spec (outcome ∷ earlier)) (frame_of spec (outcome ∷ earlier))) is
     (facts.turn outcome earlier are)
 silent-end spec link outcome earlier ends.Limit facts are is quiet = absurd (cc)
 
 round-over : (start : Start) (spec : SpecValue) (round : ℕ) (before : List Item) → RoundFacts spec start.link
-    → (outcomes : List Outcome) (now : List Item) (end : RoundEnd) → AreOutcomes spec outcomes → IsEndOf end (next_command spec start.link outcomes)
+    → (outcomes : List Outcome) (now : List Item) (end : RoundEnd) → AreOutcomes spec outcomes → next_command spec start.link outcomes ≡ next_at_end end
     → IsNext start spec round before outcomes now → IsOver start spec round before (ended round end (length outcomes) ∷ now)
 round-over start spec round before facts [] now end are is same = absurd (no-end-yet spec start.link end facts is)
 round-over start spec round before facts (outcome ∷ earlier) now end are is holds = record {
@@ -190,12 +191,12 @@ replies-behind : (start : Start) (round slot : ℕ) (command : Command) (past : 
     → (next_record start round slot command past).replies ≡ replies_behind 0 command start.tags past
 replies-behind start round slot command past unsaid = ap (λ (entry : Entry). replies_in command entry (tags_behind start past)) unsaid
 
-pub round-stands : (start : Start) (operations : OpList) (spec : SpecValue) (before : List Item) → HasFewOutcomes spec → RoundFacts spec start.link → operations.ops ≡ []
+pub round-stands : RoundsKeepLimit → (start : Start) (operations : OpList) (spec : SpecValue) (before : List Item) → IsLegalSpec spec → RoundFacts spec start.link → operations.ops ≡ []
     → AreOfOthers (rounds_in before + 1) before → IsOver start spec (rounds_in before + 1) before (past_behind_round start operations spec before)
-round-stands start operations spec before few facts none others =
+round-stands keeps start operations spec before legal facts none others =
     let round : ℕ = rounds_in before + 1 in
     let query = past_at_query start spec round before in
-    round-holds (IsNext start spec round before) (IsSent start spec round before) (IsOver start spec round before) start operations spec before few
+    round-holds (IsNext start spec round before) (IsSent start spec round before) (IsOver start spec round before) start operations spec before keeps legal
     (record {
       slot = slot-sent start spec round before facts others;
       no_answer = λ outcomes now command reception heard none holds fair.

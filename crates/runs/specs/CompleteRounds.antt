@@ -11,7 +11,7 @@ use Rattle.runs.specs.Complete.{CompleteInventory}
 use Rattle.runs.specs.Counted.{CountedRound}
 use Rattle.runs.specs.Headline.{rounds_of}
 use Rattle.runs.specs.Honest.{IsHonest, IsApart}
-use Rattle.runs.specs.ListLines.{IsEntryOf, entries_in}
+use Rattle.runs.specs.ListLines.{IsOfRepliesIn, IsEntryOf, entries_in}
 use Rattle.runs.specs.Listed.{tags_listed_in}
 use Rattle.runs.specs.ScenarioStart.{history, start_of}
 
@@ -25,5 +25,6 @@ pub record RoundsAreComplete (scenario : Scenario) : Type 0 where
       → IsHonest (history scenario) (rounds_of before + 1) operations
       → ((start_of scenario).several ≡ severals.Capture → IsApart (history scenario) (rounds_of before + 1))
       → CountedRound (start_of scenario) (history scenario) (rounds_of before + 1) spec
-  -- the list lines of a round are those of the tags that are listed in it
-  pub lines : (round : ℕ) → AllZip (IsEntryOf (history scenario) round) (entries_in round (history scenario)) (tags_listed_in round (history scenario))
+  -- the list lines of a round in which no ACK is answered by a raw stream are those of the tags that are listed in it
+  pub lines : (round : ℕ) → IsOfRepliesIn round (history scenario)
+      → AllZip (IsEntryOf (history scenario) round) (entries_in round (history scenario)) (tags_listed_in round (history scenario))

@@ -3,14 +3,18 @@
 use Rattle.std.specs.Prelude.{◌≡◌, ℕ, ◌+◌, ◌*◌, ◌≤◌, ◌==◌, ◌&&◌, Bool, true, false, List, [], ◌∷◌, ◌++◌, length, filter, Contains, Option, Some, slice_get, if◌then◌else◌}
 use Rattle.std.specs.List.{AllByRecursion}
 use Rattle.access_ops.specs.declared.OpList.{OpList}
-use Rattle.air_model.specs.Channel.{Given, whole}
+use Rattle.air_events.specs.declared.Entry.{Entry}
+use Rattle.air_model.specs.Channel.{Given, whole, heard_levels, GoesByReplies}
 use Rattle.air_model.specs.Exchange.{Replied, tag_after_events}
 use Rattle.air_model.specs.Past.{Start, Record, Item, befell, exchanged, operated, ended, tag_behind}
 use Rattle.command_grammar.specs.declared.commands.Command.{Command}
 use Rattle.command_grammar.specs.declared.commands.Command.TheVariants as commands
+use Rattle.line_codes.specs.Codes.{table_of}
 use Rattle.q_round.specs.SpecValue.{SpecValue, IsLegalSpec}
 use Rattle.q_round.specs.declared.round.RoundEnd.{RoundEnd}
+use Rattle.reply_grammar.specs.declared.expected.Expect.TheVariants as expects
 use Rattle.reply_grammar.specs.declared.expected.Reply.TheVariants.{Epc}
+use Rattle.reply_wire.specs.Received.{IsWhole}
 use Rattle.report_lines.specs.ReportLine.{ReportLine, ListLine, OpLine, RoundLine, TagLine}
 use Rattle.scenario.specs.Limits.{most_ops}
 use Rattle.scenario.specs.declared.values.Step.{Step}
@@ -72,21 +76,37 @@ pub record IsGivenWhole (given : Given) (pc : ℕ) (epc : List ℕ) (replied : R
   pub unbroken : given ≡ whole replied
   pub reply : replied.sent.reply ≡ Epc pc epc
 
--- One exchange of this round and slot sent an ACK. The channel gave a reply to it whole, and the reply is that of a tag that
--- was present, heard the ACK, and sent this PC and EPC.
-pub record IsSentByATag (start : Start) (history : List Item) (round slot pc : ℕ) (epc : List ℕ) : Type 0 where
-  pub sent : Record
-  pub earlier : List Item
+-- the exchange is the one of this round and slot that sent an ACK
+pub record IsAckOf (history : List Item) (round slot : ℕ) (sent : Record) (earlier : List Item) : Type 0 where
   pub recorded : IsRecordOf history sent earlier
   pub round_is : sent.round ≡ round
   pub slot_is : sent.slot ≡ slot
   pub rn : ℕ
   pub acknowledges : Acknowledges sent rn
+  pub only : (other : Record) (other_earlier : List Item) (other_rn : ℕ) → IsRecordOf history other other_earlier
+      → Acknowledges other other_rn → other.round ≡ round → other.slot ≡ slot → other ≡ sent
+
+-- One exchange of this round and slot sent an ACK. The channel gave a reply to it whole, and the reply is that of a tag that
+-- was present, heard the ACK, and sent this PC and EPC.
+pub record IsSentByATag (start : Start) (history : List Item) (round slot pc : ℕ) (epc : List ℕ) : Type 0 where
+  pub sent : Record
+  pub earlier : List Item
+  pub ack : IsAckOf history round slot sent earlier
   pub replied : Replied
   pub given : IsGivenWhole sent.given pc epc replied
   pub from_tag : IsFromTag start sent earlier replied
-  pub only : (other : Record) (other_earlier : List Item) (other_rn : ℕ) → IsRecordOf history other other_earlier
-      → Acknowledges other other_rn → other.round ≡ round → other.slot ≡ slot → other ≡ sent
+
+-- One exchange of this round and slot sent an ACK, and the levels that were heard in it are the stream of bits that are this PC
+-- and EPC, whoever sent them.
+pub record IsHeardAsListed (start : Start) (history : List Item) (round slot pc : ℕ) (epc : List ℕ) : Type 0 where
+  pub sent : Record
+  pub earlier : List Item
+  pub ack : IsAckOf history round slot sent earlier
+  pub heard : IsWhole (table_of start.link.code) start.link.trext expects.Epc (heard_levels start.link sent.given) (Epc pc epc)
+
+-- no entry gives raw levels: what comes back comes of the replies of tags
+abbrev pub HasNoRawStream : List (ℕ × Entry) → Type 0
+HasNoRawStream entries = AllByRecursion (λ entry. GoesByReplies entry.1.choice) entries
 
 -- a line for what was listed in this round and slot
 abbrev pub is_list_line : ℕ → ℕ → ReportLine → Bool
@@ -155,8 +175,8 @@ pub record KeepsLimit (history : List Item) (lines : List ReportLine) (round lim
 
 -- The headline: what the history and the lines of the report of every run say.
 pub record Headline (start : Start) (taken : List Step) (history : List Item) (lines : List ReportLine) : Type 0 where
-  -- each EPC listed is one that a present tag sent in that round and slot
-  pub sent_by_a_tag : (round slot pc : ℕ) (epc : List ℕ) → Contains lines (ListLine round slot pc epc)
+  -- each EPC listed is one that a present tag sent in that round and slot, unless raw levels come back in some exchange
+  pub sent_by_a_tag : HasNoRawStream start.entries → (round slot pc : ℕ) (epc : List ℕ) → Contains lines (ListLine round slot pc epc)
       → IsSentByATag start history round slot pc epc
   -- each EPC that the channel gave whole in reply to an ACK is listed once: its round and slot have this one line
   pub listed_once : (sent : Record) (earlier : List Item) (rn pc : ℕ) (epc : List ℕ) (replied : Replied) → IsRecordOf history sent earlier
@@ -167,6 +187,11 @@ pub record Headline (start : Start) (taken : List Step) (history : List Item) (l
   -- no round, numbered from 1 over the steps, has more slot commands than its limit, and its line gives their number
   pub slot_limit : (before after : List Step) (spec : SpecValue) (operations : OpList) → taken ≡ before ++ steps.Round spec operations ∷ after
       → KeepsLimit history lines (rounds_of before + 1) spec.limit
+
+-- Each EPC listed is what was heard in that round and slot, also where raw levels come back that no tag sent.
+abbrev pub AreHeardAsListed : Start → List Item → List ReportLine → Type 0
+AreHeardAsListed start history lines =
+    (round slot pc : ℕ) (epc : List ℕ) → Contains lines (ListLine round slot pc epc) → IsHeardAsListed start history round slot pc epc
 
 -- how many exchanges the operations of a round have at most with one tag: one for the handle and four for each
 abbrev pub most_operating : OpList → ℕ

@@ -4,7 +4,7 @@ pub mod ScenarioStart
 pub mod Report
 pub mod Summary
 pub mod Headline
-pub mod HistoryLaws
+pub mod NextItem
 pub mod EventsAndRecords
 pub mod Listed
 pub mod TagInRound
@@ -16,3 +16,4 @@ pub mod Honest
 pub mod EveryTag
 pub mod ListLines
 pub mod CompleteRounds
+pub mod laws

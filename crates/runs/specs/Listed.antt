@@ -1,15 +1,16 @@
 -- Profile: which tags a history lists, by their numbers. Two tags may have one EPC, but never one number.
 use Rattle.std.specs.Prelude.{ℕ, ◌==◌, ◌&&◌, Bool, List, [], ◌∷◌, ◌++◌, length, filter, if◌then◌else◌}
-use Rattle.air_model.specs.Channel.{Given, silence, whole, broken}
+use Rattle.air_model.specs.Channel.{Given, silence, whole, broken, raw}
 use Rattle.air_model.specs.Past.{Record, Item, befell, exchanged, operated, ended}
 use Rattle.runs.specs.Listing.{Listed, listed_by}
 use Rattle.tag_memory.specs.Memory.{Banks, pc_of, epc_of}
 
--- who sent what the channel gave whole
+-- who sent what the channel gave whole; a raw stream names no sender
 abbrev pub sender_in : Given → List ℕ
 sender_in silence = []
 sender_in (whole replied) = replied.number ∷ []
 sender_in (broken replied place) = []
+sender_in (raw code trext levels) = []
 
 -- ... where a record lists something
 abbrev pub sender_where : List Listed → Given → List ℕ

@@ -1,11 +1,13 @@
 //! What an honest round of a run says of the tags that it lists.
 ghost use Rattle.std.specs.List.{AllZip};
-ghost use Rattle.std.specs.Prelude.{◌≡◌, ℕ, ◌+◌, List, [], ◌∷◌, ◌++◌, Some};
+ghost use Rattle.std.specs.Prelude.{◌≡◌, ℕ, ◌+◌, Bool, List, [], ◌∷◌, ◌++◌, Some};
 ghost use Rattle.access_ops.specs.declared.OpList.{OpList};
+ghost use Rattle.air_model.specs.Channel.{raw};
 ghost use Rattle.air_model.specs.Past.{Start, Record, Item};
 ghost use Rattle.air_events.specs.Entries.{no_entry, entry_at};
 ghost use Rattle.air_events.specs.declared.Several.TheVariants as severals;
-ghost use Rattle.runs.specs.Headline.{AreLegalSteps, IsLegalRound, IsRecordOf, rounds_of};
+ghost use Rattle.bit_strings.specs.declared.code.Code.{Code};
+ghost use Rattle.runs.specs.Headline.{AreLegalSteps, HasNoRawStream, IsLegalRound, IsRecordOf, rounds_of};
 ghost use Rattle.runs.specs.History.{history_of};
 ghost use Rattle.runs.specs.ScenarioStart.{history, start_of};
 ghost use Rattle.runs.specs.Complete.{CompleteInventory};
@@ -13,9 +15,9 @@ ghost use Rattle.runs.specs.CompleteRounds.{RoundsAreComplete};
 ghost use Rattle.runs.specs.Counted.{CountedRound};
 ghost use Rattle.runs.specs.EveryTag.{AllTakePart, HaveOwnEpcs, ListsEveryTag};
 ghost use Rattle.runs.specs.Honest.{IsHonest, IsApart};
-ghost use Rattle.runs.specs.ListLines.{IsEntryOf, entries_in};
-ghost use Rattle.runs.specs.Listed.{tags_listed_in};
-ghost use Rattle.runs.specs.Moments.{Ending, ending_of};
+ghost use Rattle.runs.specs.ListLines.{IsEntryOf, IsOfRepliesIn, entries_in};
+ghost use Rattle.runs.specs.Listed.{sender_listed_by, tags_listed_in};
+ghost use Rattle.runs.specs.Moments.{ending_of};
 ghost use Rattle.q_round.specs.SpecValue.{SpecValue};
 ghost use Rattle.q_round.specs.declared.round.RoundEnd.TheVariants as ends;
 ghost use Rattle.scenario.specs.Limits.{IsScenario};
@@ -94,11 +96,25 @@ pub fn quiet_runs_list_every_tag()
     rounds_are_honest_where_nothing_is_said();
 }
 
-/// The list lines of a round of a history, in order, are those of the tags that are listed in it: each line
-/// tells what a record of the round lists, and that tag sent it.
+/// The list lines of a round of a history in which no ACK is answered by a raw stream, in order, are those
+/// of the tags that are listed in it: each line tells what a record of the round lists, and that tag sent
+/// it.
 pub fn list_lines_are_of_listed_tags()
-    ensures { (history : List Item) (round : ℕ) → AllZip (IsEntryOf history round) (entries_in round history) (tags_listed_in round history) }
+    ensures { (history : List Item) (round : ℕ) → IsOfRepliesIn round history →
+        AllZip (IsEntryOf history round) (entries_in round history) (tags_listed_in round history) }
 {}
+
+/// No ACK of a round is answered by a raw stream where none is chosen in the run, and none of an honest
+/// round, of whose exchanges nothing is said. A raw stream names no sender: what a record lists of one is
+/// no tag's.
+pub fn rounds_go_by_replies()
+    ensures run { (start : Start) (taken : List Step) (round : ℕ) → HasNoRawStream start.entries → IsOfRepliesIn round (history_of start taken) }
+    ensures honest { (start : Start) (taken : List Step) (round : ℕ) (operations : OpList) → IsHonest (history_of start taken) round operations →
+        IsOfRepliesIn round (history_of start taken) }
+    ensures sender { (sent : Record) (code : Code) (trext : Bool) (levels : List Bool) → sent.given ≡ raw code trext levels → sender_listed_by sent ≡ [] }
+{
+    records_follow_from_the_past();
+}
 
 /// What the honest rounds of the run of a scenario prove, in one: each counts its tags, and leaves them, as
 /// the three laws above say.

@@ -1,5 +1,5 @@
 //! What the history and the report of every run say.
-ghost use Rattle.std.specs.Prelude.{◌≡◌, ℕ, ◌*◌, ◌≤◌, ◌⊎◌, Bool, ◌||◌, List, ◌∷◌, ◌++◌, length, filter, Some, None};
+ghost use Rattle.std.specs.Prelude.{◌≡◌, ◌*◌, ◌≤◌, ◌⊎◌, Bool, ◌||◌, List, ◌∷◌, ◌++◌, length, filter, Some, None};
 ghost use Rattle.access_ops.specs.laws.OperationLaws.{Expects};
 ghost use Rattle.air_model.specs.Exchange.{AreLegalTags};
 ghost use Rattle.air_model.specs.Channel.{got_of, heard_levels};
@@ -8,9 +8,9 @@ ghost use Rattle.reply_wire.specs.Received.{IsReceived};
 ghost use Rattle.air_model.specs.Reception.{reception_of, reception_with};
 ghost use Rattle.air_model.specs.declared.got.Got.TheVariants.{Stream};
 ghost use Rattle.runs.specs.EventsAndRecords.{events_and_records_of, IsConcluded};
-ghost use Rattle.runs.specs.Headline.{AreLegalSteps, Headline, IsRecordOf, is_op_line, op_lines, most_exchanges};
+ghost use Rattle.runs.specs.Headline.{AreHeardAsListed, AreLegalSteps, Headline, IsRecordOf, is_op_line, op_lines, most_exchanges};
 ghost use Rattle.runs.specs.History.{history_of};
-ghost use Rattle.runs.specs.HistoryLaws.{GrowsByNext, next_item, expectation_of};
+ghost use Rattle.runs.specs.NextItem.{GrowsByNext, next_item, expectation_of};
 ghost use Rattle.runs.specs.Report.{report_of};
 ghost use Rattle.runs.specs.ScenarioStart.{history, start_of};
 ghost use Rattle.report_lines.specs.declared.mode.Mode.{Mode};
@@ -27,17 +27,23 @@ use air_model::reception_law;
 use q_round::round_laws;
 use tag_machine::{answers_are_replies, steps_keep_tags_legal};
 
-/// The headline. Each EPC listed is one that a present tag sent in that round and slot; each EPC that
-/// the channel gave whole is listed once; each tag stands in the end as the commands that it heard and
-/// the events that name it leave it; and no round has more slot commands than its limit.
+/// The headline. Each EPC listed is what was heard in that round and slot, and where no raw levels are
+/// given, it is one that a present tag sent; each EPC that the channel gave whole is listed once; each tag
+/// stands in the end as the commands that it heard and the events that name it leave it; and no round has
+/// more slot commands than its limit.
 pub fn headline()
     ensures run { (mode : Mode) (start : Start) (steps : List Step) → AreLegalSteps steps →
         Headline start steps (history_of start steps) (report_of mode start steps) }
     ensures scenario { (mode : Mode) (scenario : Scenario) → IsScenario scenario →
         Headline (start_of scenario) scenario.steps (history scenario) (report_of mode (start_of scenario) scenario.steps) }
+    ensures heard_as_listed { (mode : Mode) (scenario : Scenario) → IsScenario scenario →
+        AreHeardAsListed (start_of scenario) (history scenario) (report_of mode (start_of scenario) scenario.steps) }
 {
     scenario_steps_are_legal();
     round_laws();
+    answers_are_replies();
+    steps_keep_tags_legal();
+    histories_keep_tags_legal();
 }
 
 /// The limits of a scenario give what the laws of a run want of its steps.

@@ -10,6 +10,7 @@ mod summary;
 pub use inventory::{
     complete_inventory, honest_rounds_count_tags, list_lines_are_of_listed_tags,
     quiet_runs_list_every_tag, rounds_are_complete, rounds_are_honest_where_nothing_is_said,
+    rounds_go_by_replies,
 };
 pub use laws::{
     events_and_records_determine_a_past, exchanges_are_few, headline,

@@ -2,3 +2,4 @@ pub mod Masks
 pub mod PureGroups
 pub mod SlicedSoFar
 pub mod SomeAnswer
+pub mod OneAnswer

@@ -1,4 +1,4 @@
 pub mod Masks
-pub mod SampleLaws
 pub mod Samples
 pub mod SlicedTo
+pub mod laws

@@ -1,8 +1,9 @@
 //! The slicer.
-ghost use Rattle.std.specs.Prelude.{◌≡◌, ◌≤◌, ◌<◌, ◌+◌, ◌-◌, ◌^◌, ℕ, Bool, List, [], length, take, OnOk, OnErr, IfErr, IfSome, IfNone, IfOk};
+ghost use Rattle.std.specs.Prelude.{◌≡◌, ◌≤◌, ◌<◌, ◌+◌, ◌-◌, ◌^◌, ℕ, Bool, List, [], length, take, OnOk, OnErr, IfErr, IfSome, IfNone, IfOk, IsOk, Err};
 ghost use Rattle.sample_slicer.specs.Masks.{mask_of};
 ghost use Rattle.sample_slicer.specs.Samples.{AreLevels, IsPure, RefusesSamples, most_samples};
 ghost use Rattle.sample_slicer.specs.SlicedTo.{SlicedTo};
+ghost use Rattle.sample_slicer.specs.declared.slicer.SliceRefusal.{SliceRefusal};
 
 use bit_strings::Levels;
 use std::simd::prelude::*;
@@ -180,6 +181,9 @@ pub fn slice_levels(
     ensures ok { OnOk result (AreLevels threshold per_level samples.now out.new.items) }
     ensures refused { IfErr result (RefusesSamples threshold per_level samples.now) }
     ensures err { OnErr result (out.new.items ≡ []) }
+    // What the samples are is answered.
+    ensures only { (levels : List Bool) → AreLevels threshold per_level samples.now levels → IsOk result × (out.new.items ≡ levels) }
+    ensures first { (refusal : SliceRefusal) → RefusesSamples threshold per_level samples.now refusal → result ≡ Err refusal }
     ensures capacity { out.new.capacity ≡ out.old.capacity }
 {
     out.clear();

@@ -2,13 +2,13 @@
 use Rattle.std.proofs.Common.{◌≡◌, ◌≢◌, ◌<◌, ◌≤◌, ◌⊎◌, ℕ, suc, List, [], ◌∷◌, length, Option, Some, None, refl, ap₂, inl, inr, arith}
 use Rattle.std.proofs.lemmas.Bool.{cases_eq, cases_lt}
 use Rattle.air_events.specs.declared.Entry.{Entry}
-use Rattle.scenario_lines.specs.declared.first_fields.Word.{Word}
-use Rattle.scenario_lines.specs.declared.first_fields.Word.TheVariants as words
+use Rattle.scenario_lines.specs.declared.first_fields.Keyword.{Keyword}
+use Rattle.scenario_lines.specs.declared.first_fields.Keyword.TheVariants as keywords
 use Rattle.scenario_lines.specs.declared.line.Happening.{Happening}
 use Rattle.scenario_lines.specs.declared.line.Happening.TheVariants as happenings
 use Rattle.scenario_lines.specs.declared.line.Line.{Line}
 use Rattle.scenario_lines.specs.declared.line.Line.TheVariants as lines
-use Rattle.scenario.specs.Limits.{most_air_lines, most_ops, most_steps, most_tags}
+use Rattle.scenario.specs.Limits.{most_air_lines, most_ops, most_steps, most_tag_lines}
 use Rattle.scenario.specs.AirLines.{ChoosesOnce, KeepsOrder, MayFollow}
 use Rattle.scenario.specs.Draft.{DraftValue}
 use Rattle.scenario.specs.Standing.{HasRoom, MayStand, NamesTag, Standing, begun, start, within}
@@ -56,31 +56,31 @@ bare_decided draft = elim (both (some_decided draft.steps.round) (both (none_dec
   | inr never ↦ inr (λ bare. never (bare.round, (bare.only, bare.ops)))
 ]
 
--- a line with this word may follow, or may not
-pub may_stand_decided : (standing : Standing) (word : Word) → Decided (MayStand standing word)
-may_stand_decided start words.Version = inl tt
-may_stand_decided begun words.Link = inl tt
-may_stand_decided (within draft) words.Tag = both (number_decided draft.air.count 0) (empty_decided (steps_of draft.steps))
-may_stand_decided (within draft) words.Air = empty_decided (steps_of draft.steps)
-may_stand_decided (within draft) words.Select = inl tt
-may_stand_decided (within draft) words.Nak = inl tt
-may_stand_decided (within draft) words.Event = inl tt
-may_stand_decided (within draft) words.Round = inl tt
-may_stand_decided (within draft) words.Only = bare_decided draft
-may_stand_decided (within draft) words.Op = some_decided draft.steps.round
-may_stand_decided (within draft) words.End = inl tt
-may_stand_decided standing word = inr (λ stands. stands)
+-- a line with this keyword may follow, or may not
+pub may_stand_decided : (standing : Standing) (keyword : Keyword) → Decided (MayStand standing keyword)
+may_stand_decided start keywords.Version = inl tt
+may_stand_decided begun keywords.Link = inl tt
+may_stand_decided (within draft) keywords.Tag = both (number_decided draft.air.count 0) (empty_decided (steps_of draft.steps))
+may_stand_decided (within draft) keywords.Air = empty_decided (steps_of draft.steps)
+may_stand_decided (within draft) keywords.Select = inl tt
+may_stand_decided (within draft) keywords.Nak = inl tt
+may_stand_decided (within draft) keywords.Event = inl tt
+may_stand_decided (within draft) keywords.Round = inl tt
+may_stand_decided (within draft) keywords.Only = bare_decided draft
+may_stand_decided (within draft) keywords.Op = some_decided draft.steps.round
+may_stand_decided (within draft) keywords.End = inl tt
+may_stand_decided standing keyword = inr (λ stands. stands)
 
 -- ... and there is room for it, or there is none
-pub has_room_decided : (standing : Standing) (word : Word) → Decided (HasRoom standing word)
-has_room_decided (within draft) words.Tag = lt_decided (length draft.tags) most_tags
-has_room_decided (within draft) words.Air = lt_decided draft.air.count most_air_lines
-has_room_decided (within draft) words.Select = lt_decided (length (steps_of draft.steps)) most_steps
-has_room_decided (within draft) words.Nak = lt_decided (length (steps_of draft.steps)) most_steps
-has_room_decided (within draft) words.Event = lt_decided (length (steps_of draft.steps)) most_steps
-has_room_decided (within draft) words.Round = lt_decided (length (steps_of draft.steps)) most_steps
-has_room_decided (within draft) words.Op = lt_decided (length draft.steps.operations.ops) most_ops
-has_room_decided standing word = inl tt
+pub has_room_decided : (standing : Standing) (keyword : Keyword) → Decided (HasRoom standing keyword)
+has_room_decided (within draft) keywords.Tag = lt_decided (length draft.tags) most_tag_lines
+has_room_decided (within draft) keywords.Air = lt_decided draft.air.count most_air_lines
+has_room_decided (within draft) keywords.Select = lt_decided (length (steps_of draft.steps)) most_steps
+has_room_decided (within draft) keywords.Nak = lt_decided (length (steps_of draft.steps)) most_steps
+has_room_decided (within draft) keywords.Event = lt_decided (length (steps_of draft.steps)) most_steps
+has_room_decided (within draft) keywords.Round = lt_decided (length (steps_of draft.steps)) most_steps
+has_room_decided (within draft) keywords.Op = lt_decided (length draft.steps.operations.ops) most_ops
+has_room_decided standing keyword = inl tt
 
 -- the tag that a line names is there, or isn't
 pub names_tag_decided : (tags : ℕ) (line : Line) → Decided (NamesTag tags line)

@@ -78,7 +78,9 @@ lines_upto laws bytes number fault first = λ upto.
     ∙ ap (λ (before : List (List ℕ)). before ++ first.line ∷ begins.more) first.settles.spelling in
     let same : map line_text said ++ first.line ∷ (begins.more ++ [] ∷ []) ≡ map line_text lines ++ [] ∷ [] =
     sym (append_assoc (map line_text said) (first.line ∷ begins.more) ([] ∷ [])) ∙ ap (λ (front : List (List ℕ)). front ++ [] ∷ []) (sym texts) in
-    elim (compare laws start first.standing (ended spoken.draft) said lines first.line [] (begins.more ++ [] ∷ []) [] first.settles.leads spoken.leads same) [
+    elim (compare laws start said lines
+    (record { line = first.line; behind = begins.more ++ [] ∷ []; to = first.standing; leads = first.settles.leads })
+    (record { line = []; behind = []; to = ended spoken.draft; leads = spoken.leads }) same) [
       | inl place ↦ some_behind begins.more [] [] place.behind_is
       | inr (inl goes) ↦ not_faulty laws first.behind first.standing first.line fault
           (record { next = goes.next; text = goes.text; follows = goes.follows; more = some }) first.faulty

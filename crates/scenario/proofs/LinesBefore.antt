@@ -9,8 +9,8 @@ use Rattle.air_events.specs.Entries.{no_entry}
 use Rattle.air_events.specs.declared.Entry.{Entry}
 use Rattle.air_events.specs.declared.Choice.{Choice}
 use Rattle.q_round.specs.SpecValue.{SpecValue}
-use Rattle.scenario_lines.specs.declared.first_fields.Word.{Word}
-use Rattle.scenario_lines.specs.declared.first_fields.Word.TheVariants as words
+use Rattle.scenario_lines.specs.declared.first_fields.Keyword.{Keyword}
+use Rattle.scenario_lines.specs.declared.first_fields.Keyword.TheVariants as keywords
 use Rattle.scenario_lines.specs.declared.line.Happening.{Happening}
 use Rattle.scenario_lines.specs.declared.line.Happening.TheVariants as happenings
 use Rattle.scenario_lines.specs.declared.line.Line.{Line}
@@ -18,7 +18,7 @@ use Rattle.scenario_lines.specs.declared.line.Line.TheVariants as lines
 use Rattle.scenario.specs.declared.fault.Fault.{Fault}
 use Rattle.scenario.specs.declared.fault.Fault.TheVariants as faults
 use Rattle.scenario.specs.declared.values.Step.{Step}
-use Rattle.scenario.specs.Limits.{most_tags, most_air_lines, most_ops, most_steps}
+use Rattle.scenario.specs.Limits.{most_tag_lines, most_air_lines, most_ops, most_steps}
 use Rattle.scenario.specs.Draft.{DraftValue, new_draft, draft_after}
 use Rattle.scenario.specs.Standing.{Standing, start, begun, within, ended, after, Follows, Leads, HasRoom, NamesTag}
 use Rattle.scenario.specs.AirLines.{at_exchange, with_said, with_happening, MayFollow, KeepsOrder, ChoosesOnce}
@@ -217,32 +217,27 @@ last-same : (before : List Step) (round : Option SpecValue) (operations operatio
 last-same before None operations operations' = refl
 last-same before (Some spec) operations operations' = length-push before _ ∙ sym (length-push before _)
 
-ops-same : (before : List Line) (line : Line) (count : ℕ) → count ≡ ops_behind 0 before → ops_behind (ops_behind 0 before) (line ∷ []) ≡ ops_behind 0 before → count ≡ ops_behind 0 (before ++ line ∷ [])
-ops-same before line count so_far same = so_far ∙ sym same ∙ sym (ops-push 0 before line)
+-- what a draft has more after one line
+record Adds (line : Line) (draft grows : DraftValue) : Type 0 where
+  tags : length grows.tags ≡ length draft.tags + tags_one line
+  airs : grows.air.count ≡ draft.air.count + airs_one line
+  steps : length (steps_of grows.steps) ≡ length (steps_of draft.steps) + steps_one line
+  ops : length grows.steps.operations.ops ≡ ops_behind (length draft.steps.operations.ops) (line ∷ [])
 
-tells-tag : (before : List Line) (draft : DraftValue) (line : Line) (grows : DraftValue) → Tells before draft → tags_one line ≡ 1 → airs_one line ≡ 0 → steps_one line ≡ 0
-    → ops_behind (ops_behind 0 before) (line ∷ []) ≡ ops_behind 0 before → length grows.tags ≡ length draft.tags + 1 → grows.air.count ≡ draft.air.count → steps_of grows.steps ≡ steps_of draft.steps
-    → grows.steps.operations ≡ draft.steps.operations → TellsAirs (before ++ line ∷ []) grows.air.exchange grows.air.latest → Tells (before ++ line ∷ []) grows
-tells-tag before draft line grows told tag no_air no_step no_op tags airs steps operations exchanges = record {
-  tags = omega (arith, tags, told.tags, tags-push before line, tag);
-  airs = omega (arith, airs, told.airs, airs-push before line, no_air);
-  steps = omega (arith, ap length steps, told.steps, steps-push before line, no_step);
-  ops = ops-same before line (length grows.steps.operations.ops) (ap (λ (o : OpList). length o.ops) operations ∙ told.ops) no_op;
+tells-more : (before : List Line) (draft : DraftValue) (line : Line) (grows : DraftValue) → Tells before draft → Adds line draft grows
+    → TellsAirs (before ++ line ∷ []) grows.air.exchange grows.air.latest → Tells (before ++ line ∷ []) grows
+tells-more before draft line grows told adds exchanges = record {
+  tags = omega (arith, adds.tags, told.tags, tags-push before line);
+  airs = omega (arith, adds.airs, told.airs, airs-push before line);
+  steps = omega (arith, adds.steps, told.steps, steps-push before line);
+  ops = adds.ops ∙ ap (λ count. ops_behind count (line ∷ [])) told.ops ∙ sym (ops-push 0 before line);
   exchanges = exchanges;
 }
 
-tells-air : (before : List Line) (draft : DraftValue) (exchange : ℕ) (said : Happening) (grows : DraftValue) → Tells before draft → grows.tags ≡ draft.tags → grows.air.count ≡ draft.air.count + 1
-    → steps_of grows.steps ≡ steps_of draft.steps → grows.steps.operations ≡ draft.steps.operations → TellsAirs (before ++ lines.Air exchange said ∷ []) grows.air.exchange grows.air.latest
-    → Tells (before ++ lines.Air exchange said ∷ []) grows
-tells-air before draft exchange said grows told tags airs steps operations exchanges =
-    let line = lines.Air exchange said in
-    record {
-      tags = omega (arith, ap length tags, told.tags, tags-push before line);
-      airs = omega (arith, airs, told.airs, airs-push before line);
-      steps = omega (arith, ap length steps, told.steps, steps-push before line);
-      ops = ops-same before line (length grows.steps.operations.ops) (ap (λ (o : OpList). length o.ops) operations ∙ told.ops) refl;
-      exchanges = exchanges;
-    }
+-- an air line more
+adds-air : (draft : DraftValue) (exchange : ℕ) (said : Happening) (closed : List (ℕ × Entry)) (number : ℕ) (latest : Entry)
+    → Adds (lines.Air exchange said) draft (record draft { air = record { count = draft.air.count + 1; closed = closed; exchange = number; latest = latest } })
+adds-air draft exchange said closed number latest = record { tags = omega arith; airs = refl; steps = omega arith; ops = refl }
 
 above-not : (last next : ℕ) → last ≤ next → next ≢ last → last < next
 above-not zero zero above differs = absurd (differs refl)
@@ -256,38 +251,15 @@ air-draft_after : (before : List Line) (draft : DraftValue) (exchange : ℕ) (sa
     Tells (before ++ lines.Air exchange said ∷ []) (record draft { air = if same then with_said counted said else with_said (at_exchange counted exchange) said })
 air-draft_after before draft exchange said true is above told =
     let counted = record draft.air { count = draft.air.count + 1 } in
-    tells-air before draft exchange said (record draft { air = with_said counted said }) told refl refl refl refl
+    tells-more before draft (lines.Air exchange said) (record draft { air = with_said counted said }) told (adds-air draft exchange said _ _ _)
     (subst (λ (n : ℕ). TellsAirs (before ++ lines.Air n said ∷ []) draft.air.exchange (with_happening draft.air.latest said)) (sym (eqb-true exchange draft.air.exchange is))
     (airs-same before draft.air.exchange draft.air.latest said told.exchanges))
 air-draft_after before draft exchange said false is above told =
     let counted = record draft.air { count = draft.air.count + 1 } in
     let differs : exchange ≢ draft.air.exchange = eqb-false exchange draft.air.exchange is in
-    tells-air before draft exchange said (record draft { air = with_said (at_exchange counted exchange) said }) told refl refl refl refl
+    tells-more before draft (lines.Air exchange said) (record draft { air = with_said (at_exchange counted exchange) said }) told
+    (adds-air draft exchange said _ _ _)
     (airs-next before draft.air.exchange exchange draft.air.latest said (above-not draft.air.exchange exchange above differs) told.exchanges)
-
--- a step, behind which no operation stands yet
-tells-step : (before : List Line) (draft : DraftValue) (line : Line) (grows : DraftValue) → Tells before draft → tags_one line ≡ 0 → airs_one line ≡ 0 → steps_one line ≡ 1
-    → ops_behind (ops_behind 0 before) (line ∷ []) ≡ 0 → grows.tags ≡ draft.tags → grows.air.count ≡ draft.air.count → length (steps_of grows.steps) ≡ length (steps_of draft.steps) + 1
-    → grows.steps.operations.ops ≡ [] → TellsAirs (before ++ line ∷ []) grows.air.exchange grows.air.latest → Tells (before ++ line ∷ []) grows
-tells-step before draft line grows told no_tag no_air step no_op tags airs steps operations exchanges = record {
-  tags = omega (arith, ap length tags, told.tags, tags-push before line, no_tag);
-  airs = omega (arith, airs, told.airs, airs-push before line, no_air);
-  steps = omega (arith, steps, told.steps, steps-push before line, step);
-  ops = ap length operations ∙ sym no_op ∙ sym (ops-push 0 before line);
-  exchanges = exchanges;
-}
-
--- what is said of the operations of the last step
-tells-operations : (before : List Line) (draft : DraftValue) (line : Line) (operations : OpList) → Tells before draft → tags_one line ≡ 0 → airs_one line ≡ 0 → steps_one line ≡ 0
-    → length operations.ops ≡ ops_behind (ops_behind 0 before) (line ∷ []) → TellsAirs (before ++ line ∷ []) draft.air.exchange draft.air.latest
-    → Tells (before ++ line ∷ []) (record draft { steps = record draft.steps { operations = operations } })
-tells-operations before draft line operations told no_tag no_air no_step ops exchanges = record {
-  tags = omega (arith, told.tags, tags-push before line, no_tag);
-  airs = omega (arith, told.airs, airs-push before line, no_air);
-  steps = omega (arith, last-same draft.steps.closed draft.steps.round operations draft.steps.operations, told.steps, steps-push before line, no_step);
-  ops = ops ∙ sym (ops-push 0 before line);
-  exchanges = exchanges;
-}
 
 -- the same of any place in a scenario
 abbrev Stands : List Line → Standing → Type 0
@@ -302,33 +274,51 @@ tells-one before draft lines.Version follows told = absurd follows.stands
 tells-one before draft (lines.Link link) follows told = absurd follows.stands
 tells-one before draft (lines.Tag tag) follows told =
     let line = lines.Tag tag in
-    tells-tag before draft line (draft_after draft line) told refl refl refl refl (length-push draft.tags tag) refl refl refl
+    tells-more before draft line (draft_after draft line) told
+    (record { tags = length-push draft.tags tag; airs = omega arith; steps = omega arith; ops = refl })
     (airs-kept before draft.air.exchange draft.air.latest line (λ exchange happening. tt) (λ exchange. tt) told.exchanges)
 tells-one before draft (lines.Air exchange said) follows told = air-draft_after before draft exchange said (exchange == draft.air.exchange) refl follows.agrees.order.0 told
 tells-one before draft (lines.Select selection) follows told =
     let line = lines.Select selection in
-    tells-step before draft line (draft_after draft line) told refl refl refl refl refl refl (length-push (steps_of draft.steps) _) refl
+    tells-more before draft line (draft_after draft line) told
+    (record { tags = omega arith; airs = omega arith; steps = length-push (steps_of draft.steps) _; ops = refl })
     (airs-kept before draft.air.exchange draft.air.latest line (λ exchange happening. tt) (λ exchange. tt) told.exchanges)
 tells-one before draft lines.Nak follows told =
     let line = lines.Nak in
-    tells-step before draft line (draft_after draft line) told refl refl refl refl refl refl (length-push (steps_of draft.steps) _) refl
+    tells-more before draft line (draft_after draft line) told
+    (record { tags = omega arith; airs = omega arith; steps = length-push (steps_of draft.steps) _; ops = refl })
     (airs-kept before draft.air.exchange draft.air.latest line (λ exchange happening. tt) (λ exchange. tt) told.exchanges)
 tells-one before draft (lines.Event event tag) follows told =
     let line = lines.Event event tag in
-    tells-step before draft line (draft_after draft line) told refl refl refl refl refl refl (length-push (steps_of draft.steps) _) refl
+    tells-more before draft line (draft_after draft line) told
+    (record { tags = omega arith; airs = omega arith; steps = length-push (steps_of draft.steps) _; ops = refl })
     (airs-kept before draft.air.exchange draft.air.latest line (λ exchange happening. tt) (λ exchange. tt) told.exchanges)
 tells-one before draft (lines.Round spec) follows told =
     let line = lines.Round spec in
-    tells-step before draft line (draft_after draft line) told refl refl refl refl refl refl (length-push (steps_of draft.steps) _) refl
+    tells-more before draft line (draft_after draft line) told
+    (record { tags = omega arith; airs = omega arith; steps = length-push (steps_of draft.steps) _; ops = refl })
     (airs-kept before draft.air.exchange draft.air.latest line (λ exchange happening. tt) (λ exchange. tt) told.exchanges)
 tells-one before draft (lines.Only epc) follows told =
     let line = lines.Only epc in
-    tells-operations before draft line (record { only = Some epc; ops = draft.steps.operations.ops }) told refl refl refl told.ops
+    let operations : OpList = record { only = Some epc; ops = draft.steps.operations.ops } in
+    tells-more before draft line (draft_after draft line) told
+    (record {
+      tags = omega arith;
+      airs = omega arith;
+      steps = omega (arith, last-same draft.steps.closed draft.steps.round operations draft.steps.operations);
+      ops = refl;
+    })
     (airs-kept before draft.air.exchange draft.air.latest line (λ exchange happening. tt) (λ exchange. tt) told.exchanges)
 tells-one before draft (lines.Op op) follows told =
     let line = lines.Op op in
-    let more : length (draft.steps.operations.ops ++ op ∷ []) ≡ ops_behind 0 before + 1 = length-push draft.steps.operations.ops op ∙ ap (λ n. n + 1) told.ops in
-    tells-operations before draft line (record { only = draft.steps.operations.only; ops = draft.steps.operations.ops ++ op ∷ [] }) told refl refl refl more
+    let operations : OpList = record { only = draft.steps.operations.only; ops = draft.steps.operations.ops ++ op ∷ [] } in
+    tells-more before draft line (draft_after draft line) told
+    (record {
+      tags = omega arith;
+      airs = omega arith;
+      steps = omega (arith, last-same draft.steps.closed draft.steps.round operations draft.steps.operations);
+      ops = length-push draft.steps.operations.ops op;
+    })
     (airs-kept before draft.air.exchange draft.air.latest line (λ exchange happening. tt) (λ exchange. tt) told.exchanges)
 tells-one before draft lines.End follows told = tt
 
@@ -404,18 +394,18 @@ room-or-full count counted most same =
 always : {A : Type 0} → A → A ↔ (¬ ⊥)
 always value = (λ any none. none, λ any. value)
 
-pub has-room : (said : List Line) (draft : DraftValue) (word : Word) → Leads start said (within draft) → HasRoom (within draft) word ↔ (¬ IsFullBefore said word)
-has-room said draft words.Version leads = always tt
-has-room said draft words.Link leads = always tt
-has-room said draft words.Tag leads = room-or-full (length draft.tags) (tags_in said) most_tags (tells said draft leads).tags
-has-room said draft words.Air leads = room-or-full draft.air.count (airs_in said) most_air_lines (tells said draft leads).airs
-has-room said draft words.Select leads = room-or-full (length (steps_of draft.steps)) (steps_in said) most_steps (tells said draft leads).steps
-has-room said draft words.Nak leads = room-or-full (length (steps_of draft.steps)) (steps_in said) most_steps (tells said draft leads).steps
-has-room said draft words.Event leads = room-or-full (length (steps_of draft.steps)) (steps_in said) most_steps (tells said draft leads).steps
-has-room said draft words.Round leads = room-or-full (length (steps_of draft.steps)) (steps_in said) most_steps (tells said draft leads).steps
-has-room said draft words.Only leads = always tt
-has-room said draft words.Op leads = room-or-full (length draft.steps.operations.ops) (ops_behind 0 said) most_ops (tells said draft leads).ops
-has-room said draft words.End leads = always tt
+pub has-room : (said : List Line) (draft : DraftValue) (keyword : Keyword) → Leads start said (within draft) → HasRoom (within draft) keyword ↔ (¬ IsFullBefore said keyword)
+has-room said draft keywords.Version leads = always tt
+has-room said draft keywords.Link leads = always tt
+has-room said draft keywords.Tag leads = room-or-full (length draft.tags) (tags_in said) most_tag_lines (tells said draft leads).tags
+has-room said draft keywords.Air leads = room-or-full draft.air.count (airs_in said) most_air_lines (tells said draft leads).airs
+has-room said draft keywords.Select leads = room-or-full (length (steps_of draft.steps)) (steps_in said) most_steps (tells said draft leads).steps
+has-room said draft keywords.Nak leads = room-or-full (length (steps_of draft.steps)) (steps_in said) most_steps (tells said draft leads).steps
+has-room said draft keywords.Event leads = room-or-full (length (steps_of draft.steps)) (steps_in said) most_steps (tells said draft leads).steps
+has-room said draft keywords.Round leads = room-or-full (length (steps_of draft.steps)) (steps_in said) most_steps (tells said draft leads).steps
+has-room said draft keywords.Only leads = always tt
+has-room said draft keywords.Op leads = room-or-full (length draft.steps.operations.ops) (ops_behind 0 said) most_ops (tells said draft leads).ops
+has-room said draft keywords.End leads = always tt
 
 keeps-order : (said : List Line) (draft : DraftValue) (line : Line) → Tells said draft → KeepsOrder draft.air line ↔ KeepsOrderBehind said line
 keeps-order said draft lines.Version told = (λ k. k, λ k. k)

@@ -13,7 +13,7 @@ use Rattle.scenario.specs.LineLaws.{LineLaws}
 use Rattle.scenario.specs.Draft.{DraftValue}
 use Rattle.scenario.specs.Standing.{Standing, ended, start}
 use Rattle.scenario.specs.Faults.{IsFaultyBefore, IsFirstFault, IsRefused}
-use Rattle.scenario.proofs.Places.{IsOnePlace, compare}
+use Rattle.scenario.proofs.Places.{IsOnePlace, LineBehind, compare}
 use Rattle.scenario.proofs.Reasons.{not_faulty, one_reason}
 use Rattle.scenario.proofs.Spoken.{scenario_is_said}
 use Rattle.scenario.proofs.Texts.{lines_said}
@@ -24,6 +24,15 @@ fault_cut : (bytes : List ℕ) (number : ℕ) (fault : Fault) (first : IsFirstFa
 fault_cut bytes number fault first =
     first.cut ∙ ap (λ (before : List (List ℕ)). before ++ first.line ∷ first.behind) first.settles.spelling
 
+-- the faulty line, behind those before it
+abbrev pub faulty_line : (bytes : List ℕ) (number : ℕ) (fault : Fault) (first : IsFirstFault bytes number fault) → LineBehind start first.settles.said
+faulty_line bytes number fault first = record {
+  line = first.line;
+  behind = first.behind;
+  to = first.standing;
+  leads = first.settles.leads;
+}
+
 -- at one place
 faulty_there : {said said' : List Line} {line line' : List ℕ} {behind behind' : List (List ℕ)} {to to' : Standing} (fault : Fault)
     → IsOnePlace said said' line line' behind behind' to to' → IsFaultyBefore behind to line fault → IsFaultyBefore behind' to' line' fault
@@ -32,22 +41,20 @@ faulty_there {line' = line'} {behind = behind} {behind' = behind'} {to = to} {to
     (subst (λ (s : Standing). IsFaultyBefore behind s line' fault) place.standing
     (subst (λ (l : List ℕ). IsFaultyBefore behind to l fault) place.line_is faulty))
 
-same_number : (before before' : List (List ℕ)) (said said' : List Line) (one other : ℕ) → before ≡ map line_text said → before' ≡ map line_text said'
-    → said ≡ said' → one ≡ length before + 1 → other ≡ length before' + 1 → one ≡ other
-same_number before before' said said' one other spelling spelling' same place place' =
-    let list = spelling ∙ ap (λ (lines : List Line). map line_text lines) same ∙ sym spelling' in
-    place ∙ ap (λ (lines : List (List ℕ)). length lines + 1) list ∙ sym place'
+same_number : (bytes : List ℕ) (one other : ℕ) (fault reason : Fault) (first : IsFirstFault bytes one fault) (second : IsFirstFault bytes other reason)
+    → first.settles.said ≡ second.settles.said → one ≡ other
+same_number bytes one other fault reason first second same =
+    let list = first.settles.spelling ∙ ap (λ (lines : List Line). map line_text lines) same ∙ sym second.settles.spelling in
+    first.place ∙ ap (λ (lines : List (List ℕ)). length lines + 1) list ∙ sym second.place
 
 -- a text has at most one first faulty line, which has one first reason
 pub one_fault : LineLaws → (bytes : List ℕ) (one other : ℕ) (fault reason : Fault) → IsFirstFault bytes one fault → IsFirstFault bytes other reason
     → (one ≡ other) × (fault ≡ reason)
 one_fault laws bytes one other fault reason first second =
     let same = sym (fault_cut bytes one fault first) ∙ fault_cut bytes other reason second in
-    elim (compare laws start first.standing second.standing first.settles.said second.settles.said first.line second.line first.behind second.behind
-    first.settles.leads second.settles.leads same) [
+    elim (compare laws start first.settles.said second.settles.said (faulty_line bytes one fault first) (faulty_line bytes other reason second) same) [
       | inl place ↦ (
-        same_number first.before second.before first.settles.said second.settles.said one other first.settles.spelling second.settles.spelling
-            place.lines first.place second.place,
+        same_number bytes one other fault reason first second place.lines,
         one_reason laws second.behind second.standing second.line fault reason (faulty_there fault place first.faulty) second.faulty,
       )
       | inr (inl goes) ↦ absurd (not_faulty laws first.behind first.standing first.line fault goes first.faulty)
@@ -64,8 +71,8 @@ pub scenario_is_not_faulty : LineLaws → (scenario : Scenario) (number : ℕ) (
 scenario_is_not_faulty laws scenario number fault is first =
     let said = scenario_is_said scenario is in
     let same = sym (fault_cut (scenario_text scenario) number fault first) ∙ lines_said laws start (ended said.draft) (scenario_lines scenario) said.leads in
-    elim (compare laws start first.standing (ended said.draft) first.settles.said (scenario_lines scenario) first.line [] first.behind []
-    first.settles.leads said.leads same) [
+    elim (compare laws start first.settles.said (scenario_lines scenario) (faulty_line (scenario_text scenario) number fault first)
+    (record { line = []; behind = []; to = ended said.draft; leads = said.leads }) same) [
       | inl place ↦ end_is_not_faulty said.draft fault (faulty_there fault place first.faulty)
       | inr (inl goes) ↦ not_faulty laws first.behind first.standing first.line fault goes first.faulty
       | inr (inr goes) ↦ goes.follows.stands

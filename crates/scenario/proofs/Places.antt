@@ -25,34 +25,46 @@ some_behind [] behind line none = cc
 some_behind (first ∷ front) behind line none = cc
 
 -- where one place comes before the other, the text goes on there
-goes_on : (from to : Standing) (next : Line) (said : List Line) (line line' : List ℕ) (behind behind' : List (List ℕ)) → from ≡ to
-    → Follows from next → line ∷ behind ≡ line_text next ∷ map line_text said ++ line' ∷ behind' → GoesOn to line behind
-goes_on from to next said line line' behind behind' leads follows same =
+goes_on : {from : Standing} (to : Standing) (next : Line) (line : List ℕ) (behind others : List (List ℕ)) → from ≡ to → Follows from next
+    → line ∷ behind ≡ line_text next ∷ others → others ≢ [] → GoesOn to line behind
+goes_on to next line behind others leads follows same some =
     let text : line ≡ line_text next = cc in
-    let others : behind ≡ map line_text said ++ line' ∷ behind' = cc in
+    let rest : behind ≡ others = cc in
     record {
       next = next;
       text = text;
       follows = subst (λ (s : Standing). Follows s next) leads follows;
-      more = λ none. some_behind (map line_text said) behind' line' (sym others ∙ none);
+      more = λ none. some (sym rest ∙ none);
     }
 
+-- a line of a text behind these lines, and what stands behind it
+pub record LineBehind (from : Standing) (said : List Line) : Type 0 where
+  pub line : List ℕ
+  pub behind : List (List ℕ)
+  pub to : Standing
+  pub leads : Leads from said to
+
 -- two places are one, or the text goes on at one of them
-pub compare : LineLaws → (from to to' : Standing) (said said' : List Line) (line line' : List ℕ) (behind behind' : List (List ℕ)) → Leads from said to
-    → Leads from said' to' → map line_text said ++ line ∷ behind ≡ map line_text said' ++ line' ∷ behind'
-    → IsOnePlace said said' line line' behind behind' to to' ⊎ GoesOn to line behind ⊎ GoesOn to' line' behind'
-compare laws from to to' [] [] line line' behind behind' leads leads' same =
-    inl (record { lines = refl; line_is = cc; behind_is = cc; standing = sym leads ∙ leads' })
-compare laws from to to' [] (next ∷ said') line line' behind behind' leads leads' same =
-    inr (inl (goes_on from to next said' line line' behind behind' leads leads'.0 same))
-compare laws from to to' (next ∷ said) [] line line' behind behind' leads leads' same =
-    inr (inr (goes_on from to' next said line' line behind' behind leads' leads.0 (sym same)))
-compare laws from to to' (next ∷ said) (next' ∷ said') line line' behind behind' leads leads' same =
+pub compare : LineLaws → (from : Standing) (said said' : List Line) (one : LineBehind from said) (other : LineBehind from said')
+    → map line_text said ++ one.line ∷ one.behind ≡ map line_text said' ++ other.line ∷ other.behind
+    → IsOnePlace said said' one.line other.line one.behind other.behind one.to other.to ⊎ GoesOn one.to one.line one.behind
+    ⊎ GoesOn other.to other.line other.behind
+compare laws from [] [] one other same =
+    inl (record { lines = refl; line_is = cc; behind_is = cc; standing = sym one.leads ∙ other.leads })
+compare laws from [] (next ∷ said') one other same =
+    inr (inl (goes_on one.to next one.line one.behind (map line_text said' ++ other.line ∷ other.behind) one.leads other.leads.0 same
+    (some_behind (map line_text said') other.behind other.line)))
+compare laws from (next ∷ said) [] one other same =
+    inr (inr (goes_on other.to next other.line other.behind (map line_text said ++ one.line ∷ one.behind) other.leads one.leads.0 (sym same)
+    (some_behind (map line_text said) one.behind one.line)))
+compare laws from (next ∷ said) (next' ∷ said') one other same =
     let text : line_text next ≡ line_text next' = cc in
-    let texts : map line_text said ++ line ∷ behind ≡ map line_text said' ++ line' ∷ behind' = cc in
-    let first = line_told laws next next' leads.0.is leads'.0.is text in
-    let rest : Leads (after from next) said' to' = subst (λ (l : Line). Leads (after from l) said' to') (sym first) leads'.1 in
-    elim (compare laws (after from next) to to' said said' line line' behind behind' leads.1 rest texts) [
+    let texts : map line_text said ++ one.line ∷ one.behind ≡ map line_text said' ++ other.line ∷ other.behind = cc in
+    let first = line_told laws next next' one.leads.0.is other.leads.0.is text in
+    let rest : Leads (after from next) said' other.to = subst (λ (l : Line). Leads (after from l) said' other.to) (sym first) other.leads.1 in
+    let one_rest : LineBehind (after from next) said = record { line = one.line; behind = one.behind; to = one.to; leads = one.leads.1 } in
+    let other_rest : LineBehind (after from next) said' = record { line = other.line; behind = other.behind; to = other.to; leads = rest } in
+    elim (compare laws (after from next) said said' one_rest other_rest texts) [
       | inl place ↦ inl (record { lines = cc; line_is = place.line_is; behind_is = place.behind_is; standing = place.standing })
       | inr goes ↦ inr goes
     ]

@@ -29,6 +29,7 @@ use Rattle.scenario.specs.Taking.{LeadsBy, LeadsTo, Takes, standing_of}
 use Rattle.scenario.specs.declared.progress.Progress.{Progress}
 use Rattle.scenario.specs.declared.progress.Progress.TheVariants.{Start, Begun, Within}
 use Rattle.scenario.specs.declared.progress.Taken.{Taken}
+use Rattle.scenario.specs.declared.progress.Taken.TheVariants.{End as TakenEnd}
 use Rattle.scenario.specs.declared.values.Scenario.{Scenario}
 use Rattle.scenario.specs.declared.fault.ScenarioFault.{ScenarioFault}
 use Rattle.scenario.specs.declared.fault.ScenarioFault.TheVariants as scenario_faults
@@ -132,13 +133,21 @@ said_more text rest line behind said next cut first same =
 pub read_none : (text : List ℕ) → SoFar text text start
 read_none text = record { said = []; cut = refl; leads = refl }
 
+-- the next line of a text that is read up to there, and what stands behind it
+pub record NextLine (text : List ℕ) (from : Standing) : Type 0 where
+  pub rest : List ℕ
+  pub line : List ℕ
+  pub behind : List ℕ
+  pub first : lines_of rest ≡ line ∷ lines_of behind
+  pub so_far : SoFar text rest from
+  pub still_says : StillSays text rest from
+
 -- one line more is read
-pub read_more : (text rest line behind : List ℕ) (from to : Standing) → SoFar text rest from → lines_of rest ≡ line ∷ lines_of behind
-    → LeadsBy line from to → SoFar text behind to
-read_more text rest line behind from to so_far first by = record {
-  said = so_far.said ++ by.said ∷ [];
-  cut = said_more text rest line behind so_far.said by.said so_far.cut first (text_spelled line by.said by.spelling);
-  leads = leads_one start from to so_far.said by.said so_far.leads by.follows by.leads;
+pub read_more : (text : List ℕ) (from to : Standing) (next : NextLine text from) → LeadsBy next.line from to → SoFar text next.behind to
+read_more text from to next by = record {
+  said = next.so_far.said ++ by.said ∷ [];
+  cut = said_more text next.rest next.line next.behind next.so_far.said by.said next.so_far.cut next.first (text_spelled next.line by.said by.spelling);
+  leads = leads_one start from to next.so_far.said by.said next.so_far.leads by.follows by.leads;
 }
 
 -- the first of the lines that are left
@@ -173,13 +182,19 @@ ended_left : (draft last : DraftValue) (todo : List Line) → Leads (ended draft
 ended_left draft last [] leads = (cc, refl)
 ended_left draft last (next ∷ todo) leads = absurd leads.0.stands
 
-pub says_more : LineLaws → (text rest line behind : List ℕ) (from to : Standing) → StillSays text rest from → lines_of rest ≡ line ∷ lines_of behind
-    → ((said : Line) → SpellsLine (fields_of line) said → Follows from said → after from said ≡ to) → StillSays text behind to
-says_more laws text rest line behind from to still_says first only = λ whole last left.
-    let here = still_says whole last left in
-    let next = next_left laws rest line behind from last here.0 first here.1 in
-    let leads = subst (λ (s : Standing). Leads s next.todo (ended last)) (only next.next next.spells next.follows) next.leads in
-    (next.todo, record { cut = next.cut; leads = leads })
+-- ... where the whole text says something
+left_here : LineLaws → (text : List ℕ) (from : Standing) (next : NextLine text from) (last : DraftValue) (whole : List Line)
+    → AreLeft text start whole last → NextLeft next.line next.behind from last
+left_here laws text from next last whole left =
+    let here = next.still_says whole last left in
+    next_left laws next.rest next.line next.behind from last here.0 next.first here.1
+
+pub says_more : LineLaws → (text : List ℕ) (from to : Standing) (next : NextLine text from)
+    → ((said : Line) → SpellsLine (fields_of next.line) said → Follows from said → after from said ≡ to) → StillSays text next.behind to
+says_more laws text from to next only = λ whole last left.
+    let here = left_here laws text from next last whole left in
+    let leads = subst (λ (s : Standing). Leads s here.todo (ended last)) (only here.next here.spells here.follows) here.leads in
+    (here.todo, record { cut = here.cut; leads = leads })
 
 faulty_before : (behind : List (List ℕ)) (progress : Progress) (line : List ℕ) (fault : Fault) → 1 ≤ length behind
     → IsFaultyHere (standing_of progress) line fault → IsFaultyBefore behind (standing_of progress) line fault
@@ -199,18 +214,17 @@ place_here text rest standing so_far =
     omega (arith, leads_count start standing so_far.said so_far.leads, length-map so_far.said line_text)
 
 -- the next line is the first faulty one
-pub fault_here : (text rest line behind : List ℕ) (progress : Progress) (number : ℕ) (fault : Fault) → SoFar text rest (standing_of progress)
-    → lines_of rest ≡ line ∷ lines_of behind → number ≡ 1 + lines_before (standing_of progress) → IsFaultyHere (standing_of progress) line fault
-    → IsFirstFault text number fault
-fault_here text rest line behind progress number fault so_far first count faulty = record {
-  before = map line_text so_far.said;
-  line = line;
-  behind = lines_of behind;
+pub fault_here : (text : List ℕ) (progress : Progress) (next : NextLine text (standing_of progress)) (number : ℕ) (fault : Fault)
+    → number ≡ 1 + lines_before (standing_of progress) → IsFaultyHere (standing_of progress) next.line fault → IsFirstFault text number fault
+fault_here text progress next number fault count faulty = record {
+  before = map line_text next.so_far.said;
+  line = next.line;
+  behind = lines_of next.behind;
   standing = standing_of progress;
-  cut = so_far.cut ∙ ap (λ (list : List (List ℕ)). map line_text so_far.said ++ list) first;
-  settles = record { said = so_far.said; spelling = refl; leads = so_far.leads };
-  place = count ∙ place_here text rest (standing_of progress) so_far;
-  faulty = faulty_before (lines_of behind) progress line fault (some_line behind) faulty;
+  cut = next.so_far.cut ∙ ap (λ (list : List (List ℕ)). map line_text next.so_far.said ++ list) next.first;
+  settles = record { said = next.so_far.said; spelling = refl; leads = next.so_far.leads };
+  place = count ∙ place_here text next.rest (standing_of progress) next.so_far;
+  faulty = faulty_before (lines_of next.behind) progress next.line fault (some_line next.behind) faulty;
 }
 
 -- the next line has no line feed, or isn't there
@@ -228,11 +242,22 @@ fault_last text rest progress number so_far one count = record {
 }
 
 -- what is known of a line by what it did
-pub takes_as : (line : List ℕ) (old : Standing) (taken as_this : Taken) → taken ≡ as_this → Takes old line taken → Takes old line as_this
-takes_as line old taken as_this same takes = subst (λ (t : Taken). Takes old line t) same takes
+pub takes_as : (line : List ℕ) (old : Standing) (taken as_this : Taken) (new : Progress) → taken ≡ as_this → Takes old line taken new → Takes old line as_this new
+takes_as line old taken as_this new same takes = subst (λ (t : Taken). Takes old line t new) same takes
 
-pub leads_as : (standing : Standing) (taken as_this : Taken) → taken ≡ as_this → LeadsTo standing taken → LeadsTo standing as_this
-leads_as standing taken as_this same leads = subst (λ (t : Taken). LeadsTo standing t) same leads
+pub leads_as : (standing : Standing) (taken as_this : Taken) (new : Progress) → taken ≡ as_this → LeadsTo standing taken new → LeadsTo standing as_this new
+leads_as standing taken as_this new same leads = subst (λ (t : Taken). LeadsTo standing t new) same leads
+
+-- ... where it is the end of a draft
+pub ends_draft : (line : List ℕ) (old : Standing) (taken : Taken) (new : Progress) (draft : DraftValue) → taken ≡ TakenEnd → new ≡ Within draft
+    → Takes old line taken new → LeadsBy line old (ended draft)
+ends_draft line old taken new draft end is takes =
+    subst (λ (p : Progress). Takes old line TakenEnd p) is (takes_as line old taken TakenEnd new end takes)
+
+pub leads_end : (standing : Standing) (taken : Taken) (new : Progress) (draft : DraftValue) → taken ≡ TakenEnd → new ≡ Within draft
+    → LeadsTo standing taken new → standing ≡ ended draft
+leads_end standing taken new draft end is leads =
+    subst (λ (p : Progress). LeadsTo standing TakenEnd p) is (leads_as standing taken TakenEnd new end leads)
 
 -- where nothing stands behind the end, the lines say the scenario
 pub end_finishes : (text behind : List ℕ) (draft : DraftValue) (scenario : Scenario) → SoFar text behind (ended draft) → scenario ≡ scenario_of draft
@@ -244,16 +269,22 @@ end_finishes text behind draft scenario read says nothing = record {
   says = sym says;
 }
 
-extra_at : (text : List ℕ) (number : ℕ) (draft : DraftValue) (pieces : List (List ℕ)) (said : List Line) → lines_of text ≡ map line_text said ++ pieces
-    → Leads start said (ended draft) → number ≡ length (map line_text said) + 1 → pieces ≢ [] ∷ [] → 1 ≤ length pieces → IsFirstFault text number Extra
-extra_at text number draft [] said cut leads place some any = absurd (omega arith)
-extra_at text number draft (line ∷ behind) said cut leads place some any = record {
-  before = map line_text said;
+-- the lines of a text, up to the end of a draft and behind it
+record EndsBefore (text : List ℕ) (draft : DraftValue) (pieces : List (List ℕ)) : Type 0 where
+  said : List Line
+  cut : lines_of text ≡ map line_text said ++ pieces
+  leads : Leads start said (ended draft)
+
+extra_at : (text : List ℕ) (number : ℕ) (draft : DraftValue) (pieces : List (List ℕ)) (ends : EndsBefore text draft pieces)
+    → number ≡ length (map line_text ends.said) + 1 → pieces ≢ [] ∷ [] → 1 ≤ length pieces → IsFirstFault text number Extra
+extra_at text number draft [] ends place some any = absurd (omega arith)
+extra_at text number draft (line ∷ behind) ends place some any = record {
+  before = map line_text ends.said;
   line = line;
   behind = behind;
   standing = ended draft;
-  cut = cut;
-  settles = record { said = said; spelling = refl; leads = leads };
+  cut = ends.cut;
+  settles = record { said = ends.said; spelling = refl; leads = ends.leads };
   place = place;
   faulty = (refl, some);
 }
@@ -263,7 +294,8 @@ pub extra_behind : (text behind : List ℕ) (draft : DraftValue) (fault : Scenar
     → IsRefused text fault
 extra_behind text behind draft (scenario_faults.Line number fault) read extra =
     subst (λ (f : Fault). IsFirstFault text number f) (sym extra.0)
-    (extra_at text number draft (lines_of behind) read.said read.cut read.leads (extra.1 ∙ place_here text behind (ended draft) read)
+    (extra_at text number draft (lines_of behind) (record { said = read.said; cut = read.cut; leads = read.leads })
+    (extra.1 ∙ place_here text behind (ended draft) read)
     (λ none. extra.2 (nothing_left behind none)) (some_line behind))
 extra_behind text behind draft scenario_faults.OutOfMemory read extra = tt
 
@@ -274,24 +306,21 @@ no_extra behind draft (scenario_faults.Line number fault) nothing extra = absurd
 no_extra behind draft scenario_faults.OutOfMemory nothing extra = refl
 
 -- where what is left ends here, it says this draft, and nothing stands behind
-pub end_said : LineLaws → (text rest line behind : List ℕ) (from : Standing) (draft last : DraftValue) (whole : List Line) → StillSays text rest from
-    → lines_of rest ≡ line ∷ lines_of behind → AreLeft text start whole last
-    → ((said : Line) → SpellsLine (fields_of line) said → Follows from said → after from said ≡ ended draft) → (draft ≡ last) × (behind ≡ [])
-end_said laws text rest line behind from draft last whole still_says first left only =
-    let here = still_says whole last left in
-    let next = next_left laws rest line behind from last here.0 first here.1 in
-    let leads = subst (λ (s : Standing). Leads s next.todo (ended last)) (only next.next next.spells next.follows) next.leads in
-    let both = ended_left draft last next.todo leads in
-    (both.0, nothing_left behind (next.cut ∙ ap (λ (list : List Line). map line_text list ++ [] ∷ []) both.1))
+pub end_said : LineLaws → (text : List ℕ) (from : Standing) (next : NextLine text from) (draft last : DraftValue) (whole : List Line)
+    → AreLeft text start whole last → ((said : Line) → SpellsLine (fields_of next.line) said → Follows from said → after from said ≡ ended draft)
+    → (draft ≡ last) × (next.behind ≡ [])
+end_said laws text from next draft last whole left only =
+    let here = left_here laws text from next last whole left in
+    let leads = subst (λ (s : Standing). Leads s here.todo (ended last)) (only here.next here.spells here.follows) here.leads in
+    let both = ended_left draft last here.todo leads in
+    (both.0, nothing_left next.behind (here.cut ∙ ap (λ (list : List Line). map line_text list ++ [] ∷ []) both.1))
 
 -- where what is left says something, the next line is not faulty
-pub not_faulty : LineLaws → (text rest line behind : List ℕ) (from : Standing) (last : DraftValue) (whole : List Line) → StillSays text rest from
-    → lines_of rest ≡ line ∷ lines_of behind → AreLeft text start whole last
-    → ((said : Line) → SpellsLine (fields_of line) said → Follows from said → ⊥) → ⊥
-not_faulty laws text rest line behind from last whole still_says first left none =
-    let here = still_says whole last left in
-    let next = next_left laws rest line behind from last here.0 first here.1 in
-    none next.next next.spells next.follows
+pub not_faulty : LineLaws → (text : List ℕ) (from : Standing) (next : NextLine text from) (last : DraftValue) (whole : List Line)
+    → AreLeft text start whole last → ((said : Line) → SpellsLine (fields_of next.line) said → Follows from said → ⊥) → ⊥
+not_faulty laws text from next last whole left none =
+    let here = left_here laws text from next last whole left in
+    none here.next here.spells here.follows
 
 -- what is read is spelled so
 pub read_is_spelled : (text : List ℕ) (scenario : Scenario) → SaysScenario text scenario → IsScenario scenario × (text ≡ scenario_text scenario)

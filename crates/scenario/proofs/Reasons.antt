@@ -1,11 +1,11 @@
 -- The first reason for which a line is faulty is one, and a line that may follow has none.
 use Rattle.std.proofs.Common.{◌≡◌, ℕ, List, [], ◌∷◌, length, refl, sym, ◌∙◌, ap, subst}
 use Rattle.text_fields.specs.Lines.{fields_of}
-use Rattle.scenario_lines.specs.declared.first_fields.Word.{Word}
+use Rattle.scenario_lines.specs.declared.first_fields.Keyword.{Keyword}
 use Rattle.scenario_lines.specs.declared.line.Line.{Line}
 use Rattle.scenario_lines.specs.declared.fault.LineFault.{LineFault}
 use Rattle.scenario_lines.specs.declared.fault.LineFault.TheVariants as line_faults
-use Rattle.scenario_lines.specs.Spelling.{line_text, word_of_line}
+use Rattle.scenario_lines.specs.Spelling.{line_text, keyword_of}
 use Rattle.scenario_lines.specs.LineFaults.{BeginsWith, SpellsLine}
 use Rattle.scenario.specs.declared.fault.Fault.{Fault}
 use Rattle.scenario.specs.declared.fault.Fault.TheVariants.{Line as LineReason, Limit, Tag, Order, Twice}
@@ -59,11 +59,11 @@ one_disagreement_at laws standing fields fault reason one other =
 -- a line that disagrees has its place
 disagreement_place : (standing : Standing) (fields : List (List ℕ)) (fault : Fault) → Disagrees standing fields fault → HasPlace standing fields
 disagreement_place standing fields fault disagrees =
-    record { word = word_of_line disagrees.line; begins = spelled_begins fields disagrees.line disagrees.spells; stands = disagrees.stands; room = disagrees.room }
+    record { keyword = keyword_of disagrees.line; begins = spelled_begins fields disagrees.line disagrees.spells; stands = disagrees.stands; room = disagrees.room }
 
 -- the stage at which a line is refused
 data Stage (standing : Standing) (fields : List (List ℕ)) (fault : Fault) : Type 0 where
-  no_place : fault ≡ LineReason line_faults.Word → ((word : Word) → BeginsWith fields word → ¬ MayStand standing word) → Stage standing fields fault
+  no_place : fault ≡ LineReason line_faults.Word → ((keyword : Keyword) → BeginsWith fields keyword → ¬ MayStand standing keyword) → Stage standing fields fault
   too_much : fault ≡ Limit → IsTooMuch standing fields → Stage standing fields fault
   nothing : (line_fault : LineFault) → fault ≡ LineReason line_fault → SaysNothing standing fields line_fault → Stage standing fields fault
   disagreeing : Disagrees standing fields fault → Stage standing fields fault
@@ -82,28 +82,28 @@ stage_of standing fields fault faulty = disagreeing faulty
 
 too_much_or_place : LineLaws → (standing : Standing) (fields : List (List ℕ)) → IsTooMuch standing fields → HasPlace standing fields → ⊥
 too_much_or_place laws standing fields much place =
-    much.no_room (subst (HasRoom standing) (laws.lines_begin_with_one_word fields place.word much.word place.begins much.begins) place.room)
+    much.no_room (subst (HasRoom standing) (laws.lines_begin_with_one_keyword fields place.keyword much.keyword place.begins much.begins) place.room)
 
 one_stage : LineLaws → (standing : Standing) (fields : List (List ℕ)) (fault reason : Fault) → Stage standing fields fault → Stage standing fields reason
     → fault ≡ reason
 one_stage laws standing fields fault reason (no_place is none) (no_place is' none') = is ∙ sym is'
-one_stage laws standing fields fault reason (no_place is none) (too_much is' much) = absurd (none much.word much.begins much.stands)
-one_stage laws standing fields fault reason (no_place is none) (nothing line_fault is' says) = absurd (none says.place.word says.place.begins says.place.stands)
+one_stage laws standing fields fault reason (no_place is none) (too_much is' much) = absurd (none much.keyword much.begins much.stands)
+one_stage laws standing fields fault reason (no_place is none) (nothing line_fault is' says) = absurd (none says.place.keyword says.place.begins says.place.stands)
 one_stage laws standing fields fault reason (no_place is none) (disagreeing disagrees) =
-    let place = disagreement_place standing fields reason disagrees in absurd (none place.word place.begins place.stands)
-one_stage laws standing fields fault reason (too_much is much) (no_place is' none) = absurd (none much.word much.begins much.stands)
+    let place = disagreement_place standing fields reason disagrees in absurd (none place.keyword place.begins place.stands)
+one_stage laws standing fields fault reason (too_much is much) (no_place is' none) = absurd (none much.keyword much.begins much.stands)
 one_stage laws standing fields fault reason (too_much is much) (too_much is' much') = is ∙ sym is'
 one_stage laws standing fields fault reason (too_much is much) (nothing line_fault is' says) = absurd (too_much_or_place laws standing fields much says.place)
 one_stage laws standing fields fault reason (too_much is much) (disagreeing disagrees) =
     absurd (too_much_or_place laws standing fields much (disagreement_place standing fields reason disagrees))
-one_stage laws standing fields fault reason (nothing line_fault is says) (no_place is' none) = absurd (none says.place.word says.place.begins says.place.stands)
+one_stage laws standing fields fault reason (nothing line_fault is says) (no_place is' none) = absurd (none says.place.keyword says.place.begins says.place.stands)
 one_stage laws standing fields fault reason (nothing line_fault is says) (too_much is' much) = absurd (too_much_or_place laws standing fields much says.place)
 one_stage laws standing fields fault reason (nothing line_fault is says) (nothing line_fault' is' says') =
     is ∙ ap LineReason (laws.lines_have_one_fault fields line_fault line_fault' says.faulty says'.faulty) ∙ sym is'
 one_stage laws standing fields fault reason (nothing line_fault is says) (disagreeing disagrees) =
     absurd (laws.spelled_lines_are_not_faulty fields disagrees.line line_fault disagrees.spells says.faulty)
 one_stage laws standing fields fault reason (disagreeing disagrees) (no_place is none) =
-    let place = disagreement_place standing fields fault disagrees in absurd (none place.word place.begins place.stands)
+    let place = disagreement_place standing fields fault disagrees in absurd (none place.keyword place.begins place.stands)
 one_stage laws standing fields fault reason (disagreeing disagrees) (too_much is much) =
     absurd (too_much_or_place laws standing fields much (disagreement_place standing fields fault disagrees))
 one_stage laws standing fields fault reason (disagreeing disagrees) (nothing line_fault is says) =
@@ -136,10 +136,10 @@ no_disagreement_at laws standing fields line fault follows spells disagrees =
 follows_at_no_stage : LineLaws → (standing : Standing) (fields : List (List ℕ)) (line : Line) (fault : Fault) → Follows standing line → SpellsLine fields line
     → Stage standing fields fault → ⊥
 follows_at_no_stage laws standing fields line fault follows spells (no_place is none) =
-    none (word_of_line line) (spelled_begins fields line spells) follows.stands
+    none (keyword_of line) (spelled_begins fields line spells) follows.stands
 follows_at_no_stage laws standing fields line fault follows spells (too_much is much) =
     too_much_or_place laws standing fields much
-    (record { word = word_of_line line; begins = spelled_begins fields line spells; stands = follows.stands; room = follows.room })
+    (record { keyword = keyword_of line; begins = spelled_begins fields line spells; stands = follows.stands; room = follows.room })
 follows_at_no_stage laws standing fields line fault follows spells (nothing line_fault is says) =
     laws.spelled_lines_are_not_faulty fields line line_fault spells says.faulty
 follows_at_no_stage laws standing fields line fault follows spells (disagreeing disagrees) =

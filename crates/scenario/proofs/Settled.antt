@@ -24,7 +24,7 @@ use Rattle.scenario_lines.specs.LineForm.{IsChoice, IsEpc, IsEvent, IsExchange, 
 use Rattle.scenario.specs.declared.values.Step.{Step}
 use Rattle.scenario.specs.declared.values.Step.TheVariants as steps
 use Rattle.scenario.specs.ScenarioText.{air_lines, entry_lines, only_lines, operation_lines, scenario_lines, step_lines}
-use Rattle.scenario.specs.Limits.{IsEntry, IsOpList, IsScenario, IsStep, most_air_lines, most_ops, most_steps, most_tags, no_operations}
+use Rattle.scenario.specs.Limits.{IsEntry, IsOpList, IsScenario, IsStep, most_air_lines, most_ops, most_steps, most_tag_lines, no_operations}
 use Rattle.air_events.specs.Entries.{Rises, no_entry}
 use Rattle.scenario.specs.Draft.{draft_after, DraftValue, new_draft, scenario_of, draft_with_step}
 use Rattle.scenario.specs.AirLines.{ChoosesOnce, MayFollow, entries_of, last_entry, at_exchange, with_happening, with_said}
@@ -63,7 +63,7 @@ pub record Keeps (draft : DraftValue) : Type 0 where
   pub steps : All (IsStep (length draft.tags)) draft.steps.closed
   pub round : IfSome draft.steps.round IsRound
   pub operations : IsOpList draft.steps.operations
-  pub few_tags : length draft.tags ≤ most_tags
+  pub few_tags : length draft.tags ≤ most_tag_lines
   pub few_airs : draft.air.count ≤ most_air_lines
   pub few_steps : length (steps_of draft.steps) ≤ most_steps
   pub count : length (air_lines (entries_of draft.air)) ≡ draft.air.count
@@ -150,28 +150,33 @@ not_empty : {A : Type 0} (xs : List A) (x : A) → xs ++ x ∷ [] ≢ []
 not_empty [] x none = cc
 not_empty (y ∷ xs) x none = cc
 
--- what is said of an exchange keeps the rules with one thing more
+-- each thing that is said of an exchange keeps the rules, where there are so many tags
+record SaysLegally (tags : ℕ) (entry : Entry) : Type 0 where
+  events : All (λ (event : Event × ℕ). IsEvent event.0 event.1 × (event.1 < tags)) entry.events
+  missed : All (λ tag. IsPlace tag × (tag < tags)) entry.missed
+  choice : IfSome entry.choice IsChoice
+
+-- ... and so with one thing more
 happening_keeps : (tags exchange : ℕ) (entry : Entry) (happening : Happening) → IsExchange exchange → IsHappening happening → NamesTagOf tags happening
-    → All (λ (event : Event × ℕ). IsEvent event.0 event.1 × (event.1 < tags)) entry.events → All (λ tag. IsPlace tag × (tag < tags)) entry.missed
-    → IfSome entry.choice IsChoice → IsEntry tags (exchange, with_happening entry happening)
-happening_keeps tags exchange entry (happenings.Event event tag) number is names events missed choice = record {
+    → SaysLegally tags entry → IsEntry tags (exchange, with_happening entry happening)
+happening_keeps tags exchange entry (happenings.Event event tag) number is names says = record {
   exchange = number;
-  events = All-push (λ (event : Event × ℕ). IsEvent event.0 event.1 × (event.1 < tags)) entry.events (event, tag) events (is, names);
-  missed = missed;
-  choice = choice;
+  events = All-push (λ (event : Event × ℕ). IsEvent event.0 event.1 × (event.1 < tags)) entry.events (event, tag) says.events (is, names);
+  missed = says.missed;
+  choice = says.choice;
   something = inl (not_empty entry.events (event, tag));
 }
-happening_keeps tags exchange entry (happenings.Miss tag) number is names events missed choice = record {
+happening_keeps tags exchange entry (happenings.Miss tag) number is names says = record {
   exchange = number;
-  events = events;
-  missed = All-push (λ tag. IsPlace tag × (tag < tags)) entry.missed tag missed (is, names);
-  choice = choice;
+  events = says.events;
+  missed = All-push (λ tag. IsPlace tag × (tag < tags)) entry.missed tag says.missed (is, names);
+  choice = says.choice;
   something = inr (inl (not_empty entry.missed tag));
 }
-happening_keeps tags exchange entry (happenings.Choice choice) number is names events missed before = record {
+happening_keeps tags exchange entry (happenings.Choice choice) number is names says = record {
   exchange = number;
-  events = events;
-  missed = missed;
+  events = says.events;
+  missed = says.missed;
   choice = is;
   something = inr (inr (λ none. cc));
 }
@@ -219,7 +224,7 @@ new_draft_keeps link legal = record {
 }
 
 tag_keeps : (draft : DraftValue) (tag : TagSpec) → Keeps draft → IsTag tag → draft.air.count ≡ 0 → steps_of draft.steps ≡ []
-    → length draft.tags < most_tags
+    → length draft.tags < most_tag_lines
     → Keeps (record draft { tags = draft.tags ++ tag ∷ [] })
 tag_keeps draft tag keeps is no_airs no_steps room =
     let none = no_entries draft.air.closed draft.air.exchange draft.air.latest (keeps.none no_airs) in
@@ -439,7 +444,8 @@ more_keeps draft happening keeps air =
       tags = keeps.tags;
       closed = keeps.closed;
       last = last_is_said tags draft.air.exchange (with_happening draft.air.latest happening)
-          (happening_keeps tags draft.air.exchange draft.air.latest happening air.is_exchange air.is air.names last.events last.missed last.choice);
+          (happening_keeps tags draft.air.exchange draft.air.latest happening air.is_exchange air.is air.names
+          (record { events = last.events; missed = last.missed; choice = last.choice }));
       rising = keeps.rising;
       below = keeps.below;
       steps = keeps.steps;
@@ -460,8 +466,11 @@ first_keeps draft number happening keeps above air =
     let tags = length draft.tags in
     let entries = entries_keep draft keeps in
     let nothing : IsEntry tags (number, with_happening no_entry happening) =
-    happening_keeps tags number no_entry happening air.is_exchange air.is air.names (All-nil (λ (event : Event × ℕ). IsEvent event.0 event.1 × (event.1 < tags)))
-    (All-nil (λ tag. IsPlace tag × (tag < tags))) tt in
+    happening_keeps tags number no_entry happening air.is_exchange air.is air.names (record {
+      events = All-nil (λ (event : Event × ℕ). IsEvent event.0 event.1 × (event.1 < tags));
+      missed = All-nil (λ tag. IsPlace tag × (tag < tags));
+      choice = tt;
+    }) in
     record {
       link = keeps.link;
       tags = keeps.tags;

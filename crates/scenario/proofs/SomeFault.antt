@@ -5,7 +5,7 @@ use Rattle.text_fields.specs.Lines.{fields_of, lines_of, text_with}
 use Rattle.scenario_lines.specs.declared.line.Line.{Line}
 use Rattle.scenario_lines.specs.declared.line.Line.TheVariants as lines
 use Rattle.scenario_lines.specs.declared.fault.LineFault.TheVariants as line_faults
-use Rattle.scenario_lines.specs.Spelling.{line_text, word_of_line}
+use Rattle.scenario_lines.specs.Spelling.{line_text, keyword_of}
 use Rattle.scenario_lines.specs.LineFaults.{SpellsLine}
 use Rattle.scenario.specs.declared.fault.Fault.{Fault}
 use Rattle.scenario.specs.declared.fault.Fault.TheVariants.{Extra, End, Version, Line as LineReason, Limit, Tag, Order, Twice}
@@ -45,8 +45,8 @@ agrees_or_not draft line = elim (names_tag_decided (length draft.tags) line) [
   ]
 ]
 
-said_line : (standing : Standing) (fields : List (List ℕ)) (line : Line) → SpellsLine fields line → MayStand standing (word_of_line line)
-    → HasRoom standing (word_of_line line) → IsOneOf standing fields
+said_line : (standing : Standing) (fields : List (List ℕ)) (line : Line) → SpellsLine fields line → MayStand standing (keyword_of line)
+    → HasRoom standing (keyword_of line) → IsOneOf standing fields
 said_line start fields line spells stands room =
     inl (record { line = line; spells = spells; follows = record { is = spells.is; stands = stands; room = room; agrees = tt } })
 said_line begun fields line spells stands room =
@@ -62,24 +62,24 @@ said_line (within draft) fields line spells stands room = elim (agrees_or_not dr
 placed : LineLaws → (standing : Standing) (fields : List (List ℕ)) → HasPlace standing fields → IsOneOf standing fields
 placed laws standing fields place = elim (laws.lines_say_something_or_are_faulty fields) [
   | inl said ↦
-      let word = laws.lines_begin_with_one_word fields place.word (word_of_line said.0) place.begins (spelled_begins fields said.0 said.1) in
-      said_line standing fields said.0 said.1 (subst (MayStand standing) word place.stands) (subst (HasRoom standing) word place.room)
+      let keyword = laws.lines_begin_with_one_keyword fields place.keyword (keyword_of said.0) place.begins (spelled_begins fields said.0 said.1) in
+      said_line standing fields said.0 said.1 (subst (MayStand standing) keyword place.stands) (subst (HasRoom standing) keyword place.room)
   | inr faulty ↦ inr (LineReason faulty.0, no_line standing fields place faulty.0 faulty.1)
 ]
 
 -- a line is one that may follow, or is faulty for some reason
 one_of : LineLaws → (standing : Standing) (fields : List (List ℕ)) → IsOneOf standing fields
 one_of laws standing fields = elim (laws.lines_begin_or_are_faulty fields) [
-  | inr none ↦ inr (LineReason line_faults.Word, λ word begins. absurd (none word begins))
+  | inr none ↦ inr (LineReason line_faults.Word, λ keyword begins. absurd (none keyword begins))
   | inl found ↦ elim (may_stand_decided standing found.0) [
     | inr never ↦ inr (
       LineReason line_faults.Word,
-      λ word begins.
-          λ stands. never (subst (MayStand standing) (laws.lines_begin_with_one_word fields word found.0 begins found.1) stands),
+      λ keyword begins.
+          λ stands. never (subst (MayStand standing) (laws.lines_begin_with_one_keyword fields keyword found.0 begins found.1) stands),
     )
     | inl stands ↦ elim (has_room_decided standing found.0) [
-      | inr none ↦ inr (Limit, record { word = found.0; begins = found.1; stands = stands; no_room = none })
-      | inl room ↦ placed laws standing fields (record { word = found.0; begins = found.1; stands = stands; room = room })
+      | inr none ↦ inr (Limit, record { keyword = found.0; begins = found.1; stands = stands; no_room = none })
+      | inl room ↦ placed laws standing fields (record { keyword = found.0; begins = found.1; stands = stands; room = room })
     ]
   ]
 ]

@@ -25,10 +25,10 @@ use Rattle.scenario.specs.declared.values.Step.{Step}
 use Rattle.scenario.specs.declared.values.Step.TheVariants as steps
 use Rattle.scenario.specs.declared.values.Scenario.{Scenario}
 use Rattle.scenario.specs.ScenarioText.{air_lines, choice_lines, entry_lines, only_lines, operation_lines, scenario_lines, step_lines}
-use Rattle.scenario.specs.Limits.{IsEntry, IsOpList, IsScenario, IsStep, SaysSomething, most_air_lines, most_ops, most_steps, most_tags}
+use Rattle.scenario.specs.Limits.{IsEntry, IsOpList, IsScenario, IsStep, SaysSomething, most_air_lines, most_ops, most_steps, most_tag_lines}
 use Rattle.air_events.specs.Entries.{Rises, no_entry}
 use Rattle.scenario.specs.AirLines.{ChoosesOnce, entries_of, last_entry, with_said}
-use Rattle.scenario.specs.Draft.{DraftValue, draft_with_step, new_draft}
+use Rattle.scenario.specs.Draft.{DraftValue, draft_with_step, new_draft, scenario_of}
 use Rattle.scenario.specs.Standing.{Follows, IsSaid, Leads, Standing, after, begun, ended, start, within}
 use Rattle.scenario.specs.StepLines.{steps_of}
 use Rattle.scenario.proofs.Leading.{leads_on}
@@ -46,7 +46,7 @@ legal_form link legal =
 abbrev tags_draft : LinkValue → List TagSpec → DraftValue
 tags_draft link tags = record (new_draft link) { tags = tags }
 
-speak_tags : (link : LinkValue) (before todo : List TagSpec) → All IsTag todo → length before + length todo ≤ most_tags
+speak_tags : (link : LinkValue) (before todo : List TagSpec) → All IsTag todo → length before + length todo ≤ most_tag_lines
     → Leads (within (tags_draft link before)) (map lines.Tag todo) (within (tags_draft link (before ++ todo)))
 speak_tags link before [] are few = ap (λ (tags : List TagSpec). within (tags_draft link tags)) (sym (append-nil before))
 speak_tags link before (tag ∷ todo) are few =
@@ -80,81 +80,84 @@ same_exchange : (number : ℕ) → (number == number) ≡ true
 same_exchange number = eq-eqb number number refl
 
 -- one line more on the exchange
-air_again : (draft : DraftValue) (number : ℕ) (events : List (Event × ℕ)) (missed : List ℕ) (choice : Option Choice) (added : ℕ) (happening : Happening)
-    → after (within (on_exchange draft number events missed choice added)) (lines.Air number happening)
-    ≡ within (saying (on_exchange draft number events missed choice (added + 1)) happening)
-air_again draft number events missed choice added happening =
+air_again : (draft : DraftValue) (number : ℕ) (entry : Entry) (added : ℕ) (happening : Happening)
+    → after (within (with_airs draft (draft.air.count + added) number entry)) (lines.Air number happening)
+    ≡ within (saying (with_airs draft (draft.air.count + (added + 1)) number entry) happening)
+air_again draft number entry added happening =
     let count : draft.air.count + added + 1 ≡ draft.air.count + (added + 1) = omega arith in
-    rw (same_exchange number)
-    (ap (λ (airs : ℕ). within (saying (with_airs draft airs number (record { events = events; missed = missed; choice = choice })) happening)) count)
+    rw (same_exchange number) (ap (λ (airs : ℕ). within (saying (with_airs draft airs number entry) happening)) count)
 
 -- where lines lead, by another name
 leads_to : (from to to' : Standing) (said : List Line) → to ≡ to' → Leads from said to → Leads from said to'
 leads_to from to to' said same leads = subst (λ (s : Standing). Leads from said s) same leads
 
 -- one line on the exchange, and then others
-air_then : (draft : DraftValue) (number : ℕ) (events : List (Event × ℕ)) (missed : List ℕ) (choice : Option Choice) (added : ℕ) (happening : Happening)
-    (said : List Line) (to : Standing) → Follows (within (on_exchange draft number events missed choice added)) (lines.Air number happening)
-    → Leads (within (saying (on_exchange draft number events missed choice (added + 1)) happening)) said to
-    → Leads (within (on_exchange draft number events missed choice added)) (lines.Air number happening ∷ said) to
-air_then draft number events missed choice added happening said to follows leads =
-    (follows, subst (λ (s : Standing). Leads s said to) (sym (air_again draft number events missed choice added happening)) leads)
+air_then : (draft : DraftValue) (number : ℕ) (entry : Entry) (added : ℕ) (happening : Happening) (said : List Line) (to : Standing)
+    → Follows (within (with_airs draft (draft.air.count + added) number entry)) (lines.Air number happening)
+    → Leads (within (saying (with_airs draft (draft.air.count + (added + 1)) number entry) happening)) said to
+    → Leads (within (with_airs draft (draft.air.count + added) number entry)) (lines.Air number happening ∷ said) to
+air_then draft number entry added happening said to follows leads =
+    (follows, subst (λ (s : Standing). Leads s said to) (sym (air_again draft number entry added happening)) leads)
 
-speak_events : (draft : DraftValue) (number : ℕ) (before todo : List (Event × ℕ)) (added : ℕ) → steps_of draft.steps ≡ [] → IsExchange number
+-- lines on this exchange may stand behind the draft
+abbrev TakesAir : DraftValue → ℕ → Type 0
+TakesAir draft number = (steps_of draft.steps ≡ []) × IsExchange number
+
+speak_events : (draft : DraftValue) (number : ℕ) (before todo : List (Event × ℕ)) (added : ℕ) → TakesAir draft number
     → All (λ (event : Event × ℕ). IsEvent event.0 event.1 × (event.1 < length draft.tags)) todo → draft.air.count + added + length todo ≤ most_air_lines
     → Leads (within (on_exchange draft number before [] None added)) (map (λ (event : Event × ℕ). lines.Air number (happenings.Event event.0 event.1)) todo)
     (within (on_exchange draft number (before ++ todo) [] None (added + length todo)))
-speak_events draft number before [] added no_steps is are few = rw (append-nil, add-zero) refl
-speak_events draft number before (event ∷ todo) added no_steps is are few =
+speak_events draft number before [] added takes are few = rw (append-nil, add-zero) refl
+speak_events draft number before (event ∷ todo) added takes are few =
     let IsIt : Event × ℕ → Type 0 = λ event. IsEvent event.0 event.1 × (event.1 < length draft.tags) in
     let head = All-head IsIt event todo are in
     let follows : Follows (within (on_exchange draft number before [] None added)) (lines.Air number (happenings.Event event.0 event.1)) = record {
-      is = record { form = (is, head.0); coherent = tt };
-      stands = no_steps;
+      is = record { form = (takes.1, head.0); coherent = tt };
+      stands = takes.0;
       room = omega arith;
       agrees = record { names = head.1; order = (omega arith, λ same. (refl, refl)); once = tt };
     } in
-    let others = speak_events draft number (before ++ event ∷ []) todo (added + 1) no_steps is (All-tail IsIt event todo are) (omega arith) in
+    let others = speak_events draft number (before ++ event ∷ []) todo (added + 1) takes (All-tail IsIt event todo are) (omega arith) in
     let count : added + 1 + length todo ≡ added + length (event ∷ todo) = omega arith in
     let same : within (on_exchange draft number (before ++ event ∷ [] ++ todo) [] None (added + 1 + length todo))
     ≡ within (on_exchange draft number (before ++ event ∷ todo) [] None (added + length (event ∷ todo))) =
     rw (append_assoc before (event ∷ []) todo, count) refl in
-    air_then draft number before [] None added (happenings.Event event.0 event.1) _ _ follows (leads_to _ _ _ _ same others)
+    air_then draft number (record { events = before; missed = []; choice = None }) added (happenings.Event event.0 event.1) _ _ follows (leads_to _ _ _ _ same others)
 
-speak_misses : (draft : DraftValue) (number : ℕ) (events : List (Event × ℕ)) (before todo : List ℕ) (added : ℕ) → steps_of draft.steps ≡ [] → IsExchange number
+speak_misses : (draft : DraftValue) (number : ℕ) (events : List (Event × ℕ)) (before todo : List ℕ) (added : ℕ) → TakesAir draft number
     → All (λ tag. IsPlace tag × (tag < length draft.tags)) todo → draft.air.count + added + length todo ≤ most_air_lines
     → Leads (within (on_exchange draft number events before None added)) (map (λ tag. lines.Air number (happenings.Miss tag)) todo)
     (within (on_exchange draft number events (before ++ todo) None (added + length todo)))
-speak_misses draft number events before [] added no_steps is are few = rw (append-nil, add-zero) refl
-speak_misses draft number events before (tag ∷ todo) added no_steps is are few =
+speak_misses draft number events before [] added takes are few = rw (append-nil, add-zero) refl
+speak_misses draft number events before (tag ∷ todo) added takes are few =
     let IsIt : ℕ → Type 0 = λ tag. IsPlace tag × (tag < length draft.tags) in
     let head = All-head IsIt tag todo are in
     let follows : Follows (within (on_exchange draft number events before None added)) (lines.Air number (happenings.Miss tag)) = record {
-      is = record { form = (is, head.0); coherent = tt };
-      stands = no_steps;
+      is = record { form = (takes.1, head.0); coherent = tt };
+      stands = takes.0;
       room = omega arith;
       agrees = record { names = head.1; order = (omega arith, λ same. refl); once = tt };
     } in
-    let others = speak_misses draft number events (before ++ tag ∷ []) todo (added + 1) no_steps is (All-tail IsIt tag todo are) (omega arith) in
+    let others = speak_misses draft number events (before ++ tag ∷ []) todo (added + 1) takes (All-tail IsIt tag todo are) (omega arith) in
     let count : added + 1 + length todo ≡ added + length (tag ∷ todo) = omega arith in
     let same : within (on_exchange draft number events (before ++ tag ∷ [] ++ todo) None (added + 1 + length todo))
     ≡ within (on_exchange draft number events (before ++ tag ∷ todo) None (added + length (tag ∷ todo))) =
     rw (append_assoc before (tag ∷ []) todo, count) refl in
-    air_then draft number events before None added (happenings.Miss tag) _ _ follows (leads_to _ _ _ _ same others)
+    air_then draft number (record { events = events; missed = before; choice = None }) added (happenings.Miss tag) _ _ follows (leads_to _ _ _ _ same others)
 
-speak_choice : (draft : DraftValue) (number : ℕ) (events : List (Event × ℕ)) (missed : List ℕ) (choice : Option Choice) (added : ℕ) → steps_of draft.steps ≡ []
-    → IsExchange number → IfSome choice IsChoice → draft.air.count + added + length (choice_lines number choice) ≤ most_air_lines
+speak_choice : (draft : DraftValue) (number : ℕ) (events : List (Event × ℕ)) (missed : List ℕ) (choice : Option Choice) (added : ℕ) → TakesAir draft number
+    → IfSome choice IsChoice → draft.air.count + added + length (choice_lines number choice) ≤ most_air_lines
     → Leads (within (on_exchange draft number events missed None added)) (choice_lines number choice)
     (within (on_exchange draft number events missed choice (added + length (choice_lines number choice))))
-speak_choice draft number events missed None added no_steps is chosen few = rw add-zero refl
-speak_choice draft number events missed (Some choice) added no_steps is chosen few =
+speak_choice draft number events missed None added takes chosen few = rw add-zero refl
+speak_choice draft number events missed (Some choice) added takes chosen few =
     let follows : Follows (within (on_exchange draft number events missed None added)) (lines.Air number (happenings.Choice choice)) = record {
-      is = record { form = (is, chosen); coherent = tt };
-      stands = no_steps;
+      is = record { form = (takes.1, chosen); coherent = tt };
+      stands = takes.0;
       room = omega arith;
       agrees = record { names = tt; order = (omega arith, λ same. tt); once = λ same. refl };
     } in
-    air_then draft number events missed None added (happenings.Choice choice) [] _ follows refl
+    air_then draft number (record { events = events; missed = missed; choice = None }) added (happenings.Choice choice) [] _ follows refl
 
 -- what is said of one exchange
 speak_on_exchange : (draft : DraftValue) (entry : ℕ × Entry) → steps_of draft.steps ≡ [] → IsEntry (length draft.tags) entry
@@ -171,9 +174,9 @@ speak_on_exchange draft entry no_steps is few =
     length-append (event_lines ++ miss_lines) (choice_lines entry.0 choice)
     ∙ ap (λ n. n + length (choice_lines entry.0 choice))
     (length-append event_lines miss_lines ∙ rw (length-map events, length-map missed) refl) in
-    let first = speak_events draft entry.0 [] events 0 no_steps is.exchange is.events (omega arith) in
-    let second = speak_misses draft entry.0 events [] missed (0 + length events) no_steps is.exchange is.missed (omega arith) in
-    let third = speak_choice draft entry.0 events missed choice (0 + length events + length missed) no_steps is.exchange is.choice (omega arith) in
+    let first = speak_events draft entry.0 [] events 0 (no_steps, is.exchange) is.events (omega arith) in
+    let second = speak_misses draft entry.0 events [] missed (0 + length events) (no_steps, is.exchange) is.missed (omega arith) in
+    let third = speak_choice draft entry.0 events missed choice (0 + length events + length missed) (no_steps, is.exchange) is.choice (omega arith) in
     let count : 0 + length events + length missed + length (choice_lines entry.0 choice) ≡ length (entry_lines entry) = omega arith in
     leads_to _ _ _ _ (ap (λ n. within (on_exchange draft entry.0 events missed choice n)) count)
     (leads_on _ _ _ (event_lines ++ miss_lines) (choice_lines entry.0 choice) (leads_on _ _ _ event_lines miss_lines first second) third)
@@ -199,7 +202,7 @@ air_turns draft number happening said to above leads =
     let counted : draft.air.count + 1 ≡ draft.air.count + (0 + 1) = omega arith in
     let same : after (within draft) (lines.Air number happening) ≡ after (within (on_exchange draft number [] [] None 0)) (lines.Air number happening) =
     rw other (ap (λ (airs : ℕ). within (saying (with_airs draft airs number no_entry) happening)) counted)
-    ∙ sym (air_again draft number [] [] None 0 happening) in
+    ∙ sym (air_again draft number no_entry 0 happening) in
     (follows, subst (λ (s : Standing). Leads s said to) (sym same) leads.1)
 
 -- what is said of an exchange begins with some line on it
@@ -397,11 +400,11 @@ speak_steps draft (step ∷ todo) are few =
       steps = others.steps ∙ ap (λ (list : List Step). list ++ todo) one.steps ∙ append_assoc (steps_of draft.steps) (step ∷ []) todo;
     }
 
-same_scenario : (link link' : LinkValue) (tags tags' : List TagSpec) (entries entries' : List (ℕ × Entry)) (steps steps' : List Step) → link ≡ link'
-    → tags ≡ tags' → entries ≡ entries' → steps ≡ steps'
-    → ◌≡◌ {A = Scenario} (record { link = link; tags = tags; entries = entries; steps = steps })
-    (record { link = link'; tags = tags'; entries = entries'; steps = steps' })
-same_scenario link link' tags tags' entries entries' steps steps' e f g h = rw (e, f, g, h) refl
+same_scenario : (one other : Scenario) → one.link ≡ other.link → one.tags ≡ other.tags → one.entries ≡ other.entries → one.steps ≡ other.steps → one ≡ other
+same_scenario one other link tags entries steps =
+    let whole : ◌≡◌ {A = Scenario} (record { link = one.link; tags = one.tags; entries = one.entries; steps = one.steps }) other =
+    rw (link, tags, entries, steps) refl in
+    whole
 
 -- each scenario within the limits is said by its lines
 pub scenario_is_said : (scenario : Scenario) → IsScenario scenario → IsSaid scenario (scenario_lines scenario)
@@ -430,7 +433,6 @@ scenario_is_said scenario is =
       leads = leads_on start (within third.to) (ended third.to)
           (lines.Version ∷ lines.Link link ∷ map lines.Tag tags ++ air_lines scenario.entries ++ flat_map step_lines scenario.steps) (lines.End ∷ []) all
           (last, refl);
-      says = same_scenario third.to.head.link link third.to.tags tags (entries_of third.to.air) scenario.entries (steps_of third.to.steps) scenario.steps
-          (third.link ∙ second.link) (third.tags ∙ second.tags) (third.entries ∙ second.entries)
+      says = same_scenario (scenario_of third.to) scenario (third.link ∙ second.link) (third.tags ∙ second.tags) (third.entries ∙ second.entries)
           (third.steps ∙ ap (λ (list : List Step). list ++ scenario.steps) second.no_steps);
     }

@@ -13,12 +13,12 @@ use Rattle.scenario.specs.Standing.{Agrees, AgreesWith, HasRoom, MayStand, Follo
 use Rattle.scenario.specs.Faults.{DisagreesAt, DisagreesBy, HasPlace, IsFaultyAt, IsFaultyHere}
 use Rattle.scenario.proofs.Texts.{text_spelled}
 use Rattle.text_fields.specs.Lines.{fields_of}
-use Rattle.scenario_lines.specs.Spelling.{line_text, word_of_line}
+use Rattle.scenario_lines.specs.Spelling.{line_text, keyword_of}
 
 -- a line that has its place, and says nothing
 pub no_line : (standing : Standing) (fields : List (List ℕ)) → HasPlace standing fields → (reason : LineFault) → IsFaultyLine fields reason
     → IsFaultyAt standing fields (LineReason reason)
-no_line standing fields place line_faults.Word faulty = λ word begins. absurd (faulty word begins)
+no_line standing fields place line_faults.Word faulty = λ keyword begins. absurd (faulty keyword begins)
 no_line standing fields place line_faults.Shape faulty = record { place = place; faulty = faulty }
 no_line standing fields place line_faults.Number faulty = record { place = place; faulty = faulty }
 no_line standing fields place line_faults.Tari faulty = record { place = place; faulty = faulty }
@@ -40,8 +40,8 @@ no_limit (within draft) said by = by
 no_limit (ended draft) said by = by
 
 -- a line that has its place and says something, which disagrees with the lines before it
-pub unfit : (standing : Standing) (fields : List (List ℕ)) (said : Line) → SpellsLine fields said → MayStand standing (word_of_line said)
-    → HasRoom standing (word_of_line said) → (fault : Fault) → DisagreesAt standing said fault → IsFaultyAt standing fields fault
+pub unfit : (standing : Standing) (fields : List (List ℕ)) (said : Line) → SpellsLine fields said → MayStand standing (keyword_of said)
+    → HasRoom standing (keyword_of said) → (fault : Fault) → DisagreesAt standing said fault → IsFaultyAt standing fields fault
 unfit standing fields said spells stands room (LineReason reason) by = absurd (no_line_reason standing said reason by)
 unfit standing fields said spells stands room Limit by = absurd (no_limit standing said by)
 unfit standing fields said spells stands room Extra by = record { line = said; spells = spells; stands = stands; room = room; disagrees = by }
@@ -71,7 +71,7 @@ no_disagreement_here (within draft) line fault agrees disagrees = no_disagreemen
 no_disagreement_here (ended draft) line fault agrees disagrees = disagrees
 
 -- the first line is the version
-pub version_alone : (said : Line) → MayStand start (word_of_line said) → said ≡ lines.Version
+pub version_alone : (said : Line) → MayStand start (keyword_of said) → said ≡ lines.Version
 version_alone lines.Version stands = refl
 version_alone (lines.Link link) stands = absurd stands
 version_alone (lines.Tag tag) stands = absurd stands

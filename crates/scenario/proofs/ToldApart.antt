@@ -20,17 +20,23 @@ line_told laws one other is is' same =
     laws.lines_are_told_apart (fields_of (line_text one)) one other (spells_text laws (line_text one) one refl is)
     (spells_text laws (line_text one) other same is')
 
--- lines that follow one another are told apart by their texts
-said_told : LineLaws → (from to from' to' : Standing) (said said' : List Line) → Leads from said to → Leads from' said' to'
-    → map line_text said ≡ map line_text said' → said ≡ said'
-said_told laws from to from' to' [] [] leads leads' same = refl
-said_told laws from to from' to' [] (other ∷ others) leads leads' same = cc
-said_told laws from to from' to' (line ∷ said) [] leads leads' same = cc
-said_told laws from to from' to' (line ∷ said) (other ∷ others) leads leads' same =
-    let text : line_text line ≡ line_text other = cc in
+-- lines that follow one another from somewhere
+record Follow (said : List Line) : Type 0 where
+  from : Standing
+  to : Standing
+  leads : Leads from said to
+
+-- they are told apart by their texts
+said_told : LineLaws → (said said' : List Line) → Follow said → Follow said' → map line_text said ≡ map line_text said' → said ≡ said'
+said_told laws [] [] one other same = refl
+said_told laws [] (line ∷ others) one other same = cc
+said_told laws (line ∷ said) [] one other same = cc
+said_told laws (line ∷ said) (line' ∷ others) one other same =
+    let text : line_text line ≡ line_text line' = cc in
     let texts : map line_text said ≡ map line_text others = cc in
-    let first = line_told laws line other leads.0.is leads'.0.is text in
-    let rest = said_told laws (after from line) to (after from' other) to' said others leads.1 leads'.1 texts in
+    let first = line_told laws line line' one.leads.0.is other.leads.0.is text in
+    let rest = said_told laws said others (record { from = after one.from line; to = one.to; leads = one.leads.1 })
+    (record { from = after other.from line'; to = other.to; leads = other.leads.1 }) texts in
     cc
 
 -- lines lead to one standing
@@ -51,7 +57,8 @@ scenario_told laws one other is is' same =
     let texts : map line_text lines ≡ map line_text others =
     append_cancel_right (map line_text lines) (map line_text others) ([] ∷ [])
     (sym (lines_said laws start (ended first.draft) lines first.leads) ∙ ap lines_of same ∙ lines_said laws start (ended second.draft) others second.leads) in
-    let said = said_told laws start (ended first.draft) start (ended second.draft) lines others first.leads second.leads texts in
+    let said = said_told laws lines others (record { from = start; to = ended first.draft; leads = first.leads })
+    (record { from = start; to = ended second.draft; leads = second.leads }) texts in
     let leads = subst (λ (list : List Line). Leads start list (ended first.draft)) said first.leads in
     let draft = same_draft (one_standing start (ended first.draft) (ended second.draft) others leads second.leads) in
     sym first.says ∙ ap scenario_of draft ∙ second.says

@@ -1,12 +1,12 @@
 -- Profile: the first faulty line of a text that is no scenario.
 use Rattle.std.specs.Prelude.{◌≡◌, ◌≢◌, ℕ, ◌+◌, List, [], ◌∷◌, ◌++◌, length, map}
 use Rattle.text_fields.specs.Lines.{fields_of, lines_of}
-use Rattle.scenario_lines.specs.declared.first_fields.Word.{Word}
+use Rattle.scenario_lines.specs.declared.first_fields.Keyword.{Keyword}
 use Rattle.scenario_lines.specs.declared.line.Line.{Line}
 use Rattle.scenario_lines.specs.declared.line.Line.TheVariants as lines
 use Rattle.scenario_lines.specs.declared.fault.LineFault.{LineFault}
 use Rattle.scenario_lines.specs.declared.fault.LineFault.TheVariants as line_faults
-use Rattle.scenario_lines.specs.Spelling.{line_text, word_of_line}
+use Rattle.scenario_lines.specs.Spelling.{line_text, keyword_of}
 use Rattle.scenario_lines.specs.LineFaults.{BeginsWith, IsFaultyLine, SpellsLine}
 use Rattle.scenario.specs.declared.fault.Fault.{Fault}
 use Rattle.scenario.specs.declared.fault.Fault.TheVariants.{Extra, End, Version, Line as LineReason, Limit, Tag, Order, Twice}
@@ -16,19 +16,19 @@ use Rattle.scenario.specs.AirLines.{ChoosesOnce, KeepsOrder}
 use Rattle.scenario.specs.Draft.{DraftValue}
 use Rattle.scenario.specs.Standing.{Standing, start, within, ended, MayStand, HasRoom, NamesTag, Leads}
 
--- the line begins with a word that may stand here, and is not one too many
+-- the line begins with a keyword that may stand here, and is not one too many
 pub record HasPlace (standing : Standing) (fields : List (List ℕ)) : Type 0 where
-  pub word : Word
-  pub begins : BeginsWith fields word
-  pub stands : MayStand standing word
-  pub room : HasRoom standing word
+  pub keyword : Keyword
+  pub begins : BeginsWith fields keyword
+  pub stands : MayStand standing keyword
+  pub room : HasRoom standing keyword
 
--- the line begins with a word that may stand here, and is one too many
+-- the line begins with a keyword that may stand here, and is one too many
 pub record IsTooMuch (standing : Standing) (fields : List (List ℕ)) : Type 0 where
-  pub word : Word
-  pub begins : BeginsWith fields word
-  pub stands : MayStand standing word
-  pub no_room : ¬ HasRoom standing word
+  pub keyword : Keyword
+  pub begins : BeginsWith fields keyword
+  pub stands : MayStand standing keyword
+  pub no_room : ¬ HasRoom standing keyword
 
 -- the line has its place, and says nothing
 pub record SaysNothing (standing : Standing) (fields : List (List ℕ)) (fault : LineFault) : Type 0 where
@@ -50,13 +50,13 @@ DisagreesAt standing line fault = ⊥
 pub record Disagrees (standing : Standing) (fields : List (List ℕ)) (fault : Fault) : Type 0 where
   pub line : Line
   pub spells : SpellsLine fields line
-  pub stands : MayStand standing (word_of_line line)
-  pub room : HasRoom standing (word_of_line line)
+  pub stands : MayStand standing (keyword_of line)
+  pub room : HasRoom standing (keyword_of line)
   pub disagrees : DisagreesAt standing line fault
 
 -- the first reason for which a line with its line feed is faulty, where another than the first is needed
 abbrev pub IsFaultyAt : Standing → List (List ℕ) → Fault → Type 0
-IsFaultyAt standing fields (LineReason line_faults.Word) = (word : Word) → BeginsWith fields word → ¬ MayStand standing word
+IsFaultyAt standing fields (LineReason line_faults.Word) = (keyword : Keyword) → BeginsWith fields keyword → ¬ MayStand standing keyword
 IsFaultyAt standing fields Limit = IsTooMuch standing fields
 IsFaultyAt standing fields (LineReason fault) = SaysNothing standing fields fault
 IsFaultyAt standing fields fault = Disagrees standing fields fault

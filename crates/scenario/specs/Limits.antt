@@ -14,8 +14,8 @@ use Rattle.scenario.specs.declared.values.Scenario.{Scenario}
 use Rattle.scenario.specs.ScenarioText.{air_lines, scenario_text}
 
 -- the limits on the numbers of tags, air lines and steps, and of the operations of one round
-abbrev pub most_tags : ℕ
-most_tags = 256
+abbrev pub most_tag_lines : ℕ
+most_tag_lines = 256
 
 abbrev pub most_air_lines : ℕ
 most_air_lines = 4096
@@ -64,7 +64,7 @@ pub record IsScenario (scenario : Scenario) : Type 0 where
   pub entries : All (IsEntry (length scenario.tags)) scenario.entries
   pub rising : Rises 0 scenario.entries
   pub steps : All (IsStep (length scenario.tags)) scenario.steps
-  pub few_tags : length scenario.tags ≤ most_tags
+  pub few_tags : length scenario.tags ≤ most_tag_lines
   pub few_air_lines : length (air_lines scenario.entries) ≤ most_air_lines
   pub few_steps : length scenario.steps ≤ most_steps
 

@@ -2,15 +2,15 @@
 -- another from the first line of a scenario on.
 use Rattle.std.specs.Prelude.{◌≡◌, ◌≢◌, ℕ, ◌+◌, ◌≤◌, Bool, true, false, List, [], ◌∷◌, length, filter}
 use Rattle.std.specs.List.{AllByRecursion}
-use Rattle.scenario_lines.specs.declared.first_fields.Word.{Word}
-use Rattle.scenario_lines.specs.declared.first_fields.Word.TheVariants as words
+use Rattle.scenario_lines.specs.declared.first_fields.Keyword.{Keyword}
+use Rattle.scenario_lines.specs.declared.first_fields.Keyword.TheVariants as keywords
 use Rattle.scenario_lines.specs.declared.line.Happening.{Happening}
 use Rattle.scenario_lines.specs.declared.line.Happening.TheVariants as happenings
 use Rattle.scenario_lines.specs.declared.line.Line.{Line}
 use Rattle.scenario_lines.specs.declared.line.Line.TheVariants as lines
 use Rattle.scenario.specs.declared.fault.Fault.{Fault}
 use Rattle.scenario.specs.declared.fault.Fault.TheVariants.{Tag, Order, Twice}
-use Rattle.scenario.specs.Limits.{most_tags, most_air_lines, most_ops, most_steps}
+use Rattle.scenario.specs.Limits.{most_tag_lines, most_air_lines, most_ops, most_steps}
 use Rattle.scenario.specs.Standing.{NamesTag}
 
 -- the line is a tag line
@@ -52,15 +52,15 @@ ops_behind count (lines.Op op ∷ more) = ops_behind (count + 1) more
 ops_behind count (line ∷ more) = ops_behind count more
 
 -- there are as many lines of this kind already as there may be
-abbrev pub IsFullBefore : List Line → Word → Type 0
-IsFullBefore before words.Tag = most_tags ≤ tags_in before
-IsFullBefore before words.Air = most_air_lines ≤ airs_in before
-IsFullBefore before words.Select = most_steps ≤ steps_in before
-IsFullBefore before words.Nak = most_steps ≤ steps_in before
-IsFullBefore before words.Event = most_steps ≤ steps_in before
-IsFullBefore before words.Round = most_steps ≤ steps_in before
-IsFullBefore before words.Op = most_ops ≤ ops_behind 0 before
-IsFullBefore before word = ⊥
+abbrev pub IsFullBefore : List Line → Keyword → Type 0
+IsFullBefore before keywords.Tag = most_tag_lines ≤ tags_in before
+IsFullBefore before keywords.Air = most_air_lines ≤ airs_in before
+IsFullBefore before keywords.Select = most_steps ≤ steps_in before
+IsFullBefore before keywords.Nak = most_steps ≤ steps_in before
+IsFullBefore before keywords.Event = most_steps ≤ steps_in before
+IsFullBefore before keywords.Round = most_steps ≤ steps_in before
+IsFullBefore before keywords.Op = most_ops ≤ ops_behind 0 before
+IsFullBefore before keyword = ⊥
 
 -- of one exchange events come first, then misses, and the choice last
 abbrev pub turn_of : Happening → ℕ

@@ -1,14 +1,14 @@
 -- Profile: where a scenario stands after some of its lines, and which line may follow.
 use Rattle.std.specs.Prelude.{◌≡◌, ◌≢◌, ℕ, ◌+◌, ◌<◌, List, [], ◌∷◌, length, None}
-use Rattle.scenario_lines.specs.declared.first_fields.Word.{Word}
-use Rattle.scenario_lines.specs.declared.first_fields.Word.TheVariants as words
+use Rattle.scenario_lines.specs.declared.first_fields.Keyword.{Keyword}
+use Rattle.scenario_lines.specs.declared.first_fields.Keyword.TheVariants as keywords
 use Rattle.scenario_lines.specs.declared.line.Happening.TheVariants as happenings
 use Rattle.scenario_lines.specs.declared.line.Line.{Line}
 use Rattle.scenario_lines.specs.declared.line.Line.TheVariants as lines
-use Rattle.scenario_lines.specs.Spelling.{word_of_line}
+use Rattle.scenario_lines.specs.Spelling.{keyword_of}
 use Rattle.scenario_lines.specs.LineForm.{IsLine}
 use Rattle.scenario.specs.declared.values.Scenario.{Scenario}
-use Rattle.scenario.specs.Limits.{most_tags, most_air_lines, most_ops, most_steps}
+use Rattle.scenario.specs.Limits.{most_tag_lines, most_air_lines, most_ops, most_steps}
 use Rattle.scenario.specs.AirLines.{ChoosesOnce, KeepsOrder}
 use Rattle.scenario.specs.StepLines.{IsBareRound, steps_of}
 use Rattle.scenario.specs.Draft.{DraftValue, draft_after, new_draft, scenario_of, size}
@@ -31,31 +31,31 @@ lines_before begun = 1
 lines_before (within draft) = 2 + size draft
 lines_before (ended draft) = 3 + size draft
 
--- a line whose word is this may follow
-abbrev pub MayStand : Standing → Word → Type 0
-MayStand start words.Version = Unit {0}
-MayStand begun words.Link = Unit {0}
-MayStand (within draft) words.Tag = (draft.air.count ≡ 0) × (steps_of draft.steps ≡ [])
-MayStand (within draft) words.Air = steps_of draft.steps ≡ []
-MayStand (within draft) words.Select = Unit {0}
-MayStand (within draft) words.Nak = Unit {0}
-MayStand (within draft) words.Event = Unit {0}
-MayStand (within draft) words.Round = Unit {0}
-MayStand (within draft) words.Only = IsBareRound draft.steps
-MayStand (within draft) words.Op = draft.steps.round ≢ None
-MayStand (within draft) words.End = Unit {0}
-MayStand standing word = ⊥
+-- a line whose keyword is this may follow
+abbrev pub MayStand : Standing → Keyword → Type 0
+MayStand start keywords.Version = Unit {0}
+MayStand begun keywords.Link = Unit {0}
+MayStand (within draft) keywords.Tag = (draft.air.count ≡ 0) × (steps_of draft.steps ≡ [])
+MayStand (within draft) keywords.Air = steps_of draft.steps ≡ []
+MayStand (within draft) keywords.Select = Unit {0}
+MayStand (within draft) keywords.Nak = Unit {0}
+MayStand (within draft) keywords.Event = Unit {0}
+MayStand (within draft) keywords.Round = Unit {0}
+MayStand (within draft) keywords.Only = IsBareRound draft.steps
+MayStand (within draft) keywords.Op = draft.steps.round ≢ None
+MayStand (within draft) keywords.End = Unit {0}
+MayStand standing keyword = ⊥
 
 -- such a line is not one too many
-abbrev pub HasRoom : Standing → Word → Type 0
-HasRoom (within draft) words.Tag = length draft.tags < most_tags
-HasRoom (within draft) words.Air = draft.air.count < most_air_lines
-HasRoom (within draft) words.Select = length (steps_of draft.steps) < most_steps
-HasRoom (within draft) words.Nak = length (steps_of draft.steps) < most_steps
-HasRoom (within draft) words.Event = length (steps_of draft.steps) < most_steps
-HasRoom (within draft) words.Round = length (steps_of draft.steps) < most_steps
-HasRoom (within draft) words.Op = length draft.steps.operations.ops < most_ops
-HasRoom standing word = Unit {0}
+abbrev pub HasRoom : Standing → Keyword → Type 0
+HasRoom (within draft) keywords.Tag = length draft.tags < most_tag_lines
+HasRoom (within draft) keywords.Air = draft.air.count < most_air_lines
+HasRoom (within draft) keywords.Select = length (steps_of draft.steps) < most_steps
+HasRoom (within draft) keywords.Nak = length (steps_of draft.steps) < most_steps
+HasRoom (within draft) keywords.Event = length (steps_of draft.steps) < most_steps
+HasRoom (within draft) keywords.Round = length (steps_of draft.steps) < most_steps
+HasRoom (within draft) keywords.Op = length draft.steps.operations.ops < most_ops
+HasRoom standing keyword = Unit {0}
 
 -- the tag that the line names is one of so many
 abbrev pub NamesTag : ℕ → Line → Type 0
@@ -77,8 +77,8 @@ AgreesWith standing line = Unit {0}
 -- the line may follow
 pub record Follows (standing : Standing) (line : Line) : Type 0 where
   pub is : IsLine line
-  pub stands : MayStand standing (word_of_line line)
-  pub room : HasRoom standing (word_of_line line)
+  pub stands : MayStand standing (keyword_of line)
+  pub room : HasRoom standing (keyword_of line)
   pub agrees : AgreesWith standing line
 
 -- where the scenario stands after a line that may follow

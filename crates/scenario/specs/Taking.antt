@@ -23,14 +23,16 @@ pub record LeadsBy (line : List ℕ) (old new : Standing) : Type 0 where
   pub follows : Follows old said
   pub leads : after old said ≡ new
 
--- what this line did
-abbrev pub Takes : Standing → List ℕ → Taken → Type 0
-Takes old line (More progress) = LeadsBy line old (standing_of progress)
-Takes old line (End draft) = LeadsBy line old (ended draft)
-Takes old line (Faulty fault) = IsFaultyHere old line fault
+-- what this line did, and how far the reader has come then
+abbrev pub Takes : Standing → List ℕ → Taken → Progress → Type 0
+Takes old line More new = LeadsBy line old (standing_of new)
+Takes old line End (Within draft) = LeadsBy line old (ended draft)
+Takes old line End new = ⊥
+Takes old line (Faulty fault) new = IsFaultyHere old line fault
 
 -- the standing is the one that is reached then
-abbrev pub LeadsTo : Standing → Taken → Type 0
-LeadsTo standing (More progress) = standing ≡ standing_of progress
-LeadsTo standing (End draft) = standing ≡ ended draft
-LeadsTo standing (Faulty fault) = ⊥
+abbrev pub LeadsTo : Standing → Taken → Progress → Type 0
+LeadsTo standing More new = standing ≡ standing_of new
+LeadsTo standing End (Within draft) = standing ≡ ended draft
+LeadsTo standing End new = ⊥
+LeadsTo standing (Faulty fault) new = ⊥

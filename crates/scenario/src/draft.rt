@@ -3,7 +3,7 @@ ghost use Rattle.std.specs.Prelude.{◌≡◌, ◌≤◌, ◌+◌, ◌↔◌, le
 ghost use Rattle.scenario.specs.Draft.{draft_after, new_draft, scenario_of, size};
 ghost use Rattle.scenario.specs.Faults.{DisagreesBy};
 ghost use Rattle.scenario.specs.Standing.{Agrees, HasRoom, MayStand, NamesTag, within};
-ghost use Rattle.scenario_lines.specs.Spelling.{word_of_line};
+ghost use Rattle.scenario_lines.specs.Spelling.{keyword_of};
 
 mod air;
 mod latest;
@@ -15,7 +15,7 @@ use crate::values::{Scenario, Step};
 use air::AirLines;
 use bit_strings::OutOfMemory;
 use pie_line::Link;
-use scenario_lines::{Happening, Line, Word};
+use scenario_lines::{Happening, Keyword, Line};
 use std::alloc::Global;
 use std::marker::Model;
 use steps::StepLines;
@@ -66,30 +66,32 @@ impl Draft {
         self.tags.count() as u32 + self.air.count() + self.steps.line_count()
     }
 
-    /// Whether a line that begins with this word may follow.
-    pub(crate) fn may_stand(&self, word: Word) -> bool
-        ensures { IsTrue result ↔ MayStand (within self.now) word }
+    /// Whether a line that begins with this keyword may follow.
+    pub(crate) fn may_stand(&self, keyword: Keyword) -> bool
+        ensures { IsTrue result ↔ MayStand (within self.now) keyword }
     {
-        match word {
-            Word::Version | Word::Link => false,
-            Word::Tag => self.air.count() == 0 && self.steps.count() == 0,
-            Word::Air => self.steps.count() == 0,
-            Word::Only => self.steps.is_bare_round(),
-            Word::Op => self.steps.is_in_round(),
-            Word::Select | Word::Nak | Word::Event | Word::Round | Word::End => true,
+        match keyword {
+            Keyword::Version | Keyword::Link => false,
+            Keyword::Tag => self.air.count() == 0 && self.steps.count() == 0,
+            Keyword::Air => self.steps.count() == 0,
+            Keyword::Only => self.steps.is_bare_round(),
+            Keyword::Op => self.steps.is_in_round(),
+            Keyword::Select | Keyword::Nak | Keyword::Event | Keyword::Round | Keyword::End => true,
         }
     }
 
-    /// Whether a line that begins with this word is not one too many.
-    pub(crate) fn has_room(&self, word: Word) -> bool
-        ensures { IsTrue result ↔ HasRoom (within self.now) word }
+    /// Whether a line that begins with this keyword is not one too many.
+    pub(crate) fn has_room(&self, keyword: Keyword) -> bool
+        ensures { IsTrue result ↔ HasRoom (within self.now) keyword }
     {
-        match word {
-            Word::Tag => self.tags.has_room(),
-            Word::Air => self.air.has_room(),
-            Word::Select | Word::Nak | Word::Event | Word::Round => self.steps.has_room(),
-            Word::Op => self.steps.has_room_for_op(),
-            Word::Version | Word::Link | Word::Only | Word::End => true,
+        match keyword {
+            Keyword::Tag => self.tags.has_room(),
+            Keyword::Air => self.air.has_room(),
+            Keyword::Select | Keyword::Nak | Keyword::Event | Keyword::Round => self
+                .steps
+                .has_room(),
+            Keyword::Op => self.steps.has_room_for_op(),
+            Keyword::Version | Keyword::Link | Keyword::Only | Keyword::End => true,
         }
     }
 
@@ -130,7 +132,7 @@ impl Draft {
 
     /// Adds what a line says that may follow. The version, the link and the end add nothing.
     pub(crate) fn add(&mut self, alloc: Global, line: Line) -> Result<(), OutOfMemory>
-        requires { HasRoom (within self.old) (word_of_line line) }
+        requires { HasRoom (within self.old) (keyword_of line) }
         ensures { OnOk result (self.new ≡ draft_after self.old line.entry) }
     {
         match line {

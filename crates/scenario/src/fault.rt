@@ -16,8 +16,8 @@ pub enum Fault {
     /// Line 1 isn't `gen2 1`.
     #[error("line 1 is not `gen2 1`")]
     Version,
-    /// The line says nothing, whatever the lines before it say; `Word` also where its first field may not
-    /// stand here. `Limit` comes behind `Word` and before all other reasons of the line.
+    /// The line says nothing, whatever the lines before it say; `Keyword` also where its first field may not
+    /// stand here. `Limit` comes behind `Keyword` and before all other reasons of the line.
     #[error("{0}")]
     Line(LineFault),
     /// It is one tag, air line, step or operation too many.

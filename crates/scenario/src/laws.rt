@@ -1,7 +1,7 @@
 //! What holds of the lines and the texts of scenarios. Each function here states one law by its contract,
 //! and does nothing but call the laws that it follows from.
 ghost use Rattle.std.specs.Prelude.{◌≡◌, ◌⊎◌, ◌↔◌, ℕ, ◌<◌, List};
-ghost use Rattle.scenario_lines.specs.declared.first_fields.Word.{Word};
+ghost use Rattle.scenario_lines.specs.declared.first_fields.Keyword.{Keyword};
 ghost use Rattle.scenario_lines.specs.declared.line.Line.{Line};
 ghost use Rattle.scenario.specs.declared.values.Scenario.{Scenario};
 ghost use Rattle.scenario.specs.declared.fault.Fault.{Fault};
@@ -16,7 +16,7 @@ ghost use Rattle.scenario.specs.Standing.{HasRoom, IsSaid, Leads, ended, Standin
 
 use scenario_lines::{
     lines_are_field_texts, lines_are_told_apart, lines_begin_or_are_faulty,
-    lines_begin_with_one_word, lines_have_one_fault, lines_say_something_or_are_faulty,
+    lines_begin_with_one_keyword, lines_have_one_fault, lines_say_something_or_are_faulty,
     spelled_lines_are_not_faulty,
 };
 
@@ -26,7 +26,7 @@ pub(crate) fn line_laws()
 {
     lines_are_field_texts();
     lines_are_told_apart();
-    lines_begin_with_one_word();
+    lines_begin_with_one_keyword();
     spelled_lines_are_not_faulty();
     lines_have_one_fault();
     lines_begin_or_are_faulty();
@@ -97,8 +97,8 @@ pub fn faulty_lines_begin_no_text()
 /// its kind already as there may be; its tag has no line among them; an earlier air line is of a later exchange,
 /// or says of the same one what has to stand behind; an earlier line is a choice for the same exchange.
 pub fn reasons_tell_of_lines_before()
-    ensures limit { (said : List Line) (draft : DraftValue) (word : Word) → Leads start said (within draft)
-        → HasRoom (within draft) word ↔ (¬ IsFullBefore said word) }
+    ensures limit { (said : List Line) (draft : DraftValue) (keyword : Keyword) → Leads start said (within draft)
+        → HasRoom (within draft) keyword ↔ (¬ IsFullBefore said keyword) }
     ensures disagrees { (said : List Line) (draft : DraftValue) (line : Line) (fault : Fault) → Leads start said (within draft)
         → DisagreesBy draft line fault ↔ DisagreesWith said line fault }
 {}

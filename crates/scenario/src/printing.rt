@@ -13,12 +13,11 @@ ghost use Rattle.scenario.specs.ScenarioText.{air_lines, choice_lines, entry_lin
 use crate::{Choice, Entry, Event, Op, OpList, RoundSpec, Scenario, Step, TagSpec};
 use air_io::Bytes;
 use bit_strings::OutOfMemory;
-use command_grammar::Command;
 use command_text::push_command;
 use reply_grammar::EpcWords;
 use scenario_lines::{
-    Happening, push_air, push_end, push_event, push_link, push_nak, push_only, push_op, push_round,
-    push_tag, push_version,
+    push_air_choice, push_air_event, push_air_miss, push_end, push_event, push_link, push_nak,
+    push_only, push_op, push_round, push_tag, push_version,
 };
 use std::alloc::Global;
 
@@ -38,11 +37,7 @@ fn push_events(text: &mut String, exchange: u32, events: &[(Event, u32)]) -> Res
         ++ text_with (map line_text (map (λ event. lines.Air exchange (happenings.Event event.0 event.1)) events.now))) }
 {
     for (event, tag) in events {
-        let happening = Happening::Event {
-            event: *event,
-            tag: *tag,
-        };
-        push_air(text, exchange, happening)?;
+        push_air_event(text, exchange, *event, *tag)?;
     }
     Ok(())
 }
@@ -53,17 +48,17 @@ fn push_missed(text: &mut String, exchange: u32, missed: &[u32]) -> Result<(), O
         ++ text_with (map line_text (map (λ tag. lines.Air exchange (happenings.Miss tag)) missed.now))) }
 {
     for tag in missed {
-        push_air(text, exchange, Happening::Miss(*tag))?;
+        push_air_miss(text, exchange, *tag)?;
     }
     Ok(())
 }
 
 /// Writes the air line of what the channel gives in one exchange, where that is said.
-fn push_choice(text: &mut String, exchange: u32, choice: Option<Choice>) -> Result<(), OutOfMemory>
-    ensures { OnOk result (string_bytes text.new ≡ string_bytes text.old ++ text_with (map line_text (choice_lines exchange choice))) }
+fn push_choice(text: &mut String, exchange: u32, choice: &Option<Choice>) -> Result<(), OutOfMemory>
+    ensures { OnOk result (string_bytes text.new ≡ string_bytes text.old ++ text_with (map line_text (choice_lines exchange choice.now))) }
 {
     match choice {
-        Some(choice) => push_air(text, exchange, Happening::Choice(choice)),
+        Some(choice) => push_air_choice(text, exchange, choice),
         None => Ok(()),
     }
 }
@@ -74,7 +69,7 @@ fn push_entry(text: &mut String, exchange: u32, entry: &Entry) -> Result<(), Out
 {
     push_events(text, exchange, entry.events.as_slice())?;
     push_missed(text, exchange, entry.missed.as_slice())?;
-    push_choice(text, exchange, entry.choice)
+    push_choice(text, exchange, &entry.choice)
 }
 
 /// Writes the air lines.
@@ -86,15 +81,6 @@ fn push_entries(text: &mut String, entries: &[(u64, Entry)]) -> Result<(), OutOf
         push_entry(text, *exchange as u32, entry)?;
     }
     Ok(())
-}
-
-/// Writes the line of a Select step.
-fn push_select(text: &mut String, command: &Command) -> Result<(), OutOfMemory>
-    requires { (tags : ℕ) × IsStep tags (steps.Select command.now) }
-    ensures { OnOk result (string_bytes text.new ≡ string_bytes text.old ++ text_with (map line_text (step_lines (steps.Select command.now)))) }
-{
-    push_command(text, command)?;
-    text.push('\n')
 }
 
 /// Writes the lines of operations.
@@ -137,7 +123,10 @@ fn push_step(text: &mut String, step: &Step) -> Result<(), OutOfMemory>
     ensures { OnOk result (string_bytes text.new ≡ string_bytes text.old ++ text_with (map line_text (step_lines step.now))) }
 {
     match step {
-        Step::Select(command) => push_select(text, command),
+        Step::Select(command) => {
+            push_command(text, command)?;
+            text.push('\n')
+        }
         Step::Nak => push_nak(text),
         Step::Event(event, tag) => push_event(text, *event, *tag),
         Step::Round(spec, operations) => push_operated(text, spec, operations),

@@ -3,15 +3,15 @@ ghost use Rattle.std.specs.Prelude.{◌≡◌, ◌≤◌, ◌+◌, ◌↔◌, Is
 ghost use Rattle.text_fields.specs.Lines.{fields_of};
 ghost use Rattle.scenario_lines.specs.declared.line.Line.{Line};
 ghost use Rattle.scenario_lines.specs.LineFaults.{SpellsLine};
-ghost use Rattle.scenario_lines.specs.Spelling.{line_text, word_of_line};
+ghost use Rattle.scenario_lines.specs.Spelling.{line_text};
 ghost use Rattle.scenario.specs.Faults.{DisagreesAt, IsFaultyAt, IsFaultyHere};
-ghost use Rattle.scenario.specs.Standing.{AgreesWith, Follows, HasRoom, MayStand, after, lines_before, start, within};
+ghost use Rattle.scenario.specs.Standing.{AgreesWith, Follows, HasRoom, MayStand, after, lines_before, start};
 ghost use Rattle.scenario.specs.Taking.{LeadsTo, Takes, standing_of};
 
 use crate::Fault;
 use crate::draft::Draft;
 use bit_strings::OutOfMemory;
-use scenario_lines::{BegunLine, Line, LineFault, Word};
+use scenario_lines::{BegunLine, Keyword, Line, LineFault};
 use std::alloc::Global;
 
 /// How far the reader of a scenario has come.
@@ -26,12 +26,12 @@ pub(crate) enum Progress {
 }
 
 /// What a line did.
-#[derive(Drop)]
+#[derive(Clone, Copy)]
 pub(crate) enum Taken {
-    /// The reader has come so far, and goes on.
-    More(Progress),
+    /// The reader has come further, and goes on.
+    More,
     /// The line is the end, and the draft is whole.
-    End(Draft),
+    End,
     /// The line is faulty, for this reason.
     Faulty(Fault),
 }
@@ -64,24 +64,24 @@ impl Progress {
         }
     }
 
-    /// Whether a line that begins with this word may follow.
-    fn may_stand(&self, word: Word) -> bool
-        ensures { IsTrue result ↔ MayStand (standing_of self.now) word }
+    /// Whether a line that begins with this keyword may follow.
+    fn may_stand(&self, keyword: Keyword) -> bool
+        ensures { IsTrue result ↔ MayStand (standing_of self.now) keyword }
     {
         match self {
-            Progress::Start => matches!(word, Word::Version),
-            Progress::Begun => matches!(word, Word::Link),
-            Progress::Within(draft) => draft.may_stand(word),
+            Progress::Start => matches!(keyword, Keyword::Version),
+            Progress::Begun => matches!(keyword, Keyword::Link),
+            Progress::Within(draft) => draft.may_stand(keyword),
         }
     }
 
-    /// Whether a line that begins with this word is not one too many.
-    fn has_room(&self, word: Word) -> bool
-        ensures { IsTrue result ↔ HasRoom (standing_of self.now) word }
+    /// Whether a line that begins with this keyword is not one too many.
+    fn has_room(&self, keyword: Keyword) -> bool
+        ensures { IsTrue result ↔ HasRoom (standing_of self.now) keyword }
     {
         match self {
             Progress::Start | Progress::Begun => true,
-            Progress::Within(draft) => draft.has_room(word),
+            Progress::Within(draft) => draft.has_room(keyword),
         }
     }
 
@@ -113,11 +113,11 @@ impl Progress {
         let Some(begun) = BegunLine::new(line) else {
             return Err(Fault::Line(LineFault::Word));
         };
-        let word = begun.word();
-        if !self.may_stand(word) {
+        let keyword = begun.keyword();
+        if !self.may_stand(keyword) {
             return Err(Fault::Line(LineFault::Word));
         }
-        if !self.has_room(word) {
+        if !self.has_room(keyword) {
             return Err(Fault::Limit);
         }
         let said = begun.read()?;
@@ -142,43 +142,43 @@ impl Progress {
     }
 
     /// Goes on by what a line says that may follow.
-    fn go_on(self, alloc: Global, said: Line) -> Result<Taken, OutOfMemory>
-        requires { Follows (standing_of self) said }
-        ensures { IfOk result (LeadsTo (after (standing_of self) said.entry)) }
+    fn go_on(&mut self, alloc: Global, said: Line) -> Result<Taken, OutOfMemory>
+        requires { Follows (standing_of self.old) said }
+        ensures { IfOk result (λ taken. LeadsTo (after (standing_of self.old) said.entry) taken self.new) }
     {
         match self {
-            Progress::Start => Ok(Taken::More(Progress::Begun)),
+            Progress::Start => {
+                *self = Progress::Begun;
+                Ok(Taken::More)
+            }
             Progress::Begun => match said {
-                Line::Link(link) => Ok(Taken::More(Progress::Within(Draft::new(alloc, link)))),
+                Line::Link(link) => {
+                    *self = Progress::Within(Draft::new(alloc, link));
+                    Ok(Taken::More)
+                }
                 // Only a link may stand behind the version.
                 _ => unreachable!(),
             },
-            Progress::Within(draft) => go_on_within(alloc, draft, said),
+            Progress::Within(draft) => {
+                if matches!(&said, Line::End) {
+                    return Ok(Taken::End);
+                }
+                draft.add(alloc, said)?;
+                Ok(Taken::More)
+            }
         }
     }
 
-    /// Takes the next line, which is given without its line feed.
-    pub(crate) fn take(self, alloc: Global, line: &[u8]) -> Result<Taken, OutOfMemory>
-        ensures taken { IfOk result (Takes (standing_of self) line.now) }
-        ensures only { (said : Line) → SpellsLine (fields_of line.now) said → Follows (standing_of self) said
-            → IfOk result (LeadsTo (after (standing_of self) said)) }
+    /// Takes the next line, which is given without its line feed. After an error no more is known of how far
+    /// the reader has come.
+    pub(crate) fn take(&mut self, alloc: Global, line: &[u8]) -> Result<Taken, OutOfMemory>
+        ensures taken { IfOk result (λ taken. Takes (standing_of self.old) line.now taken self.new) }
+        ensures only { (said : Line) → SpellsLine (fields_of line.now) said → Follows (standing_of self.old) said
+            → IfOk result (λ taken. LeadsTo (after (standing_of self.old) said) taken self.new) }
     {
         match self.next_said(line) {
             Ok(said) => self.go_on(alloc, said),
             Err(fault) => Ok(Taken::Faulty(fault)),
         }
     }
-}
-
-/// Goes on behind the link.
-fn go_on_within(alloc: Global, draft: Draft, said: Line) -> Result<Taken, OutOfMemory>
-    requires { HasRoom (within draft) (word_of_line said) }
-    ensures { IfOk result (LeadsTo (after (within draft) said.entry)) }
-{
-    if matches!(&said, Line::End) {
-        return Ok(Taken::End(draft));
-    }
-    let mut draft = draft;
-    draft.add(alloc, said)?;
-    Ok(Taken::More(Progress::Within(draft)))
 }

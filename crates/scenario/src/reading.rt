@@ -45,11 +45,12 @@ fn read_lines(alloc: Global, text: &[u8]) -> Result<Scenario, ScenarioFault>
         };
         let taken = progress.take(alloc, line)?;
         match taken {
-            Taken::More(next) => {
-                progress = next;
-                rest = behind;
-            }
-            Taken::End(draft) => return finish(draft, behind),
+            Taken::More => rest = behind,
+            Taken::End => match progress {
+                Progress::Within(draft) => return finish(draft, behind),
+                // The end stands behind the link alone.
+                Progress::Start | Progress::Begun => unreachable!(),
+            },
             Taken::Faulty(fault) => return Err(ScenarioFault::Line(number, fault)),
         }
     }

@@ -4,18 +4,21 @@ use Rattle.std.specs.Fmt.{decimal}
 use Rattle.air_events.specs.declared.Event.{Event}
 use Rattle.air_events.specs.declared.Event.TheVariants as events
 use Rattle.air_events.specs.declared.Choice.TheVariants as choices
+use Rattle.text_fields.specs.Binary.{binary}
 use Rattle.command_text.specs.CommandText.{flag_word}
-use Rattle.scenario_lines.specs.declared.first_fields.Word.TheVariants as words
+use Rattle.scenario_lines.specs.declared.first_fields.Keyword.TheVariants as keywords
 use Rattle.scenario_lines.specs.declared.first_fields.AirKind.{AirKind}
 use Rattle.scenario_lines.specs.declared.line.Happening.{Happening}
 use Rattle.scenario_lines.specs.declared.line.Happening.TheVariants as happenings
 use Rattle.scenario_lines.specs.Names.{air_field_count, air_kind, air_word, event_field_count, event_kind}
 use Rattle.scenario_lines.specs.LineForm.{IsEvent, IsExchange, IsHappening}
 use Rattle.scenario_lines.specs.Spelling.{event_fields, happening_fields}
-use Rattle.scenario_lines.specs.LineFaults.{AreFilled, HasShape}
+use Rattle.scenario_lines.specs.LineFaults.{HasShape}
+use Rattle.text_fields.specs.NamedFields.{AreFilled}
+use Rattle.text_fields.specs.laws.FilledFields.{none_filled, one_more}
+use Rattle.command_text.specs.laws.FieldTexts.{flag_is}
 use Rattle.scenario_lines.specs.Reading.{IsHappeningText}
-use Rattle.scenario_lines.proofs.Counted.{none_filled, one_more}
-use Rattle.scenario_lines.proofs.Filled.{flag_word_is, number_text}
+use Rattle.scenario_lines.proofs.Filled.{bits_are, number_text}
 
 one_number_filled : (n : ℕ) → n < 2 ^ 32 → AreFilled 1 (decimal n ∷ [])
 one_number_filled n small = one_more 0 (decimal n) [] (number_text n small).filled none_filled
@@ -25,7 +28,7 @@ event_filled events.Timeout tag is = one_number_filled tag (omega (arith, is.pla
 event_filled events.Off tag is = one_number_filled tag (omega (arith, is.place))
 event_filled events.On tag is = one_number_filled tag (omega (arith, is.place))
 event_filled (events.Expire flag) tag is =
-    one_more 1 (flag_word flag) (decimal tag ∷ []) (flag_word_is flag).filled (one_number_filled tag (omega (arith, is.place)))
+    one_more 1 (flag_word flag) (decimal tag ∷ []) (flag_is flag).filled (one_number_filled tag (omega (arith, is.place)))
 
 -- what is said of an exchange has its fields
 pub happening_filled : (happening : Happening) → IsHappening happening → AreFilled (air_field_count (air_kind happening)) (happening_fields happening)
@@ -34,6 +37,7 @@ happening_filled (happenings.Miss tag) is = one_number_filled tag (omega (arith,
 happening_filled (happenings.Choice (choices.Pick reply)) is = one_number_filled reply (omega (arith, is))
 happening_filled (happenings.Choice choices.Silent) is = none_filled
 happening_filled (happenings.Choice (choices.Break place)) is = one_number_filled place (omega (arith, is))
+happening_filled (happenings.Choice (choices.Raw levels)) is = one_more 0 (binary levels) [] (bits_are levels).filled none_filled
 
 -- the number of an exchange is the first field
 pub no_exchange : (others : List (List ℕ)) (field : List ℕ) (rest rest' : List (List ℕ)) (exchange : ℕ) → others ≡ field ∷ rest
@@ -47,11 +51,11 @@ empty_exchange others field rest rest' exchange first empty is spells =
     (number_text exchange (omega (arith, is.1))).filled (sym (no_exchange others field rest rest' exchange first spells) ∙ empty)
 
 -- an air line whose fields are read behind its kind has its shape
-pub air_shape : (others : List (List ℕ)) (field kind : List ℕ) (rest : List (List ℕ)) (known : AirKind) (happening : Happening)
-    → others ≡ field ∷ kind ∷ rest → field ≢ [] → kind ≡ air_word known → IsHappeningText known rest happening → HasShape words.Air others
-air_shape others field kind rest known happening whole filled is text =
+pub air_shape : (field kind : List ℕ) (rest : List (List ℕ)) (known : AirKind) (happening : Happening) → field ≢ [] → kind ≡ air_word known
+    → IsHappeningText known rest happening → HasShape keywords.Air (field ∷ kind ∷ rest)
+air_shape field kind rest known happening filled is text =
     let count = rw (← text.spelling, text.same_kind) at (happening_filled happening text.is) in
-    rw whole (filled, known, is, count)
+    (filled, known, is, count)
 
 pub not_found : {A : Type 0} {x : A} → None ≡ Some x → ⊥
 not_found found = cc

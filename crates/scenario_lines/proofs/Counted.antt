@@ -1,87 +1,17 @@
--- Lists of so many fields, none of them empty.
-use Rattle.std.proofs.Common.{◌≡◌, ◌≢◌, ℕ, suc, List, [], ◌∷◌, ap, arith, refl}
-use Rattle.std.proofs.lemmas.List.Elements.{All-cons, All-head, All-nil, All-tail}
-use Rattle.scenario_lines.specs.LineFaults.{AreFilled}
+-- Fields by their places.
+use Rattle.std.proofs.Common.{◌≡◌, ℕ, List, [], ◌∷◌, length, get_or, ap}
+use Rattle.text_fields.specs.NamedFields.{AreFilled}
+use Rattle.text_fields.specs.laws.FilledFields.{Filled, none_filled, one_more}
 
-abbrev pub Filled : List ℕ → Type 0
-Filled field = field ≢ []
+-- each of the fields is filled
+abbrev pub EachFilled : List (List ℕ) → Type 0
+EachFilled [] = Unit {0}
+EachFilled (field ∷ fields) = Filled field × EachFilled fields
 
--- the fields behind the first, of which there is one less
-pub one_less : (count : ℕ) (field : List ℕ) (fields : List (List ℕ)) → AreFilled (suc count) (field ∷ fields) → Filled field × AreFilled count fields
-one_less count field fields are =
-    let number = are.number in
-    (All-head Filled field fields are.filled, record { number = omega arith; filled = All-tail Filled field fields are.filled })
+pub each_filled : (fields : List (List ℕ)) → EachFilled fields → AreFilled (length fields) fields
+each_filled [] each = none_filled
+each_filled (field ∷ fields) each = one_more (length fields) field fields each.0 (each_filled fields each.1)
 
-pub one_more : (count : ℕ) (field : List ℕ) (fields : List (List ℕ)) → Filled field → AreFilled count fields → AreFilled (suc count) (field ∷ fields)
-one_more count field fields filled are =
-    let number = are.number in
-    record { number = omega arith; filled = All-cons Filled field fields filled are.filled }
-
-pub none_filled : AreFilled 0 []
-none_filled = record { number = refl; filled = All-nil Filled }
-
-nothing_more : (fields : List (List ℕ)) → AreFilled 0 fields → fields ≡ []
-nothing_more [] are = refl
-nothing_more (field ∷ fields) are = let number = are.number in absurd (omega arith)
-
--- a field can't be wanting where one is there
-pub have_1 : (fields : List (List ℕ)) → AreFilled 1 fields → ((a : List ℕ) → fields ≡ a ∷ [] → Filled a → ⊥) → ⊥
-have_1 [] are wanting = let number = are.number in absurd (omega arith)
-have_1 (field ∷ fields) are wanting =
-    let parts = one_less 0 field fields are in
-    wanting field (ap (λ (rest : List (List ℕ)). field ∷ rest) (nothing_more fields parts.1)) parts.0
-
-have_2 : (fields : List (List ℕ)) → AreFilled 2 fields
-    → ((a b : List ℕ) → fields ≡ a ∷ b ∷ [] → Filled a → Filled b → ⊥) → ⊥
-have_2 [] are wanting = let number = are.number in absurd (omega arith)
-have_2 (field ∷ fields) are wanting =
-    let parts = one_less 1 field fields are in
-    have_1 fields parts.1 (λ b are_these hb.
-    wanting field b (ap (λ (rest : List (List ℕ)). field ∷ rest) are_these) parts.0 hb)
-
-pub have_3 : (fields : List (List ℕ)) → AreFilled 3 fields
-    → ((a b c : List ℕ) → fields ≡ a ∷ b ∷ c ∷ [] → Filled a → Filled b → Filled c → ⊥) → ⊥
-have_3 [] are wanting = let number = are.number in absurd (omega arith)
-have_3 (field ∷ fields) are wanting =
-    let parts = one_less 2 field fields are in
-    have_2 fields parts.1 (λ b c are_these hb hc.
-    wanting field b c (ap (λ (rest : List (List ℕ)). field ∷ rest) are_these) parts.0 hb hc)
-
-have_4 : (fields : List (List ℕ)) → AreFilled 4 fields
-    → ((a b c d : List ℕ) → fields ≡ a ∷ b ∷ c ∷ d ∷ [] → Filled a → Filled b → Filled c → Filled d → ⊥) → ⊥
-have_4 [] are wanting = let number = are.number in absurd (omega arith)
-have_4 (field ∷ fields) are wanting =
-    let parts = one_less 3 field fields are in
-    have_3 fields parts.1 (λ b c d are_these hb hc hd.
-    wanting field b c d (ap (λ (rest : List (List ℕ)). field ∷ rest) are_these) parts.0 hb hc hd)
-
-pub have_5 : (fields : List (List ℕ)) → AreFilled 5 fields
-    → ((a b c d e : List ℕ) → fields ≡ a ∷ b ∷ c ∷ d ∷ e ∷ [] → Filled a → Filled b → Filled c → Filled d → Filled e → ⊥) → ⊥
-have_5 [] are wanting = let number = are.number in absurd (omega arith)
-have_5 (field ∷ fields) are wanting =
-    let parts = one_less 4 field fields are in
-    have_4 fields parts.1 (λ b c d e are_these hb hc hd he.
-    wanting field b c d e (ap (λ (rest : List (List ℕ)). field ∷ rest) are_these) parts.0 hb hc hd he)
-
-pub have_6 : (fields : List (List ℕ)) → AreFilled 6 fields
-    → ((a b c d e f : List ℕ) → fields ≡ a ∷ b ∷ c ∷ d ∷ e ∷ f ∷ [] → Filled a → Filled b → Filled c → Filled d → Filled e → Filled f → ⊥) → ⊥
-have_6 [] are wanting = let number = are.number in absurd (omega arith)
-have_6 (field ∷ fields) are wanting =
-    let parts = one_less 5 field fields are in
-    have_5 fields parts.1 (λ b c d e f are_these hb hc hd he hf.
-    wanting field b c d e f (ap (λ (rest : List (List ℕ)). field ∷ rest) are_these) parts.0 hb hc hd he hf)
-
-pub have_7 : (fields : List (List ℕ)) → AreFilled 7 fields
-    → ((a b c d e f g : List ℕ) → fields ≡ a ∷ b ∷ c ∷ d ∷ e ∷ f ∷ g ∷ [] → Filled a → Filled b → Filled c → Filled d → Filled e → Filled f → Filled g → ⊥) → ⊥
-have_7 [] are wanting = let number = are.number in absurd (omega arith)
-have_7 (field ∷ fields) are wanting =
-    let parts = one_less 6 field fields are in
-    have_6 fields parts.1 (λ b c d e f g are_these hb hc hd he hf hg.
-    wanting field b c d e f g (ap (λ (rest : List (List ℕ)). field ∷ rest) are_these) parts.0 hb hc hd he hf hg)
-
-pub are_7 : (a b c d e f g : List ℕ) → Filled a → Filled b → Filled c → Filled d → Filled e → Filled f → Filled g → AreFilled 7 (a ∷ b ∷ c ∷ d ∷ e ∷ f ∷ g ∷ [])
-are_7 a b c d e f g ha hb hc hd he hf hg =
-    one_more 6 a (b ∷ c ∷ d ∷ e ∷ f ∷ g ∷ []) ha
-    (one_more 5 b (c ∷ d ∷ e ∷ f ∷ g ∷ []) hb
-    (one_more 4 c (d ∷ e ∷ f ∷ g ∷ []) hc
-    (one_more 3 d (e ∷ f ∷ g ∷ []) hd (one_more 2 e (f ∷ g ∷ []) he (one_more 1 f (g ∷ []) hf (one_more 0 g [] hg none_filled))))))
+-- the field at a place of two equal lists
+pub field_at : (place : ℕ) (one other : List (List ℕ)) → one ≡ other → get_or one place [] ≡ get_or other place []
+field_at place one other same = ap (λ (fields : List (List ℕ)). get_or fields place []) same

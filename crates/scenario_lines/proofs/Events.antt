@@ -1,6 +1,6 @@
 -- Events of one kind.
 use Rattle.std.proofs.Common.{◌≡◌, refl}
-use Rattle.command_grammar.specs.declared.field_values.FlagName.{FlagName}
+use Rattle.command_fields.specs.declared.choices.FlagName.{FlagName}
 use Rattle.air_events.specs.declared.Event.{Event}
 use Rattle.air_events.specs.declared.Event.TheVariants as events
 use Rattle.scenario_lines.specs.declared.first_fields.EventKind.TheVariants.{Expire}

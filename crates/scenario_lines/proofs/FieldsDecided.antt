@@ -11,19 +11,20 @@ use Rattle.text_fields.specs.CodeNames.{code_word}
 use Rattle.text_fields.specs.Hexadecimal.{hex_word, hex_words}
 use Rattle.text_fields.specs.ToldApart.{binary_told, hex_words_told}
 use Rattle.command_text.specs.CommandText.{bank_word, flag_word, mask_bank_word, payload_digits, side_word}
-use Rattle.command_grammar.specs.declared.field_values.Bank.{Bank}
-use Rattle.command_grammar.specs.declared.field_values.Bank.TheVariants as all_banks
-use Rattle.command_grammar.specs.declared.field_values.FlagName.{FlagName}
-use Rattle.command_grammar.specs.declared.field_values.FlagName.TheVariants as flags
-use Rattle.command_grammar.specs.declared.field_values.MaskBank.{MaskBank}
-use Rattle.command_grammar.specs.declared.field_values.MaskBank.TheVariants as banks
-use Rattle.command_grammar.specs.declared.field_values.Sel.{Sel}
-use Rattle.command_grammar.specs.declared.field_values.Sel.TheVariants as sels
-use Rattle.command_grammar.specs.declared.field_values.Side.{Side}
-use Rattle.command_grammar.specs.declared.field_values.Side.TheVariants as sides
+use Rattle.command_fields.specs.declared.choices.Bank.{Bank}
+use Rattle.command_fields.specs.declared.choices.Bank.TheVariants as all_banks
+use Rattle.command_fields.specs.declared.choices.FlagName.{FlagName}
+use Rattle.command_fields.specs.declared.choices.FlagName.TheVariants as flags
+use Rattle.command_fields.specs.declared.choices.MaskBank.{MaskBank}
+use Rattle.command_fields.specs.declared.choices.MaskBank.TheVariants as banks
+use Rattle.command_fields.specs.declared.choices.Sel.{Sel}
+use Rattle.command_fields.specs.declared.choices.Sel.TheVariants as sels
+use Rattle.command_fields.specs.declared.choices.Side.{Side}
+use Rattle.command_fields.specs.declared.choices.Side.TheVariants as sides
 use Rattle.lock_rules.specs.declared.locks.Pair.{Pair}
 use Rattle.scenario_lines.specs.Names.{sel_text}
-use Rattle.value_text.specs.ValueText.{locks_text, password_text, IsWordList}
+use Rattle.text_fields.specs.WordLists.{IsWordList}
+use Rattle.value_text.specs.ValueText.{locks_text, password_text}
 use Rattle.scenario_lines.specs.Spelling.{flag_text}
 use Rattle.scenario_lines.proofs.Decisions.{Any, Behind, Decided, Spelled, behind_decided, below_decided, both, either, le_decided, nothing_decided, number_decided, same_answer, text_decided}
 
@@ -178,10 +179,6 @@ digits_decided (digit ∷ digits) = elim (digit_decided digit) [
 ]
 
 -- a list and the hyphen that stands for none
-empty_or : (spelling : List ℕ) → spelling ≢ [] → or_hyphen spelling ≡ spelling
-empty_or [] some = absurd (some refl)
-empty_or (byte ∷ bytes) some = refl
-
 hyphen_or : (field spelling : List ℕ) → field ≢ hyphen ∷ [] → field ≡ or_hyphen spelling → field ≡ spelling
 hyphen_or field [] other is = absurd (other is)
 hyphen_or field (byte ∷ bytes) other is = is
@@ -215,12 +212,12 @@ ranged spelling May In told within field (inl found) = elim (within found.0) [
   | inr out ↦ inr (λ other. out (subst In (told other.0 found.0 other.1.0 found.1 (sym other.2 ∙ found.2)) other.1.1))
 ]
 
-pub mask_decided : (field : List ℕ) → Decided (Spelled binary (λ bits. length bits ≤ 255) field)
-mask_decided field =
-    same_answer {A = Spelled binary (λ bits. Any bits × (length bits ≤ 255)) field} (λ found. (found.0, found.1.1, found.2))
+pub bits_decided : (least most : ℕ) (field : List ℕ) → Decided (Spelled binary (λ bits. (least ≤ length bits) × (length bits ≤ most)) field)
+bits_decided least most field =
+    same_answer {A = Spelled binary (λ bits. Any bits × ((least ≤ length bits) × (length bits ≤ most))) field} (λ found. (found.0, found.1.1, found.2))
     (λ found. (found.0, (tt, found.1), found.2))
-    (ranged binary Any (λ bits. length bits ≤ 255) (λ one other _ _ same. binary_told one other same) (λ bits. le_decided (length bits) 255) field
-    (listed (map binary_digit) Any tt refl digits_decided field))
+    (ranged binary Any (λ bits. (least ≤ length bits) × (length bits ≤ most)) (λ one other _ _ same. binary_told one other same)
+    (λ bits. both (le_decided least (length bits)) (le_decided (length bits) most)) field (listed (map binary_digit) Any tt refl digits_decided field))
 
 -- words of 16 bits
 abbrev AreSmall : List ℕ → Type 0

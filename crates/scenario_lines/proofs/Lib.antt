@@ -4,13 +4,11 @@ pub mod Counted
 pub mod Events
 pub mod AirFields
 pub mod OpFields
-pub mod Payloads
 pub mod TagFields
 pub mod LineTexts
 pub mod ToldNames
 pub mod ToldFields
 pub mod ToldLines
-pub mod BlockWords
 pub mod OneOp
 pub mod LineShapes
 pub mod LineReasons

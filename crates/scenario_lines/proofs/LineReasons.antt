@@ -5,31 +5,31 @@ use Rattle.pie_line.specs.Link.{IsLegalLink, LinkValue}
 use Rattle.pie_line.specs.LinkRefusal.{IsFirstBroken}
 use Rattle.pie_line.specs.declared.link.LinkRefusal.{LinkRefusal}
 use Rattle.pie_line.specs.declared.link.LinkRefusal.TheVariants as refusals
-use Rattle.scenario_lines.specs.declared.first_fields.Word.{Word}
-use Rattle.scenario_lines.specs.declared.first_fields.Word.TheVariants as words
+use Rattle.scenario_lines.specs.declared.first_fields.Keyword.{Keyword}
+use Rattle.scenario_lines.specs.declared.first_fields.Keyword.TheVariants as keywords
 use Rattle.scenario_lines.specs.declared.line.Line.{Line}
 use Rattle.scenario_lines.specs.declared.line.Line.TheVariants as lines
 use Rattle.scenario_lines.specs.declared.fault.LineFault.{LineFault}
 use Rattle.scenario_lines.specs.declared.fault.LineFault.TheVariants.{Word as WordFault, Shape, Number, Tari, RtCal, TrCal, Pw, Pc}
-use Rattle.scenario_lines.specs.Names.{word_text}
+use Rattle.scenario_lines.specs.Names.{keyword_text}
 use Rattle.scenario_lines.specs.LineForm.{HasForm, IsCoherent}
 use Rattle.scenario_lines.specs.LineFaults.{BeginsWith, BreaksLink, HasShape, IsFaultyLine, IsFaultyBehind, SpellsLine}
-use Rattle.scenario_lines.specs.Spelling.{line_fields, other_fields, word_of_line}
+use Rattle.scenario_lines.specs.Spelling.{line_fields, other_fields, keyword_of}
 use Rattle.scenario_lines.specs.Reading.{link_fault}
 use Rattle.scenario_lines.proofs.LineShapes.{line_shape, shaped_known}
 use Rattle.scenario_lines.proofs.ToldLines.{line_told, same_fields}
-use Rattle.scenario_lines.proofs.ToldNames.{word_told}
+use Rattle.scenario_lines.proofs.ToldNames.{keyword_told}
 
--- a word of a scenario stands at the head, with a kind that is known where a kind is there
+-- a keyword of a scenario stands at the head, with a kind that is known where a kind is there
 abbrev Begins : List (List ℕ) → Type 0
-Begins fields = (word : Word) × BeginsWith fields word
+Begins fields = (keyword : Keyword) × BeginsWith fields keyword
 
 -- ... and behind it are the fields that it wants
 record Shaped (fields : List (List ℕ)) : Type 0 where
-  word : Word
+  keyword : Keyword
   others : List (List ℕ)
-  first : fields ≡ word_text word ∷ others
-  shape : HasShape word others
+  first : fields ≡ keyword_text keyword ∷ others
+  shape : HasShape keyword others
 
 -- ... and each of them is of its form and range
 record Formed (fields : List (List ℕ)) : Type 0 where
@@ -52,11 +52,11 @@ data Stops (fields : List (List ℕ)) (fault : LineFault) : Type 0 where
   apart : (formed : Formed fields) → Disagrees formed.line fault → Stops fields fault
 
 begun : (fields : List (List ℕ)) → Shaped fields → Begins fields
-begun fields has = (has.word, record { others = has.others; first = has.first; kind = shaped_known has.word has.others has.shape })
+begun fields has = (has.keyword, record { others = has.others; first = has.first; kind = shaped_known has.keyword has.others has.shape })
 
 shape_of : (fields : List (List ℕ)) → Formed fields → Shaped fields
 shape_of fields formed = record {
-  word = word_of_line formed.line;
+  keyword = keyword_of formed.line;
   others = other_fields formed.line;
   first = formed.spelling;
   shape = line_shape formed.line formed.form;
@@ -117,50 +117,50 @@ stops_once fields one other (apart formed broken) (unshaped is' begins none') = 
 stops_once fields one other (apart formed broken) (unformed is' shape none') = absurd (none' formed)
 
 -- a first field and those behind it are read in one way
-one_reading : (fields : List (List ℕ)) (one other : Word) (others others' : List (List ℕ)) → fields ≡ word_text one ∷ others
-    → fields ≡ word_text other ∷ others' → (one ≡ other) × (others ≡ others')
+one_reading : (fields : List (List ℕ)) (one other : Keyword) (others others' : List (List ℕ)) → fields ≡ keyword_text one ∷ others
+    → fields ≡ keyword_text other ∷ others' → (one ≡ other) × (others ≡ others')
 one_reading fields one other others others' first first' =
-    let same = same_fields (word_text one) (word_text other) others others' (sym first ∙ first') in
-    (word_told one other same.0, same.1)
+    let same = same_fields (keyword_text one) (keyword_text other) others others' (sym first ∙ first') in
+    (keyword_told one other same.0, same.1)
 
-broken_link : (fields : List (List ℕ)) (refusal : LinkRefusal) (others : List (List ℕ)) → fields ≡ word_text words.Link ∷ others
+broken_link : (fields : List (List ℕ)) (refusal : LinkRefusal) (others : List (List ℕ)) → fields ≡ keyword_text keywords.Link ∷ others
     → BreaksLink refusal others → Stops fields (link_fault refusal)
 broken_link fields refusal others first breaks =
     let line = lines.Link breaks.link in
-    apart (record { line = line; spelling = first ∙ ap (λ (list : List (List ℕ)). word_text words.Link ∷ list) breaks.spelling; form = breaks.form })
+    apart (record { line = line; spelling = first ∙ ap (λ (list : List (List ℕ)). keyword_text keywords.Link ∷ list) breaks.spelling; form = breaks.form })
     (refusal, refl, breaks.broken)
 
-link_stop : (fields : List (List ℕ)) (refusal : LinkRefusal) (word : Word) (others : List (List ℕ)) → fields ≡ word_text word ∷ others
-    → IsFaultyBehind word others (link_fault refusal) → Stops fields (link_fault refusal)
-link_stop fields refusals.Tari words.Link others first breaks = broken_link fields refusals.Tari others first breaks
-link_stop fields refusals.RtCal words.Link others first breaks = broken_link fields refusals.RtCal others first breaks
-link_stop fields refusals.TrCal words.Link others first breaks = broken_link fields refusals.TrCal others first breaks
-link_stop fields refusals.Pw words.Link others first breaks = broken_link fields refusals.Pw others first breaks
-link_stop fields refusal word others first breaks = absurd breaks
+link_stop : (fields : List (List ℕ)) (refusal : LinkRefusal) (keyword : Keyword) (others : List (List ℕ)) → fields ≡ keyword_text keyword ∷ others
+    → IsFaultyBehind keyword others (link_fault refusal) → Stops fields (link_fault refusal)
+link_stop fields refusals.Tari keywords.Link others first breaks = broken_link fields refusals.Tari others first breaks
+link_stop fields refusals.RtCal keywords.Link others first breaks = broken_link fields refusals.RtCal others first breaks
+link_stop fields refusals.TrCal keywords.Link others first breaks = broken_link fields refusals.TrCal others first breaks
+link_stop fields refusals.Pw keywords.Link others first breaks = broken_link fields refusals.Pw others first breaks
+link_stop fields refusal keyword others first breaks = absurd breaks
 
-tag_stop : (fields : List (List ℕ)) (word : Word) (others : List (List ℕ)) → fields ≡ word_text word ∷ others → IsFaultyBehind word others Pc
+tag_stop : (fields : List (List ℕ)) (keyword : Keyword) (others : List (List ℕ)) → fields ≡ keyword_text keyword ∷ others → IsFaultyBehind keyword others Pc
     → Stops fields Pc
-tag_stop fields words.Tag others first breaks =
+tag_stop fields keywords.Tag others first breaks =
     let line = lines.Tag breaks.tag in
-    apart (record { line = line; spelling = first ∙ ap (λ (list : List (List ℕ)). word_text words.Tag ∷ list) breaks.spelling; form = breaks.form })
+    apart (record { line = line; spelling = first ∙ ap (λ (list : List (List ℕ)). keyword_text keywords.Tag ∷ list) breaks.spelling; form = breaks.form })
     (refl, breaks.broken)
-tag_stop fields word others first breaks = absurd breaks
+tag_stop fields keyword others first breaks = absurd breaks
 
 stop_of : (fields : List (List ℕ)) (fault : LineFault) → IsFaultyLine fields fault → Stops fields fault
 stop_of fields WordFault faulty = unknown refl (λ begins. faulty begins.0 begins.1)
 stop_of fields Shape faulty =
-    unshaped refl (faulty.word, record { others = faulty.others; first = faulty.first; kind = faulty.faulty.0 })
-    (λ has. let same = one_reading fields has.word faulty.word has.others faulty.others has.first faulty.first in
-    faulty.faulty.1 (subst (λ word. HasShape word faulty.others) same.0 (subst (λ others. HasShape has.word others) same.1 has.shape)))
+    unshaped refl (faulty.keyword, record { others = faulty.others; first = faulty.first; kind = faulty.faulty.0 })
+    (λ has. let same = one_reading fields has.keyword faulty.keyword has.others faulty.others has.first faulty.first in
+    faulty.faulty.1 (subst (λ keyword. HasShape keyword faulty.others) same.0 (subst (λ others. HasShape has.keyword others) same.1 has.shape)))
 stop_of fields Number faulty =
-    unformed refl (record { word = faulty.word; others = faulty.others; first = faulty.first; shape = faulty.faulty.0 })
-    (λ has. let same = one_reading fields (word_of_line has.line) faulty.word (other_fields has.line) faulty.others has.spelling faulty.first in
+    unformed refl (record { keyword = faulty.keyword; others = faulty.others; first = faulty.first; shape = faulty.faulty.0 })
+    (λ has. let same = one_reading fields (keyword_of has.line) faulty.keyword (other_fields has.line) faulty.others has.spelling faulty.first in
     faulty.faulty.1 has.line has.form same.0 (sym same.1))
-stop_of fields Tari faulty = link_stop fields refusals.Tari faulty.word faulty.others faulty.first faulty.faulty
-stop_of fields RtCal faulty = link_stop fields refusals.RtCal faulty.word faulty.others faulty.first faulty.faulty
-stop_of fields TrCal faulty = link_stop fields refusals.TrCal faulty.word faulty.others faulty.first faulty.faulty
-stop_of fields Pw faulty = link_stop fields refusals.Pw faulty.word faulty.others faulty.first faulty.faulty
-stop_of fields Pc faulty = tag_stop fields faulty.word faulty.others faulty.first faulty.faulty
+stop_of fields Tari faulty = link_stop fields refusals.Tari faulty.keyword faulty.others faulty.first faulty.faulty
+stop_of fields RtCal faulty = link_stop fields refusals.RtCal faulty.keyword faulty.others faulty.first faulty.faulty
+stop_of fields TrCal faulty = link_stop fields refusals.TrCal faulty.keyword faulty.others faulty.first faulty.faulty
+stop_of fields Pw faulty = link_stop fields refusals.Pw faulty.keyword faulty.others faulty.first faulty.faulty
+stop_of fields Pc faulty = tag_stop fields faulty.keyword faulty.others faulty.first faulty.faulty
 
 -- fields that agree with one another stop nowhere
 goes_on : (fields : List (List ℕ)) (fault : LineFault) (formed : Formed fields) → IsCoherent formed.line → Stops fields fault → ⊥

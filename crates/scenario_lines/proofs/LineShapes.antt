@@ -1,4 +1,4 @@
--- The fields of a line begin with its word, and have the shape that belongs to it.
+-- The fields of a line begin with its keyword, and have the shape that belongs to it.
 use Rattle.std.proofs.Common.{◌≡◌, ℕ, List, [], ◌∷◌, refl, sym, ◌∙◌}
 use Rattle.std.specs.Fmt.{decimal}
 use Rattle.std.specs.Prelude.{All}
@@ -6,39 +6,39 @@ use Rattle.std.proofs.lemmas.List.Elements.{All-head, All-weaker}
 use Rattle.text_fields.specs.Lines.{IsFieldText}
 use Rattle.scenario_lines.specs.declared.line.Line.{Line}
 use Rattle.scenario_lines.specs.declared.line.Line.TheVariants as lines
-use Rattle.scenario_lines.specs.declared.first_fields.Word.{Word}
-use Rattle.scenario_lines.specs.declared.first_fields.Word.TheVariants as words
-use Rattle.scenario_lines.specs.Names.{air_kind, air_word, event_kind, op_kind, word_text}
+use Rattle.scenario_lines.specs.declared.first_fields.Keyword.{Keyword}
+use Rattle.scenario_lines.specs.declared.first_fields.Keyword.TheVariants as keywords
+use Rattle.scenario_lines.specs.Names.{air_kind, air_word, event_kind, op_kind, keyword_text}
 use Rattle.scenario_lines.specs.LineForm.{HasForm}
 use Rattle.scenario_lines.specs.LineFaults.{BeginsWith, HasKnownKind, HasShape}
-use Rattle.scenario_lines.specs.Spelling.{happening_fields, other_fields, word_of_line}
-use Rattle.scenario_lines.proofs.Counted.{Filled}
+use Rattle.scenario_lines.specs.Spelling.{happening_fields, other_fields, keyword_of}
+use Rattle.text_fields.specs.laws.FilledFields.{Filled}
 use Rattle.scenario_lines.proofs.AirFields.{event_filled, happening_filled}
 use Rattle.scenario_lines.proofs.OpFields.{op_filled}
 use Rattle.scenario_lines.proofs.LineTexts.{other_texts}
 use Rattle.scenario_lines.proofs.ToldLines.{same_fields}
-use Rattle.scenario_lines.proofs.ToldNames.{word_told}
+use Rattle.scenario_lines.proofs.ToldNames.{keyword_told}
 
-pub begins_once : (fields : List (List ℕ)) (one other : Word) → BeginsWith fields one → BeginsWith fields other → one ≡ other
+pub begins_once : (fields : List (List ℕ)) (one other : Keyword) → BeginsWith fields one → BeginsWith fields other → one ≡ other
 begins_once fields one other begins begins' =
-    word_told one other (same_fields (word_text one) (word_text other) begins.others begins'.others (sym begins.first ∙ begins'.first)).0
+    keyword_told one other (same_fields (keyword_text one) (keyword_text other) begins.others begins'.others (sym begins.first ∙ begins'.first)).0
 
 -- fields of the right shape have a known kind
-pub shaped_known : (word : Word) (others : List (List ℕ)) → HasShape word others → HasKnownKind word others
-shaped_known words.Air (exchange ∷ kind ∷ others) shape = (shape.1, shape.2)
-shaped_known words.Event (kind ∷ others) shape = (shape.0, shape.1)
-shaped_known words.Air [] shape = absurd shape
-shaped_known words.Air (exchange ∷ []) shape = absurd shape
-shaped_known words.Event [] shape = absurd shape
-shaped_known words.Op (kind ∷ others) shape = (shape.0, shape.1)
-shaped_known words.Op [] shape = absurd shape
-shaped_known word others shape = tt
+pub shaped_known : (keyword : Keyword) (others : List (List ℕ)) → HasShape keyword others → HasKnownKind keyword others
+shaped_known keywords.Air (exchange ∷ kind ∷ others) shape = (shape.1, shape.2)
+shaped_known keywords.Event (kind ∷ others) shape = (shape.0, shape.1)
+shaped_known keywords.Air [] shape = absurd shape
+shaped_known keywords.Air (exchange ∷ []) shape = absurd shape
+shaped_known keywords.Event [] shape = absurd shape
+shaped_known keywords.Op (kind ∷ others) shape = (shape.0, shape.1)
+shaped_known keywords.Op [] shape = absurd shape
+shaped_known keyword others shape = tt
 
 filled : (line : Line) → HasForm line → All Filled (other_fields line)
 filled line form = All-weaker IsFieldText Filled (λ field is. is.filled) (other_fields line) (other_texts line form).are
 
--- a line whose fields are of their forms has the shape of its word
-pub line_shape : (line : Line) → HasForm line → HasShape (word_of_line line) (other_fields line)
+-- a line whose fields are of their forms has the shape of its keyword
+pub line_shape : (line : Line) → HasForm line → HasShape (keyword_of line) (other_fields line)
 line_shape lines.Version form = record { number = refl; filled = filled lines.Version form }
 line_shape (lines.Link link) form = record { number = refl; filled = filled (lines.Link link) form }
 line_shape (lines.Tag tag) form = record { number = refl; filled = filled (lines.Tag tag) form }

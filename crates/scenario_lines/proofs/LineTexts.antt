@@ -19,8 +19,9 @@ use Rattle.scenario_lines.specs.declared.line.Line.{Line}
 use Rattle.scenario_lines.specs.declared.line.Line.TheVariants as lines
 use Rattle.scenario_lines.specs.Names.{air_kind, event_kind, op_kind}
 use Rattle.scenario_lines.specs.LineForm.{HasForm, IsEvent, IsHappening, IsLine, IsLinkForm, IsRound, IsSelection}
-use Rattle.scenario_lines.specs.Spelling.{event_fields, happening_fields, line_fields, link_fields, op_fields, other_fields, round_fields, select_fields, tag_fields, word_of_line}
-use Rattle.scenario_lines.proofs.Filled.{air_word_is, any_bank_is, bank_text_is, code_text_is, event_word_is, flag_text_is, flag_word_is, locks_is, mask_is, number_text, one_word_is, op_word_is, password_is, payload_is, sel_text_is, side_text_is, word_text_is, words_is}
+use Rattle.scenario_lines.specs.Spelling.{event_fields, happening_fields, line_fields, link_fields, op_fields, other_fields, round_fields, select_fields, tag_fields, keyword_of}
+use Rattle.scenario_lines.proofs.Filled.{air_word_is, event_word_is, locks_is, bits_are, number_text, one_word_is, op_word_is, password_is, sel_text_is, keyword_text_is, words_is}
+use Rattle.command_text.specs.laws.FieldTexts.{bank_is, bit_is, code_is, flag_is, mask_bank_is, payload_is, side_is}
 
 pub record Texts (fields : List (List ℕ)) : Type 0 where
   pub are : All IsFieldText fields
@@ -37,7 +38,7 @@ only field is = with field [] is no_more
 link_texts : (link : LinkValue) → IsLinkForm link → Texts (link_fields link)
 link_texts link form =
     with _ _ (number_text link.tari (omega arith)) (with _ _ (number_text link.rtcal (omega arith)) (with _ _ (number_text link.trcal (omega arith))
-    (with _ _ (number_text link.pw (omega arith)) (with _ _ (flag_text_is link.dr) (with _ _ (code_text_is link.code) (only _ (flag_text_is link.trext)))))))
+    (with _ _ (number_text link.pw (omega arith)) (with _ _ (bit_is link.dr) (with _ _ (code_is link.code) (only _ (bit_is link.trext)))))))
 
 tag_texts : (tag : TagSpec) → Texts (tag_fields tag)
 tag_texts tag =
@@ -48,7 +49,7 @@ event_texts : (event : Event) (tag : ℕ) → IsEvent event tag → Texts (event
 event_texts events.Timeout tag is = only _ (number_text tag (omega (arith, is.place)))
 event_texts events.Off tag is = only _ (number_text tag (omega (arith, is.place)))
 event_texts events.On tag is = only _ (number_text tag (omega (arith, is.place)))
-event_texts (events.Expire flag) tag is = with _ _ (flag_word_is flag) (only _ (number_text tag (omega (arith, is.place))))
+event_texts (events.Expire flag) tag is = with _ _ (flag_is flag) (only _ (number_text tag (omega (arith, is.place))))
 
 happening_texts : (happening : Happening) → IsHappening happening → Texts (happening_fields happening)
 happening_texts (happenings.Event event tag) is = event_texts event tag is
@@ -56,33 +57,34 @@ happening_texts (happenings.Miss tag) is = only _ (number_text tag (omega (arith
 happening_texts (happenings.Choice (choices.Pick reply)) is = only _ (number_text reply (omega (arith, is)))
 happening_texts (happenings.Choice choices.Silent) is = no_more
 happening_texts (happenings.Choice (choices.Break place)) is = only _ (number_text place (omega (arith, is)))
+happening_texts (happenings.Choice (choices.Raw levels)) is = only _ (bits_are levels)
 
 select_texts : (selection : Selection) → IsSelection selection → Texts (select_fields selection)
 select_texts selection is =
-    with _ _ (flag_word_is selection.target) (with _ _ (number_text selection.action (omega (arith, is.action))) (with _ _ (bank_text_is selection.bank)
-    (with _ _ (number_text selection.pointer (omega (arith, is.pointer))) (only _ (mask_is selection.mask)))))
+    with _ _ (flag_is selection.target) (with _ _ (number_text selection.action (omega (arith, is.action))) (with _ _ (mask_bank_is selection.bank)
+    (with _ _ (number_text selection.pointer (omega (arith, is.pointer))) (only _ (bits_are selection.mask)))))
 
 round_texts : (spec : SpecValue) → IsRound spec → Texts (round_fields spec)
 round_texts spec is =
-    with _ _ (sel_text_is spec.sel is.named) (with _ _ (number_text spec.session (omega (arith, is.legal.session))) (with _ _ (side_text_is spec.target)
+    with _ _ (sel_text_is spec.sel is.named) (with _ _ (number_text spec.session (omega (arith, is.legal.session))) (with _ _ (side_is spec.target)
     (with _ _ (number_text spec.q (omega (arith, is.legal.q))) (with _ _ (number_text spec.c (omega (arith, is.legal.step)))
     (only _ (number_text spec.limit (omega (arith, is.legal.limit))))))))
 
 op_texts : (op : Op) → IsLegalOp op → Texts (op_fields op)
 op_texts (ops.Read bank pointer count) is =
-    with _ _ (any_bank_is bank) (with _ _ (number_text pointer (omega (arith, is.0))) (only _ (number_text count (omega (arith, is.1)))))
-op_texts (ops.Write bank pointer word) is =
-    with _ _ (any_bank_is bank) (with _ _ (number_text pointer (omega (arith, is.0))) (only _ (one_word_is word)))
+    with _ _ (bank_is bank) (with _ _ (number_text pointer (omega (arith, is.0))) (only _ (number_text count (omega (arith, is.1)))))
+op_texts (ops.Write bank pointer keyword) is =
+    with _ _ (bank_is bank) (with _ _ (number_text pointer (omega (arith, is.0))) (only _ (one_word_is keyword)))
 op_texts (ops.BlockWrite bank pointer words) is =
-    with _ _ (any_bank_is bank) (with _ _ (number_text pointer (omega (arith, is.0))) (only _ (words_is words)))
+    with _ _ (bank_is bank) (with _ _ (number_text pointer (omega (arith, is.0))) (only _ (words_is words)))
 op_texts (ops.BlockErase bank pointer count) is =
-    with _ _ (any_bank_is bank) (with _ _ (number_text pointer (omega (arith, is.0))) (only _ (number_text count (omega (arith, is.2)))))
+    with _ _ (bank_is bank) (with _ _ (number_text pointer (omega (arith, is.0))) (only _ (number_text count (omega (arith, is.2)))))
 op_texts (ops.Lock payload) is = only _ (payload_is payload)
 op_texts (ops.Access password) is = only _ (password_is password)
 op_texts (ops.Kill password) is = only _ (password_is password)
 
 pub other_texts : (line : Line) → HasForm line → Texts (other_fields line)
-other_texts lines.Version form = only (codes "1") (flag_text_is true)
+other_texts lines.Version form = only (codes "1") (bit_is true)
 other_texts (lines.Link link) form = link_texts link form
 other_texts (lines.Tag tag) form = tag_texts tag
 other_texts (lines.Air exchange happening) form =
@@ -96,4 +98,4 @@ other_texts (lines.Op op) form = with _ _ (op_word_is (op_kind op)) (op_texts op
 other_texts lines.End form = no_more
 
 pub line_texts : (line : Line) → IsLine line → All IsFieldText (line_fields line)
-line_texts line is = All-cons IsFieldText _ (other_fields line) (word_text_is (word_of_line line)) (other_texts line is.form).are
+line_texts line is = All-cons IsFieldText _ (other_fields line) (keyword_text_is (keyword_of line)) (other_texts line is.form).are

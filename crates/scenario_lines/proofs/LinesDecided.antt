@@ -1,41 +1,44 @@
 -- The fields of a line are each of their form and range, or they are of no line's.
-use Rattle.std.proofs.Common.{◌≡◌, ◌≢◌, ◌<◌, ◌≤◌, ◌^◌, ℕ, List, [], ◌∷◌, refl, sym, ◌∙◌, ap, ap₂, inl, inr, arith}
+use Rattle.std.proofs.Common.{◌≡◌, ◌≢◌, ◌<◌, ◌≤◌, ◌^◌, ℕ, Bool, List, [], ◌∷◌, refl, sym, ◌∙◌, ap, ap₂, inl, inr, arith}
 use Rattle.std.specs.Prelude.{codes}
 use Rattle.std.specs.Fmt.{decimal}
+use Rattle.text_fields.specs.Binary.{binary}
 use Rattle.text_fields.specs.Hexadecimal.{hex_word, hex_words}
 use Rattle.command_text.specs.CommandText.{bank_word, flag_word, payload_digits}
-use Rattle.command_grammar.specs.declared.field_values.Bank.{Bank}
+use Rattle.command_fields.specs.declared.choices.Bank.{Bank}
 use Rattle.access_ops.specs.declared.Op.{Op}
 use Rattle.access_ops.specs.declared.Op.TheVariants as ops
 use Rattle.access_ops.specs.laws.OperationLaws.{IsLegalOp}
 use Rattle.air_events.specs.declared.Event.{Event}
 use Rattle.air_events.specs.declared.Event.TheVariants as events
 use Rattle.air_events.specs.declared.Choice.TheVariants as choices
-use Rattle.command_grammar.specs.declared.field_values.FlagName.{FlagName}
-use Rattle.command_grammar.specs.declared.field_values.FlagName.TheVariants as flags
+use Rattle.air_events.specs.Streams.{HasStreamLength, longest_stream}
+use Rattle.command_fields.specs.declared.choices.FlagName.{FlagName}
+use Rattle.command_fields.specs.declared.choices.FlagName.TheVariants as flags
 use Rattle.scenario_lines.specs.declared.first_fields.EventKind.{EventKind}
 use Rattle.scenario_lines.specs.declared.first_fields.EventKind.TheVariants as event_kinds
 use Rattle.scenario_lines.specs.declared.first_fields.OpKind.{OpKind}
 use Rattle.scenario_lines.specs.declared.first_fields.OpKind.TheVariants as op_kinds
 use Rattle.scenario_lines.specs.declared.first_fields.AirKind.{AirKind}
 use Rattle.scenario_lines.specs.declared.first_fields.AirKind.TheVariants as airs
-use Rattle.scenario_lines.specs.declared.first_fields.Word.{Word}
-use Rattle.scenario_lines.specs.declared.first_fields.Word.TheVariants as words
+use Rattle.scenario_lines.specs.declared.first_fields.Keyword.{Keyword}
+use Rattle.scenario_lines.specs.declared.first_fields.Keyword.TheVariants as keywords
 use Rattle.scenario_lines.specs.declared.line.Happening.{Happening}
 use Rattle.scenario_lines.specs.declared.line.Happening.TheVariants as happenings
 use Rattle.scenario_lines.specs.declared.line.Line.{Line}
 use Rattle.scenario_lines.specs.declared.line.Line.TheVariants as lines
 use Rattle.scenario_lines.specs.Names.{air_kind, air_word, event_kind, event_word, op_kind, op_word}
-use Rattle.value_text.specs.ValueText.{IsWordList, password_text}
+use Rattle.text_fields.specs.WordLists.{IsWordList}
+use Rattle.value_text.specs.ValueText.{password_text}
 use Rattle.scenario_lines.specs.TagForm.{IsTagForm, tag_of}
 use Rattle.scenario_lines.specs.LineForm.{HasForm, IsEvent, IsHappening, IsLinkForm, IsPlace, IsRound, IsSelection, most_level, most_nanoseconds}
-use Rattle.scenario_lines.specs.Spelling.{event_fields, happening_fields, link_fields, op_fields, other_fields, round_fields, select_fields, tag_fields, word_of_line}
+use Rattle.scenario_lines.specs.Spelling.{event_fields, happening_fields, link_fields, op_fields, other_fields, round_fields, select_fields, tag_fields, keyword_of}
 use Rattle.scenario_lines.specs.Reading.{IsEventText, IsHappeningText, IsOpText}
 use Rattle.scenario_lines.proofs.Decisions.{Any, Decided, Only, Spelled, behind_decided, list_decided, nothing_decided, only_decided, same_answer, text_decided}
-use Rattle.scenario_lines.proofs.FieldsDecided.{IsLasting, IsWithin, any_bank_decided, bank_decided, bit_decided, code_decided, decimal_decided, flag_decided, lasting_decided, locks_decided, mask_decided, password_decided, payload_decided, sel_decided, side_decided, tried, word_decided, words_decided}
+use Rattle.scenario_lines.proofs.FieldsDecided.{IsLasting, IsWithin, any_bank_decided, bank_decided, bit_decided, bits_decided, code_decided, decimal_decided, flag_decided, lasting_decided, locks_decided, password_decided, payload_decided, sel_decided, side_decided, tried, word_decided, words_decided}
 use Rattle.scenario_lines.proofs.ToldLines.{same_fields}
 use Rattle.scenario_lines.proofs.ToldNames.{air_word_told, event_word_told, op_word_told}
-use Rattle.scenario_lines.proofs.BlockWords.{block_of_list, list_of_block}
+use Rattle.command_text.specs.laws.ToldApart.{block_of_list, list_of_block}
 
 -- no more fields
 abbrev nothing : Unit {0} → List (List ℕ)
@@ -130,10 +133,10 @@ tag_decided =
 select_decided : FieldsDecided select_fields IsSelection
 select_decided =
     named (λ v. record { target = v.0; action = v.1.0; bank = v.1.1.0; pointer = v.1.1.1.0; mask = v.1.1.1.1.0 })
-    (λ v may. (record { action = may.1.0.1; pointer = may.1.1.1.0.1; mask = may.1.1.1.1.0 }, refl))
+    (λ v may. (record { action = may.1.0.1; pointer = may.1.1.1.0.1; mask = may.1.1.1.1.0.1 }, refl))
     (λ selection. (selection.target, (selection.action, (selection.bank, (selection.pointer, (selection.mask, tt))))))
-    (λ selection form. ((tt, ((omega arith, form.action), (tt, ((omega arith, form.pointer), (form.mask, tt))))), refl))
-    (then flag_decided (then (number 0 7) (then bank_decided (then (number 0 268435455) (then mask_decided end)))))
+    (λ selection form. ((tt, ((omega arith, form.action), (tt, ((omega arith, form.pointer), ((omega arith, form.mask), tt))))), refl))
+    (then flag_decided (then (number 0 7) (then bank_decided (then (number 0 268435455) (then (bits_decided 0 255) end)))))
 
 round_decided : FieldsDecided round_fields IsRound
 round_decided =
@@ -165,18 +168,19 @@ event_kind_decided field =
 
 -- the kind of an air line
 no_air_kind : (field : List ℕ) → (¬ Spelled event_word Any field) → field ≢ air_word airs.Miss → field ≢ air_word airs.Pick
-    → field ≢ air_word airs.Silent → field ≢ air_word airs.Break → (kind : AirKind) → field ≡ air_word kind → ⊥
-no_air_kind field event miss pick silent break (airs.Event kind) is = event (kind, tt, is)
-no_air_kind field event miss pick silent break airs.Miss is = miss is
-no_air_kind field event miss pick silent break airs.Pick is = pick is
-no_air_kind field event miss pick silent break airs.Silent is = silent is
-no_air_kind field event miss pick silent break airs.Break is = break is
+    → field ≢ air_word airs.Silent → field ≢ air_word airs.Break → field ≢ air_word airs.Raw → (kind : AirKind) → field ≡ air_word kind → ⊥
+no_air_kind field event miss pick silent break raw (airs.Event kind) is = event (kind, tt, is)
+no_air_kind field event miss pick silent break raw airs.Miss is = miss is
+no_air_kind field event miss pick silent break raw airs.Pick is = pick is
+no_air_kind field event miss pick silent break raw airs.Silent is = silent is
+no_air_kind field event miss pick silent break raw airs.Break is = break is
+no_air_kind field event miss pick silent break raw airs.Raw is = raw is
 
 pub air_kind_decided : (field : List ℕ) → Decided (Spelled air_word Any field)
 air_kind_decided field = elim (event_kind_decided field) [
   | inl found ↦ inl (airs.Event found.0, tt, found.2)
   | inr event ↦ tried airs.Miss tt (λ miss. tried airs.Pick tt (λ pick. tried airs.Silent tt (λ silent. tried airs.Break tt (λ break.
-      inr (λ found. no_air_kind field event miss pick silent break found.0 found.2)))))
+      tried airs.Raw tt (λ raw. inr (λ found. no_air_kind field event miss pick silent break raw found.0 found.2))))))
 ]
 
 -- one number
@@ -185,6 +189,10 @@ one_number most = named (λ v. v.0) (λ v may. (may.0.1, refl)) (λ n. (n, tt)) 
 
 one_place : FieldsDecided (λ (n : ℕ). decimal n ∷ []) IsPlace
 one_place = one_number 4095
+
+-- the levels of one stream
+one_stream : FieldsDecided (λ (levels : List Bool). binary levels ∷ []) HasStreamLength
+one_stream = named (λ v. v.0) (λ v may. (may.0, refl)) (λ levels. (levels, tt)) (λ levels is. ((is, tt), refl)) (then (bits_decided 1 longest_stream) end)
 
 -- what stands behind the kind of an event
 abbrev HasEvent : EventKind → List (List ℕ) → Type 0
@@ -249,22 +257,38 @@ event_decided = behind_kind_decided event_word (λ event. event_kind event.0) (�
     (λ some. (some.0.0, some.0.1, record { same_kind = some.1; spelling = some.2; is = some.3 })) (event_behind kind fields))
 
 -- the kind of an operation
-no_op_kind : (field : List ℕ) → field ≢ op_word op_kinds.Read → field ≢ op_word op_kinds.Write → field ≢ op_word op_kinds.BlockWrite
-    → field ≢ op_word op_kinds.BlockErase → field ≢ op_word op_kinds.Lock → field ≢ op_word op_kinds.Access → field ≢ op_word op_kinds.Kill
-    → (kind : OpKind) → field ≡ op_word kind → ⊥
-no_op_kind field reads writes blocks erases locks shows kills op_kinds.Read is = reads is
-no_op_kind field reads writes blocks erases locks shows kills op_kinds.Write is = writes is
-no_op_kind field reads writes blocks erases locks shows kills op_kinds.BlockWrite is = blocks is
-no_op_kind field reads writes blocks erases locks shows kills op_kinds.BlockErase is = erases is
-no_op_kind field reads writes blocks erases locks shows kills op_kinds.Lock is = locks is
-no_op_kind field reads writes blocks erases locks shows kills op_kinds.Access is = shows is
-no_op_kind field reads writes blocks erases locks shows kills op_kinds.Kill is = kills is
+record IsNoOpKind (field : List ℕ) : Type 0 where
+  reads : field ≢ op_word op_kinds.Read
+  writes : field ≢ op_word op_kinds.Write
+  blocks : field ≢ op_word op_kinds.BlockWrite
+  erases : field ≢ op_word op_kinds.BlockErase
+  locks : field ≢ op_word op_kinds.Lock
+  shows : field ≢ op_word op_kinds.Access
+  kills : field ≢ op_word op_kinds.Kill
+
+no_op_kind : (field : List ℕ) → IsNoOpKind field → (kind : OpKind) → field ≡ op_word kind → ⊥
+no_op_kind field none op_kinds.Read is = none.reads is
+no_op_kind field none op_kinds.Write is = none.writes is
+no_op_kind field none op_kinds.BlockWrite is = none.blocks is
+no_op_kind field none op_kinds.BlockErase is = none.erases is
+no_op_kind field none op_kinds.Lock is = none.locks is
+no_op_kind field none op_kinds.Access is = none.shows is
+no_op_kind field none op_kinds.Kill is = none.kills is
 
 pub op_kind_decided : (field : List ℕ) → Decided (Spelled op_word Any field)
 op_kind_decided field =
     tried op_kinds.Read tt (λ reads. tried op_kinds.Write tt (λ writes. tried op_kinds.BlockWrite tt (λ blocks. tried op_kinds.BlockErase tt (λ erases.
     tried op_kinds.Lock tt (λ locks. tried op_kinds.Access tt (λ shows. tried op_kinds.Kill tt (λ kills.
-    inr (λ found. no_op_kind field reads writes blocks erases locks shows kills found.0 found.2))))))))
+    let none : IsNoOpKind field = record {
+      reads = reads;
+      writes = writes;
+      blocks = blocks;
+      erases = erases;
+      locks = locks;
+      shows = shows;
+      kills = kills;
+    } in
+    inr (λ found. no_op_kind field none found.0 found.2))))))))
 
 -- what stands behind the kind of an operation
 abbrev HasOp : OpKind → List (List ℕ) → Type 0
@@ -372,6 +396,7 @@ event_there kind fields (happenings.Miss tag) text = let is = text.same_kind in 
 event_there kind fields (happenings.Choice (choices.Pick reply)) text = let is = text.same_kind in cc
 event_there kind fields (happenings.Choice choices.Silent) text = let is = text.same_kind in cc
 event_there kind fields (happenings.Choice (choices.Break place)) text = let is = text.same_kind in cc
+event_there kind fields (happenings.Choice (choices.Raw levels)) text = let is = text.same_kind in cc
 
 miss_there : (fields : List (List ℕ)) (happening : Happening) → IsHappeningText airs.Miss fields happening → Spelled (λ (n : ℕ). decimal n ∷ []) IsPlace fields
 miss_there fields (happenings.Miss tag) text = (tag, text.is, text.spelling)
@@ -379,6 +404,7 @@ miss_there fields (happenings.Event event tag) text = let is = text.same_kind in
 miss_there fields (happenings.Choice (choices.Pick reply)) text = let is = text.same_kind in cc
 miss_there fields (happenings.Choice choices.Silent) text = let is = text.same_kind in cc
 miss_there fields (happenings.Choice (choices.Break place)) text = let is = text.same_kind in cc
+miss_there fields (happenings.Choice (choices.Raw levels)) text = let is = text.same_kind in cc
 
 pick_there : (fields : List (List ℕ)) (happening : Happening) → IsHappeningText airs.Pick fields happening → Spelled (λ (n : ℕ). decimal n ∷ []) IsPlace fields
 pick_there fields (happenings.Choice (choices.Pick reply)) text = (reply, text.is, text.spelling)
@@ -386,6 +412,7 @@ pick_there fields (happenings.Event event tag) text = let is = text.same_kind in
 pick_there fields (happenings.Miss tag) text = let is = text.same_kind in cc
 pick_there fields (happenings.Choice choices.Silent) text = let is = text.same_kind in cc
 pick_there fields (happenings.Choice (choices.Break place)) text = let is = text.same_kind in cc
+pick_there fields (happenings.Choice (choices.Raw levels)) text = let is = text.same_kind in cc
 
 silent_there : (fields : List (List ℕ)) (happening : Happening) → IsHappeningText airs.Silent fields happening → Spelled nothing Any fields
 silent_there fields (happenings.Choice choices.Silent) text = (tt, tt, text.spelling)
@@ -393,6 +420,7 @@ silent_there fields (happenings.Event event tag) text = let is = text.same_kind 
 silent_there fields (happenings.Miss tag) text = let is = text.same_kind in cc
 silent_there fields (happenings.Choice (choices.Pick reply)) text = let is = text.same_kind in cc
 silent_there fields (happenings.Choice (choices.Break place)) text = let is = text.same_kind in cc
+silent_there fields (happenings.Choice (choices.Raw levels)) text = let is = text.same_kind in cc
 
 break_there : (fields : List (List ℕ)) (happening : Happening) → IsHappeningText airs.Break fields happening
     → Spelled (λ (n : ℕ). decimal n ∷ []) (λ n. n ≤ most_level) fields
@@ -401,6 +429,16 @@ break_there fields (happenings.Event event tag) text = let is = text.same_kind i
 break_there fields (happenings.Miss tag) text = let is = text.same_kind in cc
 break_there fields (happenings.Choice (choices.Pick reply)) text = let is = text.same_kind in cc
 break_there fields (happenings.Choice choices.Silent) text = let is = text.same_kind in cc
+break_there fields (happenings.Choice (choices.Raw levels)) text = let is = text.same_kind in cc
+
+raw_there : (fields : List (List ℕ)) (happening : Happening) → IsHappeningText airs.Raw fields happening
+    → Spelled (λ (levels : List Bool). binary levels ∷ []) HasStreamLength fields
+raw_there fields (happenings.Choice (choices.Raw levels)) text = (levels, text.is, text.spelling)
+raw_there fields (happenings.Event event tag) text = let is = text.same_kind in cc
+raw_there fields (happenings.Miss tag) text = let is = text.same_kind in cc
+raw_there fields (happenings.Choice (choices.Pick reply)) text = let is = text.same_kind in cc
+raw_there fields (happenings.Choice choices.Silent) text = let is = text.same_kind in cc
+raw_there fields (happenings.Choice (choices.Break place)) text = let is = text.same_kind in cc
 
 happening_behind : (kind : AirKind) (fields : List (List ℕ)) → Decided (HasHappening kind fields)
 happening_behind (airs.Event kind) fields =
@@ -420,6 +458,9 @@ happening_behind airs.Silent fields =
 happening_behind airs.Break fields =
     same_answer (λ found. (happenings.Choice (choices.Break found.0), record { same_kind = refl; spelling = found.2; is = found.1 }))
     (λ some. break_there fields some.0 some.1) (one_number most_level fields)
+happening_behind airs.Raw fields =
+    same_answer (λ found. (happenings.Choice (choices.Raw found.0), record { same_kind = refl; spelling = found.2; is = found.1 }))
+    (λ some. raw_there fields some.0 some.1) (one_stream fields)
 
 -- what is said of an exchange, with the word for its kind
 abbrev happening_text : Happening → List (List ℕ)
@@ -434,67 +475,67 @@ air_decided : FieldsDecided (with decimal happening_text) (Both (IsWithin 1 1000
 air_decided = then (number 1 1000000) happening_decided
 
 -- behind this first field the fields are of their forms
-abbrev pub FormedBehind : Word → List (List ℕ) → Type 0
-FormedBehind first others = (line : Line) × HasForm line × (word_of_line line ≡ first) × (others ≡ other_fields line)
+abbrev pub FormedBehind : Keyword → List (List ℕ) → Type 0
+FormedBehind first others = (line : Line) × HasForm line × (keyword_of line ≡ first) × (others ≡ other_fields line)
 
-version_there : (others : List (List ℕ)) → FormedBehind words.Version others → Only (codes "1" ∷ []) others
+version_there : (others : List (List ℕ)) → FormedBehind keywords.Version others → Only (codes "1" ∷ []) others
 version_there others (lines.Version, form, same, is) = (tt, tt, is)
 version_there others (line, form, same, is) = cc
 
-link_there : (others : List (List ℕ)) → FormedBehind words.Link others → Spelled link_fields IsLinkForm others
+link_there : (others : List (List ℕ)) → FormedBehind keywords.Link others → Spelled link_fields IsLinkForm others
 link_there others (lines.Link link, form, same, is) = (link, form, is)
 link_there others (line, form, same, is) = cc
 
-tag_there : (others : List (List ℕ)) → FormedBehind words.Tag others → Spelled tag_fields IsTagForm others
+tag_there : (others : List (List ℕ)) → FormedBehind keywords.Tag others → Spelled tag_fields IsTagForm others
 tag_there others (lines.Tag tag, form, same, is) = (tag, form, is)
 tag_there others (line, form, same, is) = cc
 
-air_there : (others : List (List ℕ)) → FormedBehind words.Air others → Spelled (with decimal happening_text) (Both (IsWithin 1 1000000) IsHappening) others
+air_there : (others : List (List ℕ)) → FormedBehind keywords.Air others → Spelled (with decimal happening_text) (Both (IsWithin 1 1000000) IsHappening) others
 air_there others (lines.Air exchange happening, form, same, is) = ((exchange, happening), form, is)
 air_there others (line, form, same, is) = cc
 
-select_there : (others : List (List ℕ)) → FormedBehind words.Select others → Spelled select_fields IsSelection others
+select_there : (others : List (List ℕ)) → FormedBehind keywords.Select others → Spelled select_fields IsSelection others
 select_there others (lines.Select selection, form, same, is) = (selection, form, is)
 select_there others (line, form, same, is) = cc
 
-nak_there : (others : List (List ℕ)) → FormedBehind words.Nak others → Spelled nothing Any others
+nak_there : (others : List (List ℕ)) → FormedBehind keywords.Nak others → Spelled nothing Any others
 nak_there others (lines.Nak, form, same, is) = (tt, tt, is)
 nak_there others (line, form, same, is) = cc
 
-event_line_there : (others : List (List ℕ)) → FormedBehind words.Event others → Spelled event_text (λ event. IsEvent event.0 event.1) others
+event_line_there : (others : List (List ℕ)) → FormedBehind keywords.Event others → Spelled event_text (λ event. IsEvent event.0 event.1) others
 event_line_there others (lines.Event event tag, form, same, is) = ((event, tag), form, is)
 event_line_there others (line, form, same, is) = cc
 
-round_there : (others : List (List ℕ)) → FormedBehind words.Round others → Spelled round_fields IsRound others
+round_there : (others : List (List ℕ)) → FormedBehind keywords.Round others → Spelled round_fields IsRound others
 round_there others (lines.Round spec, form, same, is) = (spec, form, is)
 round_there others (line, form, same, is) = cc
 
-only_there : (others : List (List ℕ)) → FormedBehind words.Only others → Spelled (with hex_words nothing) (Both (IsWordList 0 31) Any) others
+only_there : (others : List (List ℕ)) → FormedBehind keywords.Only others → Spelled (with hex_words nothing) (Both (IsWordList 0 31) Any) others
 only_there others (lines.Only epc, form, same, is) = ((epc, tt), (form, tt), is)
 only_there others (line, form, same, is) = cc
 
-op_there : (others : List (List ℕ)) → FormedBehind words.Op others → Spelled op_text IsLegalOp others
+op_there : (others : List (List ℕ)) → FormedBehind keywords.Op others → Spelled op_text IsLegalOp others
 op_there others (lines.Op op, form, same, is) = (op, form, is)
 op_there others (line, form, same, is) = cc
 
-end_there : (others : List (List ℕ)) → FormedBehind words.End others → Spelled nothing Any others
+end_there : (others : List (List ℕ)) → FormedBehind keywords.End others → Spelled nothing Any others
 end_there others (lines.End, form, same, is) = (tt, tt, is)
 end_there others (line, form, same, is) = cc
 
 -- fields behind a first field are of the forms of some line, or of none
-pub formed_behind : (first : Word) (others : List (List ℕ)) → Decided (FormedBehind first others)
-formed_behind words.Version others =
+pub formed_behind : (first : Keyword) (others : List (List ℕ)) → Decided (FormedBehind first others)
+formed_behind keywords.Version others =
     same_answer (λ found. (lines.Version, tt, refl, found.2)) (version_there others) (only_decided (list_decided text_decided) (codes "1" ∷ []) others)
-formed_behind words.Link others = same_answer (λ found. (lines.Link found.0, found.1, refl, found.2)) (link_there others) (link_decided others)
-formed_behind words.Tag others = same_answer (λ found. (lines.Tag found.0, found.1, refl, found.2)) (tag_there others) (tag_decided others)
-formed_behind words.Air others =
+formed_behind keywords.Link others = same_answer (λ found. (lines.Link found.0, found.1, refl, found.2)) (link_there others) (link_decided others)
+formed_behind keywords.Tag others = same_answer (λ found. (lines.Tag found.0, found.1, refl, found.2)) (tag_there others) (tag_decided others)
+formed_behind keywords.Air others =
     same_answer (λ found. (lines.Air found.0.0 found.0.1, found.1, refl, found.2)) (air_there others) (air_decided others)
-formed_behind words.Select others = same_answer (λ found. (lines.Select found.0, found.1, refl, found.2)) (select_there others) (select_decided others)
-formed_behind words.Nak others = same_answer (λ found. (lines.Nak, tt, refl, found.2)) (nak_there others) (end others)
-formed_behind words.Event others =
+formed_behind keywords.Select others = same_answer (λ found. (lines.Select found.0, found.1, refl, found.2)) (select_there others) (select_decided others)
+formed_behind keywords.Nak others = same_answer (λ found. (lines.Nak, tt, refl, found.2)) (nak_there others) (end others)
+formed_behind keywords.Event others =
     same_answer (λ found. (lines.Event found.0.0 found.0.1, found.1, refl, found.2)) (event_line_there others) (event_decided others)
-formed_behind words.Round others = same_answer (λ found. (lines.Round found.0, found.1, refl, found.2)) (round_there others) (round_decided others)
-formed_behind words.Only others =
+formed_behind keywords.Round others = same_answer (λ found. (lines.Round found.0, found.1, refl, found.2)) (round_there others) (round_decided others)
+formed_behind keywords.Only others =
     same_answer (λ found. (lines.Only found.0.0, found.1.0, refl, found.2)) (only_there others) (then (words_decided 0 31) end others)
-formed_behind words.Op others = same_answer (λ found. (lines.Op found.0, found.1, refl, found.2)) (op_there others) (op_decided others)
-formed_behind words.End others = same_answer (λ found. (lines.End, tt, refl, found.2)) (end_there others) (end others)
+formed_behind keywords.Op others = same_answer (λ found. (lines.Op found.0, found.1, refl, found.2)) (op_there others) (op_decided others)
+formed_behind keywords.End others = same_answer (λ found. (lines.End, tt, refl, found.2)) (end_there others) (end others)

@@ -4,23 +4,24 @@ use Rattle.std.specs.Fmt.{decimal}
 use Rattle.access_ops.specs.declared.Op.{Op}
 use Rattle.access_ops.specs.declared.Op.TheVariants as ops
 use Rattle.access_ops.specs.laws.OperationLaws.{IsLegalOp}
-use Rattle.command_grammar.specs.declared.field_values.Bank.{Bank}
+use Rattle.command_fields.specs.declared.choices.Bank.{Bank}
 use Rattle.command_text.specs.CommandText.{bank_word, payload_digits}
 use Rattle.text_fields.specs.Hexadecimal.{hex_word, hex_words}
 use Rattle.scenario_lines.specs.declared.first_fields.OpKind.{OpKind}
 use Rattle.scenario_lines.specs.Names.{op_field_count, op_kind}
 use Rattle.value_text.specs.ValueText.{password_text}
 use Rattle.scenario_lines.specs.Spelling.{op_fields}
-use Rattle.scenario_lines.specs.LineFaults.{AreFilled}
-use Rattle.scenario_lines.proofs.Counted.{Filled, none_filled, one_more}
-use Rattle.scenario_lines.proofs.Filled.{any_bank_is, number_text, one_word_is, password_is, payload_is, words_is}
+use Rattle.text_fields.specs.NamedFields.{AreFilled}
+use Rattle.text_fields.specs.laws.FilledFields.{Filled, none_filled, one_more}
+use Rattle.command_text.specs.laws.FieldTexts.{bank_is, payload_is}
+use Rattle.scenario_lines.proofs.Filled.{number_text, one_word_is, password_is, words_is}
 
 one_field_filled : (field : List ℕ) → Filled field → AreFilled 1 (field ∷ [])
 one_field_filled field filled = one_more 0 field [] filled none_filled
 
 place_filled : (bank : Bank) (pointer : ℕ) (last : List ℕ) → pointer < 2 ^ 28 → Filled last → AreFilled 3 (bank_word bank ∷ decimal pointer ∷ last ∷ [])
 place_filled bank pointer last is filled =
-    one_more 2 (bank_word bank) (decimal pointer ∷ last ∷ []) (any_bank_is bank).filled
+    one_more 2 (bank_word bank) (decimal pointer ∷ last ∷ []) (bank_is bank).filled
     (one_more 1 (decimal pointer) (last ∷ []) (number_text pointer (omega (arith, is))).filled (one_field_filled last filled))
 
 -- an operation has its fields
@@ -83,7 +84,7 @@ pub at_place : (op : Op) (kind : OpKind) → op_kind op ≡ kind → op_field_co
 at_place op kind same three is = placed_op op (ap op_field_count same ∙ three) is
 
 pub bank_filled : (bank : Bank) → Filled (bank_word bank)
-bank_filled bank = (any_bank_is bank).filled
+bank_filled bank = (bank_is bank).filled
 
 pub pointer_filled : (pointer : ℕ) → pointer < 2 ^ 28 → Filled (decimal pointer)
 pointer_filled pointer is = (number_text pointer (omega (arith, is))).filled

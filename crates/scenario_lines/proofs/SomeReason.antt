@@ -8,59 +8,85 @@ use Rattle.pie_line.specs.LinkRefusal.{IsFirstBroken}
 use Rattle.pie_line.specs.declared.link.LinkRefusal.{LinkRefusal}
 use Rattle.pie_line.specs.declared.link.LinkRefusal.TheVariants as refusals
 use Rattle.scenario_lines.specs.declared.first_fields.AirKind.{AirKind}
-use Rattle.scenario_lines.specs.declared.first_fields.Word.{Word}
-use Rattle.scenario_lines.specs.declared.first_fields.Word.TheVariants as words
+use Rattle.scenario_lines.specs.declared.first_fields.Keyword.{Keyword}
+use Rattle.scenario_lines.specs.declared.first_fields.Keyword.TheVariants as keywords
 use Rattle.scenario_lines.specs.declared.tag.TagSpec.{TagSpec}
 use Rattle.scenario_lines.specs.declared.line.Line.{Line}
 use Rattle.scenario_lines.specs.declared.line.Line.TheVariants as lines
 use Rattle.scenario_lines.specs.declared.fault.LineFault.{LineFault}
 use Rattle.scenario_lines.specs.declared.fault.LineFault.TheVariants.{Word as WordFault, Shape, Number, Pc}
-use Rattle.scenario_lines.specs.Names.{air_field_count, air_word, event_field_count, op_field_count, word_text}
+use Rattle.scenario_lines.specs.Names.{air_field_count, air_word, event_field_count, op_field_count, keyword_text}
 use Rattle.scenario_lines.specs.LineForm.{HasForm, IsLinkForm}
 use Rattle.scenario_lines.specs.TagForm.{IsTagForm}
-use Rattle.scenario_lines.specs.LineFaults.{AreFilled, BeginsWith, HasKnownKind, HasShape, IsFaultyLine, SpellsLine}
+use Rattle.scenario_lines.specs.LineFaults.{BeginsWith, HasKnownKind, HasShape, IsFaultyLine, SpellsLine}
+use Rattle.text_fields.specs.NamedFields.{AreFilled}
+use Rattle.text_fields.specs.laws.FilledFields.{Filled}
 use Rattle.scenario_lines.specs.Reading.{link_fault}
-use Rattle.scenario_lines.specs.Spelling.{line_fields, link_fields, tag_fields, word_of_line}
-use Rattle.scenario_lines.proofs.Counted.{Filled}
+use Rattle.scenario_lines.specs.Spelling.{line_fields, link_fields, tag_fields, keyword_of}
 use Rattle.scenario_lines.proofs.Decisions.{Any, Decided, Spelled, both, le_decided, number_decided, same_answer}
 use Rattle.scenario_lines.proofs.FieldsDecided.{tried}
 use Rattle.scenario_lines.proofs.LinesDecided.{air_kind_decided, event_kind_decided, formed_behind, op_kind_decided}
 use Rattle.scenario_lines.proofs.ToldLines.{same_fields}
-use Rattle.scenario_lines.proofs.ToldNames.{air_word_told, event_word_told, op_word_told, word_told}
+use Rattle.scenario_lines.proofs.ToldNames.{air_word_told, event_word_told, op_word_told, keyword_told}
 
 -- the first field of a line
-no_word : (field : List ℕ) → field ≢ word_text words.Version → field ≢ word_text words.Link → field ≢ word_text words.Tag → field ≢ word_text words.Air
-    → field ≢ word_text words.Select → field ≢ word_text words.Nak → field ≢ word_text words.Event → field ≢ word_text words.Round
-    → field ≢ word_text words.Only → field ≢ word_text words.Op → field ≢ word_text words.End → (word : Word) → field ≡ word_text word → ⊥
-no_word field version link tag air select nak event round epc op end words.Version is = version is
-no_word field version link tag air select nak event round epc op end words.Link is = link is
-no_word field version link tag air select nak event round epc op end words.Tag is = tag is
-no_word field version link tag air select nak event round epc op end words.Air is = air is
-no_word field version link tag air select nak event round epc op end words.Select is = select is
-no_word field version link tag air select nak event round epc op end words.Nak is = nak is
-no_word field version link tag air select nak event round epc op end words.Event is = event is
-no_word field version link tag air select nak event round epc op end words.Round is = round is
-no_word field version link tag air select nak event round epc op end words.Only is = epc is
-no_word field version link tag air select nak event round epc op end words.Op is = op is
-no_word field version link tag air select nak event round epc op end words.End is = end is
+record IsNoKeyword (field : List ℕ) : Type 0 where
+  version : field ≢ keyword_text keywords.Version
+  link : field ≢ keyword_text keywords.Link
+  tag : field ≢ keyword_text keywords.Tag
+  air : field ≢ keyword_text keywords.Air
+  select : field ≢ keyword_text keywords.Select
+  nak : field ≢ keyword_text keywords.Nak
+  event : field ≢ keyword_text keywords.Event
+  round : field ≢ keyword_text keywords.Round
+  epc : field ≢ keyword_text keywords.Only
+  op : field ≢ keyword_text keywords.Op
+  end : field ≢ keyword_text keywords.End
 
-word_decided : (field : List ℕ) → Decided (Spelled word_text Any field)
-word_decided field =
-    tried words.Version tt (λ version. tried words.Link tt (λ link. tried words.Tag tt (λ tag. tried words.Air tt (λ air. tried words.Select tt (λ select.
-    tried words.Nak tt (λ nak. tried words.Event tt (λ event. tried words.Round tt (λ round. tried words.Only tt (λ epc. tried words.Op tt (λ op.
-    tried words.End tt (λ end. inr (λ found. no_word field version link tag air select nak event round epc op end found.0 found.2))))))))))))
+no_keyword : (field : List ℕ) → IsNoKeyword field → (keyword : Keyword) → field ≡ keyword_text keyword → ⊥
+no_keyword field none keywords.Version is = none.version is
+no_keyword field none keywords.Link is = none.link is
+no_keyword field none keywords.Tag is = none.tag is
+no_keyword field none keywords.Air is = none.air is
+no_keyword field none keywords.Select is = none.select is
+no_keyword field none keywords.Nak is = none.nak is
+no_keyword field none keywords.Event is = none.event is
+no_keyword field none keywords.Round is = none.round is
+no_keyword field none keywords.Only is = none.epc is
+no_keyword field none keywords.Op is = none.op is
+no_keyword field none keywords.End is = none.end is
+
+keyword_decided : (field : List ℕ) → Decided (Spelled keyword_text Any field)
+keyword_decided field =
+    tried keywords.Version tt (λ version. tried keywords.Link tt (λ link. tried keywords.Tag tt (λ tag. tried keywords.Air tt (λ air.
+    tried keywords.Select tt (λ select. tried keywords.Nak tt (λ nak. tried keywords.Event tt (λ event. tried keywords.Round tt (λ round.
+    tried keywords.Only tt (λ epc. tried keywords.Op tt (λ op. tried keywords.End tt (λ end.
+    let none : IsNoKeyword field = record {
+      version = version;
+      link = link;
+      tag = tag;
+      air = air;
+      select = select;
+      nak = nak;
+      event = event;
+      round = round;
+      epc = epc;
+      op = op;
+      end = end;
+    } in
+    inr (λ found. no_keyword field none found.0 found.2))))))))))))
 
 -- the kind, where one is there
-kind_decided : (first : Word) (others : List (List ℕ)) → Decided (HasKnownKind first others)
-kind_decided words.Air (exchange ∷ kind ∷ others) =
+kind_decided : (first : Keyword) (others : List (List ℕ)) → Decided (HasKnownKind first others)
+kind_decided keywords.Air (exchange ∷ kind ∷ others) =
     same_answer (λ found. (found.0, found.2)) (λ known. (known.0, tt, known.1)) (air_kind_decided kind)
-kind_decided words.Event (kind ∷ others) = same_answer (λ found. (found.0, found.2)) (λ known. (known.0, tt, known.1)) (event_kind_decided kind)
-kind_decided words.Air [] = inl tt
-kind_decided words.Air (exchange ∷ []) = inl tt
-kind_decided words.Event [] = inl tt
-kind_decided words.Op (kind ∷ others) = same_answer (λ found. (found.0, found.2)) (λ known. (known.0, tt, known.1)) (op_kind_decided kind)
-kind_decided words.Op [] = inl tt
-kind_decided word others = inl tt
+kind_decided keywords.Event (kind ∷ others) = same_answer (λ found. (found.0, found.2)) (λ known. (known.0, tt, known.1)) (event_kind_decided kind)
+kind_decided keywords.Air [] = inl tt
+kind_decided keywords.Air (exchange ∷ []) = inl tt
+kind_decided keywords.Event [] = inl tt
+kind_decided keywords.Op (kind ∷ others) = same_answer (λ found. (found.0, found.2)) (λ known. (known.0, tt, known.1)) (op_kind_decided kind)
+kind_decided keywords.Op [] = inl tt
+kind_decided keyword others = inl tt
 
 -- so many fields, none of them empty
 filled_decided : (field : List ℕ) → Decided (Filled field)
@@ -81,7 +107,7 @@ count_decided count fields =
 same_air_kind : (kind : List ℕ) (known other : AirKind) → kind ≡ air_word known → kind ≡ air_word other → other ≡ known
 same_air_kind kind known other is is' = air_word_told other known (sym is' ∙ is)
 
-air_shape_decided : (exchange kind : List ℕ) (others : List (List ℕ)) → Decided (HasShape words.Air (exchange ∷ kind ∷ others))
+air_shape_decided : (exchange kind : List ℕ) (others : List (List ℕ)) → Decided (HasShape keywords.Air (exchange ∷ kind ∷ others))
 air_shape_decided exchange kind others = elim (air_kind_decided kind) [
   | inr unknown ↦ inr (λ shape. unknown (shape.1, tt, shape.2))
   | inl known ↦ same_answer (λ (pair : Filled exchange × AreFilled (air_field_count known.0) others). (pair.0, known.0, known.2, pair.1))
@@ -89,7 +115,7 @@ air_shape_decided exchange kind others = elim (air_kind_decided kind) [
       (both (filled_decided exchange) (count_decided (air_field_count known.0) others))
 ]
 
-event_shape_decided : (kind : List ℕ) (others : List (List ℕ)) → Decided (HasShape words.Event (kind ∷ others))
+event_shape_decided : (kind : List ℕ) (others : List (List ℕ)) → Decided (HasShape keywords.Event (kind ∷ others))
 event_shape_decided kind others = elim (event_kind_decided kind) [
   | inr unknown ↦ inr (λ shape. unknown (shape.0, tt, shape.1))
   | inl known ↦ same_answer (λ (are : AreFilled (event_field_count known.0) others). (known.0, known.2, are))
@@ -97,7 +123,7 @@ event_shape_decided kind others = elim (event_kind_decided kind) [
       (count_decided (event_field_count known.0) others)
 ]
 
-op_shape_decided : (kind : List ℕ) (others : List (List ℕ)) → Decided (HasShape words.Op (kind ∷ others))
+op_shape_decided : (kind : List ℕ) (others : List (List ℕ)) → Decided (HasShape keywords.Op (kind ∷ others))
 op_shape_decided kind others = elim (op_kind_decided kind) [
   | inr unknown ↦ inr (λ shape. unknown (shape.0, tt, shape.1))
   | inl known ↦ same_answer (λ (are : AreFilled (op_field_count known.0) others). (known.0, known.2, are))
@@ -105,34 +131,34 @@ op_shape_decided kind others = elim (op_kind_decided kind) [
       (count_decided (op_field_count known.0) others)
 ]
 
-shape_decided : (first : Word) (others : List (List ℕ)) → Decided (HasShape first others)
-shape_decided words.Version others = count_decided 1 others
-shape_decided words.Link others = count_decided 7 others
-shape_decided words.Tag others = count_decided 7 others
-shape_decided words.Air [] = inr (λ shape. shape)
-shape_decided words.Air (exchange ∷ []) = inr (λ shape. shape)
-shape_decided words.Air (exchange ∷ kind ∷ others) = air_shape_decided exchange kind others
-shape_decided words.Select others = count_decided 5 others
-shape_decided words.Nak others = count_decided 0 others
-shape_decided words.Event [] = inr (λ shape. shape)
-shape_decided words.Event (kind ∷ others) = event_shape_decided kind others
-shape_decided words.Round others = count_decided 6 others
-shape_decided words.Only others = count_decided 1 others
-shape_decided words.Op [] = inr (λ shape. shape)
-shape_decided words.Op (kind ∷ others) = op_shape_decided kind others
-shape_decided words.End others = count_decided 0 others
+shape_decided : (first : Keyword) (others : List (List ℕ)) → Decided (HasShape first others)
+shape_decided keywords.Version others = count_decided 1 others
+shape_decided keywords.Link others = count_decided 7 others
+shape_decided keywords.Tag others = count_decided 7 others
+shape_decided keywords.Air [] = inr (λ shape. shape)
+shape_decided keywords.Air (exchange ∷ []) = inr (λ shape. shape)
+shape_decided keywords.Air (exchange ∷ kind ∷ others) = air_shape_decided exchange kind others
+shape_decided keywords.Select others = count_decided 5 others
+shape_decided keywords.Nak others = count_decided 0 others
+shape_decided keywords.Event [] = inr (λ shape. shape)
+shape_decided keywords.Event (kind ∷ others) = event_shape_decided kind others
+shape_decided keywords.Round others = count_decided 6 others
+shape_decided keywords.Only others = count_decided 1 others
+shape_decided keywords.Op [] = inr (λ shape. shape)
+shape_decided keywords.Op (kind ∷ others) = op_shape_decided kind others
+shape_decided keywords.End others = count_decided 0 others
 
--- Some word of a scenario stands at the head of fields, with a kind that is known where a kind is there, or none does.
-pub some_word : (fields : List (List ℕ)) → ((word : Word) × BeginsWith fields word) ⊎ IsFaultyLine fields WordFault
-some_word [] = inr (λ word begins. let first = begins.first in cc)
-some_word (field ∷ others) = elim (word_decided field) [
-  | inr unknown ↦ inr (λ word begins. unknown (word, tt, (same_fields field (word_text word) others begins.others begins.first).0))
+-- Some keyword of a scenario stands at the head of fields, with a kind that is known where a kind is there, or none does.
+pub some_keyword : (fields : List (List ℕ)) → ((keyword : Keyword) × BeginsWith fields keyword) ⊎ IsFaultyLine fields WordFault
+some_keyword [] = inr (λ keyword begins. let first = begins.first in cc)
+some_keyword (field ∷ others) = elim (keyword_decided field) [
+  | inr unknown ↦ inr (λ keyword begins. unknown (keyword, tt, (same_fields field (keyword_text keyword) others begins.others begins.first).0))
   | inl found ↦ elim (kind_decided found.0 others) [
     | inl known ↦ inl (found.0, record { others = others; first = ap (λ (text : List ℕ). text ∷ others) found.2; kind = known })
-    | inr unknown ↦ inr (λ word begins.
-        let same = same_fields field (word_text word) others begins.others begins.first in
-        let word_is = word_told word found.0 (sym same.0 ∙ found.2) in
-        unknown (subst (λ first. HasKnownKind first others) word_is (subst (HasKnownKind word) (sym same.1) begins.kind)))
+    | inr unknown ↦ inr (λ keyword begins.
+        let same = same_fields field (keyword_text keyword) others begins.others begins.first in
+        let word_is = keyword_told keyword found.0 (sym same.0 ∙ found.2) in
+        unknown (subst (λ first. HasKnownKind first others) word_is (subst (HasKnownKind keyword) (sym same.1) begins.kind)))
   ]
 ]
 
@@ -164,20 +190,20 @@ SaysOrIsFaulty fields = ((line : Line) × SpellsLine fields line) ⊎ ((fault : 
 link_breaks : (fields : List (List ℕ)) (refusal : LinkRefusal) (link : LinkValue) → fields ≡ line_fields (lines.Link link) → IsLinkForm link
     → IsFirstBroken refusal link.tari link.rtcal link.trcal link.pw → IsFaultyLine fields (link_fault refusal)
 link_breaks fields refusals.Tari link is form broken =
-    record { word = words.Link; others = link_fields link; first = is; faulty = record { link = link; spelling = refl; form = form; broken = broken } }
+    record { keyword = keywords.Link; others = link_fields link; first = is; faulty = record { link = link; spelling = refl; form = form; broken = broken } }
 link_breaks fields refusals.RtCal link is form broken =
-    record { word = words.Link; others = link_fields link; first = is; faulty = record { link = link; spelling = refl; form = form; broken = broken } }
+    record { keyword = keywords.Link; others = link_fields link; first = is; faulty = record { link = link; spelling = refl; form = form; broken = broken } }
 link_breaks fields refusals.TrCal link is form broken =
-    record { word = words.Link; others = link_fields link; first = is; faulty = record { link = link; spelling = refl; form = form; broken = broken } }
+    record { keyword = keywords.Link; others = link_fields link; first = is; faulty = record { link = link; spelling = refl; form = form; broken = broken } }
 link_breaks fields refusals.Pw link is form broken =
-    record { word = words.Link; others = link_fields link; first = is; faulty = record { link = link; spelling = refl; form = form; broken = broken } }
+    record { keyword = keywords.Link; others = link_fields link; first = is; faulty = record { link = link; spelling = refl; form = form; broken = broken } }
 
 pc_reason : (fields : List (List ℕ)) (tag : TagSpec) (fits : Bool) → pc_fits tag.image ≡ fits → fields ≡ line_fields (lines.Tag tag) → IsTagForm tag → SaysOrIsFaulty fields
 pc_reason fields tag true fits is form = inl (lines.Tag tag, record { spelling = is; is = record { form = form; coherent = fits } })
 pc_reason fields tag false fits is form = inr (
   Pc,
   record {
-    word = words.Tag;
+    keyword = keywords.Tag;
     others = tag_fields tag;
     first = is;
     faulty = record { tag = tag; spelling = refl; form = form; broken = fits };
@@ -202,27 +228,27 @@ coherent_or_not fields (lines.Only epc) form is = inl (lines.Only epc, record { 
 coherent_or_not fields (lines.Op op) form is = inl (lines.Op op, record { spelling = is; is = record { form = form; coherent = tt } })
 coherent_or_not fields lines.End form is = inl (lines.End, record { spelling = is; is = record { form = form; coherent = tt } })
 
-behind_or_not : (fields : List (List ℕ)) (word : Word) (others : List (List ℕ)) → fields ≡ word_text word ∷ others → HasKnownKind word others → SaysOrIsFaulty fields
-behind_or_not fields word others first known = elim (shape_decided word others) [
-  | inr unshaped ↦ inr (Shape, record { word = word; others = others; first = first; faulty = (known, unshaped) })
-  | inl shape ↦ elim (formed_behind word others) [
+behind_or_not : (fields : List (List ℕ)) (keyword : Keyword) (others : List (List ℕ)) → fields ≡ keyword_text keyword ∷ others → HasKnownKind keyword others → SaysOrIsFaulty fields
+behind_or_not fields keyword others first known = elim (shape_decided keyword others) [
+  | inr unshaped ↦ inr (Shape, record { keyword = keyword; others = others; first = first; faulty = (known, unshaped) })
+  | inl shape ↦ elim (formed_behind keyword others) [
     | inr unformed ↦ inr (
       Number,
       record {
-        word = word;
+        keyword = keyword;
         others = others;
         first = first;
         faulty = (shape, λ line form same is. unformed (line, form, same, is));
       },
     )
     | inl formed ↦ coherent_or_not fields formed.0 formed.1
-        (first ∙ ap (λ (text : List ℕ). text ∷ others) (ap word_text (sym formed.2)) ∙ ap (λ (rest : List (List ℕ)). word_text (word_of_line formed.0) ∷ rest) formed.3)
+        (first ∙ ap (λ (text : List ℕ). text ∷ others) (ap keyword_text (sym formed.2)) ∙ ap (λ (rest : List (List ℕ)). keyword_text (keyword_of formed.0) ∷ rest) formed.3)
   ]
 ]
 
 -- fields spell a line, or are faulty for some reason
 pub some_reason : (fields : List (List ℕ)) → ((line : Line) × SpellsLine fields line) ⊎ ((fault : LineFault) × IsFaultyLine fields fault)
-some_reason fields = elim (some_word fields) [
+some_reason fields = elim (some_keyword fields) [
   | inr none ↦ inr (WordFault, none)
   | inl found ↦ behind_or_not fields found.0 found.1.others found.1.first found.1.kind
 ]

@@ -1,46 +1,48 @@
 -- The seven fields of a tag.
-use Rattle.std.proofs.Common.{◌≡◌, ℕ, List, [], ◌∷◌, Some, refl, sym, ◌∙◌}
+use Rattle.std.proofs.Common.{◌≡◌, ℕ, List, [], get_or, Some, refl}
 use Rattle.text_fields.specs.Hexadecimal.{hex_words}
 use Rattle.scenario_lines.specs.declared.tag.TagSpec.{TagSpec}
-use Rattle.lock_rules.specs.declared.locks.Locks.{Locks}
-use Rattle.scenario_lines.specs.TagForm.{tag_of}
 use Rattle.value_text.specs.ValueText.{locks_text, password_text}
+use Rattle.scenario_lines.specs.TagForm.{tag_of}
 use Rattle.scenario_lines.specs.Spelling.{tag_fields}
+use Rattle.scenario_lines.proofs.Counted.{field_at}
 
 -- the fields of a tag, one by one
-pub record AreTagFields (kill access locks epc tid user words : List ℕ) (tag : TagSpec) : Type 0 where
-  pub kill_is : kill ≡ password_text tag.image.kill
-  pub access_is : access ≡ password_text tag.image.access
-  pub locks_is : locks ≡ locks_text tag.locks
-  pub epc_is : epc ≡ hex_words tag.image.epc
-  pub tid_is : tid ≡ hex_words tag.image.tid
-  pub user_is : user ≡ hex_words tag.image.user
-  pub words_is : words ≡ hex_words tag.words
+pub record AreTagFields (fields : List (List ℕ)) (tag : TagSpec) : Type 0 where
+  pub kill_is : get_or fields 0 [] ≡ password_text tag.image.kill
+  pub access_is : get_or fields 1 [] ≡ password_text tag.image.access
+  pub locks_is : get_or fields 2 [] ≡ locks_text tag.locks
+  pub epc_is : get_or fields 3 [] ≡ hex_words tag.image.epc
+  pub tid_is : get_or fields 4 [] ≡ hex_words tag.image.tid
+  pub user_is : get_or fields 5 [] ≡ hex_words tag.image.user
+  pub words_is : get_or fields 6 [] ≡ hex_words tag.words
 
-pub same_7 : (a b c d e f g a' b' c' d' e' f' g' : List ℕ) → a ∷ b ∷ c ∷ d ∷ e ∷ f ∷ g ∷ [] ≡ a' ∷ b' ∷ c' ∷ d' ∷ e' ∷ f' ∷ g' ∷ []
-    → (a ≡ a') × (b ≡ b') × (c ≡ c') × (d ≡ d') × (e ≡ e') × (f ≡ f') × (g ≡ g')
-same_7 a b c d e f g a' b' c' d' e' f' g' same = (cc, cc, cc, cc, cc, cc, cc)
-
-pub tag_fields_are : (others : List (List ℕ)) (kill access locks epc tid user words : List ℕ) (tag : TagSpec)
-    → others ≡ kill ∷ access ∷ locks ∷ epc ∷ tid ∷ user ∷ words ∷ [] → others ≡ tag_fields tag → AreTagFields kill access locks epc tid user words tag
-tag_fields_are others kill access locks epc tid user words tag fields spells =
-    let same = same_7 kill access locks epc tid user words (password_text tag.image.kill) (password_text tag.image.access) (locks_text tag.locks)
-    (hex_words tag.image.epc) (hex_words tag.image.tid) (hex_words tag.image.user) (hex_words tag.words) (sym fields ∙ spells) in
-    record {
-      kill_is = same.0;
-      access_is = same.1;
-      locks_is = same.2;
-      epc_is = same.3;
-      tid_is = same.4;
-      user_is = same.5;
-      words_is = same.6;
-    }
+pub tag_fields_are : (fields : List (List ℕ)) (tag : TagSpec) → fields ≡ tag_fields tag → AreTagFields fields tag
+tag_fields_are fields tag spells = record {
+  kill_is = field_at 0 fields (tag_fields tag) spells;
+  access_is = field_at 1 fields (tag_fields tag) spells;
+  locks_is = field_at 2 fields (tag_fields tag) spells;
+  epc_is = field_at 3 fields (tag_fields tag) spells;
+  tid_is = field_at 4 fields (tag_fields tag) spells;
+  user_is = field_at 5 fields (tag_fields tag) spells;
+  words_is = field_at 6 fields (tag_fields tag) spells;
+}
 
 pub some_same : {A : Type 0} {x y : A} → Some x ≡ Some y → x ≡ y
 some_same same = cc
 
--- the tag of these parts
-pub same_tag : (kill access : ℕ) (locks : Locks) (epc tid user words : List ℕ) (tag : TagSpec) → kill ≡ tag.image.kill → access ≡ tag.image.access
-    → locks ≡ tag.locks → epc ≡ tag.image.epc → tid ≡ tag.image.tid → user ≡ tag.image.user → words ≡ tag.words
-    → tag_of kill access locks epc tid user words ≡ tag
-same_tag kill access locks epc tid user words tag k a l e t u w = rw (k, a, l, e, t, u, w) refl
+-- two tags have the same parts
+pub record HaveSameParts (one other : TagSpec) : Type 0 where
+  pub kill : one.image.kill ≡ other.image.kill
+  pub access : one.image.access ≡ other.image.access
+  pub locks : one.locks ≡ other.locks
+  pub epc : one.image.epc ≡ other.image.epc
+  pub tid : one.image.tid ≡ other.image.tid
+  pub user : one.image.user ≡ other.image.user
+  pub words : one.words ≡ other.words
+
+pub same_tag : (one other : TagSpec) → HaveSameParts one other → one ≡ other
+same_tag one other same =
+    let whole : tag_of one.image.kill one.image.access one.locks one.image.epc one.image.tid one.image.user one.words ≡ other =
+    rw (same.kill, same.access, same.locks, same.epc, same.tid, same.user, same.words) refl in
+    whole

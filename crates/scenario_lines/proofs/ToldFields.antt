@@ -1,37 +1,16 @@
 -- Two fields are not spelled alike.
-use Rattle.std.proofs.Common.{◌≡◌, ◌<◌, ◌≤◌, ◌^◌, ◌/◌, ◌%◌, ℕ, Bool, List, [], ◌++◌, take, drop, ap, arith, refl}
-use Rattle.std.proofs.lemmas.Bool.Decides.{nat_tests}
+use Rattle.std.proofs.Common.{◌≡◌, ◌<◌, ◌^◌, ◌/◌, ◌%◌, ℕ, List, [], ◌++◌, take, drop, ap, arith, refl}
 use Rattle.text_fields.specs.ToldApart.{hex_word_told}
-use Rattle.text_fields.specs.Hexadecimal.{hex_digit, hex_word}
-use Rattle.command_text.specs.CommandText.{payload_digits}
 use Rattle.text_fields.specs.Binary.{binary_digit}
 use Rattle.lock_rules.specs.declared.locks.Pair.{Pair}
 use Rattle.lock_rules.specs.declared.locks.Locks.{Locks}
 use Rattle.value_text.specs.ValueText.{locks_text, pair_text, password_text}
-use Rattle.scenario_lines.specs.Spelling.{flag_text}
-use Rattle.scenario_lines.proofs.ToldNames.{digit_told}
-
-pub flag_text_told : (one other : Bool) → flag_text one ≡ flag_text other → one ≡ other
-flag_text_told one other same =
-    let digits : binary_digit one ≡ binary_digit other = cc in
-    digit_told one other digits
+use Rattle.command_text.specs.laws.ToldApart.{digit_told}
 
 pub password_told : (one other : ℕ) → one < 2 ^ 32 → other < 2 ^ 32 → password_text one ≡ password_text other → one ≡ other
 password_told one other small small' same =
     let upper = hex_word_told (one / 2 ^ 16) (other / 2 ^ 16) (omega arith) (omega arith) (ap (λ (text : List ℕ). take 4 text) same) in
     let lower = hex_word_told (one % 2 ^ 16) (other % 2 ^ 16) (omega arith) (omega arith) (ap (λ (text : List ℕ). drop 4 text) same) in
-    omega arith
-
-hex_digit_told : (m n : ℕ) → m < 16 → n < 16 → hex_digit m ≡ hex_digit n → m ≡ n
-hex_digit_told m n small small' same = grind (arith, nat_tests)
-
--- the two parts of a payload
-pub payload_told : (one other : ℕ) → one ≤ 1048575 → other ≤ 1048575 → payload_digits one ≡ payload_digits other → one ≡ other
-payload_told one other small small' same =
-    let first : hex_digit (one / 65536) ≡ hex_digit (other / 65536) = cc in
-    let rest : hex_word (one % 65536) ≡ hex_word (other % 65536) = cc in
-    let upper = hex_digit_told (one / 65536) (other / 65536) (omega arith) (omega arith) first in
-    let lower = hex_word_told (one % 65536) (other % 65536) (omega arith) (omega arith) rest in
     omega arith
 
 -- two pairs of lock bits, and what stands behind each

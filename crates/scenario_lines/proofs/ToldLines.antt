@@ -3,9 +3,8 @@ use Rattle.std.proofs.Common.{◌≡◌, ◌≤◌, ℕ, List, [], ◌∷◌, ap
 use Rattle.std.specs.Fmt.{decimal}
 use Rattle.text_fields.specs.ToldApart.{binary_told, decimal_told, hex_word_told, hex_words_told}
 use Rattle.text_fields.specs.Binary.{binary}
-use Rattle.text_fields.specs.Hexadecimal.{hex_word, hex_words}
-use Rattle.text_fields.specs.CodeNames.{code_word}
-use Rattle.command_text.specs.CommandText.{bank_word, flag_word, mask_bank_word, payload_digits, side_word}
+use Rattle.text_fields.specs.Hexadecimal.{hex_words}
+use Rattle.command_text.specs.CommandText.{flag_word, payload_digits}
 use Rattle.access_ops.specs.declared.Op.{Op}
 use Rattle.access_ops.specs.declared.Op.TheVariants as ops
 use Rattle.access_ops.specs.laws.OperationLaws.{IsLegalOp}
@@ -20,31 +19,21 @@ use Rattle.scenario_lines.specs.declared.line.Happening.{Happening}
 use Rattle.scenario_lines.specs.declared.line.Happening.TheVariants as happenings
 use Rattle.scenario_lines.specs.declared.line.Line.{Line}
 use Rattle.scenario_lines.specs.declared.line.Line.TheVariants as lines
-use Rattle.scenario_lines.specs.Names.{air_kind, air_word, event_kind, event_word, op_kind, op_word, sel_text, word_text}
+use Rattle.scenario_lines.specs.Names.{air_kind, air_word, event_kind, event_word, op_kind, op_word, keyword_text}
 use Rattle.scenario_lines.specs.TagForm.{IsTagForm}
 use Rattle.scenario_lines.specs.LineForm.{HasForm, IsEvent, IsHappening, IsLinkForm, IsRound, IsSelection}
 use Rattle.scenario_lines.specs.LineFaults.{SpellsLine}
-use Rattle.value_text.specs.ValueText.{locks_text, password_text}
-use Rattle.scenario_lines.specs.Spelling.{event_fields, flag_text, happening_fields, line_fields, link_fields, op_fields, other_fields, round_fields, select_fields, tag_fields, word_of_line}
-use Rattle.scenario_lines.proofs.TagFields.{same_7, same_tag}
-use Rattle.scenario_lines.proofs.ToldNames.{air_word_told, any_bank_told, bank_told, code_told, event_word_told, flag_told, op_word_told, sel_told, side_told, word_told}
-use Rattle.scenario_lines.proofs.ToldFields.{flag_text_told, locks_told, password_told, payload_told}
-use Rattle.scenario_lines.proofs.BlockWords.{list_of_block}
+use Rattle.value_text.specs.ValueText.{password_text}
+use Rattle.scenario_lines.specs.Spelling.{event_fields, happening_fields, line_fields, link_fields, op_fields, other_fields, round_fields, select_fields, tag_fields, keyword_of}
+use Rattle.scenario_lines.proofs.Counted.{field_at}
+use Rattle.scenario_lines.proofs.TagFields.{same_tag, tag_fields_are}
+use Rattle.scenario_lines.proofs.ToldNames.{air_word_told, event_word_told, op_word_told, sel_told, keyword_told}
+use Rattle.command_text.specs.laws.ToldApart.{bank_told, bit_told, code_told, flag_told, list_of_block, mask_bank_told, payload_told, side_told}
+use Rattle.scenario_lines.proofs.ToldFields.{locks_told, password_told}
 
 -- the first of two equal lists of fields, and those behind it
 pub same_fields : (a b : List ℕ) (behind behind' : List (List ℕ)) → a ∷ behind ≡ b ∷ behind' → (a ≡ b) × (behind ≡ behind')
 same_fields a b behind behind' same = (cc, cc)
-
-same_3 : (a b c a' b' c' : List ℕ) → a ∷ b ∷ c ∷ [] ≡ a' ∷ b' ∷ c' ∷ [] → (a ≡ a') × (b ≡ b') × (c ≡ c')
-same_3 a b c a' b' c' same = (cc, cc, cc)
-
-same_5 : (a b c d e a' b' c' d' e' : List ℕ) → a ∷ b ∷ c ∷ d ∷ e ∷ [] ≡ a' ∷ b' ∷ c' ∷ d' ∷ e' ∷ []
-    → (a ≡ a') × (b ≡ b') × (c ≡ c') × (d ≡ d') × (e ≡ e')
-same_5 a b c d e a' b' c' d' e' same = (cc, cc, cc, cc, cc)
-
-same_6 : (a b c d e f a' b' c' d' e' f' : List ℕ) → a ∷ b ∷ c ∷ d ∷ e ∷ f ∷ [] ≡ a' ∷ b' ∷ c' ∷ d' ∷ e' ∷ f' ∷ []
-    → (a ≡ a') × (b ≡ b') × (c ≡ c') × (d ≡ d') × (e ≡ e') × (f ≡ f')
-same_6 a b c d e f a' b' c' d' e' f' same = (cc, cc, cc, cc, cc, cc)
 
 -- two places are not spelled alike
 place_told : (one other : ℕ) (behind behind' : List (List ℕ)) → one ≤ 1000000 → other ≤ 1000000 → decimal one ∷ behind ≡ decimal other ∷ behind' → one ≡ other
@@ -53,16 +42,13 @@ place_told one other behind behind' small small' same =
 
 link_told : (one other : LinkValue) → IsLinkForm one → IsLinkForm other → link_fields one ≡ link_fields other → one ≡ other
 link_told one other form form' same =
-    let fields = same_7 (decimal one.tari) (decimal one.rtcal) (decimal one.trcal) (decimal one.pw) (flag_text one.dr) (code_word one.code)
-    (flag_text one.trext) (decimal other.tari) (decimal other.rtcal) (decimal other.trcal) (decimal other.pw) (flag_text other.dr)
-    (code_word other.code) (flag_text other.trext) same in
-    let tari = decimal_told one.tari other.tari (omega arith) (omega arith) fields.0 in
-    let rtcal = decimal_told one.rtcal other.rtcal (omega arith) (omega arith) fields.1 in
-    let trcal = decimal_told one.trcal other.trcal (omega arith) (omega arith) fields.2 in
-    let pw = decimal_told one.pw other.pw (omega arith) (omega arith) fields.3 in
-    let dr = flag_text_told one.dr other.dr fields.4 in
-    let code = code_told one.code other.code fields.5 in
-    let trext = flag_text_told one.trext other.trext fields.6 in
+    let tari = decimal_told one.tari other.tari (omega arith) (omega arith) (field_at 0 (link_fields one) (link_fields other) same) in
+    let rtcal = decimal_told one.rtcal other.rtcal (omega arith) (omega arith) (field_at 1 (link_fields one) (link_fields other) same) in
+    let trcal = decimal_told one.trcal other.trcal (omega arith) (omega arith) (field_at 2 (link_fields one) (link_fields other) same) in
+    let pw = decimal_told one.pw other.pw (omega arith) (omega arith) (field_at 3 (link_fields one) (link_fields other) same) in
+    let dr = bit_told one.dr other.dr (field_at 4 (link_fields one) (link_fields other) same) in
+    let code = code_told one.code other.code (field_at 5 (link_fields one) (link_fields other) same) in
+    let trext = bit_told one.trext other.trext (field_at 6 (link_fields one) (link_fields other) same) in
     let whole : ◌≡◌ {A = LinkValue} (record {
       tari = one.tari;
       rtcal = one.rtcal;
@@ -76,17 +62,16 @@ link_told one other form form' same =
 
 tag_told : (one other : TagSpec) → IsTagForm one → IsTagForm other → tag_fields one ≡ tag_fields other → one ≡ other
 tag_told one other form form' same =
-    let fields = same_7 (password_text one.image.kill) (password_text one.image.access) (locks_text one.locks) (hex_words one.image.epc)
-    (hex_words one.image.tid) (hex_words one.image.user) (hex_words one.words) (password_text other.image.kill) (password_text other.image.access)
-    (locks_text other.locks) (hex_words other.image.epc) (hex_words other.image.tid) (hex_words other.image.user) (hex_words other.words) same in
-    let kill = password_told one.image.kill other.image.kill form.kill form'.kill fields.0 in
-    let access = password_told one.image.access other.image.access form.access form'.access fields.1 in
-    let locks = locks_told one.locks other.locks fields.2 in
-    let epc = hex_words_told one.image.epc other.image.epc form.epc.small form'.epc.small fields.3 in
-    let tid = hex_words_told one.image.tid other.image.tid form.tid.small form'.tid.small fields.4 in
-    let user = hex_words_told one.image.user other.image.user form.user.small form'.user.small fields.5 in
-    let words = hex_words_told one.words other.words form.words.small form'.words.small fields.6 in
-    same_tag one.image.kill one.image.access one.locks one.image.epc one.image.tid one.image.user one.words other kill access locks epc tid user words
+    let are = tag_fields_are (tag_fields one) other same in
+    same_tag one other (record {
+      kill = password_told one.image.kill other.image.kill form.kill form'.kill are.kill_is;
+      access = password_told one.image.access other.image.access form.access form'.access are.access_is;
+      locks = locks_told one.locks other.locks are.locks_is;
+      epc = hex_words_told one.image.epc other.image.epc form.epc.small form'.epc.small are.epc_is;
+      tid = hex_words_told one.image.tid other.image.tid form.tid.small form'.tid.small are.tid_is;
+      user = hex_words_told one.image.user other.image.user form.user.small form'.user.small are.user_is;
+      words = hex_words_told one.words other.words form.words.small form'.words.small are.words_is;
+    })
 
 -- the event of a kind, and the number of its tag
 event_told : (one other : Event) (tag tag' : ℕ) → IsEvent one tag → IsEvent other tag' → event_kind one ≡ event_kind other
@@ -116,18 +101,18 @@ happening_told (happenings.Choice (choices.Pick reply)) (happenings.Choice (choi
 happening_told (happenings.Choice choices.Silent) (happenings.Choice choices.Silent) is is' kind same = refl
 happening_told (happenings.Choice (choices.Break place)) (happenings.Choice (choices.Break place')) is is' kind same =
     ap (λ n. happenings.Choice (choices.Break n)) (place_told place place' [] [] (omega (arith, is)) (omega (arith, is')) same)
+happening_told (happenings.Choice (choices.Raw levels)) (happenings.Choice (choices.Raw levels')) is is' kind same =
+    ap (λ list. happenings.Choice (choices.Raw list)) (binary_told levels levels' (same_fields (binary levels) (binary levels') [] [] same).0)
 happening_told one (happenings.Choice choices.Silent) is is' kind same = cc
 happening_told one other is is' kind same = cc
 
 selection_told : (one other : Selection) → IsSelection one → IsSelection other → select_fields one ≡ select_fields other → one ≡ other
 selection_told one other is is' same =
-    let fields = same_5 (flag_word one.target) (decimal one.action) (mask_bank_word one.bank) (decimal one.pointer) (binary one.mask)
-    (flag_word other.target) (decimal other.action) (mask_bank_word other.bank) (decimal other.pointer) (binary other.mask) same in
-    let target = flag_told one.target other.target fields.0 in
-    let action = decimal_told one.action other.action (omega arith) (omega arith) fields.1 in
-    let bank = bank_told one.bank other.bank fields.2 in
-    let pointer = decimal_told one.pointer other.pointer (omega arith) (omega arith) fields.3 in
-    let mask = binary_told one.mask other.mask fields.4 in
+    let target = flag_told one.target other.target (field_at 0 (select_fields one) (select_fields other) same) in
+    let action = decimal_told one.action other.action (omega arith) (omega arith) (field_at 1 (select_fields one) (select_fields other) same) in
+    let bank = mask_bank_told one.bank other.bank (field_at 2 (select_fields one) (select_fields other) same) in
+    let pointer = decimal_told one.pointer other.pointer (omega arith) (omega arith) (field_at 3 (select_fields one) (select_fields other) same) in
+    let mask = binary_told one.mask other.mask (field_at 4 (select_fields one) (select_fields other) same) in
     let whole : ◌≡◌ {A = Selection} (record {
       target = one.target;
       action = one.action;
@@ -139,14 +124,12 @@ selection_told one other is is' same =
 
 round_told : (one other : SpecValue) → IsRound one → IsRound other → round_fields one ≡ round_fields other → one ≡ other
 round_told one other is is' same =
-    let fields = same_6 (sel_text one.sel) (decimal one.session) (side_word one.target) (decimal one.q) (decimal one.c) (decimal one.limit)
-    (sel_text other.sel) (decimal other.session) (side_word other.target) (decimal other.q) (decimal other.c) (decimal other.limit) same in
-    let sel = sel_told one.sel other.sel fields.0 in
-    let session = decimal_told one.session other.session (omega arith) (omega arith) fields.1 in
-    let target = side_told one.target other.target fields.2 in
-    let q = decimal_told one.q other.q (omega arith) (omega arith) fields.3 in
-    let c = decimal_told one.c other.c (omega arith) (omega arith) fields.4 in
-    let limit = decimal_told one.limit other.limit (omega arith) (omega arith) fields.5 in
+    let sel = sel_told one.sel other.sel (field_at 0 (round_fields one) (round_fields other) same) in
+    let session = decimal_told one.session other.session (omega arith) (omega arith) (field_at 1 (round_fields one) (round_fields other) same) in
+    let target = side_told one.target other.target (field_at 2 (round_fields one) (round_fields other) same) in
+    let q = decimal_told one.q other.q (omega arith) (omega arith) (field_at 3 (round_fields one) (round_fields other) same) in
+    let c = decimal_told one.c other.c (omega arith) (omega arith) (field_at 4 (round_fields one) (round_fields other) same) in
+    let limit = decimal_told one.limit other.limit (omega arith) (omega arith) (field_at 5 (round_fields one) (round_fields other) same) in
     let whole : ◌≡◌ {A = SpecValue} (record {
       sel = one.sel;
       session = one.session;
@@ -159,28 +142,24 @@ round_told one other is is' same =
 
 pub op_told : (one other : Op) → IsLegalOp one → IsLegalOp other → op_kind one ≡ op_kind other → op_fields one ≡ op_fields other → one ≡ other
 op_told (ops.Read bank pointer count) (ops.Read bank' pointer' count') is is' kind same =
-    let fields = same_3 (bank_word bank) (decimal pointer) (decimal count) (bank_word bank') (decimal pointer') (decimal count') same in
-    let banks = any_bank_told bank bank' fields.0 in
-    let pointers = decimal_told pointer pointer' (omega (arith, is.0)) (omega (arith, is'.0)) fields.1 in
-    let counts = decimal_told count count' (omega (arith, is.1)) (omega (arith, is'.1)) fields.2 in
+    let banks = bank_told bank bank' (field_at 0 (op_fields (ops.Read bank pointer count)) (op_fields (ops.Read bank' pointer' count')) same) in
+    let pointers = decimal_told pointer pointer' (omega (arith, is.0)) (omega (arith, is'.0)) (field_at 1 (op_fields (ops.Read bank pointer count)) (op_fields (ops.Read bank' pointer' count')) same) in
+    let counts = decimal_told count count' (omega (arith, is.1)) (omega (arith, is'.1)) (field_at 2 (op_fields (ops.Read bank pointer count)) (op_fields (ops.Read bank' pointer' count')) same) in
     cc
 op_told (ops.Write bank pointer word) (ops.Write bank' pointer' word') is is' kind same =
-    let fields = same_3 (bank_word bank) (decimal pointer) (hex_word word) (bank_word bank') (decimal pointer') (hex_word word') same in
-    let banks = any_bank_told bank bank' fields.0 in
-    let pointers = decimal_told pointer pointer' (omega (arith, is.0)) (omega (arith, is'.0)) fields.1 in
-    let words_same = hex_word_told word word' is.1 is'.1 fields.2 in
+    let banks = bank_told bank bank' (field_at 0 (op_fields (ops.Write bank pointer word)) (op_fields (ops.Write bank' pointer' word')) same) in
+    let pointers = decimal_told pointer pointer' (omega (arith, is.0)) (omega (arith, is'.0)) (field_at 1 (op_fields (ops.Write bank pointer word)) (op_fields (ops.Write bank' pointer' word')) same) in
+    let words_same = hex_word_told word word' is.1 is'.1 (field_at 2 (op_fields (ops.Write bank pointer word)) (op_fields (ops.Write bank' pointer' word')) same) in
     cc
 op_told (ops.BlockWrite bank pointer block) (ops.BlockWrite bank' pointer' block') is is' kind same =
-    let fields = same_3 (bank_word bank) (decimal pointer) (hex_words block) (bank_word bank') (decimal pointer') (hex_words block') same in
-    let banks = any_bank_told bank bank' fields.0 in
-    let pointers = decimal_told pointer pointer' (omega (arith, is.0)) (omega (arith, is'.0)) fields.1 in
-    let blocks = hex_words_told block block' (list_of_block block (is.1, is.2, is.3)).small (list_of_block block' (is'.1, is'.2, is'.3)).small fields.2 in
+    let banks = bank_told bank bank' (field_at 0 (op_fields (ops.BlockWrite bank pointer block)) (op_fields (ops.BlockWrite bank' pointer' block')) same) in
+    let pointers = decimal_told pointer pointer' (omega (arith, is.0)) (omega (arith, is'.0)) (field_at 1 (op_fields (ops.BlockWrite bank pointer block)) (op_fields (ops.BlockWrite bank' pointer' block')) same) in
+    let blocks = hex_words_told block block' (list_of_block block (is.1, is.2, is.3)).small (list_of_block block' (is'.1, is'.2, is'.3)).small (field_at 2 (op_fields (ops.BlockWrite bank pointer block)) (op_fields (ops.BlockWrite bank' pointer' block')) same) in
     cc
 op_told (ops.BlockErase bank pointer count) (ops.BlockErase bank' pointer' count') is is' kind same =
-    let fields = same_3 (bank_word bank) (decimal pointer) (decimal count) (bank_word bank') (decimal pointer') (decimal count') same in
-    let banks = any_bank_told bank bank' fields.0 in
-    let pointers = decimal_told pointer pointer' (omega (arith, is.0)) (omega (arith, is'.0)) fields.1 in
-    let counts = decimal_told count count' (omega (arith, is.2)) (omega (arith, is'.2)) fields.2 in
+    let banks = bank_told bank bank' (field_at 0 (op_fields (ops.BlockErase bank pointer count)) (op_fields (ops.BlockErase bank' pointer' count')) same) in
+    let pointers = decimal_told pointer pointer' (omega (arith, is.0)) (omega (arith, is'.0)) (field_at 1 (op_fields (ops.BlockErase bank pointer count)) (op_fields (ops.BlockErase bank' pointer' count')) same) in
+    let counts = decimal_told count count' (omega (arith, is.2)) (omega (arith, is'.2)) (field_at 2 (op_fields (ops.BlockErase bank pointer count)) (op_fields (ops.BlockErase bank' pointer' count')) same) in
     cc
 op_told (ops.Lock payload) (ops.Lock payload') is is' kind same =
     ap ops.Lock (payload_told payload payload' (omega (arith, is)) (omega (arith, is')) (same_fields (payload_digits payload) (payload_digits payload') [] [] same).0)
@@ -190,41 +169,41 @@ op_told (ops.Kill password) (ops.Kill password') is is' kind same =
     ap ops.Kill (password_told password password' is is' (same_fields (password_text password) (password_text password') [] [] same).0)
 op_told one other is is' kind same = cc
 
--- the fields behind one word spell at most one line
-behind_told : (one other : Line) → HasForm one → HasForm other → word_of_line one ≡ word_of_line other → other_fields one ≡ other_fields other → one ≡ other
-behind_told lines.Version lines.Version form form' word same = refl
-behind_told (lines.Link link) (lines.Link link') form form' word same = ap lines.Link (link_told link link' form form' same)
-behind_told (lines.Tag tag) (lines.Tag tag') form form' word same = ap lines.Tag (tag_told tag tag' form form' same)
-behind_told (lines.Air exchange happening) (lines.Air exchange' happening') form form' word same =
+-- the fields behind one keyword spell at most one line
+behind_told : (one other : Line) → HasForm one → HasForm other → keyword_of one ≡ keyword_of other → other_fields one ≡ other_fields other → one ≡ other
+behind_told lines.Version lines.Version form form' keyword same = refl
+behind_told (lines.Link link) (lines.Link link') form form' keyword same = ap lines.Link (link_told link link' form form' same)
+behind_told (lines.Tag tag) (lines.Tag tag') form form' keyword same = ap lines.Tag (tag_told tag tag' form form' same)
+behind_told (lines.Air exchange happening) (lines.Air exchange' happening') form form' keyword same =
     let first = same_fields (decimal exchange) (decimal exchange') (air_word (air_kind happening) ∷ happening_fields happening)
     (air_word (air_kind happening') ∷ happening_fields happening') same in
     let second = same_fields (air_word (air_kind happening)) (air_word (air_kind happening')) (happening_fields happening) (happening_fields happening') first.1 in
     let exchanges = decimal_told exchange exchange' (omega (arith, form.0.1)) (omega (arith, form'.0.1)) first.0 in
     let happenings_same = happening_told happening happening' form.1 form'.1 (air_word_told (air_kind happening) (air_kind happening') second.0) second.1 in
     cc
-behind_told (lines.Select selection) (lines.Select selection') form form' word same =
+behind_told (lines.Select selection) (lines.Select selection') form form' keyword same =
     ap lines.Select (selection_told selection selection' form form' same)
-behind_told lines.Nak lines.Nak form form' word same = refl
-behind_told (lines.Event event tag) (lines.Event event' tag') form form' word same =
+behind_told lines.Nak lines.Nak form form' keyword same = refl
+behind_told (lines.Event event tag) (lines.Event event' tag') form form' keyword same =
     let fields = same_fields (event_word (event_kind event)) (event_word (event_kind event')) (event_fields event tag) (event_fields event' tag') same in
     let both = event_told event event' tag tag' form form' (event_word_told (event_kind event) (event_kind event') fields.0) fields.1 in
     let events_same = both.0 in
     let tags_same = both.1 in
     cc
-behind_told (lines.Round spec) (lines.Round spec') form form' word same = ap lines.Round (round_told spec spec' form form' same)
-behind_told (lines.Only epc) (lines.Only epc') form form' word same =
+behind_told (lines.Round spec) (lines.Round spec') form form' keyword same = ap lines.Round (round_told spec spec' form form' same)
+behind_told (lines.Only epc) (lines.Only epc') form form' keyword same =
     ap lines.Only (hex_words_told epc epc' form.small form'.small (same_fields (hex_words epc) (hex_words epc') [] [] same).0)
-behind_told (lines.Op op) (lines.Op op') form form' word same =
+behind_told (lines.Op op) (lines.Op op') form form' keyword same =
     let fields = same_fields (op_word (op_kind op)) (op_word (op_kind op')) (op_fields op) (op_fields op') same in
     ap lines.Op (op_told op op' form form' (op_word_told (op_kind op) (op_kind op') fields.0) fields.1)
-behind_told lines.End lines.End form form' word same = refl
-behind_told one other form form' word same = cc
+behind_told lines.End lines.End form form' keyword same = refl
+behind_told one other form form' keyword same = cc
 
 -- two lines whose fields are of their forms are not spelled alike, even where the fields of one don't agree with one another
 pub line_told : (one other : Line) → HasForm one → HasForm other → line_fields one ≡ line_fields other → one ≡ other
 line_told one other form form' same =
-    let fields = same_fields (word_text (word_of_line one)) (word_text (word_of_line other)) (other_fields one) (other_fields other) same in
-    behind_told one other form form' (word_told (word_of_line one) (word_of_line other) fields.0) fields.1
+    let fields = same_fields (keyword_text (keyword_of one)) (keyword_text (keyword_of other)) (other_fields one) (other_fields other) same in
+    behind_told one other form form' (keyword_told (keyword_of one) (keyword_of other) fields.0) fields.1
 
 pub spelled_told : (fields : List (List ℕ)) (one other : Line) → SpellsLine fields one → SpellsLine fields other → one ≡ other
 spelled_told fields one other spells spells' = line_told one other spells.is.form spells'.is.form (sym spells.spelling ∙ spells'.spelling)

@@ -1,4 +1,5 @@
 pub mod Names
+pub mod Choices
 pub mod TagForm
 pub mod TagLaws
 pub mod LineForm

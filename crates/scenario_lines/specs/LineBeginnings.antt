@@ -1,13 +1,13 @@
--- The fields of a line begin with its word.
+-- The fields of a line begin with its keyword.
 use Rattle.std.proofs.Common.{List, ℕ, refl, subst, sym}
 use Rattle.scenario_lines.specs.declared.line.Line.{Line}
 use Rattle.scenario_lines.specs.declared.line.Line.TheVariants as lines
 use Rattle.scenario_lines.specs.Names.{air_kind, event_kind, op_kind}
 use Rattle.scenario_lines.specs.LineFaults.{BeginsWith, HasKnownKind, SpellsLine}
-use Rattle.scenario_lines.specs.Spelling.{line_fields, other_fields, word_of_line}
+use Rattle.scenario_lines.specs.Spelling.{line_fields, other_fields, keyword_of}
 
 -- the kind of a line is one of its word's kinds
-known_kind : (line : Line) → HasKnownKind (word_of_line line) (other_fields line)
+known_kind : (line : Line) → HasKnownKind (keyword_of line) (other_fields line)
 known_kind lines.Version = tt
 known_kind (lines.Link link) = tt
 known_kind (lines.Tag tag) = tt
@@ -20,8 +20,8 @@ known_kind (lines.Only epc) = tt
 known_kind (lines.Op op) = (op_kind op, refl)
 known_kind lines.End = tt
 
-pub begins : (line : Line) → BeginsWith (line_fields line) (word_of_line line)
+pub begins : (line : Line) → BeginsWith (line_fields line) (keyword_of line)
 begins line = record { others = other_fields line; first = refl; kind = known_kind line }
 
-pub spelled_begins : (fields : List (List ℕ)) (line : Line) → SpellsLine fields line → BeginsWith fields (word_of_line line)
-spelled_begins fields line spells = subst (λ it. BeginsWith it (word_of_line line)) (sym spells.spelling) (begins line)
+pub spelled_begins : (fields : List (List ℕ)) (line : Line) → SpellsLine fields line → BeginsWith fields (keyword_of line)
+spelled_begins fields line spells = subst (λ it. BeginsWith it (keyword_of line)) (sym spells.spelling) (begins line)

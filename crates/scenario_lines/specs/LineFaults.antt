@@ -1,59 +1,55 @@
 -- Profile: why the fields of a line say nothing, whatever the lines before it say. The first reason that applies counts.
-use Rattle.std.specs.Prelude.{◌≡◌, ◌≢◌, ℕ, false, List, [], ◌∷◌, length, All}
+use Rattle.std.specs.Prelude.{◌≡◌, ◌≢◌, ℕ, false, List, [], ◌∷◌}
+use Rattle.text_fields.specs.NamedFields.{AreFilled}
 use Rattle.tag_memory.specs.Image.{pc_fits}
 use Rattle.pie_line.specs.Link.{LinkValue}
 use Rattle.pie_line.specs.LinkRefusal.{IsFirstBroken}
 use Rattle.pie_line.specs.declared.link.LinkRefusal.{LinkRefusal}
 use Rattle.pie_line.specs.declared.link.LinkRefusal.TheVariants as refusals
 use Rattle.scenario_lines.specs.declared.tag.TagSpec.{TagSpec}
-use Rattle.scenario_lines.specs.declared.first_fields.Word.{Word}
-use Rattle.scenario_lines.specs.declared.first_fields.Word.TheVariants as words
+use Rattle.scenario_lines.specs.declared.first_fields.Keyword.{Keyword}
+use Rattle.scenario_lines.specs.declared.first_fields.Keyword.TheVariants as keywords
 use Rattle.scenario_lines.specs.declared.first_fields.EventKind.{EventKind}
 use Rattle.scenario_lines.specs.declared.first_fields.OpKind.{OpKind}
 use Rattle.scenario_lines.specs.declared.first_fields.AirKind.{AirKind}
 use Rattle.scenario_lines.specs.declared.line.Line.{Line}
 use Rattle.scenario_lines.specs.declared.fault.LineFault.{LineFault}
 use Rattle.scenario_lines.specs.declared.fault.LineFault.TheVariants.{Word as WordFault, Shape, Number, Tari, RtCal, TrCal, Pw, Pc}
-use Rattle.scenario_lines.specs.Names.{word_text, event_word, event_field_count, op_word, op_field_count, air_word, air_field_count}
+use Rattle.scenario_lines.specs.Names.{keyword_text, event_word, event_field_count, op_word, op_field_count, air_word, air_field_count}
 use Rattle.scenario_lines.specs.TagForm.{IsTagForm}
 use Rattle.scenario_lines.specs.LineForm.{IsLinkForm, HasForm, IsLine}
-use Rattle.scenario_lines.specs.Spelling.{link_fields, tag_fields, word_of_line, other_fields, line_fields}
+use Rattle.scenario_lines.specs.Spelling.{link_fields, tag_fields, keyword_of, other_fields, line_fields}
 
 -- where a kind stands behind the first field, it is one of its kinds
-abbrev pub HasKnownKind : Word → List (List ℕ) → Type 0
-HasKnownKind words.Air (exchange ∷ kind ∷ others) = (known : AirKind) × (kind ≡ air_word known)
-HasKnownKind words.Event (kind ∷ others) = (known : EventKind) × (kind ≡ event_word known)
-HasKnownKind words.Op (kind ∷ others) = (known : OpKind) × (kind ≡ op_word known)
-HasKnownKind word others = Unit {0}
+abbrev pub HasKnownKind : Keyword → List (List ℕ) → Type 0
+HasKnownKind keywords.Air (exchange ∷ kind ∷ others) = (known : AirKind) × (kind ≡ air_word known)
+HasKnownKind keywords.Event (kind ∷ others) = (known : EventKind) × (kind ≡ event_word known)
+HasKnownKind keywords.Op (kind ∷ others) = (known : OpKind) × (kind ≡ op_word known)
+HasKnownKind keyword others = Unit {0}
 
--- the line begins with this word, and with a kind of it where a kind is there
-pub record BeginsWith (fields : List (List ℕ)) (word : Word) : Type 0 where
+-- the line begins with this keyword, and with a kind of it where a kind is there
+pub record BeginsWith (fields : List (List ℕ)) (keyword : Keyword) : Type 0 where
   pub others : List (List ℕ)
-  pub first : fields ≡ word_text word ∷ others
-  pub kind : HasKnownKind word others
-
--- the fields are so many, and none is empty
-pub record AreFilled (count : ℕ) (fields : List (List ℕ)) : Type 0 where
-  pub number : length fields ≡ count
-  pub filled : All (λ field. field ≢ []) fields
+  pub first : fields ≡ keyword_text keyword ∷ others
+  pub kind : HasKnownKind keyword others
 
 -- the fields behind the first: their number is right, and none is empty
-abbrev pub HasShape : Word → List (List ℕ) → Type 0
-HasShape words.Version others = AreFilled 1 others
-HasShape words.Link others = AreFilled 7 others
-HasShape words.Tag others = AreFilled 7 others
-HasShape words.Air (exchange ∷ kind ∷ others) =
+abbrev pub HasShape : Keyword → List (List ℕ) → Type 0
+HasShape keywords.Version others = AreFilled 1 others
+HasShape keywords.Link others = AreFilled 7 others
+HasShape keywords.Tag others = AreFilled 7 others
+HasShape keywords.Air (exchange ∷ kind ∷ others) =
     (exchange ≢ []) × (known : AirKind) × (kind ≡ air_word known) × AreFilled (air_field_count known) others
-HasShape words.Air others = ⊥
-HasShape words.Select others = AreFilled 5 others
-HasShape words.Nak others = AreFilled 0 others
-HasShape words.Event (kind ∷ others) = (known : EventKind) × (kind ≡ event_word known) × AreFilled (event_field_count known) others
-HasShape words.Event others = ⊥
-HasShape words.Round others = AreFilled 6 others
-HasShape words.Only others = AreFilled 1 others
-HasShape words.Op (kind ∷ others) = (known : OpKind) × (kind ≡ op_word known) × AreFilled (op_field_count known) others
-HasShape words.Op others = ⊥
-HasShape words.End others = AreFilled 0 others
+HasShape keywords.Air others = ⊥
+HasShape keywords.Select others = AreFilled 5 others
+HasShape keywords.Nak others = AreFilled 0 others
+HasShape keywords.Event (kind ∷ others) = (known : EventKind) × (kind ≡ event_word known) × AreFilled (event_field_count known) others
+HasShape keywords.Event others = ⊥
+HasShape keywords.Round others = AreFilled 6 others
+HasShape keywords.Only others = AreFilled 1 others
+HasShape keywords.Op (kind ∷ others) = (known : OpKind) × (kind ≡ op_word known) × AreFilled (op_field_count known) others
+HasShape keywords.Op others = ⊥
+HasShape keywords.End others = AreFilled 0 others
 
 -- the fields spell a link whose numbers are in the ranges of their fields, and the link is refused so
 pub record BreaksLink (refusal : LinkRefusal) (others : List (List ℕ)) : Type 0 where
@@ -70,38 +66,38 @@ pub record BreaksPc (others : List (List ℕ)) : Type 0 where
   pub broken : pc_fits tag.image ≡ false
 
 -- the first reason for which the fields behind a first field say nothing
-abbrev pub IsFaultyBehind : Word → List (List ℕ) → LineFault → Type 0
+abbrev pub IsFaultyBehind : Keyword → List (List ℕ) → LineFault → Type 0
 -- a kind is there, and is none of the kinds
-IsFaultyBehind word others WordFault = ¬ HasKnownKind word others
+IsFaultyBehind keyword others WordFault = ¬ HasKnownKind keyword others
 -- the number of fields is wrong, or one is empty
-IsFaultyBehind word others Shape = HasKnownKind word others × (¬ HasShape word others)
+IsFaultyBehind keyword others Shape = HasKnownKind keyword others × (¬ HasShape keyword others)
 -- the fields are there, and one of them isn't of its form or range: they spell no line
-IsFaultyBehind word others Number =
-    HasShape word others × ((line : Line) → HasForm line → word_of_line line ≡ word → others ≢ other_fields line)
+IsFaultyBehind keyword others Number =
+    HasShape keyword others × ((line : Line) → HasForm line → keyword_of line ≡ keyword → others ≢ other_fields line)
 -- the fields spell a line, and don't agree with one another
-IsFaultyBehind words.Link others Tari = BreaksLink refusals.Tari others
-IsFaultyBehind words.Link others RtCal = BreaksLink refusals.RtCal others
-IsFaultyBehind words.Link others TrCal = BreaksLink refusals.TrCal others
-IsFaultyBehind words.Link others Pw = BreaksLink refusals.Pw others
-IsFaultyBehind words.Tag others Pc = BreaksPc others
-IsFaultyBehind word others fault = ⊥
+IsFaultyBehind keywords.Link others Tari = BreaksLink refusals.Tari others
+IsFaultyBehind keywords.Link others RtCal = BreaksLink refusals.RtCal others
+IsFaultyBehind keywords.Link others TrCal = BreaksLink refusals.TrCal others
+IsFaultyBehind keywords.Link others Pw = BreaksLink refusals.Pw others
+IsFaultyBehind keywords.Tag others Pc = BreaksPc others
+IsFaultyBehind keyword others fault = ⊥
 
--- a line with this word is spelled wrongly
+-- a line with this keyword is spelled wrongly
 pub record Misspells (fields : List (List ℕ)) (fault : LineFault) : Type 0 where
-  pub word : Word
+  pub keyword : Keyword
   pub others : List (List ℕ)
-  pub first : fields ≡ word_text word ∷ others
-  pub faulty : IsFaultyBehind word others fault
+  pub first : fields ≡ keyword_text keyword ∷ others
+  pub faulty : IsFaultyBehind keyword others fault
 
 -- the first reason for which the fields of a line say nothing, whatever the lines before it say
 abbrev pub IsFaultyLine : List (List ℕ) → LineFault → Type 0
--- no word of a scenario stands at their head, with a kind that is known where a kind is there
-IsFaultyLine fields WordFault = (word : Word) → ¬ BeginsWith fields word
+-- no keyword of a scenario stands at their head, with a kind that is known where a kind is there
+IsFaultyLine fields WordFault = (keyword : Keyword) → ¬ BeginsWith fields keyword
 IsFaultyLine fields fault = Misspells fields fault
 
 -- behind this first field, these fields spell the line, which may stand in a scenario
-pub record SpellsBehind (first : Word) (others : List (List ℕ)) (line : Line) : Type 0 where
-  pub same_word : word_of_line line ≡ first
+pub record SpellsBehind (first : Keyword) (others : List (List ℕ)) (line : Line) : Type 0 where
+  pub same_keyword : keyword_of line ≡ first
   pub spelling : others ≡ other_fields line
   pub is : IsLine line
 

@@ -1,16 +1,17 @@
 -- Profile: what a line of a scenario may say.
 use Rattle.std.specs.Prelude.{◌≡◌, ◌≢◌, ℕ, ◌≤◌, true, List, length}
 use Rattle.access_ops.specs.laws.OperationLaws.{IsLegalOp}
-use Rattle.command_grammar.specs.declared.field_values.FlagName.TheVariants.{S0}
-use Rattle.command_grammar.specs.declared.field_values.Sel.TheVariants.{All01}
+use Rattle.command_fields.specs.declared.choices.FlagName.TheVariants.{S0}
+use Rattle.command_fields.specs.declared.choices.Sel.TheVariants.{All01}
 use Rattle.air_events.specs.declared.Event.{Event}
 use Rattle.air_events.specs.declared.Event.TheVariants.{Expire}
 use Rattle.air_events.specs.declared.Choice.{Choice}
-use Rattle.air_events.specs.declared.Choice.TheVariants.{Pick, Silent, Break}
+use Rattle.air_events.specs.declared.Choice.TheVariants.{Pick, Silent, Break, Raw}
+use Rattle.air_events.specs.Streams.{HasStreamLength}
 use Rattle.tag_memory.specs.Image.{pc_fits}
 use Rattle.pie_line.specs.Link.{LinkValue, IsLegalLink}
 use Rattle.q_round.specs.SpecValue.{SpecValue, IsLegalSpec}
-use Rattle.value_text.specs.ValueText.{IsWordList}
+use Rattle.text_fields.specs.WordLists.{IsWordList}
 use Rattle.scenario_lines.specs.TagForm.{IsTagForm}
 use Rattle.scenario_lines.specs.declared.line.Happening.{Happening}
 use Rattle.scenario_lines.specs.declared.line.Happening.TheVariants as happenings
@@ -46,6 +47,7 @@ abbrev pub IsChoice : Choice → Type 0
 IsChoice (Pick reply) = IsPlace reply
 IsChoice Silent = Unit {0}
 IsChoice (Break place) = place ≤ most_level
+IsChoice (Raw levels) = HasStreamLength levels
 
 abbrev pub IsHappening : Happening → Type 0
 IsHappening (happenings.Event event tag) = IsEvent event tag

@@ -1,14 +1,14 @@
 -- Profile: the words of a scenario. Those for flags, banks and sides are the ones that commands have in a text.
 use Rattle.std.specs.Prelude.{ℕ, List, [], codes}
-use Rattle.command_grammar.specs.declared.field_values.Sel.{Sel}
-use Rattle.command_grammar.specs.declared.field_values.Sel.TheVariants as sels
+use Rattle.command_fields.specs.declared.choices.Sel.{Sel}
+use Rattle.command_fields.specs.declared.choices.Sel.TheVariants as sels
 use Rattle.access_ops.specs.declared.Op.{Op}
 use Rattle.access_ops.specs.declared.Op.TheVariants as ops
 use Rattle.air_events.specs.declared.Event.{Event}
 use Rattle.air_events.specs.declared.Event.TheVariants as events
 use Rattle.air_events.specs.declared.Choice.TheVariants as choices
-use Rattle.scenario_lines.specs.declared.first_fields.Word.{Word}
-use Rattle.scenario_lines.specs.declared.first_fields.Word.TheVariants as words
+use Rattle.scenario_lines.specs.declared.first_fields.Keyword.{Keyword}
+use Rattle.scenario_lines.specs.declared.first_fields.Keyword.TheVariants as keywords
 use Rattle.scenario_lines.specs.declared.first_fields.EventKind.{EventKind}
 use Rattle.scenario_lines.specs.declared.first_fields.EventKind.TheVariants.{Timeout, Off, On, Expire}
 use Rattle.scenario_lines.specs.declared.first_fields.OpKind.{OpKind}
@@ -19,18 +19,18 @@ use Rattle.scenario_lines.specs.declared.line.Happening.{Happening}
 use Rattle.scenario_lines.specs.declared.line.Happening.TheVariants as happenings
 
 -- the first field of a line
-abbrev pub word_text : Word → List ℕ
-word_text words.Version = codes "gen2"
-word_text words.Link = codes "link"
-word_text words.Tag = codes "tag"
-word_text words.Air = codes "air"
-word_text words.Select = codes "select"
-word_text words.Nak = codes "nak"
-word_text words.Event = codes "event"
-word_text words.Round = codes "round"
-word_text words.Only = codes "only"
-word_text words.Op = codes "op"
-word_text words.End = codes "end"
+abbrev pub keyword_text : Keyword → List ℕ
+keyword_text keywords.Version = codes "gen2"
+keyword_text keywords.Link = codes "link"
+keyword_text keywords.Tag = codes "tag"
+keyword_text keywords.Air = codes "air"
+keyword_text keywords.Select = codes "select"
+keyword_text keywords.Nak = codes "nak"
+keyword_text keywords.Event = codes "event"
+keyword_text keywords.Round = codes "round"
+keyword_text keywords.Only = codes "only"
+keyword_text keywords.Op = codes "op"
+keyword_text keywords.End = codes "end"
 
 -- the kind of an event
 abbrev pub event_word : EventKind → List ℕ
@@ -56,6 +56,7 @@ air_word airs.Miss = codes "miss"
 air_word airs.Pick = codes "pick"
 air_word airs.Silent = codes "silent"
 air_word airs.Break = codes "break"
+air_word airs.Raw = codes "raw"
 
 -- how many fields stand behind the kind of an event
 abbrev pub event_field_count : EventKind → ℕ
@@ -81,6 +82,7 @@ air_field_count airs.Miss = 1
 air_field_count airs.Pick = 1
 air_field_count airs.Silent = 0
 air_field_count airs.Break = 1
+air_field_count airs.Raw = 1
 
 -- which kind an event is of
 abbrev pub event_kind : Event → EventKind
@@ -106,6 +108,7 @@ air_kind (happenings.Miss tag) = airs.Miss
 air_kind (happenings.Choice (choices.Pick reply)) = airs.Pick
 air_kind (happenings.Choice choices.Silent) = airs.Silent
 air_kind (happenings.Choice (choices.Break place)) = airs.Break
+air_kind (happenings.Choice (choices.Raw levels)) = airs.Raw
 
 -- the tags that a round speaks to: all (the code 00), those with SL deasserted, those with SL asserted. The code 01,
 -- which means all as well, has no word.

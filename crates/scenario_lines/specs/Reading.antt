@@ -16,8 +16,9 @@ use Rattle.scenario_lines.specs.TagForm.{IsTagForm, tag_of}
 use Rattle.scenario_lines.specs.LineForm.{IsLinkForm, IsEvent, IsHappening, IsExchange}
 use Rattle.scenario_lines.specs.Spelling.{link_fields, tag_fields, event_fields, happening_fields, op_fields}
 use Rattle.scenario_lines.specs.Names.{event_kind, event_word, event_field_count, op_kind, op_word, op_field_count, air_kind, air_word, air_field_count}
-use Rattle.scenario_lines.specs.LineFaults.{AreFilled, HasKnownKind, HasShape, BreaksLink, BreaksPc}
-use Rattle.scenario_lines.specs.declared.first_fields.Word.TheVariants as words
+use Rattle.scenario_lines.specs.LineFaults.{HasKnownKind, HasShape, BreaksLink, BreaksPc}
+use Rattle.text_fields.specs.NamedFields.{AreFilled}
+use Rattle.scenario_lines.specs.declared.first_fields.Keyword.TheVariants as keywords
 use Rattle.scenario_lines.specs.declared.first_fields.EventKind.{EventKind}
 use Rattle.scenario_lines.specs.declared.first_fields.OpKind.{OpKind}
 use Rattle.scenario_lines.specs.declared.first_fields.AirKind.{AirKind}
@@ -109,26 +110,26 @@ MisreadsOp kind fields fault = ⊥
 
 -- the first reason for which fields behind `op` say nothing
 abbrev pub MisreadsOpLine : List (List ℕ) → LineFault → Type 0
-MisreadsOpLine others WordFault = ¬ HasKnownKind words.Op others
-MisreadsOpLine others Shape = HasKnownKind words.Op others × (¬ HasShape words.Op others)
-MisreadsOpLine others Number = HasShape words.Op others × ((op : Op) → IsLegalOp op → others ≢ op_word (op_kind op) ∷ op_fields op)
+MisreadsOpLine others WordFault = ¬ HasKnownKind keywords.Op others
+MisreadsOpLine others Shape = HasKnownKind keywords.Op others × (¬ HasShape keywords.Op others)
+MisreadsOpLine others Number = HasShape keywords.Op others × ((op : Op) → IsLegalOp op → others ≢ op_word (op_kind op) ∷ op_fields op)
 MisreadsOpLine others fault = ⊥
 
 -- the first reason for which fields behind `event` say nothing
 abbrev pub MisreadsEventLine : List (List ℕ) → LineFault → Type 0
-MisreadsEventLine others WordFault = ¬ HasKnownKind words.Event others
-MisreadsEventLine others Shape = HasKnownKind words.Event others × (¬ HasShape words.Event others)
+MisreadsEventLine others WordFault = ¬ HasKnownKind keywords.Event others
+MisreadsEventLine others Shape = HasKnownKind keywords.Event others × (¬ HasShape keywords.Event others)
 MisreadsEventLine others Number =
-    HasShape words.Event others
+    HasShape keywords.Event others
     × ((event : Event) (tag : ℕ) → IsEvent event tag → others ≢ event_word (event_kind event) ∷ event_fields event tag)
 MisreadsEventLine others fault = ⊥
 
 -- the first reason for which fields behind `air` say nothing
 abbrev pub MisreadsAirLine : List (List ℕ) → LineFault → Type 0
-MisreadsAirLine others WordFault = ¬ HasKnownKind words.Air others
-MisreadsAirLine others Shape = HasKnownKind words.Air others × (¬ HasShape words.Air others)
+MisreadsAirLine others WordFault = ¬ HasKnownKind keywords.Air others
+MisreadsAirLine others Shape = HasKnownKind keywords.Air others × (¬ HasShape keywords.Air others)
 MisreadsAirLine others Number =
-    HasShape words.Air others
+    HasShape keywords.Air others
     × ((exchange : ℕ) (happening : Happening) → IsExchange exchange → IsHappening happening
     → others ≢ decimal exchange ∷ air_word (air_kind happening) ∷ happening_fields happening)
 MisreadsAirLine others fault = ⊥

@@ -15,14 +15,14 @@ use Rattle.air_events.specs.declared.Choice.TheVariants as choices
 use Rattle.pie_line.specs.Link.{LinkValue}
 use Rattle.q_round.specs.SpecValue.{SpecValue}
 use Rattle.scenario_lines.specs.declared.tag.TagSpec.{TagSpec}
-use Rattle.scenario_lines.specs.declared.first_fields.Word.{Word}
-use Rattle.scenario_lines.specs.declared.first_fields.Word.TheVariants as words
+use Rattle.scenario_lines.specs.declared.first_fields.Keyword.{Keyword}
+use Rattle.scenario_lines.specs.declared.first_fields.Keyword.TheVariants as keywords
 use Rattle.scenario_lines.specs.declared.line.Happening.{Happening}
 use Rattle.scenario_lines.specs.declared.line.Happening.TheVariants as happenings
 use Rattle.scenario_lines.specs.declared.line.Selection.{Selection}
 use Rattle.scenario_lines.specs.declared.line.Line.{Line}
 use Rattle.scenario_lines.specs.declared.line.Line.TheVariants as lines
-use Rattle.scenario_lines.specs.Names.{word_text, event_word, event_kind, air_word, air_kind, op_word, op_kind, sel_text}
+use Rattle.scenario_lines.specs.Names.{keyword_text, event_word, event_kind, air_word, air_kind, op_word, op_kind, sel_text}
 
 -- a flag, as one binary digit
 abbrev pub flag_text : Bool → List ℕ
@@ -50,6 +50,7 @@ happening_fields (happenings.Miss tag) = decimal tag ∷ []
 happening_fields (happenings.Choice (choices.Pick reply)) = decimal reply ∷ []
 happening_fields (happenings.Choice choices.Silent) = []
 happening_fields (happenings.Choice (choices.Break place)) = decimal place ∷ []
+happening_fields (happenings.Choice (choices.Raw levels)) = binary levels ∷ []
 
 abbrev pub select_fields : Selection → List (List ℕ)
 select_fields selection =
@@ -71,18 +72,18 @@ op_fields (ops.Access password) = password_text password ∷ []
 op_fields (ops.Kill password) = password_text password ∷ []
 
 -- the first field of a line
-abbrev pub word_of_line : Line → Word
-word_of_line lines.Version = words.Version
-word_of_line (lines.Link link) = words.Link
-word_of_line (lines.Tag tag) = words.Tag
-word_of_line (lines.Air exchange happening) = words.Air
-word_of_line (lines.Select selection) = words.Select
-word_of_line lines.Nak = words.Nak
-word_of_line (lines.Event event tag) = words.Event
-word_of_line (lines.Round spec) = words.Round
-word_of_line (lines.Only epc) = words.Only
-word_of_line (lines.Op op) = words.Op
-word_of_line lines.End = words.End
+abbrev pub keyword_of : Line → Keyword
+keyword_of lines.Version = keywords.Version
+keyword_of (lines.Link link) = keywords.Link
+keyword_of (lines.Tag tag) = keywords.Tag
+keyword_of (lines.Air exchange happening) = keywords.Air
+keyword_of (lines.Select selection) = keywords.Select
+keyword_of lines.Nak = keywords.Nak
+keyword_of (lines.Event event tag) = keywords.Event
+keyword_of (lines.Round spec) = keywords.Round
+keyword_of (lines.Only epc) = keywords.Only
+keyword_of (lines.Op op) = keywords.Op
+keyword_of lines.End = keywords.End
 
 -- the fields behind the first
 abbrev pub other_fields : Line → List (List ℕ)
@@ -100,7 +101,7 @@ other_fields lines.End = []
 
 -- all fields of a line
 abbrev pub line_fields : Line → List (List ℕ)
-line_fields line = word_text (word_of_line line) ∷ other_fields line
+line_fields line = keyword_text (keyword_of line) ∷ other_fields line
 
 -- a line, without its line feed
 abbrev pub line_text : Line → List ℕ

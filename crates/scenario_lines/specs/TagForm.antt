@@ -2,7 +2,7 @@
 use Rattle.std.specs.Prelude.{◌≡◌, ℕ, ◌<◌, ◌^◌, true, List}
 use Rattle.lock_rules.specs.declared.locks.Locks.{Locks}
 use Rattle.tag_memory.specs.Image.{pc_fits}
-use Rattle.value_text.specs.ValueText.{IsWordList}
+use Rattle.text_fields.specs.WordLists.{IsWordList}
 use Rattle.scenario_lines.specs.declared.tag.TagSpec.{TagSpec}
 
 -- the tag of these fields

@@ -6,8 +6,8 @@ use Rattle.tag_memory.specs.Memory.{IsLegalMemory}
 use Rattle.scenario_lines.specs.declared.tag.TagSpec.{TagSpec}
 use Rattle.scenario_lines.specs.TagForm.{IsTag, IsTagForm}
 
-all_five : (a b c d e : Bool) → a ≡ true → b ≡ true → c ≡ true → d ≡ true → e ≡ true → (a && b && c && d && e) ≡ true
-all_five a b c d e h i j k l = rw (h, i, j, k, l) refl
+all_five : (a b c d e : Bool) → (a ≡ true) × (b ≡ true) × (c ≡ true) × (d ≡ true) × (e ≡ true) → (a && b && c && d && e) ≡ true
+all_five a b c d e are = rw (are.0, are.1, are.2, are.3, are.4) refl
 
 passes : (least most : ℕ) → least ≤ most → nat_le least most ≡ true
 passes least most within = grind (arith, nat_tests)
@@ -15,8 +15,13 @@ passes least most within = grind (arith, nat_tests)
 -- the sizes of its banks are those that a tag's banks may have
 pub sizes-fit : (tag : TagSpec) → IsTagForm tag → sizes_fit tag.image ≡ true
 sizes-fit tag form =
-    all_five _ _ _ _ _ (passes _ _ form.epc.some) (passes _ _ form.epc.room) (passes _ _ form.tid.some) (passes _ _ form.tid.room)
-    (passes _ _ form.user.room)
+    all_five _ _ _ _ _ (
+      passes _ _ form.epc.some,
+      passes _ _ form.epc.room,
+      passes _ _ form.tid.some,
+      passes _ _ form.tid.room,
+      passes _ _ form.user.room,
+    )
 
 -- the banks of the memory
 pub banks-legal : (tag : TagSpec) → IsTag tag → IsLegalMemory (banks_of tag.image)

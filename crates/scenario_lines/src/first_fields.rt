@@ -1,9 +1,9 @@
-//! The words of a scenario: the first fields of its lines, and the kinds of its air, event and operation
+//! The names in a scenario: the keywords, which are the first fields of its lines, and the kinds of its air, event and operation
 //! lines.
 
 /// The first field of a line, which says what the line is about.
 #[derive(Clone, Copy, Debug, PartialEq, Eq)]
-pub enum Word {
+pub enum Keyword {
     /// `gen2`: the version of the text.
     Version,
     /// `link`: the parameters of the link.
@@ -46,7 +46,7 @@ pub enum EventKind {
 pub enum OpKind {
     /// `read`: words of a bank are read.
     Read,
-    /// `write`: one word is written.
+    /// `write`: one keyword is written.
     Write,
     /// `blockwrite`: several words are written at once.
     BlockWrite,
@@ -73,4 +73,6 @@ pub enum AirKind {
     Silent,
     /// The channel breaks the first reply.
     Break,
+    /// The channel gives these levels.
+    Raw,
 }

@@ -6,12 +6,12 @@ ghost use Rattle.tag_memory.specs.Image.{banks_of, pc_fits, sizes_fit};
 ghost use Rattle.tag_memory.specs.Memory.{IsLegalMemory};
 ghost use Rattle.scenario_lines.specs.declared.tag.TagSpec.{TagSpec};
 ghost use Rattle.scenario_lines.specs.TagForm.{IsTag};
-ghost use Rattle.scenario_lines.specs.declared.first_fields.Word.{Word};
+ghost use Rattle.scenario_lines.specs.declared.first_fields.Keyword.{Keyword};
 ghost use Rattle.scenario_lines.specs.declared.line.Line.{Line};
 ghost use Rattle.scenario_lines.specs.declared.fault.LineFault.{LineFault};
 ghost use Rattle.scenario_lines.specs.LineForm.{IsLine};
 ghost use Rattle.scenario_lines.specs.LineFaults.{BeginsWith, IsFaultyLine, SpellsLine};
-ghost use Rattle.scenario_lines.specs.Spelling.{line_fields, word_of_line};
+ghost use Rattle.scenario_lines.specs.Spelling.{line_fields, keyword_of};
 
 /// Each field of a line may stand as a field.
 #[tactic(auto, using(crate::proofs::LineTexts::line_texts))]
@@ -24,15 +24,15 @@ pub fn lines_are_told_apart()
     ensures { (fields : List (List ℕ)) (one other : Line) → SpellsLine fields one → SpellsLine fields other → one ≡ other }
 {}
 
-/// The fields of a line begin with its word.
+/// The fields of a line begin with its keyword.
 #[tactic(auto, using(crate::specs::LineBeginnings::begins))]
-pub fn lines_begin_with_their_word()
-    ensures { (line : Line) → BeginsWith (line_fields line) (word_of_line line) }
+pub fn lines_begin_with_their_keyword()
+    ensures { (line : Line) → BeginsWith (line_fields line) (keyword_of line) }
 {}
 
-/// Fields begin with at most one word.
-pub fn lines_begin_with_one_word()
-    ensures { (fields : List (List ℕ)) (one other : Word) → BeginsWith fields one → BeginsWith fields other → one ≡ other }
+/// Fields begin with at most one keyword.
+pub fn lines_begin_with_one_keyword()
+    ensures { (fields : List (List ℕ)) (one other : Keyword) → BeginsWith fields one → BeginsWith fields other → one ≡ other }
 {}
 
 /// Fields that spell a line are not faulty.
@@ -45,9 +45,9 @@ pub fn lines_have_one_fault()
     ensures { (fields : List (List ℕ)) (one other : LineFault) → IsFaultyLine fields one → IsFaultyLine fields other → one ≡ other }
 {}
 
-/// Fields begin with a word, or are faulty since they begin with none.
+/// Fields begin with a keyword, or are faulty since they begin with none.
 pub fn lines_begin_or_are_faulty()
-    ensures { (fields : List (List ℕ)) → ((word : Word) × BeginsWith fields word) ⊎ IsFaultyLine fields LineFault.Word }
+    ensures { (fields : List (List ℕ)) → ((keyword : Keyword) × BeginsWith fields keyword) ⊎ IsFaultyLine fields LineFault.Word }
 {}
 
 /// Fields spell a line, or are faulty for some reason.

@@ -1,9 +1,10 @@
 //! What a line of a scenario says.
 ghost use Rattle.std.specs.Prelude.{◌≡◌};
 
+use crate::choice::ChoiceText;
 use crate::tag::TagText;
 use access_ops::Op;
-use air_events::{Choice, Event};
+use air_events::Event;
 use bit_strings::{Action, Pointer};
 use command_grammar::{Command, FlagName, Mask, MaskBank};
 use pie_line::Link;
@@ -11,8 +12,8 @@ use q_round::RoundSpec;
 use reply_grammar::EpcWords;
 
 /// What an air line says of its exchange.
-#[derive(Clone, Copy, Debug, PartialEq, Eq)]
-pub enum Happening {
+#[derive(Drop)]
+pub enum Happening<'a> {
     /// Something befalls a tag before the command.
     Event {
         /// What befalls it.
@@ -22,8 +23,8 @@ pub enum Happening {
     },
     /// The tag of this number misses the command.
     Miss(u32),
-    /// What the channel gives of the replies.
-    Choice(Choice),
+    /// What the channel gives.
+    Choice(ChoiceText<'a>),
 }
 
 /// What the Select of a step names (6.3.2.11.1.1 Select).
@@ -77,7 +78,7 @@ pub enum Line<'a> {
         /// The number of the exchange, counted from 1 over the whole run.
         exchange: u32,
         /// What the line says of it.
-        happening: Happening,
+        happening: Happening<'a>,
     },
     /// `select TARGET ACTION BANK POINTER MASK`
     Select(Selection),

@@ -1,36 +1,36 @@
 //! The names in a line, read; and written where one stands for a value of several.
 ghost use Rattle.std.specs.Prelude.{◌≡◌, ◌≢◌, IfSome};
 ghost use Rattle.command_text.specs.CommandText.{flag_word};
-ghost use Rattle.scenario_lines.specs.Names.{air_word, event_kind, event_word, op_word, sel_text, word_text};
+ghost use Rattle.scenario_lines.specs.Names.{air_word, event_kind, event_word, op_word, sel_text, keyword_text};
 
-use crate::{AirKind, EventKind, OpKind, Word};
+use crate::{AirKind, EventKind, Keyword, OpKind};
 use air_events::Event;
 use command_grammar::{FlagName, Sel};
 use command_text::flag_named;
 
-/// The word that a first field is.
-pub(crate) fn word_named(field: &[u8]) -> Option<Word>
-    ensures value { IfSome result (λ word. field.now ≡ word_text word) }
-    ensures only { (word : Word) → field.now ≡ word_text word → result ≡ Some word }
+/// The keyword that a first field is.
+pub(crate) fn keyword_named(field: &[u8]) -> Option<Keyword>
+    ensures value { IfSome result (λ keyword. field.now ≡ keyword_text keyword) }
+    ensures only { (keyword : Keyword) → field.now ≡ keyword_text keyword → result ≡ Some keyword }
 {
     match field {
-        b"gen2" => Some(Word::Version),
-        b"link" => Some(Word::Link),
-        b"tag" => Some(Word::Tag),
-        b"air" => Some(Word::Air),
-        b"select" => Some(Word::Select),
-        b"nak" => Some(Word::Nak),
-        b"event" => Some(Word::Event),
-        b"round" => Some(Word::Round),
-        b"only" => Some(Word::Only),
-        b"op" => Some(Word::Op),
-        b"end" => Some(Word::End),
+        b"gen2" => Some(Keyword::Version),
+        b"link" => Some(Keyword::Link),
+        b"tag" => Some(Keyword::Tag),
+        b"air" => Some(Keyword::Air),
+        b"select" => Some(Keyword::Select),
+        b"nak" => Some(Keyword::Nak),
+        b"event" => Some(Keyword::Event),
+        b"round" => Some(Keyword::Round),
+        b"only" => Some(Keyword::Only),
+        b"op" => Some(Keyword::Op),
+        b"end" => Some(Keyword::End),
         _ => None,
     }
 }
 
 /// The kind of an event of this name.
-pub(crate) fn event_kind_named(field: &[u8]) -> Option<EventKind>
+pub fn event_kind_named(field: &[u8]) -> Option<EventKind>
     ensures value { IfSome result (λ kind. field.now ≡ event_word kind) }
     ensures only { (kind : EventKind) → field.now ≡ event_word kind → result ≡ Some kind }
 {
@@ -65,6 +65,7 @@ pub(crate) fn air_kind_named(field: &[u8]) -> Option<AirKind>
         b"pick" => Some(AirKind::Pick),
         b"silent" => Some(AirKind::Silent),
         b"break" => Some(AirKind::Break),
+        b"raw" => Some(AirKind::Raw),
         _ => Some(AirKind::Event(event_kind_named(field)?)),
     }
 }
@@ -87,7 +88,7 @@ pub(crate) fn op_kind_named(field: &[u8]) -> Option<OpKind>
 }
 
 /// The flag of this name whose persistence ends: each but S0.
-pub(crate) fn expiring_flag_named(field: &[u8]) -> Option<FlagName>
+pub fn expiring_flag_named(field: &[u8]) -> Option<FlagName>
     ensures value { IfSome result (λ flag. (field.now ≡ flag_word flag) × (flag ≢ FlagName.S0)) }
     ensures only { (flag : FlagName) → flag ≢ FlagName.S0 → field.now ≡ flag_word flag → result ≡ Some flag }
 {

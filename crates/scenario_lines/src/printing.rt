@@ -11,7 +11,7 @@ mod op;
 mod round;
 mod tag;
 
-pub use air::{push_air, push_event};
+pub use air::{push_air_choice, push_air_event, push_air_miss, push_event};
 use bit_strings::OutOfMemory;
 pub use link::push_link;
 pub use op::{push_only, push_op};

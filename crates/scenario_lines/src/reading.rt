@@ -3,9 +3,10 @@ ghost use Rattle.std.specs.Prelude.{◌≡◌, ◌↔◌, [], IfOk, IfErr, IfSom
 ghost use Rattle.text_fields.specs.Lines.{fields_of};
 ghost use Rattle.scenario_lines.specs.Spelling.{line_fields, other_fields};
 ghost use Rattle.scenario_lines.specs.declared.line.Line.{Line};
-ghost use Rattle.scenario_lines.specs.declared.first_fields.Word.{Word};
+ghost use Rattle.scenario_lines.specs.declared.first_fields.Keyword.{Keyword};
 ghost use Rattle.scenario_lines.specs.Reading.{Misreads};
-ghost use Rattle.scenario_lines.specs.LineFaults.{AreFilled, BeginsWith, HasKnownKind, IsFaultyLine, IsFaultyBehind, SpellsLine, SpellsBehind};
+ghost use Rattle.scenario_lines.specs.LineFaults.{BeginsWith, HasKnownKind, IsFaultyLine, IsFaultyBehind, SpellsLine, SpellsBehind};
+ghost use Rattle.text_fields.specs.NamedFields.{AreFilled};
 
 mod air;
 mod event;
@@ -15,8 +16,8 @@ mod round;
 mod select;
 mod tag;
 
-use crate::names::{air_kind_named, event_kind_named, op_kind_named, word_named};
-use crate::{Line, LineFault, Word};
+use crate::names::{air_kind_named, event_kind_named, keyword_named, op_kind_named};
+use crate::{Keyword, Line, LineFault};
 use air::read_air;
 use event::read_event;
 use link::read_link;
@@ -24,12 +25,12 @@ use op::{read_only, read_op};
 use round::read_round;
 use select::read_select;
 use std::marker::Model;
-use tag::read_tag;
+pub use tag::read_tag;
 use text_fields::{Fields, is_at_end, one_field};
 
 /// Whether the kind of an air line, where it is there, is one of its kinds.
 fn has_air_kind(mut others: Fields) -> bool
-    ensures { IsTrue result ↔ HasKnownKind Word.Air others.entry }
+    ensures { IsTrue result ↔ HasKnownKind Keyword.Air others.entry }
 {
     if others.next().is_none() {
         return true;
@@ -42,7 +43,7 @@ fn has_air_kind(mut others: Fields) -> bool
 
 /// Whether the kind of an event line, where it is there, is one of its kinds.
 fn has_event_kind(mut others: Fields) -> bool
-    ensures { IsTrue result ↔ HasKnownKind Word.Event others.entry }
+    ensures { IsTrue result ↔ HasKnownKind Keyword.Event others.entry }
 {
     match others.next() {
         Some(kind) => event_kind_named(kind).is_some(),
@@ -52,7 +53,7 @@ fn has_event_kind(mut others: Fields) -> bool
 
 /// Whether the kind of an operation, where it is there, is one of its kinds.
 fn has_op_kind(mut others: Fields) -> bool
-    ensures { IsTrue result ↔ HasKnownKind Word.Op others.entry }
+    ensures { IsTrue result ↔ HasKnownKind Keyword.Op others.entry }
 {
     match others.next() {
         Some(kind) => op_kind_named(kind).is_some(),
@@ -61,13 +62,13 @@ fn has_op_kind(mut others: Fields) -> bool
 }
 
 /// Whether a kind that stands behind the first field is one of its kinds.
-fn has_known_kind(word: Word, others: Fields) -> bool
-    ensures { IsTrue result ↔ HasKnownKind word others.entry }
+fn has_known_kind(keyword: Keyword, others: Fields) -> bool
+    ensures { IsTrue result ↔ HasKnownKind keyword others.entry }
 {
-    match word {
-        Word::Air => has_air_kind(others),
-        Word::Event => has_event_kind(others),
-        Word::Op => has_op_kind(others),
+    match keyword {
+        Keyword::Air => has_air_kind(others),
+        Keyword::Event => has_event_kind(others),
+        Keyword::Op => has_op_kind(others),
         _ => true,
     }
 }
@@ -97,51 +98,51 @@ fn read_bare(others: Fields) -> Result<(), LineFault>
     }
 }
 
-/// What a line with this word says, by its other fields.
-fn read_behind<'a>(word: Word, others: Fields<'a>) -> Result<Line<'a>, LineFault>
-    ensures ok { IfOk result (SpellsBehind word others.entry) }
-    ensures only { (said : Line) → SpellsBehind word others.entry said → IsOkAnd result (λ it. it ≡ said) }
-    ensures refused { IfErr result (IsFaultyBehind word others.entry) }
+/// What a line with this keyword says, by its other fields.
+fn read_behind<'a>(keyword: Keyword, others: Fields<'a>) -> Result<Line<'a>, LineFault>
+    ensures ok { IfOk result (SpellsBehind keyword others.entry) }
+    ensures only { (said : Line) → SpellsBehind keyword others.entry said → IsOkAnd result (λ it. it ≡ said) }
+    ensures refused { IfErr result (IsFaultyBehind keyword others.entry) }
 {
-    match word {
-        Word::Version => {
+    match keyword {
+        Keyword::Version => {
             read_version(others)?;
             Ok(Line::Version)
         }
-        Word::Link => Ok(Line::Link(read_link(others)?)),
-        Word::Tag => Ok(Line::Tag(read_tag(others)?)),
-        Word::Air => {
+        Keyword::Link => Ok(Line::Link(read_link(others)?)),
+        Keyword::Tag => Ok(Line::Tag(read_tag(others)?)),
+        Keyword::Air => {
             let (exchange, happening) = read_air(others)?;
             Ok(Line::Air {
                 exchange,
                 happening,
             })
         }
-        Word::Select => Ok(Line::Select(read_select(others)?)),
-        Word::Nak => {
+        Keyword::Select => Ok(Line::Select(read_select(others)?)),
+        Keyword::Nak => {
             read_bare(others)?;
             Ok(Line::Nak)
         }
-        Word::Event => {
+        Keyword::Event => {
             let (event, tag) = read_event(others)?;
             Ok(Line::Event { event, tag })
         }
-        Word::Round => Ok(Line::Round(read_round(others)?)),
-        Word::Only => Ok(Line::Only(read_only(others)?)),
-        Word::Op => Ok(Line::Op(read_op(others)?)),
-        Word::End => {
+        Keyword::Round => Ok(Line::Round(read_round(others)?)),
+        Keyword::Only => Ok(Line::Only(read_only(others)?)),
+        Keyword::Op => Ok(Line::Op(read_op(others)?)),
+        Keyword::End => {
             read_bare(others)?;
             Ok(Line::End)
         }
     }
 }
 
-/// A line that begins with a word of a scenario, of which no more is read yet. A contract sees it as its
+/// A line that begins with a keyword of a scenario, of which no more is read yet. A contract sees it as its
 /// fields.
 #[derive(Drop)]
 pub struct BegunLine<'a> {
     line: &'a [u8],
-    word: Word,
+    keyword: Keyword,
 }
 
 impl<'a> Model for BegunLine<'a> {
@@ -153,31 +154,31 @@ impl<'a> Model for BegunLine<'a> {
 
     ghost view = { λ a. fields_of a.line.now };
 
-    ghost invariant = { λ a. BeginsWith (fields_of a.line.now) a.word };
+    ghost invariant = { λ a. BeginsWith (fields_of a.line.now) a.keyword };
 }
 
 impl<'a> BegunLine<'a> {
-    /// A line, which is given without its line feed. None exactly where the first field is no word of a
+    /// A line, which is given without its line feed. None exactly where the first field is no keyword of a
     /// scenario, or the kind of an air, event or op line is there and is none of its kinds.
     pub fn new(line: &'a [u8]) -> Option<BegunLine<'a>>
         ensures value { IfSome result (λ begun. begun ≡ fields_of line.now) }
         ensures none { IfNone result (IsFaultyLine (fields_of line.now) LineFault.Word) }
     {
         let mut fields = Fields::new(line);
-        let word = word_named(fields.next()?)?;
-        if has_known_kind(word, fields) {
-            Some(BegunLine { line, word })
+        let keyword = keyword_named(fields.next()?)?;
+        if has_known_kind(keyword, fields) {
+            Some(BegunLine { line, keyword })
         } else {
             None
         }
     }
 
-    /// The word that the line begins with.
-    pub fn word(&self) -> Word
+    /// The keyword that the line begins with.
+    pub fn keyword(&self) -> Keyword
         ensures value { BeginsWith self.now result }
-        ensures only { (word : Word) → BeginsWith self.now word → word ≡ result }
+        ensures only { (keyword : Keyword) → BeginsWith self.now keyword → keyword ≡ result }
     {
-        self.word
+        self.keyword
     }
 
     /// What the line says.
@@ -193,9 +194,9 @@ impl<'a> BegunLine<'a> {
         ensures refused { IfErr result (IsFaultyLine self.entry) }
     {
         let mut others = Fields::new(self.line);
-        // The first field is the word.
+        // The first field is the keyword.
         let _ = others.next();
-        read_behind(self.word, others)
+        read_behind(self.keyword, others)
     }
 }
 

@@ -1,9 +1,9 @@
 -- The bit of a bank at a place is a bit of the word that the place lies in.
-use Rattle.std.proofs.Common.{◌≡◌, ℕ, zero, suc, ◌+◌, ◌-◌, ◌/◌, ◌%◌, ◌^◌, ◌<◌, ◌==◌, Bool, List, [], ◌∷◌, ◌++◌, length, Some, None, refl, arith, slice_get}
+use Rattle.std.proofs.Common.{◌≡◌, ℕ, zero, suc, ◌+◌, ◌-◌, ◌/◌, ◌%◌, ◌^◌, ◌<◌, ◌==◌, List, [], ◌∷◌, ◌++◌, length, Some, None, refl, arith, slice_get}
 use Rattle.bit_strings.specs.Numbers.{field_of}
-use Rattle.bit_strings.specs.NumberLaws.{length-field_of}
+use Rattle.bit_strings.specs.laws.Numbers.{length-field_of}
 use Rattle.bit_strings.specs.Words.{bits_of_words}
-use Rattle.bit_strings.specs.ListLaws.{slice_get-append_left, slice_get-append_right}
+use Rattle.bit_strings.specs.laws.Lists.{slice_get-append_left, slice_get-append_right}
 
 slice_get-field_of : (value width i : ℕ) → i < width → slice_get (field_of value width) i ≡ Some (value / 2 ^ (width - 1 - i) % 2 == 1)
 unfolding field_of

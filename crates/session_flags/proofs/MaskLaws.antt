@@ -7,7 +7,7 @@ use Rattle.std.proofs.lemmas.Option.{slice_get_within, get_or_from_slice_get}
 use Rattle.std.specs.Bool.{beq}
 use Rattle.std.specs.Int.{div_ceil}
 use Rattle.bit_strings.specs.Words.{bits_of_words}
-use Rattle.bit_strings.specs.WordLaws.{length-bits_of_words}
+use Rattle.bit_strings.specs.laws.Words.{length-bits_of_words}
 use Rattle.session_flags.specs.MaskMatch.{begins_with, mask_match, MaskStandsAt}
 
 pub begins_with-none : (bits : List Bool) → begins_with bits [] ≡ true

@@ -1,7 +1,7 @@
 -- 6.3.2.11.1.1 Select, the table of the tag's response to Action: one row for each action, from 000 to 111.
 use Rattle.std.specs.Prelude.{ℕ, Bool, true, false, not, List, [], ◌∷◌, if◌then◌else◌, slice_index_or}
-use Rattle.command_grammar.specs.declared.field_values.Side.{Side}
-use Rattle.command_grammar.specs.declared.field_values.Side.TheVariants.{A, B}
+use Rattle.command_fields.specs.declared.choices.Side.{Side}
+use Rattle.command_fields.specs.declared.choices.Side.TheVariants.{A, B}
 use Rattle.session_flags.specs.declared.flags.Effect.{Effect}
 use Rattle.session_flags.specs.declared.flags.Effect.TheVariants.{Keep, Assert, Deassert, Negate}
 

@@ -1,12 +1,12 @@
 -- 6.3.2.2 Sessions and inventoried flags, 6.3.2.3 Selected flag: what changes a tag's flags, and which tags a
 -- Query speaks to. A session is its number; no session is 4 or above: there nothing changes, and the flag is that of S3.
 use Rattle.std.specs.Prelude.{ℕ, Bool, true, false, not, ◌==◌, ◌&&◌, if◌then◌else◌}
-use Rattle.command_grammar.specs.declared.field_values.Side.{Side}
-use Rattle.command_grammar.specs.declared.field_values.Side.TheVariants.{A, B}
-use Rattle.command_grammar.specs.declared.field_values.Sel.{Sel}
-use Rattle.command_grammar.specs.declared.field_values.Sel.TheVariants.{All00, All01, NotSl, Sl as OnlySl}
-use Rattle.command_grammar.specs.declared.field_values.FlagName.{FlagName}
-use Rattle.command_grammar.specs.declared.field_values.FlagName.TheVariants.{S0, S1, S2, S3, Sl}
+use Rattle.command_fields.specs.declared.choices.Side.{Side}
+use Rattle.command_fields.specs.declared.choices.Side.TheVariants.{A, B}
+use Rattle.command_fields.specs.declared.choices.Sel.{Sel}
+use Rattle.command_fields.specs.declared.choices.Sel.TheVariants.{All00, All01, NotSl, Sl as OnlySl}
+use Rattle.command_fields.specs.declared.choices.FlagName.{FlagName}
+use Rattle.command_fields.specs.declared.choices.FlagName.TheVariants.{S0, S1, S2, S3, Sl}
 use Rattle.session_flags.specs.declared.flags.Flags.{Flags}
 use Rattle.session_flags.specs.declared.flags.Effect.{Effect}
 use Rattle.session_flags.specs.declared.flags.Effect.TheVariants.{Negate}

@@ -1,10 +1,10 @@
 //! The inventoried flags of the four sessions and the selected flag.
 ghost use Rattle.std.specs.Prelude.{◌≡◌};
 ghost use Rattle.session_flags.specs.Actions.{effect_of, side_after, sl_after};
-ghost use Rattle.session_flags.specs.Flags.{new_flags, side_of, flags_after_effect, flags_after_select, flags_after_inversion, sel_allows, matches, flags_after_power_loss, flags_after_expiry};
+ghost use Rattle.session_flags.specs.Flags.{new_flags, side_of, flags_after_effect, flags_after_select, flags_after_inversion, matches, flags_after_power_loss, flags_after_expiry};
 
 use bit_strings::{Action, Session};
-use command_grammar::{FlagName, Sel, Side};
+use command_fields::{FlagName, Sel, Side};
 
 /// The flags of a tag: an inventoried flag for each session (6.3.2.2 Sessions and inventoried flags),
 /// and the selected flag SL (6.3.2.3 Selected flag).

@@ -4,7 +4,7 @@ ghost use Rattle.bit_strings.specs.Words.{bits_of_words};
 ghost use Rattle.session_flags.specs.MaskMatch.{begins_with, mask_match, MaskStandsAt};
 
 use bit_strings::Pointer;
-use command_grammar::Mask;
+use command_fields::Mask;
 
 fn word_at(words: &[u16], place: usize) -> Option<u16>
     ensures { result ≡ slice_get words.now place }

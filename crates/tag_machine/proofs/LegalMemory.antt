@@ -3,11 +3,11 @@ use Rattle.std.proofs.Common.{◌≡◌, ℕ, ◌+◌, ◌^◌, ◌<◌, ◌≤�
 use Rattle.std.proofs.lemmas.Bool.{ltb-false, leb-true}
 use Rattle.std.proofs.lemmas.List.{length-take-le, get_or-drop}
 use Rattle.std.proofs.lemmas.List.Elements.{All-cons, All-append, All-take, All-drop, All-replicate}
-use Rattle.bit_strings.specs.NumberLaws.{value_of-within}
+use Rattle.bit_strings.specs.laws.Numbers.{value_of-within}
 use Rattle.gen2_crc.specs.Crc.{crc16_of}
 use Rattle.gen2_crc.specs.laws.CheckNumbers.{length-crc16_of}
-use Rattle.command_grammar.specs.declared.field_values.Bank.{Bank}
-use Rattle.command_grammar.specs.declared.field_values.Bank.TheVariants.{Reserved, Epc, Tid, User}
+use Rattle.command_fields.specs.declared.choices.Bank.{Bank}
+use Rattle.command_fields.specs.declared.choices.Bank.TheVariants.{Reserved, Epc, Tid, User}
 use Rattle.lock_rules.specs.declared.locks.Locks.{Locks}
 use Rattle.lock_rules.specs.declared.terms.ErrorCode.TheVariants.{Overrun, Locked}
 use Rattle.lock_rules.specs.declared.terms.Level.{Level}

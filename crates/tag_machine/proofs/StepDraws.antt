@@ -1,11 +1,11 @@
 -- How many words a tag draws when it hears a command.
 use Rattle.std.proofs.Common.{◌≡◌, ℕ, zero, suc, ◌==◌, Bool, true, false, List, [], ◌∷◌, Option, Some, None, Result, Ok, Err, if◌then◌else◌, refl, ◌∙◌, ap, length}
-use Rattle.command_grammar.specs.declared.field_values.Bank.{Bank}
-use Rattle.command_grammar.specs.declared.field_values.FlagName.{FlagName}
-use Rattle.command_grammar.specs.declared.field_values.MaskBank.{MaskBank}
-use Rattle.command_grammar.specs.declared.field_values.Sel.{Sel}
-use Rattle.command_grammar.specs.declared.field_values.Side.{Side}
-use Rattle.command_grammar.specs.declared.field_values.UpDn.{UpDn}
+use Rattle.command_fields.specs.declared.choices.Bank.{Bank}
+use Rattle.command_fields.specs.declared.choices.FlagName.{FlagName}
+use Rattle.command_fields.specs.declared.choices.MaskBank.{MaskBank}
+use Rattle.command_fields.specs.declared.choices.Sel.{Sel}
+use Rattle.command_fields.specs.declared.choices.Side.{Side}
+use Rattle.command_fields.specs.declared.choices.UpDn.{UpDn}
 use Rattle.command_grammar.specs.declared.commands.Command.{Command}
 use Rattle.command_grammar.specs.declared.commands.Command.TheVariants as commands
 use Rattle.lock_rules.specs.declared.terms.ErrorCode.{ErrorCode}

@@ -1,7 +1,7 @@
 -- 6.3.2.11.3 Access commands; Annex B and Annex C: what each of these commands does in each state. How an unfinished Kill or
 -- Access ends, and what becomes of a cover, is profile.
 use Rattle.std.specs.Prelude.{ℕ, ◌+◌, ◌*◌, ◌^◌, ◌==◌, nat_lt, Bool, true, false, List, [], ◌∷◌, length, Option, Some, None, Result, Ok, Err, bit_xor, if◌then◌else◌}
-use Rattle.command_grammar.specs.declared.field_values.Bank.{Bank}
+use Rattle.command_fields.specs.declared.choices.Bank.{Bank}
 use Rattle.lock_rules.specs.declared.locks.Locks.{Locks}
 use Rattle.lock_rules.specs.declared.terms.ErrorCode.{ErrorCode}
 use Rattle.lock_rules.specs.declared.terms.ErrorCode.TheVariants as errors

@@ -2,10 +2,12 @@
 -- timing (T2), 6.3.2.2 Sessions and inventoried flags (the table of persistence) and Annex B. An event that a clause doesn't
 -- name changes nothing, and none changes a killed tag.
 use Rattle.std.specs.Prelude.{ℕ, Bool, true, false, List}
-use Rattle.command_grammar.specs.declared.field_values.FlagName.{FlagName}
+use Rattle.command_fields.specs.declared.choices.FlagName.{FlagName}
 use Rattle.session_flags.specs.Flags.{new_flags, flags_after_power_loss, flags_after_expiry}
 use Rattle.lock_rules.specs.declared.locks.Locks.{Locks}
 use Rattle.tag_memory.specs.Memory.{Banks, with_stored_crc}
+use Rattle.tag_memory.specs.Image.{banks_of}
+use Rattle.tag_memory.specs.declared.image.BankImage.{BankImage}
 use Rattle.air_events.specs.declared.Event.{Event}
 use Rattle.air_events.specs.declared.Event.TheVariants as events
 use Rattle.tag_machine.specs.TagValue.{StateValue, ReadyState, ArbitrateState, ReplyState, AcknowledgedState, OpenState, SecuredState, KilledState, UnpoweredState, BodyValue, TagValue}
@@ -73,3 +75,7 @@ tag_after_event (events.Expire flag) state body = after_expiry flag state body
 -- a tag as it is when it is made: powered, in ready, with new flags and no draw made
 abbrev pub new_tag : Banks → Locks → List ℕ → TagValue
 new_tag memory locks words = tag_at ReadyState (record { memory = memory; locks = locks; flags = new_flags; words = words; next_draw = 0 })
+
+-- ... whose memory is made of an image, with StoredCRC computed
+abbrev pub tag_of_image : BankImage → Locks → List ℕ → TagValue
+tag_of_image image locks words = new_tag (banks_of image) locks words

@@ -2,12 +2,12 @@
 -- each of these commands does in each state. A state that a command doesn't name stays as it is, without a reply. A
 -- session in an effect is the command's, which is the tag's where the two are compared.
 use Rattle.std.specs.Prelude.{ℕ, ◌+◌, ◌-◌, ◌==◌, Bool, List, Option, Some, None, if◌then◌else◌}
-use Rattle.command_grammar.specs.declared.field_values.FlagName.{FlagName}
-use Rattle.command_grammar.specs.declared.field_values.MaskBank.{MaskBank}
-use Rattle.command_grammar.specs.declared.field_values.Sel.{Sel}
-use Rattle.command_grammar.specs.declared.field_values.Side.{Side}
-use Rattle.command_grammar.specs.declared.field_values.UpDn.{UpDn}
-use Rattle.command_grammar.specs.declared.field_values.UpDn.TheVariants.{Up, Same, Down}
+use Rattle.command_fields.specs.declared.choices.FlagName.{FlagName}
+use Rattle.command_fields.specs.declared.choices.MaskBank.{MaskBank}
+use Rattle.command_fields.specs.declared.choices.Sel.{Sel}
+use Rattle.command_fields.specs.declared.choices.Side.{Side}
+use Rattle.command_fields.specs.declared.choices.UpDn.{UpDn}
+use Rattle.command_fields.specs.declared.choices.UpDn.TheVariants.{Up, Same, Down}
 use Rattle.reply_grammar.specs.declared.expected.Reply.{Reply}
 use Rattle.reply_grammar.specs.declared.expected.Reply.TheVariants.{Epc}
 use Rattle.session_flags.specs.Flags.{matches, flags_after_select}

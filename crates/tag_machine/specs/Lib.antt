@@ -7,6 +7,7 @@ pub mod Step
 pub mod Events
 pub mod States
 pub mod Names
+pub mod Numbers
 pub mod Hearing
 pub mod Slots
 pub mod Reach

@@ -1,18 +1,21 @@
 //! A tag in any state, and what it gives when it heard a command.
-ghost use Rattle.std.specs.Prelude.{◌≡◌};
+ghost use Rattle.std.specs.Prelude.{◌≡◌, true, IfOk};
 ghost use Rattle.tag_machine.specs.TagValue.{is_present, IsLegalTag};
-ghost use Rattle.tag_machine.specs.Events.{new_tag};
+ghost use Rattle.tag_machine.specs.Events.{new_tag, tag_of_image};
 ghost use Rattle.tag_machine.specs.Names.{name_of};
 ghost use Rattle.tag_machine.specs.Hearing.{tag_value_of, typed_name_of};
+ghost use Rattle.tag_memory.specs.Image.{pc_fits, sizes_fit};
 
 use crate::body::Body;
 use crate::states::{
     Acknowledged, Arbitrate, InReply, Killed, Opened, Ready, Secured, StateName, Unpowered,
 };
 use crate::tag::Tag;
+use bit_strings::OutOfMemory;
 use lock_rules::Locks;
 use session_flags::{DrawWords, Flags};
-use tag_memory::Memory;
+use std::alloc::{AllocError, Global};
+use tag_memory::{BankImage, ImageRefusal, Memory};
 
 /// A tag in any state.
 #[derive(Drop)]
@@ -64,6 +67,26 @@ impl AnyTag {
             state: Ready,
             body: Body::new(memory, locks, words),
         })
+    }
+
+    /// A new tag whose memory is made of an image, with StoredCRC computed. The banks of the image have sizes that a tag's
+    /// banks may have, and the EPC that its PC announces lies inside its bank.
+    pub fn of_image(
+        alloc: Global,
+        image: &BankImage,
+        locks: Locks,
+        words: DrawWords,
+    ) -> Result<AnyTag, OutOfMemory>
+        requires sizes { sizes_fit image.now ≡ true }
+        requires pc { pc_fits image.now ≡ true }
+        ensures { IfOk result (λ tag. tag_value_of tag ≡ tag_of_image image.now locks words) }
+    {
+        match Memory::new(alloc, image) {
+            Ok(memory) => Ok(AnyTag::new(memory, locks, words)),
+            Err(ImageRefusal::OutOfMemory) => Err(AllocError),
+            // The sizes and the PC are right.
+            Err(ImageRefusal::Size | ImageRefusal::Pc) => unreachable!(),
+        }
     }
 
     /// The name of the tag's state, which is that of its type.

@@ -1,7 +1,7 @@
 //! What befalls a tag besides commands.
 ghost use Rattle.std.specs.Prelude.{◌≡◌};
 ghost use Rattle.tag_machine.specs.Events.{tag_after_event, after_timeout, after_off, after_on, after_expiry, body_after_expiry};
-ghost use Rattle.tag_machine.specs.TagValue.{UnpoweredState, IsLegalTag};
+ghost use Rattle.tag_machine.specs.TagValue.{IsLegalTag};
 ghost use Rattle.tag_machine.specs.Hearing.{tag_value_of};
 
 use crate::any_tag::AnyTag;

@@ -2,7 +2,7 @@
 ghost use Rattle.std.specs.Prelude.{◌≡◌, ◌≢◌, ◌+◌, ◌%◌, ◌<◌, ◌≤◌, ℕ, Some, None, true, false, length, slice_index};
 ghost use Rattle.std.specs.Option.{IsSomeAnd};
 ghost use Rattle.air_events.specs.declared.Event.{Event};
-ghost use Rattle.command_grammar.specs.declared.field_values.UpDn.{UpDn};
+ghost use Rattle.command_fields.specs.declared.choices.UpDn.{UpDn};
 ghost use Rattle.command_grammar.specs.declared.commands.Command.{Command};
 ghost use Rattle.command_grammar.specs.declared.commands.Command.TheVariants as commands;
 ghost use Rattle.command_grammar.specs.Commands.{IsLegalCommand};

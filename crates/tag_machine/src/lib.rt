@@ -13,6 +13,7 @@ mod in_place;
 mod inventory;
 mod laws;
 mod moves;
+mod numbers;
 mod states;
 mod steps;
 mod tag;
@@ -24,6 +25,7 @@ pub use laws::{
     absent_tags_stay, answers_are_expected, answers_are_replies, draw_laws, query_rep_laws,
     steps_keep_tags_legal,
 };
+pub use numbers::StateNumbers;
 pub use session_flags::DrawWords;
 pub use states::{
     Acknowledged, Arbitrate, Half, Held, InReply, Killed, Opened, Password, Ready, Secured, State,

@@ -1,7 +1,6 @@
 //! The moves that the commands share: how a tag answers, and where it goes.
-ghost use Rattle.std.specs.Prelude.{◌≡◌, ◌≤◌, Some, None, true, false};
+ghost use Rattle.std.specs.Prelude.{◌≡◌, ◌≤◌};
 ghost use Rattle.reply_grammar.specs.Table.{CanBeSent, reply_room};
-ghost use Rattle.tag_machine.specs.TagValue.{ReadyState, ArbitrateState};
 ghost use Rattle.tag_machine.specs.Answers.{silent, plain_answer, extended_answer, HasFewWords};
 ghost use Rattle.tag_machine.specs.Draws.{begin_reply, enter, close, back, tag_back};
 ghost use Rattle.tag_machine.specs.Hearing.{GivesOutcome, tag_value_of};

@@ -1,7 +1,7 @@
 -- The bits of a word, taken in bit by bit.
 use Rattle.std.proofs.Common.{◌≡◌, ℕ, ◌+◌, ◌≤◌, ◌/◌, ◌%◌, ◌^◌, ◌==◌, Bool, List, [], ◌∷◌, ◌++◌, sym, ◌∙◌, ap, append_assoc, append-nil, arith, subst}
 use Rattle.bit_strings.specs.Numbers.{field_of}
-use Rattle.bit_strings.specs.NumberLaws.{field_of-more, field_of-none}
+use Rattle.bit_strings.specs.laws.Numbers.{field_of-more, field_of-none}
 use Rattle.gen2_crc.specs.Crc.{RegisterStandsFor}
 
 -- the register now has taken in the first bits of a word, and so many are left

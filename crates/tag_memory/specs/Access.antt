@@ -1,8 +1,8 @@
 -- 6.3.2.11.3.2 Read, 6.3.2.11.3.3 Write, 6.3.2.11.3.7 BlockWrite, 6.3.2.11.3.8 BlockErase: what they do with a memory.
 -- Which code a refusal has, and that Overrun comes before Locked, is profile.
 use Rattle.std.specs.Prelude.{ℕ, zero, suc, ◌+◌, ◌-◌, nat_lt, nat_le, ◌==◌, Bool, true, false, not, ◌&&◌, ◌||◌, List, ◌++◌, length, take, drop, replicate, if◌then◌else◌, Result, Ok, Err}
-use Rattle.command_grammar.specs.declared.field_values.Bank.{Bank}
-use Rattle.command_grammar.specs.declared.field_values.Bank.TheVariants.{Reserved, Epc, Tid, User}
+use Rattle.command_fields.specs.declared.choices.Bank.{Bank}
+use Rattle.command_fields.specs.declared.choices.Bank.TheVariants.{Reserved, Epc, Tid, User}
 use Rattle.lock_rules.specs.declared.terms.Field.{Field}
 use Rattle.lock_rules.specs.declared.terms.Field.TheVariants.{KillWord, AccessWord, Epc as EpcField, Tid as TidField, User as UserField}
 use Rattle.lock_rules.specs.declared.terms.Level.{Level}

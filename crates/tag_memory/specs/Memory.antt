@@ -5,10 +5,10 @@ use Rattle.bit_strings.specs.Numbers.{value_of}
 use Rattle.bit_strings.specs.Words.{bits_of_words}
 use Rattle.gen2_crc.specs.Crc.{crc16_of}
 use Rattle.reply_grammar.specs.Table.{AreWords}
-use Rattle.command_grammar.specs.declared.field_values.Bank.{Bank}
-use Rattle.command_grammar.specs.declared.field_values.Bank.TheVariants.{Reserved, Epc, Tid, User}
-use Rattle.command_grammar.specs.declared.field_values.MaskBank.{MaskBank}
-use Rattle.command_grammar.specs.declared.field_values.MaskBank.TheVariants.{Epc as EpcMask, Tid as TidMask, User as UserMask}
+use Rattle.command_fields.specs.declared.choices.Bank.{Bank}
+use Rattle.command_fields.specs.declared.choices.Bank.TheVariants.{Reserved, Epc, Tid, User}
+use Rattle.command_fields.specs.declared.choices.MaskBank.{MaskBank}
+use Rattle.command_fields.specs.declared.choices.MaskBank.TheVariants.{Epc as EpcMask, Tid as TidMask, User as UserMask}
 
 pub record Banks : Type 0 where
   -- kill password and access password, the upper half of each first (6.3.2.1.1)

@@ -4,13 +4,13 @@ ghost use Rattle.bit_strings.specs.Numbers.{field_of, value_of};
 ghost use Rattle.bit_strings.specs.Words.{bits_of_words};
 ghost use Rattle.gen2_crc.specs.Crc.{RegisterStandsFor, crc16_of};
 ghost use Rattle.reply_grammar.specs.Table.{AreWords};
-ghost use Rattle.tag_memory.specs.Memory.{IsLegalMemory, AreSound, bank_of, bank_named, pc_of, epc_of, kill_word_of, access_word_of, length_in, epc_fits, stored_crc_of, with_stored_crc};
+ghost use Rattle.tag_memory.specs.Memory.{IsLegalMemory, AreSound, bank_of, bank_named, pc_of, epc_of, kill_word_of, access_word_of, length_in, epc_fits, with_stored_crc};
 ghost use Rattle.tag_memory.specs.Image.{sizes_fit, pc_fits, image_banks, banks_of};
 
 mod access;
 
 use crate::image::{BankImage, ImageRefusal};
-use command_grammar::{Bank, MaskBank};
+use command_fields::{Bank, MaskBank};
 use gen2_crc::Crc16;
 use reply_grammar::EpcWords;
 use std::alloc::{AllocError, Global};

@@ -9,3 +9,5 @@ pub mod ToldApart
 pub mod LineLaws
 pub mod ListLaws
 pub mod BinaryLaws
+pub mod NamedFields
+pub mod laws

@@ -1,5 +1,5 @@
 -- Profile: the words that upper-case hexadecimal digits spell, four digits a word.
-use Rattle.std.specs.Prelude.{◌≡◌, ℕ, ◌+◌, ◌-◌, ◌*◌, ◌/◌, ◌<◌, ◌^◌, nat_le, Bool, ◌&&◌, ◌||◌, List, [], ◌∷◌, length, if◌then◌else◌}
+use Rattle.std.specs.Prelude.{◌≡◌, ℕ, ◌+◌, ◌-◌, ◌*◌, ◌/◌, ◌<◌, ◌≤◌, ◌^◌, nat_le, Bool, ◌&&◌, ◌||◌, List, [], ◌∷◌, length, All, if◌then◌else◌}
 use Rattle.std.specs.List.{flat_map}
 use Rattle.text_fields.specs.Hexadecimal.{hex_word}
 
@@ -26,3 +26,9 @@ words_of_digits digits = []
 pub record AreWordDigits (digits : List ℕ) : Type 0 where
   pub spelling : digits ≡ flat_map hex_word (words_of_digits digits)
   pub countable : length digits / 4 < 2 ^ 32
+
+-- from least to most words of 16 bits
+pub record IsWordList (least most : ℕ) (words : List ℕ) : Type 0 where
+  pub some : least ≤ length words
+  pub room : length words ≤ most
+  pub small : All (λ word. word < 2 ^ 16) words

@@ -1,10 +1,11 @@
 //! Binary digits as fields.
-ghost use Rattle.std.specs.Prelude.{◌≡◌, ◌≢◌, ◌≤◌, ℕ, ◌↔◌, ◌++◌, [], ◌∷◌, length, map, Bool, List, IsTrue, IfSome, IsSomeAnd, OnOk};
+ghost use Rattle.std.specs.Prelude.{◌≡◌, ◌≢◌, ◌≤◌, ℕ, ◌↔◌, ◌++◌, [], ◌∷◌, length, map, Bool, List, IsTrue, IfOk, IfSome, IsSomeAnd, OnOk};
 ghost use Rattle.std.specs.List.{AllPass};
 ghost use Rattle.std.specs.String.{string_bytes};
 ghost use Rattle.text_fields.specs.Binary.{binary, binary_digit, hyphen, is_binary_digit, or_hyphen};
 
-use bit_strings::{Bits, OutOfMemory};
+use bit_strings::{Bits, List, OutOfMemory};
+use std::alloc::Global;
 use std::marker::Model;
 
 /// What stands for a list without items.
@@ -96,6 +97,15 @@ impl<'a> Digits<'a> {
     {
         // There is room for each bit.
         let _ = out.copy_bytes(self.digits, b'1');
+    }
+
+    /// The bits, in memory of their own.
+    pub fn to_list(&self, alloc: Global) -> Result<List<bool>, OutOfMemory>
+        ensures { IfOk result (λ bits. bits ≡ self.now) }
+    {
+        let mut bits = Bits::new(alloc, self.len())?;
+        self.copy_to(&mut bits);
+        Ok(bits.into_list())
     }
 }
 

@@ -1,5 +1,6 @@
 //! Lines with an exact number of fields, none of them empty.
 ghost use Rattle.std.specs.Prelude.{◌≡◌, ◌≢◌, ◌↔◌, ℕ, List, [], ◌∷◌, IfSome, IsSomeAnd, IsTrue};
+ghost use Rattle.text_fields.specs.NamedFields.{AreFilled};
 
 use crate::fields::Fields;
 
@@ -18,6 +19,19 @@ pub fn is_at_end(mut fields: Fields) -> bool
     ensures { IsTrue result ↔ (fields.entry ≡ []) }
 {
     fields.next().is_none()
+}
+
+/// Whether exactly so many fields are left, and none of them is empty.
+pub fn are_filled(fields: &Fields, count: u32) -> bool
+    ensures { IsTrue result ↔ AreFilled count fields.now }
+{
+    let mut left = fields.again();
+    for _ in 0..count {
+        if filled_field(&mut left).is_none() {
+            return false;
+        }
+    }
+    is_at_end(left)
 }
 
 /// The field that is left; none exactly where not one field is left, or it is empty.

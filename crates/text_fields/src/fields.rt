@@ -34,6 +34,13 @@ impl<'a> Fields<'a> {
         Fields { rest: Some(line) }
     }
 
+    /// The same fields once more.
+    pub(crate) fn again(&self) -> Fields<'a>
+        ensures { result ≡ self.now }
+    {
+        Fields { rest: self.rest }
+    }
+
     /// The part of the line that has the fields that are left; none exactly where no field is left.
     #[tactic(auto, using(crate::specs::LineLaws::some_piece))]
     pub fn into_rest(self) -> Option<&'a [u8]>

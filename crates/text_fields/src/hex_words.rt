@@ -28,6 +28,18 @@ fn byte_value(high: u8, low: u8) -> Option<u8>
     Some(digit_value(high)? * 16 + digit_value(low)?)
 }
 
+/// The byte that a field spells in two upper-case hexadecimal digits; none exactly where the field isn't
+/// the spelling of a byte.
+pub fn byte(field: &[u8]) -> Option<u8>
+    ensures value { IfSome result (λ n. field.now ≡ hex_byte n) }
+    ensures only { (n : ℕ) → n < 2 ^ 8 → field.now ≡ hex_byte n → result ≡ Some n }
+{
+    let [high, low] = field else {
+        return None;
+    };
+    byte_value(*high, *low)
+}
+
 /// The word that a field spells in four upper-case hexadecimal digits; none exactly where the field
 /// isn't the spelling of a word.
 pub fn word(field: &[u8]) -> Option<u16>

@@ -2,7 +2,7 @@
 //! binary digits, hexadecimal digits and the names of the line codes as fields.
 //!
 //! A text that is read is a slice of bytes, and nothing here copies it. A text that is written is a
-//! `String`; it and a list of words that is read into are all that takes memory. The line of a fault has a room
+//! `String`; it, and a list of bits or words that is read into, are all that takes memory. The line of a fault has a room
 //! of its own.
 #![tactic(auto)]
 
@@ -11,6 +11,7 @@ mod digits;
 mod exact;
 mod fault_lines;
 mod fields;
+mod fields_fault;
 mod hex_bytes;
 mod hex_words;
 mod laws;
@@ -18,17 +19,19 @@ mod lines;
 mod more_fields;
 mod next_fields;
 mod numbers;
+mod ranges;
 mod short_text;
 mod single_bits;
 mod word_lists;
 
 pub use code_names::{code_named, name_of};
 pub use digits::{Digits, list_digits, push_bits};
-pub use exact::{four_fields, is_at_end, one_field, three_fields, two_fields};
+pub use exact::{are_filled, four_fields, is_at_end, one_field, three_fields, two_fields};
 pub use fault_lines::fault_line;
 pub use fields::Fields;
+pub use fields_fault::FieldsFault;
 pub use hex_bytes::HexBytes;
-pub use hex_words::{push_byte_hex, push_hex_digit, push_word, push_words, word};
+pub use hex_words::{byte, push_byte_hex, push_hex_digit, push_word, push_words, word};
 pub use laws::{
     bits_are_told_apart, fields_come_back, lines_come_back, numbers_are_told_apart,
     spellings_are_field_texts, word_lists_are_told_apart, words_are_told_apart,
@@ -40,6 +43,7 @@ pub use next_fields::{
     push_next_number, push_next_numbers, push_next_word, push_next_words,
 };
 pub use numbers::{number, push_long_number, push_number};
+pub use ranges::{action_of, count_of, number_from, pointer_of, q_of, session_of, words_from};
 pub use short_text::push_bytes;
 pub use single_bits::one_bit;
 pub use word_lists::Words;

@@ -1,7 +1,8 @@
 //! Scenarios, written: each text has one scenario, whose one text it is.
 
+use air_events::LONGEST_STREAM;
 use scenario::{
-    Fault, ScenarioFault, print_and_read, print_scenario, read_and_print, read_scenario,
+    Fault, LineFault, ScenarioFault, print_and_read, print_scenario, read_and_print, read_scenario,
 };
 use std::alloc::Global;
 use std::test::Fail;
@@ -27,6 +28,10 @@ air 1 pick 4095
 air 2 on 1
 air 2 expire sl 0
 air 2 silent
+air 3 raw 1101001000110010110101010100110100110101001011
+air 4 timeout 1
+air 4 miss 0
+air 4 raw 0
 air 1000000 break 999999
 select sl 7 user 268435455 10010
 select s0 0 epc 0 -
@@ -94,6 +99,37 @@ fn texts_come_back(rt: HostRuntime) -> Result<(), Fail> {
     for &text in TEXTS {
         assert!(rt; comes_back(rt.alloc(), text)?);
     }
+    Ok(())
+}
+
+/// A scenario of one raw stream with this many levels.
+fn raw_stream(alloc: Global, levels: u32) -> Result<String, Fail> {
+    let mut text = String::new(alloc);
+    text.push_str("gen2 1\nlink 12500 31250 50000 6250 1 fm0 0\nair 1 raw ")?;
+    for _ in 0..levels {
+        text.push('1')?;
+    }
+    text.push_str("\nend\n")?;
+    Ok(text)
+}
+
+#[test]
+fn the_longest_raw_stream_comes_back(rt: HostRuntime) -> Result<(), Fail> {
+    let text = raw_stream(rt.alloc(), LONGEST_STREAM)?;
+    assert!(rt; comes_back(rt.alloc(), text.as_str().as_bytes())?);
+    Ok(())
+}
+
+#[test]
+fn a_raw_stream_with_one_level_more_is_refused(rt: HostRuntime) -> Result<(), Fail> {
+    let text = raw_stream(rt.alloc(), LONGEST_STREAM + 1)?;
+    let refused = read_and_print(rt.alloc(), text.as_str().as_bytes());
+    assert!(rt;
+        matches!(
+            refused,
+            Err(ScenarioFault::Line(3, Fault::Line(LineFault::Number)))
+        )
+    );
     Ok(())
 }
 

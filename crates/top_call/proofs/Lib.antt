@@ -1,6 +1,7 @@
 pub mod Ends
 pub mod RunEnds
 pub mod NamedLines
+pub mod EncodedLines
 pub mod Waits
 pub mod ToldForms
 pub mod SummaryLines

@@ -14,9 +14,9 @@ use Rattle.top_call.specs.declared.ending.Wrote.{Wrote}
 use Rattle.top_call.specs.declared.ending.WriteEnd.{WriteEnd}
 use Rattle.top_call.specs.declared.ending.WriteEnd.TheVariants.{Fault}
 use Rattle.text_fields.specs.FaultLine.{fault_line}
-use Rattle.decode_lines.specs.DecodeLines.{reason_word}
+use Rattle.checked_lines.specs.LineRules.{reason_word}
 use Rattle.top_call.specs.words.Named.{IsOfLines, AddsNames, IsCutAt, RefusesCutLine, names_job}
-use Rattle.decode_lines.specs.declared.fault.FaultReason.TheVariants.{End}
+use Rattle.checked_lines.specs.declared.fault.FaultReason.TheVariants.{End}
 use Rattle.text_fields.specs.LineLaws.{some_line}
 use Rattle.text_fields.specs.ListLaws.{flat_map_push, zip_push}
 use Rattle.top_call.proofs.Waits.{sends_whole, loses_later, loses_last}

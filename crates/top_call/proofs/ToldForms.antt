@@ -8,12 +8,13 @@ use Rattle.std.proofs.lemmas.Str.Parse.{numerals_by_value, tells_digits}
 use Rattle.report_lines.specs.declared.mode.Mode.TheVariants.{Plain, Trace}
 use Rattle.top_call.specs.Form.{words_of, IsForm, AskFor}
 use Rattle.top_call.specs.declared.forms.Form.{Form}
-use Rattle.top_call.specs.declared.forms.Form.TheVariants.{Decode, Run, Names, Gen}
+use Rattle.top_call.specs.declared.forms.Form.TheVariants.{Decode, Encode, Run, Names, Gen}
 
 -- the form that words spell, where they spell one
 form_spelled : List (List ℕ) → Form
 form_spelled words =
     if bytes_eq (get_or words 0 []) (codes "decode") then Decode
+    else if bytes_eq (get_or words 0 []) (codes "encode") then Encode
     else if bytes_eq (get_or words 0 []) (codes "names") then Names
     else if bytes_eq (get_or words 0 []) (codes "gen") then Gen (digits_value 10 (get_or words 1 [])) (digits_value 10 (get_or words 2 []))
     else if length words == 1 then Run Plain
@@ -28,6 +29,7 @@ same_made seed tags seed' tags' one two = rw (one, two) refl
 spelled_back : (form : Form) → IsForm form → form_spelled (words_of form) ≡ form
 unfolding form_spelled
 spelled_back Decode fits = refl
+spelled_back Encode fits = refl
 spelled_back (Run Plain) fits = refl
 spelled_back (Run Trace) fits = refl
 spelled_back Names fits = refl

@@ -3,7 +3,7 @@ use Rattle.std.proofs.Common.{◌≡◌, ℕ, ◌≤◌, List, [], ◌++◌, len
 use Rattle.std.specs.Prelude.{Result, Ok, Err, OnErr}
 use Rattle.std.proofs.lemmas.List.{take-append-drop, append-nil}
 use Rattle.air_io.specs.Flow.{Adds, FaultsRose}
-use Rattle.air_io.specs.FlowLaws.{Adds-nothing, Adds-more}
+use Rattle.air_io.specs.laws.Flow.{Adds-nothing, Adds-more}
 use Rattle.top_call.specs.UnwrittenBytes.{Sends, Loses}
 
 -- nothing was written

@@ -1,5 +1,6 @@
 -- What each word of the command line does.
 pub mod Decoded
+pub mod Encoded
 pub mod Reported
 pub mod Named
 pub mod Generated

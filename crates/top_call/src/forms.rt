@@ -15,6 +15,8 @@ use text_fields::number;
 pub enum Form {
     /// The word `decode`: explain the captures of the input, line by line.
     Decode,
+    /// The word `encode`: write for each line of the input the one that `decode` reads.
+    Encode,
     /// The word `run`, and `trace` behind it for a trace: run the scenario of the input, and report.
     Run(Mode),
     /// The word `names`: copy lines, and add its name behind each line that has one.
@@ -71,6 +73,7 @@ pub fn form_of(words: &[String]) -> Option<Form>
 {
     match words {
         [word] if is_word(word.as_str(), "decode") => Some(Form::Decode),
+        [word] if is_word(word.as_str(), "encode") => Some(Form::Encode),
         [word] if is_word(word.as_str(), "run") => Some(Form::Run(Mode::Plain)),
         [word] if is_word(word.as_str(), "names") => Some(Form::Names),
         [word, mode] if is_word(word.as_str(), "run") && is_word(mode.as_str(), "trace") => {

@@ -7,6 +7,7 @@ ghost use Rattle.top_call.specs.Jobs.{job_of};
 
 use crate::forms::Form;
 use crate::words::decode::decode_is_lawful;
+use crate::words::encode::encode_is_lawful;
 use crate::words::generate::gen_is_lawful;
 use crate::words::names::names_are_lawful;
 use crate::words::run::run_is_lawful;
@@ -21,6 +22,7 @@ pub fn jobs_are_lawful()
     ensures { (form : Form) → IsLawful (job_of form) }
 {
     decode_is_lawful();
+    encode_is_lawful();
     run_is_lawful();
     names_are_lawful();
     gen_is_lawful();

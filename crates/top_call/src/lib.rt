@@ -15,6 +15,7 @@ pub use laws::{
 pub use program::{gen2run, gen2run_surely};
 pub use status::Status;
 pub use words::decode::decode_is_lawful;
+pub use words::encode::encode_is_lawful;
 pub use words::generate::gen_is_lawful;
 pub use words::names::{names_are_lawful, names_inputs_have_a_text};
 pub use words::run::{run_inputs_have_a_text, run_is_lawful};

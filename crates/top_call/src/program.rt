@@ -12,7 +12,7 @@ ghost use Rattle.report_lines.specs.declared.mode.Mode.{Mode};
 use crate::forms::{Form, form_of};
 use crate::laws::jobs_are_lawful;
 use crate::status::Status;
-use crate::words::{decode, generate, names, run};
+use crate::words::{decode, encode, generate, names, run};
 use air_io::{Sink, Source, SureSink, SureSource};
 use std::alloc::Global;
 
@@ -40,14 +40,14 @@ pub fn gen2run<I: Source, O: Sink>(
     // Done: what was written keeps what its words promise.
     ensures promises { (form : Form) → AskFor (texts words.now) form → result ≡ Status.Done
         → WritesWhole (job_of form) (job_of form).promises (I.left input.old) (I.left input.new) (O.written output.old) (O.written output.new) }
-    // Done, of a run: each EPC in the report is one that a present tag sent in that round and slot; each that the channel
-    // gave whole is listed once; each tag stands as the commands that it heard and the events that name it leave it; and
-    // no round has more slot commands than its limit.
+    // Done, of a run: each EPC in the report is what was heard in that round and slot, and where the scenario gives no raw
+    // levels, it is one that a present tag sent; each that the channel gave whole is listed once; each tag stands as the
+    // commands that it heard and the events that name it leave it; and no round has more slot commands than its limit.
     ensures headline { (mode : Mode) → AskFor (texts words.now) (Form.Run mode) → result ≡ Status.Done
         → WritesWhole (run_job mode) (SaysHeadline mode) (I.left input.old) (I.left input.new) (O.written output.old) (O.written output.new) }
     // Done, of a run: a round without operations, of whose exchanges the scenario says nothing, lists no tag twice. Where it ended
     // quiet it lists exactly the tags that its Query matched; and what every flag of every tag is afterwards is known.
-    // The list lines of a round are those of the tags that are listed in it.
+    // The list lines of a round are those of the tags that are listed in it, where no ACK of it is answered by raw levels.
     // Done, of a generated scenario: where its round ended quiet, each of its tags was listed.
     ensures inventory { ((mode : Mode) → AskFor (texts words.now) (Form.Run mode) → result ≡ Status.Done
         → WritesWhole (run_job mode) (SaysInventory mode) (I.left input.old) (I.left input.new) (O.written output.old) (O.written output.new))
@@ -120,6 +120,7 @@ fn answer<I: Source, O: Sink>(alloc: Global, form: Form, input: &mut I, output: 
 {
     match form {
         Form::Decode => decode::answer(alloc, input, output),
+        Form::Encode => encode::answer(alloc, input, output),
         Form::Run(mode) => run::answer(alloc, mode, input, output),
         Form::Names => names::answer(alloc, input, output),
         Form::Gen { seed, tags } => generate::answer(alloc, seed, tags, input, output),

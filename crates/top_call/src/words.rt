@@ -1,6 +1,7 @@
 //! The words of the command line: each a file that answers it, by its job.
 
 pub mod decode;
+pub mod encode;
 pub mod generate;
 pub mod names;
 mod page;

@@ -1,3 +1,1 @@
-pub mod EmptyTexts
 pub mod PasswordWords
-pub mod MaskDigits

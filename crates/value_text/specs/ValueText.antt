@@ -1,5 +1,5 @@
--- Profile: how passwords and lock bits stand in a text, and which lists of words may stand in one.
-use Rattle.std.specs.Prelude.{ℕ, ◌<◌, ◌≤◌, ◌/◌, ◌%◌, ◌^◌, List, [], ◌∷◌, ◌++◌, length, All}
+-- Profile: how passwords and lock bits stand in a text.
+use Rattle.std.specs.Prelude.{ℕ, ◌/◌, ◌%◌, ◌^◌, List, [], ◌∷◌, ◌++◌}
 use Rattle.text_fields.specs.Binary.{binary_digit}
 use Rattle.text_fields.specs.Hexadecimal.{hex_word}
 use Rattle.lock_rules.specs.declared.locks.Pair.{Pair}
@@ -17,9 +17,3 @@ pair_text pair = binary_digit pair.write_bit ∷ binary_digit pair.permalock ∷
 abbrev pub locks_text : Locks → List ℕ
 locks_text locks =
     pair_text locks.kill_word ++ pair_text locks.access_word ++ pair_text locks.epc ++ pair_text locks.tid ++ pair_text locks.user
-
--- from least to most words of 16 bits
-pub record IsWordList (least most : ℕ) (words : List ℕ) : Type 0 where
-  pub some : least ≤ length words
-  pub room : length words ≤ most
-  pub small : All (λ word. word < 2 ^ 16) words

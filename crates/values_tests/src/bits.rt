@@ -195,14 +195,13 @@ fn bytes_are_copied(rt: HostRuntime) {
 }
 
 /// The second of two items, and how many there are.
-fn listed(alloc: Global) -> Option<(Option<u16>, usize)> {
+fn listed(alloc: Global) -> Option<(Option<u16>, u32)> {
     let items = [7, 9].to_vec(alloc).ok()?;
     if items.len() != 2 {
         return None;
     }
     let list = List::new(items);
-    let second = list.get(1).copied();
-    Some((second, list.into_vec().len()))
+    Some((list.get(1).copied(), list.len()))
 }
 
 #[test]

@@ -1,10 +1,11 @@
 //! Exchanges: which tags reply, and what the channel gives of it.
 ghost use Rattle.std.specs.Prelude.{◌≡◌, length, IsTrue};
 ghost use Rattle.air_channel.specs.Air.{NamesTags};
+ghost use Rattle.air_model.specs.Channel.{HasFewLevels};
 
 use crate::worlds::{FIRST, SECOND, numbered_tags, scenario_of};
 use air_channel::{Air, Got};
-use air_events::{Entry, EntryCursor, empty_entry};
+use air_events::{Choice, Entry, EntryCursor, LONGEST_STREAM, empty_entry};
 use air_world::set_up;
 use bit_strings::{Bits, Code, QValue, Session};
 use command_grammar::{Command, Sel, Side};
@@ -28,6 +29,9 @@ const TWO_TAGS: &[Row] = &[
         b"1101001000110100101101001101010011001101010100",
     ),
     ("air 1 silent\n", 2, b""),
+    ("air 1 raw 0110\n", 2, b"0110"),
+    ("air 1 miss 0\nair 1 raw 1\n", 1, b"1"),
+    ("air 1 miss 0\nair 1 miss 1\nair 1 raw 10\n", 0, b"10"),
 ];
 
 /// The Query of a session with this Q.
@@ -51,20 +55,34 @@ fn names_tags(entry: &Entry, tags: u32) -> bool
         && entry.missed.as_slice().iter().all(|tag| *tag < tags)
 }
 
+/// Whether a raw stream, if one is given, has no more levels than the longest reply.
+fn has_few_levels(entry: &Entry) -> bool
+    ensures { IsTrue result → HasFewLevels entry.now.choice }
+{
+    match &entry.choice {
+        Some(Choice::Raw(levels)) => levels.len() <= LONGEST_STREAM,
+        Some(Choice::Pick(_) | Choice::Silent | Choice::Break(_)) | None => true,
+    }
+}
+
 /// One exchange, with the ledger of the blank for the counter of steps.
 fn exchange_counted<L: Ledger>(blank: Blank, air: &mut Air, command: &Command, entry: &Entry) -> Got
     requires name { blank.name ≡ L.name }
     requires parts { blank.parts ≡ L.parts }
     requires one { blank.parts ≡ 1 }
     requires named { NamesTags (length air.old.tags) entry.now }
+    requires few { HasFewLevels entry.now.choice }
 {
     let mut steps = Steps::<L>::new(blank);
     air.exchange(command, entry, &mut steps)
 }
 
-/// One exchange, with a counter of steps of its own; none where the entry names a tag that is not there.
+/// One exchange, with a counter of steps of its own; none where the entry names a tag that is not there, or has too many levels.
 fn exchange(air: &mut Air, command: &Command, entry: &Entry) -> Option<Got> {
     if !names_tags(entry, air.len()) {
+        return None;
+    }
+    if !has_few_levels(entry) {
         return None;
     }
     Some(exchange_counted::<Brand>(Blank::new(1), air, command, entry))

@@ -4,7 +4,7 @@ ghost use Rattle.air_model.specs.Past.{Item, Start, past_behind_command};
 ghost use Rattle.air_world.specs.Playing.{IsAt, StandsAt, IsBetweenSteps};
 ghost use Rattle.air_world.specs.Telling.{Ends, IsCutOff, Passes, lines_behind};
 ghost use Rattle.runs.specs.History.{past_behind, past_behind_step};
-ghost use Rattle.runs.specs.HistoryLaws.{expectation_of};
+ghost use Rattle.runs.specs.NextItem.{expectation_of};
 ghost use Rattle.scenario.specs.Limits.{IsStep};
 
 use crate::run::Run;

@@ -4,7 +4,7 @@ use Rattle.std.specs.Prelude.{Option, Some, None, ◌==◌}
 use Rattle.std.specs.List.{AllByRecursion}
 use Rattle.std.proofs.lemmas.Bool.Decides.{nat_tests}
 use Rattle.bit_strings.specs.Numbers.{field_of}
-use Rattle.bit_strings.specs.NumberLaws.{length-field_of}
+use Rattle.bit_strings.specs.laws.Numbers.{length-field_of}
 use Rattle.bit_strings.specs.Ebv.{ebv_of}
 use Rattle.bit_strings.specs.Words.{bits_of_words}
 use Rattle.command_grammar.specs.declared.commands.Command.{Command}
@@ -13,12 +13,12 @@ use Rattle.command_grammar.specs.declared.kinds.CommandKind.{CommandKind}
 use Rattle.command_grammar.specs.declared.kinds.CommandKind.TheVariants as kinds
 use Rattle.command_grammar.specs.declared.refusal.Reason.{Reason}
 use Rattle.command_grammar.specs.declared.refusal.Reason.TheVariants as reasons
-use Rattle.command_grammar.specs.declared.field_values.UpDn.TheVariants as updns
-use Rattle.command_grammar.specs.declared.field_values.Sel.TheVariants as sels
-use Rattle.command_grammar.specs.declared.field_values.Side.TheVariants as side
-use Rattle.command_grammar.specs.declared.field_values.Bank.TheVariants as banks
-use Rattle.command_grammar.specs.declared.field_values.MaskBank.TheVariants as mask_banks
-use Rattle.command_grammar.specs.declared.field_values.FlagName.TheVariants as flags
+use Rattle.command_fields.specs.declared.choices.UpDn.TheVariants as updns
+use Rattle.command_fields.specs.declared.choices.Sel.TheVariants as sels
+use Rattle.command_fields.specs.declared.choices.Side.TheVariants as side
+use Rattle.command_fields.specs.declared.choices.Bank.TheVariants as banks
+use Rattle.command_fields.specs.declared.choices.MaskBank.TheVariants as mask_banks
+use Rattle.command_fields.specs.declared.choices.FlagName.TheVariants as flags
 use Rattle.bit_strings.specs.declared.code.Code.TheVariants as lines_of
 use Rattle.command_grammar.specs.Commands.{Part, code_field, code_of, plain_field, named_field, with_crc16, IsWord, bits_of_m, bits_of_sel, bits_of_query_target, bits_of_updn, bits_of_select_target, bits_of_mask_bank, bits_of_bank}
 use Rattle.command_grammar.specs.reading.Readers.{Reading, ◌>>=◌, bit_at, bits_at, field_at, choice_at, count_at, words_at, ebv_at, exactly_at, m_values, sel_values, query_target_values, updn_values, select_target_values, mask_bank_values, bank_values, kind_values, query_rep_at, ack_at, query_at, query_adjust_at, select_at, req_rn_at, read_at, write_at, kill_at, lock_at, access_at, block_write_at, block_erase_at, fields_at}

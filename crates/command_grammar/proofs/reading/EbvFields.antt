@@ -5,9 +5,9 @@ use Rattle.std.proofs.lemmas.Bool.Decides.{nat_tests}
 use Rattle.std.specs.Prelude.{Option, Some, None, ◌&&◌, ◌==◌}
 use Rattle.std.proofs.lemmas.List.Elements.{All-cons, All-nil}
 use Rattle.bit_strings.specs.Numbers.{value_of, field_of}
-use Rattle.bit_strings.specs.NumberLaws.{length-field_of, value_of-within, value_of-field, field_of-value_of}
-use Rattle.bit_strings.specs.Ebv.{IsEbv, number_of, blocks_of, IsShortest, ebv_of}
-use Rattle.bit_strings.specs.EbvLaws.{AreSevens, seven-head, seven-tail, IsEbv-ebv_of, same-ebv, below-ebv}
+use Rattle.bit_strings.specs.laws.Numbers.{length-field_of, value_of-within, value_of-field, field_of-value_of}
+use Rattle.bit_strings.specs.Ebv.{IsEbv, number_of_digits, blocks_of, IsShortest, ebv_of}
+use Rattle.bit_strings.specs.laws.Ebv.{AreSevens, seven-head, seven-tail, IsEbv-ebv_of, same-ebv, below-ebv}
 use Rattle.command_grammar.specs.reading.Readers.{Block, ◌>>=◌, bit_at, field_at, block_at, block_within_at, last_digit_at, blocks_at, ebv_at, exactly_at}
 use Rattle.command_grammar.specs.declared.refusal.Reason.{Reason}
 use Rattle.command_grammar.specs.declared.refusal.Reason.TheVariants as reasons
@@ -134,7 +134,7 @@ record Spelled (others value number : ℕ) (bits : List Bool) : Type 0 where
   some : 0 < length digits
   few : length digits ≤ others + 1
   shortest : value ≡ 0 → IsShortest digits
-  number_is : number ≡ value * 128 ^ length digits + number_of digits
+  number_is : number ≡ value * 128 ^ length digits + number_of_digits digits
   spelled : bits ≡ blocks_of digits
 
 cons : (digit : ℕ) (ds : List (List Bool)) → AreSevens ds → AreSevens (field_of digit 7 ∷ ds)
@@ -173,7 +173,7 @@ before_others others value so_far number digit bits back same small says whole s
       some = omega arith;
       few = omega (arith, s.few);
       shortest = λ none. open_shortest d s.digits s.some (λ zero_digit. says (omega (arith, same, none, is, zero_digit)));
-      number_is = placed value so_far digit number (length s.digits) (number_of s.digits) (value_of d) same is s.number_is;
+      number_is = placed value so_far digit number (length s.digits) (number_of_digits s.digits) (value_of d) same is s.number_is;
       spelled = whole ∙ ap (λ (l : List Bool). true ∷ d ++ l) s.spelled ∙ sym (open_blocks_of d s.digits s.some);
     }
   where
@@ -205,7 +205,7 @@ seven_bits digit seven = sym (field_of-value_of digit) ∙ ap (λ n. field_of (v
 is_block : (value : ℕ) (more : Bool) (digit : List Bool) → length digit ≡ 7 → IsBlock value (block_of more (value * 128 + value_of digit)) (more ∷ digit)
 is_block value more digit seven = (value_of digit, value_of-within digit 7 (omega (arith, seven)), refl, ap (λ (l : List Bool). more ∷ l) (seven_bits digit seven))
 
-blocks_from : (others value number : ℕ) (d : List Bool) (ds : List (List Bool)) → AreSevens (d ∷ ds) → length ds ≤ others → (value ≡ 0 → IsShortest (d ∷ ds)) → number ≡ value * 128 ^ length (d ∷ ds) + number_of (d ∷ ds) → Blocks others value number (blocks_of (d ∷ ds))
+blocks_from : (others value number : ℕ) (d : List Bool) (ds : List (List Bool)) → AreSevens (d ∷ ds) → length ds ≤ others → (value ≡ 0 → IsShortest (d ∷ ds)) → number ≡ value * 128 ^ length (d ∷ ds) + number_of_digits (d ∷ ds) → Blocks others value number (blocks_of (d ∷ ds))
 blocks_from zero value number d [] sevens few shortest same =
     let seven = seven-head d [] sevens in
     (value_of d, omega (arith, same), (value_of-within d 7 (omega (arith, seven)), ap (λ (l : List Bool). false ∷ l) (seven_bits d seven)))
@@ -226,7 +226,7 @@ blocks_from (suc others) value number d (e ∷ ds) sevens few shortest same =
       front = true ∷ d;
       back = blocks_of (e ∷ ds);
       left = (is_block value true d (seven-head d (e ∷ ds) sevens), not_zero so_far says);
-      right = blocks_from others so_far number e ds (seven-tail d (e ∷ ds) sevens) (omega arith) (λ none. absurd (says none)) (placed (length (e ∷ ds)) (number_of (e ∷ ds)) same);
+      right = blocks_from others so_far number e ds (seven-tail d (e ∷ ds) sevens) (omega arith) (λ none. absurd (says none)) (placed (length (e ∷ ds)) (number_of_digits (e ∷ ds)) same);
       whole = refl;
     }
   where
@@ -241,7 +241,7 @@ to_ebv number bits h =
 from_ebv : (number : ℕ) (bits : List Bool) → IsEbv number bits → Blocks 3 0 number bits
 from_ebv number bits ebv = by ebv.digits ebv.sevens ebv.few ebv.shortest ebv.value ebv.spelled
   where
-    by : (digits : List (List Bool)) → AreSevens digits → length digits ≤ 4 → IsShortest digits → number ≡ number_of digits → bits ≡ blocks_of digits → Blocks 3 0 number bits
+    by : (digits : List (List Bool)) → AreSevens digits → length digits ≤ 4 → IsShortest digits → number ≡ number_of_digits digits → bits ≡ blocks_of digits → Blocks 3 0 number bits
     by [] sevens few shortest same spelled = absurd shortest
     by (d ∷ ds) sevens few shortest same spelled = rw spelled (blocks_from 3 0 number d ds sevens (omega arith) (λ none. shortest) (omega (arith, same)))
 

@@ -5,7 +5,7 @@ use Rattle.std.specs.Prelude.{Option, Some, ◌⊎◌}
 use Rattle.std.proofs.lemmas.Bool.{cases_lt}
 use Rattle.std.proofs.lemmas.List.{nil_from_length}
 use Rattle.bit_strings.specs.Ebv.{IsEbv, IsCutEbv}
-use Rattle.bit_strings.specs.EbvLaws.{IsEbv-ebv_of, same-ebv, below-ebv, no_ebv-nothing, no_ebv-long}
+use Rattle.bit_strings.specs.laws.Ebv.{IsEbv-ebv_of, same-ebv, below-ebv, no_ebv-nothing, no_ebv-long}
 use Rattle.bit_strings.specs.EbvAnswers.{IsEbvStep}
 use Rattle.bit_strings.specs.declared.ebv_front.EbvStep.{EbvStep}
 use Rattle.bit_strings.specs.declared.ebv_front.EbvStep.TheVariants as steps

@@ -3,7 +3,7 @@ use Rattle.std.proofs.Common.{◌≡◌, ℕ, ◌+◌, ◌/◌, ◌%◌, ◌^◌
 use Rattle.std.specs.Prelude.{◌==◌, not}
 use mathlib.Core.Bool.{beq}
 use Rattle.bit_strings.specs.Numbers.{field_of}
-use Rattle.bit_strings.specs.NumberLaws.{field_of-more, field_of-none}
+use Rattle.bit_strings.specs.laws.Numbers.{field_of-more, field_of-none}
 use Rattle.gen2_crc.specs.Crc.{differ}
 use Rattle.command_grammar.specs.declared.refusal.Reason.{Reason}
 use Rattle.command_grammar.specs.reading.Readers.{Bad, bit_at, exactly_at}

@@ -5,18 +5,18 @@ use Rattle.bit_strings.specs.declared.code.Code.{Code}
 use Rattle.bit_strings.specs.declared.code.Code.TheVariants as lines_of
 use Rattle.command_grammar.specs.declared.kinds.CommandKind.{CommandKind}
 use Rattle.command_grammar.specs.declared.kinds.CommandKind.TheVariants as kinds
-use Rattle.command_grammar.specs.declared.field_values.Sel.{Sel}
-use Rattle.command_grammar.specs.declared.field_values.Sel.TheVariants as sels
-use Rattle.command_grammar.specs.declared.field_values.Side.{Side}
-use Rattle.command_grammar.specs.declared.field_values.Side.TheVariants as side
-use Rattle.command_grammar.specs.declared.field_values.UpDn.{UpDn}
-use Rattle.command_grammar.specs.declared.field_values.UpDn.TheVariants as updns
-use Rattle.command_grammar.specs.declared.field_values.Bank.{Bank}
-use Rattle.command_grammar.specs.declared.field_values.Bank.TheVariants as banks
-use Rattle.command_grammar.specs.declared.field_values.MaskBank.{MaskBank}
-use Rattle.command_grammar.specs.declared.field_values.MaskBank.TheVariants as mask_banks
-use Rattle.command_grammar.specs.declared.field_values.FlagName.{FlagName}
-use Rattle.command_grammar.specs.declared.field_values.FlagName.TheVariants as flags
+use Rattle.command_fields.specs.declared.choices.Sel.{Sel}
+use Rattle.command_fields.specs.declared.choices.Sel.TheVariants as sels
+use Rattle.command_fields.specs.declared.choices.Side.{Side}
+use Rattle.command_fields.specs.declared.choices.Side.TheVariants as side
+use Rattle.command_fields.specs.declared.choices.UpDn.{UpDn}
+use Rattle.command_fields.specs.declared.choices.UpDn.TheVariants as updns
+use Rattle.command_fields.specs.declared.choices.Bank.{Bank}
+use Rattle.command_fields.specs.declared.choices.Bank.TheVariants as banks
+use Rattle.command_fields.specs.declared.choices.MaskBank.{MaskBank}
+use Rattle.command_fields.specs.declared.choices.MaskBank.TheVariants as mask_banks
+use Rattle.command_fields.specs.declared.choices.FlagName.{FlagName}
+use Rattle.command_fields.specs.declared.choices.FlagName.TheVariants as flags
 use Rattle.command_grammar.specs.declared.refusal.Reason.TheVariants as reasons
 use Rattle.command_grammar.specs.Commands.{code_of, bits_of_m, bits_of_sel, bits_of_query_target, bits_of_updn, bits_of_select_target, bits_of_mask_bank, bits_of_bank}
 use Rattle.command_grammar.specs.reading.Readers.{choice_at, m_values, sel_values, query_target_values, updn_values, select_target_values, mask_bank_values, bank_values, kind_values}

@@ -2,7 +2,7 @@
 ghost use Rattle.std.specs.Prelude.{◌≡◌};
 ghost use Rattle.command_grammar.specs.Commands.{bits_of_bank};
 
-use crate::field_values::Bank;
+use command_fields::Bank;
 
 /// The values of MemBank, by the number of their two bits.
 pub(crate) const BANK_VALUES: [Bank; 4] = [Bank::Reserved, Bank::Epc, Bank::Tid, Bank::User];

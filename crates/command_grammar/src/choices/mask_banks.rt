@@ -2,7 +2,7 @@
 ghost use Rattle.std.specs.Prelude.{◌≡◌};
 ghost use Rattle.command_grammar.specs.Commands.{bits_of_mask_bank};
 
-use crate::field_values::MaskBank;
+use command_fields::MaskBank;
 
 /// The values of MemBank, by the number of their two bits.
 pub(crate) const MASK_BANK_VALUES: [Option<MaskBank>; 4] = [

@@ -3,7 +3,7 @@ ghost use Rattle.std.specs.Prelude.{◌≡◌};
 ghost use Rattle.command_grammar.specs.Commands.{bits_of_query_target};
 ghost use Rattle.command_grammar.specs.reading.Readers.{query_target_values, pick, child};
 
-use crate::field_values::Side;
+use command_fields::Side;
 
 /// Target of a Query.
 pub(crate) fn query_target(bit: bool) -> Side

@@ -3,7 +3,7 @@ ghost use Rattle.std.specs.Prelude.{◌≡◌};
 ghost use Rattle.command_grammar.specs.Commands.{bits_of_select_target};
 ghost use Rattle.command_grammar.specs.reading.Readers.{select_target_values, child, IsChosen};
 
-use crate::field_values::FlagName;
+use command_fields::FlagName;
 
 /// Target of a Select.
 pub(crate) fn select_target(first: bool, second: bool, third: bool) -> Option<FlagName>

@@ -2,7 +2,7 @@
 ghost use Rattle.std.specs.Prelude.{◌≡◌};
 ghost use Rattle.command_grammar.specs.Commands.{bits_of_sel};
 
-use crate::field_values::Sel;
+use command_fields::Sel;
 
 /// The values of Sel, by the number of their two bits.
 pub(crate) const SEL_VALUES: [Sel; 4] = [Sel::All00, Sel::All01, Sel::NotSl, Sel::Sl];

@@ -3,7 +3,7 @@ ghost use Rattle.std.specs.Prelude.{◌≡◌};
 ghost use Rattle.command_grammar.specs.Commands.{bits_of_updn};
 ghost use Rattle.command_grammar.specs.reading.Readers.{updn_values, child, IsChosen};
 
-use crate::field_values::UpDn;
+use command_fields::UpDn;
 
 /// UpDn of a QueryAdjust.
 pub(crate) fn updn(first: bool, second: bool, third: bool) -> Option<UpDn>

@@ -5,10 +5,9 @@ ghost use Rattle.command_grammar.specs.Writing.{Writes};
 ghost use Rattle.command_grammar.specs.declared.commands.Command.TheVariants.{BlockWrite};
 
 use crate::choices::bank_bits;
-use crate::command_lists::BlockWords;
-use crate::field_values::Bank;
 use crate::writing::{begin_with_code, put, put_handle, put_pointer, put_words};
 use bit_strings::{Bits, Pointer};
+use command_fields::{Bank, BlockWords};
 
 /// Its code (6.3.2.11, Table 6.18).
 pub(crate) const CODE: &[bool] = &[true, true, false, false, false, true, true, true];

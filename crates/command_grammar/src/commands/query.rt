@@ -5,9 +5,9 @@ ghost use Rattle.command_grammar.specs.Writing.{Writes};
 ghost use Rattle.command_grammar.specs.declared.commands.Command.TheVariants.{Query};
 
 use crate::choices::{m_bits, query_target_bits, sel_bits};
-use crate::field_values::{Sel, Side};
 use crate::writing::{begin_with_code, put, put_bits, put_crc5};
 use bit_strings::{Bits, Code, QValue, Session};
+use command_fields::{Sel, Side};
 
 /// Its code (6.3.2.11, Table 6.18).
 pub(crate) const CODE: &[bool] = &[true, false, false, false];

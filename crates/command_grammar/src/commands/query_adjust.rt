@@ -5,9 +5,9 @@ ghost use Rattle.command_grammar.specs.Writing.{Writes};
 ghost use Rattle.command_grammar.specs.declared.commands.Command.TheVariants.{QueryAdjust};
 
 use crate::choices::updn_bits;
-use crate::field_values::UpDn;
 use crate::writing::{begin_with_code, put, put_bits};
 use bit_strings::{Bits, Session};
+use command_fields::UpDn;
 
 /// Its code (6.3.2.11, Table 6.18).
 pub(crate) const CODE: &[bool] = &[true, false, false, true];

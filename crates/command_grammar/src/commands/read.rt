@@ -5,9 +5,9 @@ ghost use Rattle.command_grammar.specs.Writing.{Writes};
 ghost use Rattle.command_grammar.specs.declared.commands.Command.TheVariants.{Read};
 
 use crate::choices::bank_bits;
-use crate::field_values::Bank;
 use crate::writing::{begin_with_code, put, put_handle, put_pointer};
 use bit_strings::{Bits, Pointer};
+use command_fields::Bank;
 
 /// Its code (6.3.2.11, Table 6.18).
 pub(crate) const CODE: &[bool] = &[true, true, false, false, false, false, true, false];

@@ -5,10 +5,9 @@ ghost use Rattle.command_grammar.specs.Writing.{Writes};
 ghost use Rattle.command_grammar.specs.declared.commands.Command.TheVariants.{Select};
 
 use crate::choices::{mask_bank_bits, select_target_bits};
-use crate::command_lists::Mask;
-use crate::field_values::{FlagName, MaskBank};
 use crate::writing::{begin_with_code, put, put_bits, put_crc16, put_pointer};
 use bit_strings::{Action, Bits, Pointer};
+use command_fields::{FlagName, Mask, MaskBank};
 
 /// Its code (6.3.2.11, Table 6.18).
 pub(crate) const CODE: &[bool] = &[true, false, true, false];

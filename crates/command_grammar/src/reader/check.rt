@@ -64,7 +64,8 @@ impl Check {
         }
     }
 
-    /// A field begins. With its own one the check number is over.
+    /// A field begins. With its own one the check number is over, so that its own bits are not counted, which are many in a
+    /// short command.
     pub(crate) fn start(&mut self, field: Field)
         ensures counts { (bits : List Bool) → Counts self.old bits → Counts self.new bits }
         ensures kept { check_kept self.new ≡ kept_behind (check_kept self.old) field }

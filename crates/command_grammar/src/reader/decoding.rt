@@ -7,19 +7,9 @@ use crate::commands::Command;
 use crate::reader::state::State;
 use crate::refusal::CommandRefusal;
 
-/// The command that these bits are, or why they are none. Bits behind a refused one are not looked
-/// at.
-pub fn decode_command(bits: &[bool]) -> Result<Command, CommandRefusal>
-    ensures answer { IsFinishAnswer result bits.now }
-    ensures only { (command : Command) → SpellsCommand command bits.now → result ≡ Ok command }
-{
-    let mut answer = Err(CommandRefusal::Short(0));
-    decode_command_to(bits, &mut answer);
-    answer
-}
-
-/// Writes what [`decode_command`] answers in place of another answer. Nothing is copied, as an answer has
-/// room for the longest mask and the longest list of words.
+/// Puts in place of another answer the command that these bits are, or why they are none. Bits behind a
+/// refused one are not looked at. Nothing is copied, as an answer has room for the longest mask and the
+/// longest list of words.
 pub fn decode_command_to(bits: &[bool], answer: &mut Result<Command, CommandRefusal>)
     ensures answer { IsFinishAnswer answer.new bits.now }
     ensures only { (command : Command) → SpellsCommand command bits.now → answer.new ≡ Ok command }

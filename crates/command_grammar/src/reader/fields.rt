@@ -2,12 +2,11 @@
 ghost use Rattle.std.specs.Prelude.{◌≡◌, ◌≢◌, ◌^◌, ◌<◌, ◌≤◌, Ok};
 ghost use Rattle.command_grammar.specs.reading.CommandFields.{command_of, fields_of};
 
-use crate::command_lists::{BlockWords, Mask};
 use crate::commands::Command;
-use crate::field_values::{Bank, FlagName, MaskBank, Sel, Side, UpDn};
 use crate::kinds::CommandKind;
 use crate::refusal::CommandRefusal;
 use bit_strings::{Action, Code, Count1, Payload, Pointer, QValue, Session};
+use command_fields::{Bank, BlockWords, FlagName, Mask, MaskBank, Sel, Side, UpDn};
 use std::mem;
 
 /// A field behind the code of a command.

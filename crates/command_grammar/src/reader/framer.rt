@@ -30,14 +30,6 @@ impl Model for Framer {
     ghost invariant = { λ a. IsOpen a.state a.refused };
 }
 
-impl Default for Framer {
-    fn default() -> Framer
-        ensures { FramerStandsFor result [] }
-    {
-        Framer::new()
-    }
-}
-
 impl Framer {
     /// StateStandsFor for no bits.
     pub fn new() -> Framer

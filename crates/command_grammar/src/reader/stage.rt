@@ -12,13 +12,13 @@ ghost use Rattle.command_grammar.specs.declared.refusal.Reason.{Reason};
 use crate::choices::{
     BANK_VALUES, M_VALUES, MASK_BANK_VALUES, SEL_VALUES, query_target, select_target, updn,
 };
-use crate::command_lists::{BlockWords, Mask};
 use crate::reader::check::Check;
 use crate::reader::fields::{
     Field, Fields, action_of, count_of, payload_of, pointer_of, q_of, session_of,
 };
 use crate::refusal::Reason;
 use bit_strings::{EbvFront, EbvStep};
+use command_fields::{BlockWords, Mask};
 
 /// The bits of a number that were read before its next one.
 #[derive(Clone, Copy)]

@@ -1,7 +1,7 @@
 -- What an inventory goes by of the rule for Q (6.3.2.8 Inventorying Tag populations, 6.3.2.11.2 Inventory commands; which rule
 -- an interrogator has is left free by the standard). Nothing else of a rule matters to which tags a round counts.
 use Rattle.std.specs.Prelude.{◌≡◌, ℕ, ◌^◌, ◌<◌, ◌≤◌, List, [], ◌∷◌, length}
-use Rattle.command_grammar.specs.declared.field_values.UpDn.{UpDn}
+use Rattle.command_fields.specs.declared.choices.UpDn.{UpDn}
 use Rattle.command_grammar.specs.declared.commands.Command.{Command}
 use Rattle.command_grammar.specs.declared.commands.Command.TheVariants.{Query, QueryAdjust, QueryRep}
 use Rattle.pie_line.specs.Link.{LinkValue}

@@ -2,10 +2,10 @@
 use Rattle.std.proofs.Common.{◌≡◌, ℕ, ◌^◌, ◌<◌, Bool, true, false, List, ◌∷◌, ◌++◌, length, refl, sym, ◌∙◌, ap, arith, length-append}
 use Rattle.std.proofs.lemmas.List.{append_cancel_right}
 use Rattle.bit_strings.specs.Numbers.{field_of}
-use Rattle.bit_strings.specs.NumberLaws.{length-field_of, field_of-same}
-use Rattle.bit_strings.specs.EbvLaws.{append_apart}
+use Rattle.bit_strings.specs.laws.Numbers.{length-field_of, field_of-same}
+use Rattle.bit_strings.specs.laws.Ebv.{append_apart}
 use Rattle.bit_strings.specs.Words.{bits_of_words}
-use Rattle.bit_strings.specs.WordLaws.{bits_of_words-same}
+use Rattle.bit_strings.specs.laws.Words.{bits_of_words-same}
 use Rattle.gen2_crc.specs.Crc.{crc16_of}
 use Rattle.gen2_crc.specs.laws.CheckNumbers.{length-crc16_of}
 use Rattle.reply_grammar.specs.declared.expected.Expect.{Expect}

@@ -3,9 +3,9 @@ use Rattle.std.proofs.Common.{◌≡◌, ℕ, ◌+◌, ◌*◌, ◌≤◌, Bool,
 use Rattle.std.specs.Prelude.{◌↔◌, nat_le}
 use Rattle.std.proofs.lemmas.Bool.{eqb-true, eq-eqb, leb-true, le-leb}
 use Rattle.bit_strings.specs.Numbers.{field_of}
-use Rattle.bit_strings.specs.NumberLaws.{length-field_of}
+use Rattle.bit_strings.specs.laws.Numbers.{length-field_of}
 use Rattle.bit_strings.specs.Words.{bits_of_words}
-use Rattle.bit_strings.specs.WordLaws.{length-bits_of_words}
+use Rattle.bit_strings.specs.laws.Words.{length-bits_of_words}
 use Rattle.reply_grammar.specs.declared.expected.Expect.{Expect}
 use Rattle.reply_grammar.specs.declared.expected.Expect.TheVariants.{Rn16 as OneRn16, Epc as OneEpc, Handle as OneHandle, Same, Words as SomeWords, AnyWords, Header as OneHeader}
 use Rattle.reply_grammar.specs.declared.expected.Reply.{Reply}

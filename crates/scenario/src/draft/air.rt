@@ -77,7 +77,7 @@ impl AirLines {
             } => {
                 let exchange = u64::from(*exchange);
                 if exchange == self.exchange {
-                    self.latest.may_follow(*happening)
+                    self.latest.may_follow(happening)
                 } else {
                     exchange > self.exchange
                 }
@@ -111,12 +111,12 @@ impl AirLines {
     }
 
     /// Adds to what is said of the last exchange.
-    fn say(&mut self, happening: Happening) -> Result<(), OutOfMemory>
+    fn say(&mut self, alloc: Global, happening: Happening) -> Result<(), OutOfMemory>
         requires events { length self.old.latest.events < self.old.count }
         requires missed { length self.old.latest.missed < self.old.count }
-        ensures { OnOk result (self.new ≡ with_said self.old happening) }
+        ensures { OnOk result (self.new ≡ with_said self.old happening.entry) }
     {
-        self.latest.say(happening)
+        self.latest.say(alloc, happening)
     }
 
     /// Adds what an air line says.
@@ -127,14 +127,14 @@ impl AirLines {
         happening: Happening,
     ) -> Result<(), OutOfMemory>
         requires { self.old.count < most_air_lines }
-        ensures { OnOk result (self.new ≡ with_air_line self.old exchange happening) }
+        ensures { OnOk result (self.new ≡ with_air_line self.old exchange happening.entry) }
     {
         let exchange = u64::from(exchange);
         self.count += 1;
         if exchange != self.exchange {
             self.turn_to(alloc, exchange)?;
         }
-        self.say(happening)
+        self.say(alloc, happening)
     }
 
     /// What is said of all exchanges.

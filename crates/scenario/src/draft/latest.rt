@@ -39,8 +39,8 @@ impl LatestEntry {
 
     /// Whether what is said may be followed by this: events come before misses, and these before the
     /// choice.
-    pub(crate) fn may_follow(&self, happening: Happening) -> bool
-        ensures { IsTrue result ↔ MayFollow self.now happening }
+    pub(crate) fn may_follow(&self, happening: &Happening) -> bool
+        ensures { IsTrue result ↔ MayFollow self.now happening.now }
     {
         match happening {
             Happening::Event { .. } => self.missed.is_empty() && self.choice.is_none(),
@@ -57,15 +57,15 @@ impl LatestEntry {
     }
 
     /// Adds to what is said.
-    pub(crate) fn say(&mut self, happening: Happening) -> Result<(), OutOfMemory>
-        ensures ok { OnOk result (self.new ≡ with_happening self.old happening) }
+    pub(crate) fn say(&mut self, alloc: Global, happening: Happening) -> Result<(), OutOfMemory>
+        ensures ok { OnOk result (self.new ≡ with_happening self.old happening.entry) }
         ensures events { length self.new.events ≤ length self.old.events + 1 }
         ensures missed { length self.new.missed ≤ length self.old.missed + 1 }
     {
         match happening {
             Happening::Event { event, tag } => self.events.push((event, tag))?,
             Happening::Miss(tag) => self.missed.push(tag)?,
-            Happening::Choice(choice) => self.choice = Some(choice),
+            Happening::Choice(choice) => self.choice = Some(choice.to_choice(alloc)?),
         }
         Ok(())
     }

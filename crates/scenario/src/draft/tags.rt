@@ -1,6 +1,6 @@
 //! What the tag lines of a scenario have said so far.
 ghost use Rattle.std.specs.Prelude.{◌≡◌, ◌<◌, ◌≤◌, ◌↔◌, ◌++◌, [], ◌∷◌, length, IsTrue, OnOk};
-ghost use Rattle.scenario.specs.Limits.{most_tags};
+ghost use Rattle.scenario.specs.Limits.{most_tag_lines};
 
 use bit_strings::{List, OutOfMemory};
 use scenario_lines::{TagSpec, TagText};
@@ -8,7 +8,7 @@ use std::alloc::Global;
 use std::marker::Model;
 
 /// How many tags a scenario may have.
-const MOST_TAGS: usize = 256;
+const MOST_TAG_LINES: usize = 256;
 
 /// The tags that the lines have named, in order.
 #[derive(Drop)]
@@ -19,13 +19,13 @@ pub(crate) struct TagLines {
 impl Model for TagLines {
     ghost use Rattle.std.specs.Prelude.{◌≤◌, List, length};
     ghost use Rattle.scenario_lines.specs.declared.tag.TagSpec.{TagSpec};
-    ghost use Rattle.scenario.specs.Limits.{most_tags};
+    ghost use Rattle.scenario.specs.Limits.{most_tag_lines};
 
     ghost Value = { List TagSpec };
 
     ghost view = { λ a. a.tags.items };
 
-    ghost invariant = { λ a. length a.tags.items ≤ most_tags };
+    ghost invariant = { λ a. length a.tags.items ≤ most_tag_lines };
 }
 
 impl TagLines {
@@ -48,14 +48,14 @@ impl TagLines {
 
     /// Whether one tag more is none too many.
     pub(crate) fn has_room(&self) -> bool
-        ensures { IsTrue result ↔ (length self.now < most_tags) }
+        ensures { IsTrue result ↔ (length self.now < most_tag_lines) }
     {
-        self.tags.len() < MOST_TAGS
+        self.tags.len() < MOST_TAG_LINES
     }
 
     /// Adds a tag.
     pub(crate) fn add(&mut self, alloc: Global, tag: &TagText) -> Result<(), OutOfMemory>
-        requires { length self.old < most_tags }
+        requires { length self.old < most_tag_lines }
         ensures { OnOk result (self.new ≡ self.old ++ tag.now ∷ []) }
     {
         let tag = tag.to_spec(alloc)?;

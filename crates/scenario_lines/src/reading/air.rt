@@ -1,18 +1,21 @@
 //! Air lines, read.
-ghost use Rattle.std.specs.Prelude.{◌≡◌, ℕ, IfOk, IfErr, IsOkAnd, ◌∷◌};
+ghost use Rattle.std.specs.Prelude.{◌≡◌, ℕ, Bool, List, IfOk, IfErr, IsOkAnd, [], ◌∷◌};
 ghost use Rattle.std.specs.Fmt.{decimal};
+ghost use Rattle.text_fields.specs.Binary.{binary};
+ghost use Rattle.air_events.specs.Streams.{HasStreamLength};
 ghost use Rattle.scenario_lines.specs.declared.line.Happening.{Happening};
 ghost use Rattle.scenario_lines.specs.Names.{air_kind, air_word};
 ghost use Rattle.scenario_lines.specs.LineForm.{IsExchange, IsHappening};
 ghost use Rattle.scenario_lines.specs.Spelling.{happening_fields};
-ghost use Rattle.scenario_lines.specs.Reading.{IsHappeningText, MisreadsAirLine, MisreadsHappening};
+ghost use Rattle.text_fields.specs.NamedFields.{AreFilled};
+ghost use Rattle.scenario_lines.specs.Reading.{IsHappeningText, Misreads, MisreadsAirLine, MisreadsHappening};
 
 use super::event::{MOST_PLACE, event_behind, one_number};
+use crate::choice::{ChoiceFields, ChoiceText};
 use crate::names::air_kind_named;
 use crate::{AirKind, Happening, LineFault};
-use air_events::Choice;
-use text_fields::{Fields, is_at_end};
-use value_text::number_from;
+use air_events::LONGEST_STREAM;
+use text_fields::{Digits, Fields, is_at_end, number_from, one_field};
 
 /// The greatest number of an exchange in a line.
 const MOST_EXCHANGE: u32 = 1_000_000;
@@ -20,8 +23,26 @@ const MOST_EXCHANGE: u32 = 1_000_000;
 /// The greatest place of a level in a line.
 const MOST_LEVEL: u32 = 999_999;
 
+/// The levels of a raw stream, of which there is one at least, that the one field that is left spells.
+fn raw_levels<'a>(fields: Fields<'a>) -> Result<Digits<'a>, LineFault>
+    ensures ok { IfOk result (λ levels. (fields.entry ≡ binary levels ∷ []) × HasStreamLength levels) }
+    ensures only { (levels : List Bool) → HasStreamLength levels → fields.entry ≡ binary levels ∷ [] → IsOkAnd result (λ it. it ≡ levels) }
+    ensures refused { IfErr result (Misreads (AreFilled 1) (λ (levels : List Bool). binary levels ∷ []) HasStreamLength fields.entry) }
+{
+    let Some(field) = one_field(fields) else {
+        return Err(LineFault::Shape);
+    };
+    let Some(levels) = Digits::new(field, LONGEST_STREAM) else {
+        return Err(LineFault::Number);
+    };
+    if levels.is_empty() {
+        return Err(LineFault::Number);
+    }
+    Ok(levels)
+}
+
 /// What the fields behind the kind of an air line spell.
-fn happening_behind(kind: AirKind, fields: Fields) -> Result<Happening, LineFault>
+fn happening_behind<'a>(kind: AirKind, fields: Fields<'a>) -> Result<Happening<'a>, LineFault>
     ensures ok { IfOk result (IsHappeningText kind fields.entry) }
     ensures only { (happening : Happening) → IsHappeningText kind fields.entry happening → IsOkAnd result (λ it. it ≡ happening) }
     ensures refused { IfErr result (MisreadsHappening kind fields.entry) }
@@ -34,24 +55,28 @@ fn happening_behind(kind: AirKind, fields: Fields) -> Result<Happening, LineFaul
         AirKind::Miss => Ok(Happening::Miss(one_number(fields, MOST_PLACE)?)),
         AirKind::Pick => {
             let reply = one_number(fields, MOST_PLACE)?;
-            Ok(Happening::Choice(Choice::Pick(reply)))
+            Ok(Happening::Choice(ChoiceText::new(ChoiceFields::Pick(reply))))
         }
         AirKind::Silent => {
             if is_at_end(fields) {
-                Ok(Happening::Choice(Choice::Silent))
+                Ok(Happening::Choice(ChoiceText::new(ChoiceFields::Silent)))
             } else {
                 Err(LineFault::Shape)
             }
         }
         AirKind::Break => {
             let place = one_number(fields, MOST_LEVEL)?;
-            Ok(Happening::Choice(Choice::Break(place)))
+            Ok(Happening::Choice(ChoiceText::new(ChoiceFields::Break(place))))
+        }
+        AirKind::Raw => {
+            let levels = raw_levels(fields)?;
+            Ok(Happening::Choice(ChoiceText::new(ChoiceFields::Raw(levels))))
         }
     }
 }
 
 /// The number of an exchange and what is said of it, which the fields behind `air` spell.
-pub(crate) fn read_air(mut others: Fields) -> Result<(u32, Happening), LineFault>
+pub(crate) fn read_air<'a>(mut others: Fields<'a>) -> Result<(u32, Happening<'a>), LineFault>
     ensures ok { IfOk result (λ it. (others.entry ≡ decimal it.0 ∷ air_word (air_kind it.1) ∷ happening_fields it.1)
         × IsExchange it.0 × IsHappening it.1) }
     ensures only { (exchange : ℕ) → (happening : Happening) → IsExchange exchange → IsHappening happening

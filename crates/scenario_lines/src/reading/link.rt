@@ -3,7 +3,7 @@ ghost use Rattle.std.specs.Prelude.{◌≡◌, IfOk, IfErr, IsOkAnd};
 ghost use Rattle.pie_line.specs.Link.{LinkValue, IsLegalLink};
 ghost use Rattle.scenario_lines.specs.LineForm.{IsLinkForm};
 ghost use Rattle.scenario_lines.specs.Spelling.{link_fields};
-ghost use Rattle.scenario_lines.specs.LineFaults.{AreFilled};
+ghost use Rattle.text_fields.specs.NamedFields.{AreFilled};
 ghost use Rattle.scenario_lines.specs.Reading.{Misreads, MisreadsLink, link_value};
 
 use crate::LineFault;

@@ -2,24 +2,25 @@
 ghost use Rattle.std.specs.Prelude.{◌≡◌, ◌≤◌, ◌<◌, ◌^◌, ℕ, List, IfOk, IfErr, IfSome, IsOkAnd, IsSomeAnd, [], ◌∷◌};
 ghost use Rattle.std.specs.Fmt.{decimal};
 ghost use Rattle.text_fields.specs.Hexadecimal.{hex_words};
-ghost use Rattle.command_text.specs.CommandText.{bank_word, payload_digits};
+ghost use Rattle.command_text.specs.CommandText.{bank_word};
 ghost use Rattle.access_ops.specs.declared.Op.{Op};
 ghost use Rattle.access_ops.specs.laws.OperationLaws.{IsLegalOp};
 ghost use Rattle.scenario_lines.specs.Names.{op_field_count, op_kind, op_word};
 ghost use Rattle.scenario_lines.specs.LineForm.{IsEpc};
 ghost use Rattle.scenario_lines.specs.Spelling.{op_fields};
-ghost use Rattle.scenario_lines.specs.LineFaults.{AreFilled};
+ghost use Rattle.text_fields.specs.NamedFields.{AreFilled};
 ghost use Rattle.scenario_lines.specs.Reading.{IsOpText, Misreads, MisreadsOp, MisreadsOpLine};
 
 use crate::names::op_kind_named;
 use crate::{LineFault, OpKind};
 use access_ops::Op;
-use bit_strings::{Payload, Pointer};
+use bit_strings::Pointer;
 use command_grammar::Bank;
-use command_text::bank_named;
+use command_text::{bank_named, block_of, payload_of};
 use reply_grammar::EpcWords;
-use text_fields::{Fields, number, one_field, three_fields, word};
-use value_text::{block_of, count_of, epc_of, password_of, pointer_of};
+use reply_text::epc_of;
+use text_fields::{Fields, count_of, number, one_field, pointer_of, three_fields, word};
+use value_text::password_of;
 
 /// The EPC that the field behind `only` spells.
 pub(crate) fn read_only(others: Fields) -> Result<EpcWords, LineFault>
@@ -79,22 +80,6 @@ fn op_at(kind: OpKind, bank: Bank, pointer: Pointer, last: &[u8]) -> Option<Op>
         // These name no place.
         OpKind::Lock | OpKind::Access | OpKind::Kill => None,
     }
-}
-
-/// The payload of a Lock that a field spells in five digits. The first digit is that of the word which
-/// the first four spell.
-fn payload_of(field: &[u8]) -> Option<Payload>
-    ensures value { IfSome result (λ payload. (field.now ≡ payload_digits payload) × (payload ≤ 1048575)) }
-    ensures only { (n : ℕ) → n ≤ 1048575 → field.now ≡ payload_digits n → IsSomeAnd result (λ payload. payload ≡ n) }
-{
-    if field.len() != 5 {
-        return None;
-    }
-    let (upper, _) = field.split_at(4);
-    let (_, lower) = field.split_at(1);
-    let first = u32::from(word(upper)?) / 4096;
-    let others = u32::from(word(lower)?);
-    Payload::new(first * 65536 + others)
 }
 
 /// The operation of a kind that names no place, by the one field of its line.

@@ -3,15 +3,14 @@ ghost use Rattle.std.specs.Prelude.{◌≡◌, IfOk, IfErr, IsOkAnd};
 ghost use Rattle.q_round.specs.SpecValue.{SpecValue};
 ghost use Rattle.scenario_lines.specs.LineForm.{IsRound};
 ghost use Rattle.scenario_lines.specs.Spelling.{round_fields};
-ghost use Rattle.scenario_lines.specs.LineFaults.{AreFilled};
+ghost use Rattle.text_fields.specs.NamedFields.{AreFilled};
 ghost use Rattle.scenario_lines.specs.Reading.{Misreads};
 
 use crate::LineFault;
 use crate::names::sel_named;
 use command_text::side_named;
 use q_round::RoundSpec;
-use text_fields::{Fields, number, six_fields};
-use value_text::{q_of, session_of};
+use text_fields::{Fields, number, q_of, session_of, six_fields};
 
 /// The parameters of a round that the fields behind `round` spell.
 pub(crate) fn read_round(others: Fields) -> Result<RoundSpec, LineFault>

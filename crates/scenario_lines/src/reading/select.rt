@@ -3,13 +3,12 @@ ghost use Rattle.std.specs.Prelude.{◌≡◌, IfOk, IfErr, IsOkAnd};
 ghost use Rattle.scenario_lines.specs.declared.line.Selection.{Selection};
 ghost use Rattle.scenario_lines.specs.LineForm.{IsSelection};
 ghost use Rattle.scenario_lines.specs.Spelling.{select_fields};
-ghost use Rattle.scenario_lines.specs.LineFaults.{AreFilled};
+ghost use Rattle.text_fields.specs.NamedFields.{AreFilled};
 ghost use Rattle.scenario_lines.specs.Reading.{Misreads};
 
 use crate::{LineFault, Selection};
-use command_text::{flag_named, mask_bank_named};
-use text_fields::{Fields, five_fields};
-use value_text::{action_of, mask_of, pointer_of};
+use command_text::{flag_named, mask_bank_named, mask_of};
+use text_fields::{Fields, action_of, five_fields, pointer_of};
 
 /// What the fields behind `select` name.
 pub(crate) fn read_select(others: Fields) -> Result<Selection, LineFault>

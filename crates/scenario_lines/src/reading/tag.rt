@@ -2,16 +2,16 @@
 ghost use Rattle.std.specs.Prelude.{◌≡◌, ℕ, List, IfOk, IfErr, IfSome, IsOkAnd, IsSomeAnd};
 ghost use Rattle.text_fields.specs.Hexadecimal.{hex_words};
 ghost use Rattle.scenario_lines.specs.declared.tag.TagSpec.{TagSpec};
-ghost use Rattle.value_text.specs.ValueText.{IsWordList};
+ghost use Rattle.text_fields.specs.WordLists.{IsWordList};
 ghost use Rattle.scenario_lines.specs.TagForm.{IsTag, IsTagForm};
 ghost use Rattle.scenario_lines.specs.Spelling.{tag_fields};
-ghost use Rattle.scenario_lines.specs.LineFaults.{AreFilled};
+ghost use Rattle.text_fields.specs.NamedFields.{AreFilled};
 ghost use Rattle.scenario_lines.specs.Reading.{Misreads, MisreadsTag, tag_value};
 
 use crate::{LineFault, TagText};
 use lock_rules::Locks;
-use text_fields::{Fields, Words, seven_fields};
-use value_text::{locks_of, password_of, words_from};
+use text_fields::{Fields, Words, seven_fields, words_from};
+use value_text::{locks_of, password_of};
 
 /// The lists of words of a tag.
 #[derive(Drop)]
@@ -81,7 +81,7 @@ fn read_parts<'a>(others: Fields<'a>) -> Result<Parts<'a>, LineFault>
 }
 
 /// The tag that the fields behind `tag` spell.
-pub(crate) fn read_tag<'a>(others: Fields<'a>) -> Result<TagText<'a>, LineFault>
+pub fn read_tag<'a>(others: Fields<'a>) -> Result<TagText<'a>, LineFault>
     ensures ok { IfOk result (λ tag. (others.entry ≡ tag_fields tag) × IsTag tag) }
     ensures only { (tag : TagSpec) → IsTag tag → others.entry ≡ tag_fields tag → IsOkAnd result (λ it. it ≡ tag) }
     ensures refused { IfErr result (MisreadsTag others.entry) }

@@ -1,8 +1,8 @@
 -- What a change of one flag leaves alone.
 use Rattle.std.specs.Prelude.{◌≡◌, ◌≢◌, ℕ, zero, suc, ◌<◌, ◌==◌, Bool, true, false, if◌then◌else◌, refl}
 use Rattle.std.proofs.Common.{arith}
-use Rattle.command_grammar.specs.declared.field_values.FlagName.{FlagName}
-use Rattle.command_grammar.specs.declared.field_values.FlagName.TheVariants.{S0, S1, S2, S3, Sl}
+use Rattle.command_fields.specs.declared.choices.FlagName.{FlagName}
+use Rattle.command_fields.specs.declared.choices.FlagName.TheVariants.{S0, S1, S2, S3, Sl}
 use Rattle.session_flags.specs.declared.flags.Flags.{Flags}
 use Rattle.session_flags.specs.declared.flags.Effect.{Effect}
 use Rattle.session_flags.specs.declared.flags.Effect.TheVariants.{Negate}

@@ -1,9 +1,9 @@
 -- 6.3.2.5 Tag random or pseudo-random number generator; 6.3.2.4.8 Slot counter: how many words a tag draws when it hears a
 -- command.
 use Rattle.std.specs.Prelude.{ℕ, ◌==◌, if◌then◌else◌}
-use Rattle.command_grammar.specs.declared.field_values.Sel.{Sel}
-use Rattle.command_grammar.specs.declared.field_values.Side.{Side}
-use Rattle.command_grammar.specs.declared.field_values.UpDn.{UpDn}
+use Rattle.command_fields.specs.declared.choices.Sel.{Sel}
+use Rattle.command_fields.specs.declared.choices.Side.{Side}
+use Rattle.command_fields.specs.declared.choices.UpDn.{UpDn}
 use Rattle.command_grammar.specs.declared.commands.Command.{Command}
 use Rattle.command_grammar.specs.declared.commands.Command.TheVariants as commands
 use Rattle.session_flags.specs.Flags.{matches}

@@ -1,7 +1,7 @@
 -- 6.3.2.2 Sessions and inventoried flags, 6.3.2.3 Selected flag: which commands may change which flag of a tag. Sessions
 -- are independent of each other: a command of one session leaves the flags of the others alone.
 use Rattle.std.specs.Prelude.{◌≡◌, ℕ, ◌<◌}
-use Rattle.command_grammar.specs.declared.field_values.FlagName.TheVariants as flags
+use Rattle.command_fields.specs.declared.choices.FlagName.TheVariants as flags
 use Rattle.command_grammar.specs.declared.commands.Command.{Command}
 use Rattle.command_grammar.specs.declared.commands.Command.TheVariants as commands
 use Rattle.session_flags.specs.declared.flags.Flags.{Flags}

@@ -1,12 +1,12 @@
 //! What Read, Write, BlockWrite and BlockErase do with the banks (6.3.2.11.3).
-ghost use Rattle.std.specs.Prelude.{◌≡◌, ◌+◌, ◌-◌, ◌<◌, ◌≤◌, ◌↔◌, IsTrue, Ok, Err, IfOk, IfErr, OnOk, OnErr, true, [], ◌∷◌, length, replicate, slice_index};
+ghost use Rattle.std.specs.Prelude.{◌≡◌, ◌+◌, ◌-◌, ◌<◌, ◌≤◌, ◌↔◌, Ok, Err, IfOk, IfErr, OnOk, OnErr, true, [], ◌∷◌, length, replicate, slice_index};
 ghost use Rattle.reply_grammar.specs.Table.{AreWords};
 ghost use Rattle.tag_memory.specs.Memory.{AreSound, bank_of};
 ghost use Rattle.tag_memory.specs.Access.{field_at, may_read_word, may_write_word, all_words, open_end, words_read, with_words_at, banks_with_words_at, length_fits, banks_after_write, banks_after_erase};
 
 use super::{Memory, epc_fits, length_in_pc};
 use bit_strings::{Count1, Pointer};
-use command_grammar::{Bank, BlockWords};
+use command_fields::{Bank, BlockWords};
 use lock_rules::{ErrorCode, Field, Level, Locks};
 use reply_grammar::ReadWords;
 

@@ -3,8 +3,8 @@ use Rattle.std.specs.Prelude.{◌≡◌, ◌≢◌, ℕ, ◌+◌, true, List, []
 use Rattle.text_fields.specs.FaultLine.{fault_line}
 use Rattle.text_fields.specs.Lines.{lines_of}
 use Rattle.report_lines.specs.Names.{AreWithNames}
-use Rattle.decode_lines.specs.DecodeLines.{reason_word}
-use Rattle.decode_lines.specs.declared.fault.FaultReason.TheVariants.{End}
+use Rattle.checked_lines.specs.LineRules.{reason_word}
+use Rattle.checked_lines.specs.declared.fault.FaultReason.TheVariants.{End}
 use Rattle.top_call.specs.Job.{Job}
 
 -- the bytes are these lines, and nothing stands behind the last line feed

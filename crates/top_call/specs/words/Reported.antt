@@ -9,7 +9,7 @@ use Rattle.scenario.specs.FaultWords.{fault_word}
 use Rattle.text_fields.specs.FaultLine.{fault_line}
 use Rattle.report_lines.specs.declared.mode.Mode.{Mode}
 use Rattle.runs.specs.CompleteRounds.{RoundsAreComplete}
-use Rattle.runs.specs.Headline.{Headline}
+use Rattle.runs.specs.Headline.{Headline, AreHeardAsListed}
 use Rattle.runs.specs.Report.{report_of, report_text_of}
 use Rattle.runs.specs.ScenarioStart.{history, start_of}
 use Rattle.top_call.specs.Job.{Job}
@@ -28,10 +28,13 @@ pub record RefusesScenario (bytes text : List ℕ) : Type 0 where
   pub first : IsFirstFault bytes number fault
   pub line : text ≡ fault_line number (fault_word fault)
 
--- the text is the report of the scenario that the bytes spell, and with its one history it says the headline
+-- the text is the report of the scenario that the bytes spell, and with its one history it says the headline; each EPC in it is one
+-- that was heard
 pub record SaysHeadline (mode : Mode) (bytes text : List ℕ) : Type 0 where
   pub reports : Reports mode bytes text
   pub headline : Headline (start_of reports.scenario) reports.scenario.steps (history reports.scenario)
+      (report_of mode (start_of reports.scenario) reports.scenario.steps)
+  pub heard_as_listed : AreHeardAsListed (start_of reports.scenario) (history reports.scenario)
       (report_of mode (start_of reports.scenario) reports.scenario.steps)
 
 -- the text is the report of the scenario that the bytes spell, and its honest rounds prove which tags each lists, and what it leaves of

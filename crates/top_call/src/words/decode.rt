@@ -10,7 +10,7 @@ use crate::ending::{MOST_INPUT_BYTES, WriteEnd, Wrote, status_of, unread_status}
 use crate::status::Status;
 use air_io::{Sink, Source, write_all};
 use decode_lines::{
-    DecodeFault, answer_source, decode_lines_are_not_faulty, decode_lines_have_one_text, fault_text,
+    FaultyLine, answer_source, decode_lines_are_not_faulty, decode_lines_have_one_text, fault_text,
 };
 use std::alloc::Global;
 
@@ -28,7 +28,7 @@ pub fn answer<I: Source, O: Sink>(alloc: Global, input: &mut I, output: &mut O) 
 
 /// Writes the answers to the lines of an input, or the one line that reports its first faulty line.
 fn write_answered<O: Sink>(
-    answered: &Result<String, DecodeFault>,
+    answered: &Result<String, FaultyLine>,
     output: &mut O,
 ) -> Result<Wrote, WriteEnd>
     ensures { (input : List ℕ) → IfOk answered.now (λ text. Decodes input (string_bytes text)) → IfErr answered.now (IsFirstFault input)

@@ -3,5 +3,16 @@ use Rattle.air_channel.proofs.population.call.Goals as goal
 
 pub returns-clause-calls : goal.returns-clause-calls
 returns-clause-calls g c =
-    call_tags c.args.waiting.now c.put.new.self c.args.seats.now c.write_back.new.seats c.args.number c.args.steps.now c.write_back.new.steps c.requires.whole c.requires.number
-    c.write_back.ensures.seats c.put.ensures.participations c.write_back.ensures.counted c.write_back.ensures.legal
+    call_tags c.args.waiting.now c.args.seats.now c.args.steps.now
+    (record {
+      number = c.args.number;
+      called = c.put.new.self;
+      seated = c.write_back.new.seats;
+      stepped = c.write_back.new.steps;
+      whole = c.requires.whole;
+      within = c.requires.number;
+      back = c.write_back.ensures.seats;
+      is = c.put.ensures.participations;
+      counts = c.write_back.ensures.counted;
+      legal = c.write_back.ensures.legal;
+    })

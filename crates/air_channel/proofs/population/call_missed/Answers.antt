@@ -1,5 +1,6 @@
 use Rattle.std.proofs.Common.{ap, arith, length, ℕ, List}
 use Rattle.air_channel.proofs.SeatedTags.{missed_all, missed_fits}
+use Rattle.air_channel.specs.Waiting.{participation_at}
 use Rattle.air_channel.proofs.population.call_missed.Goals as goal
 
 pub of-number-requires : goal.of-number-requires
@@ -8,6 +9,6 @@ of-number-requires g c =
     c.loop-number-test.true c.requires.few
 
 pub returns-clause-called : goal.returns-clause-called
-returns-clause-called g c =
-    missed_all c.args.session c.args.entry.now c.args.waiting.now c.loop-number.waiting c.args.seats.now c.loop-number.seats c.args.steps.now c.loop-number.steps c.loop-number.number-index
-    c.loop-number.invariant (omega (arith, c.loop-number-test.false, ap (λ (l : List ℕ). length l) c.as_slice-number-items.ensures.value))
+returns-clause-called g c = λ number.
+    missed_all c.args.session c.args.entry.now c.loop-number.number-index number (participation_at c.args.waiting.now number) (participation_at c.loop-number.waiting number)
+    (c.loop-number.invariant.each number) (omega (arith, c.loop-number-test.false, ap (λ (l : List ℕ). length l) c.as_slice-number-items.ensures.value))

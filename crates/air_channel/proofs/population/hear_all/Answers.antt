@@ -56,8 +56,17 @@ loop-at-preserved g c =
                   counts = w.hear.ensures.counted;
                 });
             settled =
-                each_settled c.args.waiting.now c.loop-at.waiting w.put.new.self number c.loop-at.seats w.write_back.new.seats w.hear.new.seat w.participation.result now.settled
-                (omega (arith, within, now.heard.seats_whole)) back w.participation.ensures.value put;
+                each_settled c.args.waiting.now c.loop-at.waiting number c.loop-at.seats now.settled
+                (record {
+                  between = w.write_back.new.seats;
+                  new = w.hear.new.seat;
+                  participation = w.participation.result;
+                  after = w.put.new.self;
+                  within = omega (arith, within, now.heard.seats_whole);
+                  back = back;
+                  is = w.participation.ensures.value;
+                  put = put;
+                });
             left = left_by_put c.args.waiting.now c.loop-at.waiting w.put.new.self number w.participation.result put now.left;
           })
       | else-not-is_passed w ↦

@@ -1,4 +1,4 @@
-use Rattle.std.proofs.Common.{ℕ, ◌==◌, List, ap, refl, sym}
+use Rattle.std.proofs.Common.{ℕ, ◌==◌, List, ap, sym}
 use Rattle.std.specs.List.{list_any}
 use Rattle.air_channel.proofs.TagSetBits.{same_true}
 use Rattle.air_model.specs.Exchange.{is_missed}

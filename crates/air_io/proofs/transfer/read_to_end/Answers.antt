@@ -2,8 +2,8 @@ use Rattle.std.proofs.Common.{◌≤◌, ◌++◌, List, ℕ, length, take, arit
 use Rattle.air_io.specs.Flow.{Reads}
 use Rattle.air_io.specs.ReadEnds.{most_read}
 use Rattle.air_io.specs.declared.transfer.ReadEnd.{ReadEnd}
-use Rattle.air_io.specs.FlowLaws.{Reads-more}
-use Rattle.air_io.specs.ReadLaws.{IfErr-always, length-append-take, count_within_room, most_read-limit}
+use Rattle.air_io.specs.laws.Flow.{Reads-more}
+use Rattle.air_io.specs.laws.ReadEnds.{IfErr-always, length-append-take, count_within_room, most_read-limit}
 use Rattle.air_io.proofs.transfer.read_to_end.Goals as goal
 
 pub returns-then-count-most-clause-too_long : goal.returns-then-count-most-clause-too_long

@@ -9,7 +9,7 @@ invariant-reads g l = record {
   most : l.most < 2 ^ 32;
   within : vec_len l.bytes ≤ l.most;
   read : Reads (g.I.Source.left l.initial.src) (g.I.Source.left l.src) l.bytes.items;
-  count : g.I.Source.faults l.initial.src ≤ g.I.Source.faults l.src;
+  count : g.I.Source.faults l.src ≡ g.I.Source.faults l.initial.src;
 }
 
 abbrev pub decreases-reads : goal.decreases-reads

@@ -1,4 +1,4 @@
-use Rattle.std.proofs.Common.{arith}
+use Rattle.std.proofs.Common.{arith, ◌∙◌}
 use Rattle.air_io.proofs.Joined.{Adds-next}
 use Rattle.std.proofs.lemmas.Grind.{common_steps}
 use Rattle.air_io.proofs.transfer.write_all.Goals as goal
@@ -7,5 +7,5 @@ pub loop-done-preserved : goal.loop-done-preserved
 loop-done-preserved g c = record {
   within = grind (arith, common_steps, c.in-Took.ensures.took.1);
   added = Adds-next _ _ _ c.args.piece.now c.loop-done.done c.in-Took.count c.loop-done.invariant.added c.in-Took.ensures.took.2;
-  count = omega (arith, c.in-Took.ensures.count);
+  count = c.in-Took.ensures.steady ∙ c.loop-done.invariant.count;
 }

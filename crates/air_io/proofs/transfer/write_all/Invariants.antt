@@ -1,4 +1,4 @@
-use Rattle.std.proofs.Common.{length, ◌-◌, ◌≤◌, take}
+use Rattle.std.proofs.Common.{◌≡◌, length, ◌-◌, ◌≤◌, take}
 use Rattle.air_io.specs.Flow.{Adds}
 use Rattle.air_io.proofs.transfer.write_all.Given as goal
 
@@ -7,7 +7,7 @@ abbrev pub invariant-loop-done : goal.invariant-loop-done
 invariant-loop-done g l = record {
   within : l.done ≤ length l.piece;
   added : Adds (g.O.Sink.written l.initial.out) (g.O.Sink.written l.out) (take l.done l.piece);
-  count : g.O.Sink.faults l.initial.out ≤ g.O.Sink.faults l.out;
+  count : g.O.Sink.faults l.out ≡ g.O.Sink.faults l.initial.out;
 }
 
 abbrev pub decreases-loop-done : goal.decreases-loop-done

@@ -1,5 +1,5 @@
-use Rattle.air_model.specs.AwaitedLaws.{awaited_reception, silent_awaited, plain_reception}
-use Rattle.air_model.specs.ReceptionLaws.{whole_heard, broken_heard, stream_reception, silent_reception, heard_nothing, heard_least, heard_most}
+use Rattle.air_model.specs.laws.AwaitedLaws.{awaited_reception, silent_awaited, plain_reception}
+use Rattle.air_model.specs.laws.ReceptionLaws.{whole_heard, broken_heard, stream_reception, silent_reception, whole_is_heard, heard_nothing, heard_least, heard_most}
 use Rattle.air_model.proofs.laws.reception_law.Goals as goal
 
 pub returns : goal.returns
@@ -8,6 +8,7 @@ returns c = record {
   broken = broken_heard;
   stream = stream_reception;
   silent = silent_reception;
+  heard = whole_is_heard;
   with = awaited_reception;
   silent_with = silent_awaited;
   by_link = plain_reception;

@@ -1,4 +1,4 @@
-use Rattle.bit_strings.specs.EbvLaws.{IsEbv-ebv_of, below-ebv, same-ebv, ebv_apart}
+use Rattle.bit_strings.specs.laws.Ebv.{IsEbv-ebv_of, below-ebv, same-ebv, ebv_apart}
 use Rattle.bit_strings.proofs.laws.ebv_laws.Goals as goal
 
 pub returns : goal.returns

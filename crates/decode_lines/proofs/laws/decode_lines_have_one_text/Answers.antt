@@ -1,9 +1,12 @@
-use Rattle.decode_lines.proofs.OneText.{same_decoded, same_refused}
+use Rattle.checked_lines.specs.laws.FirstFault.{same_refused}
+use Rattle.checked_lines.specs.laws.OneText.{same_text}
+use Rattle.decode_lines.specs.Answer.{decode_rules}
+use Rattle.decode_lines.proofs.OneText.{one_answer, tell_lines}
 use Rattle.decode_lines.proofs.laws.decode_lines_have_one_text.Goals as goal
 
 pub returns : goal.returns
 returns c = record {
-  answers = same_decoded (record {
+  answers = same_text decode_rules tell_lines (one_answer (record {
     commands = c.one_outcome.ensures.one;
     sgtins = record {
       one_words = c.sgtin_laws.ensures.one_words;
@@ -14,6 +17,6 @@ returns c = record {
       uri_apart = c.uri_laws.ensures.apart;
       uri_one_fault = c.uri_laws.ensures.one_fault;
     };
-  });
-  fault_line = same_refused;
+  }));
+  fault_line = same_refused decode_rules tell_lines;
 }

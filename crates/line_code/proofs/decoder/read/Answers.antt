@@ -5,7 +5,8 @@ use Rattle.std.proofs.lemmas.List.{length-take-le, length-drop, take_all}
 use Rattle.line_code.specs.States.{Reads}
 use Rattle.line_code.specs.Stream.{Streams, stream_of}
 use Rattle.line_code.proofs.Steps.{one_more, block_more}
-use Rattle.line_code.proofs.Whole.{bad_in_front, bits_within}
+use Rattle.bit_strings.specs.laws.Family.{bad-in_front}
+use Rattle.line_code.proofs.Whole.{bits_within}
 use Rattle.line_code.proofs.decoder.read.Goals as goal
 
 pub take_block-inside-requires-clause-room : goal.take_block-inside-requires-clause-room
@@ -52,7 +53,7 @@ returns-in-Refused-clause-refused g c =
     let levels = c.args.levels.now in
     let n = c.loop-place.place in
     let bad = (c.in-Refused.ensures.answer c.args.trext (take n levels) c.loop-place.out.items [] c.loop-place.invariant.reads refl).1 in
-    bad_in_front (Streams g.C.LineCode.table c.args.trext) levels (n + 1) c.in-Refused.place (rw (← one_more levels n c.loop-place-test.true) bad)
+    bad-in_front (Streams g.C.LineCode.table c.args.trext) levels (n + 1) c.in-Refused.place (rw (← one_more levels n c.loop-place-test.true) bad)
 
 pub loop-place-preserved : goal.loop-place-preserved
 loop-place-preserved g c =

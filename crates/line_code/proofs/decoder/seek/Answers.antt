@@ -1,7 +1,7 @@
 -- The levels of the lead, one by one.
 use Rattle.std.proofs.Common.{◌+◌, take, arith}
 use Rattle.line_code.proofs.Steps.{one_more}
-use Rattle.line_code.proofs.Whole.{bad_in_front}
+use Rattle.bit_strings.specs.laws.Family.{bad-in_front}
 use Rattle.line_code.specs.Stream.{Streams}
 use Rattle.line_code.proofs.decoder.seek.Goals as goal
 
@@ -18,7 +18,7 @@ returns-in-Refused-clause-refused g c =
     let levels = c.args.levels.now in
     let n = c.loop-at.at in
     let bad = (c.in-Refused.ensures c.args.trext (take n levels) c.loop-at.invariant).1 in
-    bad_in_front (Streams g.C.LineCode.table c.args.trext) levels (n + 1) c.in-Refused.place (rw (← one_more levels n c.loop-at-test.true) bad)
+    bad-in_front (Streams g.C.LineCode.table c.args.trext) levels (n + 1) c.in-Refused.place (rw (← one_more levels n c.loop-at-test.true) bad)
 
 pub loop-at-preserved : goal.loop-at-preserved
 loop-at-preserved g c =

@@ -1,5 +1,5 @@
-use Rattle.line_code.specs.StreamLaws.{one_stream, same_answer}
-use Rattle.line_code.proofs.Existence.{some_answer}
+use Rattle.line_code.specs.laws.Streams.{one_stream, same_answer}
+use Rattle.line_code.specs.laws.Existence.{some_answer}
 use Rattle.line_code.proofs.laws.one_answer.Goals as goal
 
 pub returns-clause-some : goal.returns-clause-some

@@ -1,5 +1,5 @@
-use Rattle.line_code.proofs.LeadLevels.{seeks_begins}
-use Rattle.line_code.proofs.Reading.{reads_begins}
+use Rattle.line_code.specs.laws.Lead.{seeks_begins}
+use Rattle.line_code.specs.laws.Reading.{reads_begins}
 use Rattle.line_code.proofs.laws.states_begin_streams.Goals as goal
 
 pub returns-clause-seeking : goal.returns-clause-seeking

@@ -1,4 +1,4 @@
-use Rattle.line_codes.specs.CodeLaws.{length-stream, lead_short, stream_least, stream_most}
+use Rattle.line_codes.specs.laws.Codes.{length-stream, lead_short, stream_least, stream_most}
 use Rattle.line_codes.proofs.laws.stream_length.Goals as goal
 
 pub returns : goal.returns

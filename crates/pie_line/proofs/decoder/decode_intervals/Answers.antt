@@ -1,7 +1,7 @@
 -- The decoder is given an interval more, and goes over the data symbols behind it.
 use Rattle.std.proofs.Common.{◌-◌, ◌≤◌, ◌∷◌, [], length, take, drop, refl, arith, length-append}
 use Rattle.pie_line.specs.Pie.{longest_interval}
-use Rattle.pie_line.proofs.IntervalsLeft.{left_all}
+use Rattle.pie_line.specs.laws.IntervalsLeft.{left_all}
 use Rattle.pie_line.proofs.Decoding.{IsDecoding, given_more, gone_over, walk_refused, walk_ended, all_taken}
 use Rattle.pie_line.proofs.decoder.decode_intervals.Goals as goal
 use Rattle.pie_line.proofs.decoder.decode_intervals.Goals.{in-More, in-Bit}

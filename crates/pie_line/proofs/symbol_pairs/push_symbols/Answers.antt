@@ -3,7 +3,7 @@ use Rattle.std.proofs.Common.{ℕ, Bool, ◌+◌, ◌++◌, ◌≤◌, ◌∷◌
 use Rattle.bit_strings.specs.BitString.{BitString}
 use Rattle.pie_line.specs.Pie.{bit_of, longest_interval}
 use Rattle.pie_line.proofs.TakenSymbols.{takes_more, room_left}
-use Rattle.pie_line.proofs.IntervalsLeft.{left_all}
+use Rattle.pie_line.specs.laws.IntervalsLeft.{left_all}
 use Rattle.pie_line.proofs.symbol_pairs.push_symbols.Goals as goal
 
 pub push_reserved-requires : goal.push_reserved-requires

@@ -1,7 +1,7 @@
 use Rattle.std.proofs.Common.{◌<◌, ◌^◌, take, arith, length-take}
 use Rattle.bit_strings.specs.Numbers.{value_of}
-use Rattle.bit_strings.specs.NumberLaws.{value_of-within}
-use Rattle.reply_grammar.proofs.Reading.{read_none, read_more}
+use Rattle.bit_strings.specs.laws.Numbers.{value_of-within}
+use Rattle.reply_grammar.specs.laws.Reading.{read_none, read_more}
 use Rattle.reply_grammar.proofs.decode.epc_words.Goals as goal
 
 pub loop-at-init : goal.loop-at-init

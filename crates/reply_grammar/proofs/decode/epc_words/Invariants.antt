@@ -1,5 +1,5 @@
 use Rattle.std.proofs.Common.{◌-◌, ◌≤◌}
-use Rattle.reply_grammar.proofs.Reading.{ReadTo}
+use Rattle.reply_grammar.specs.laws.Reading.{ReadTo}
 use Rattle.reply_grammar.proofs.decode.epc_words.Given as goal
 
 abbrev pub invariant-loop-at : goal.invariant-loop-at

@@ -1,6 +1,6 @@
 use Rattle.std.proofs.Common.{sym, ◌∙◌, arith}
 use Rattle.std.proofs.lemmas.Bool.{eqb-true, eqb-false}
-use Rattle.reply_grammar.proofs.Passing.{rn16_passed, handle_passed, same_passed, epc_passed, words_passed, any_words_passed, header_passed, words_error, any_words_error, header_error}
+use Rattle.reply_grammar.specs.laws.PassingReplies.{rn16_passed, handle_passed, same_passed, epc_passed, words_passed, any_words_passed, header_passed, words_error, any_words_error, header_error}
 use Rattle.reply_grammar.proofs.decode.read_reply.Goals as goal
 
 pub returns-in-Rn16 : goal.returns-in-Rn16

@@ -1,5 +1,5 @@
 use Rattle.std.proofs.Common.{arith}
-use Rattle.reply_grammar.proofs.Reading.{read_none, read_more}
+use Rattle.reply_grammar.specs.laws.Reading.{read_none, read_more}
 use Rattle.reply_grammar.proofs.decode.read_words.Goals as goal
 
 pub loop-at-init : goal.loop-at-init

@@ -1,8 +1,8 @@
 use Rattle.std.proofs.Common.{[], ap, ◌∙◌, arith, length-append, length}
 use Rattle.bit_strings.specs.Numbers.{field_of}
-use Rattle.bit_strings.specs.NumberLaws.{length-field_of}
+use Rattle.bit_strings.specs.laws.Numbers.{length-field_of}
 use Rattle.bit_strings.specs.Words.{bits_of_words}
-use Rattle.bit_strings.specs.WordLaws.{length-bits_of_words}
+use Rattle.bit_strings.specs.laws.Words.{length-bits_of_words}
 use Rattle.reply_grammar.specs.Table.{spelling}
 use Rattle.reply_grammar.proofs.Writing.{wrote, checked, room_left, words_lent}
 use Rattle.reply_grammar.proofs.encode.encode_epc.Goals as goal

@@ -1,6 +1,6 @@
 use Rattle.std.proofs.Common.{arith, length-append, length-take, take}
 use Rattle.bit_strings.specs.Words.{bits_of_words}
-use Rattle.bit_strings.specs.WordLaws.{length-bits_of_words}
+use Rattle.bit_strings.specs.laws.Words.{length-bits_of_words}
 use Rattle.reply_grammar.proofs.Writing.{room_left}
 use Rattle.reply_grammar.proofs.encode.put_words.Goals as goal
 

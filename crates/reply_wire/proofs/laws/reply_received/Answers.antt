@@ -1,9 +1,9 @@
 use Rattle.line_codes.specs.Codes.{table_of}
-use Rattle.reply_wire.proofs.Receiving.{whole_received, unexpected_received}
+use Rattle.reply_wire.proofs.RepliesReceived.{whole_received, unexpected_received}
 use Rattle.reply_wire.proofs.laws.reply_received.Goals as goal
 
 pub returns-clause-whole : goal.returns-clause-whole
 returns-clause-whole c = λ code trext expect reply handle levels. whole_received (table_of code) trext expect reply handle levels
 
 pub returns-clause-unexpected : goal.returns-clause-unexpected
-returns-clause-unexpected c = λ code trext expect bits levels. unexpected_received (table_of code) trext expect bits levels (c.reply_laws.ensures.some expect bits)
+returns-clause-unexpected c = λ code trext expect bits levels. unexpected_received (table_of code) trext expect bits levels

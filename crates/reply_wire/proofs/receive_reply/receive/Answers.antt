@@ -5,7 +5,7 @@ use Rattle.line_code.specs.declared.refusal.LineRefusal.{LineRefusal}
 use Rattle.line_codes.specs.Codes.{table_of}
 use Rattle.reply_grammar.specs.declared.expected.Received.TheVariants.{Whole, Refused}
 use Rattle.reply_wire.specs.Received.{IsWhole, IsUnexpected}
-use Rattle.reply_wire.specs.ReceivedLaws.{same_received}
+use Rattle.reply_wire.specs.laws.ReceivedLaws.{same_received}
 use Rattle.reply_wire.proofs.receive_reply.receive.Goals as goal
 
 pub returns-in-Ok-decode_reply-clause-only : goal.returns-in-Ok-decode_reply-clause-only

@@ -1,11 +1,10 @@
 use Rattle.std.proofs.Common.{◌∷◌, []}
 use Rattle.runs.proofs.EveryTag.{every-tag}
-use Rattle.runs.proofs.Turns.{few-outcomes}
 use Rattle.runs.proofs.inventory.quiet_runs_list_every_tag.Goals as goal
 use Rattle.scenario.specs.declared.values.Step.TheVariants as steps
 
 pub returns : goal.returns
 returns c = λ start spec operations slots past legal part own silent none apart quiet.
-    every-tag (λ spec legal. few-outcomes spec (λ outcomes are. c.round_laws.ensures.limit spec outcomes legal are)) c.round_facts.ensures
+    every-tag c.round_laws.ensures.limit c.round_facts.ensures
     start spec operations slots past legal part own silent
     (c.rounds_are_honest_where_nothing_is_said.ensures.run start (steps.Round spec operations ∷ []) 1 operations none silent) apart quiet

@@ -1,6 +1,7 @@
 use Rattle.std.proofs.Common.{◌∷◌, ◌++◌, []}
 use Rattle.air_model.specs.Past.{exchanged}
 use Rattle.runs.proofs.HeardRecords.{behind-record, recorded-expected, recorded-unmistakable}
+use Rattle.runs.proofs.MadeRecords.{made-read}
 use Rattle.runs.specs.ScenarioStart.{start_of, history}
 use Rattle.runs.proofs.laws.histories_hear_what_is_received.Goals as goal
 
@@ -9,13 +10,13 @@ returns-clause-inventory c = λ scenario sent earlier expect received is recorde
     let made = c.records_follow_from_the_past.ensures (start_of scenario) scenario.steps sent earlier recorded in
     let legal = c.histories_keep_tags_legal.ensures scenario (recorded.later ++ exchanged sent ∷ []) earlier is (behind-record (history scenario) sent earlier recorded) in
     c.reception_law.ensures.stream scenario.link expect sent.given received
-    (recorded-expected c.answers_are_replies.ensures.reply c.answers_are_replies.ensures.legal c.steps_keep_tags_legal.ensures.befallen (start_of scenario) sent earlier expect made legal asked)
-    got heard
+    (recorded-expected (record { rows = c.answers_are_replies.ensures.reply; range = c.answers_are_replies.ensures.legal; stays = c.steps_keep_tags_legal.ensures.befallen }) (start_of scenario) sent earlier expect made legal asked)
+    (made-read (start_of scenario) sent earlier made) got heard
 
 pub returns-clause-operations : goal.returns-clause-operations
 returns-clause-operations c = λ scenario sent earlier expect extended received is recorded asked got heard.
     let made = c.records_follow_from_the_past.ensures (start_of scenario) scenario.steps sent earlier recorded in
     let legal = c.histories_keep_tags_legal.ensures scenario (recorded.later ++ exchanged sent ∷ []) earlier is (behind-record (history scenario) sent earlier recorded) in
     c.reception_law.ensures.with scenario.link extended expect sent.given received
-    (recorded-unmistakable c.answers_are_replies.ensures.reply c.answers_are_replies.ensures.legal c.steps_keep_tags_legal.ensures.befallen (start_of scenario) sent earlier expect extended made legal asked)
-    got heard
+    (recorded-unmistakable (record { rows = c.answers_are_replies.ensures.reply; range = c.answers_are_replies.ensures.legal; stays = c.steps_keep_tags_legal.ensures.befallen }) (start_of scenario) sent earlier expect extended made legal asked)
+    (made-read (start_of scenario) sent earlier made) got heard

@@ -1,11 +1,11 @@
-use Rattle.std.proofs.Common.{◌∙◌, ◌++◌, ap, length, map}
+use Rattle.std.proofs.Common.{[], ◌∙◌, ◌++◌, ap, length, map}
 use Rattle.std.specs.List.{flat_map}
 use Rattle.std.specs.String.{string_bytes}
 use Rattle.text_fields.specs.Lines.{text_with}
 use Rattle.scenario_lines.specs.declared.line.Line.TheVariants as lines
 use Rattle.scenario_lines.specs.Spelling.{line_text}
 use Rattle.scenario.specs.ScenarioText.{air_lines, step_lines}
-use Rattle.scenario.proofs.PrintedLines.{all_lines}
+use Rattle.scenario.proofs.PrintedLines.{gains-line, gains-lines}
 use Rattle.scenario.proofs.printing.print_scenario.Goals as goal
 
 pub push_entries-requires : goal.push_entries-requires
@@ -16,11 +16,13 @@ push_steps-requires c = rw c.as_slice-3.ensures.value (length c.args.scenario.no
 
 pub returns : goal.returns
 returns c =
-    c.new.ensures ∙ ap (λ v. v.items) c.into_bytes.ensures.value ∙
-    all_lines _ _ _ _ _ _ _ lines.Version (lines.Link c.args.scenario.now.link) lines.End (map lines.Tag c.args.scenario.now.tags)
-    (air_lines c.args.scenario.now.entries) (flat_map step_lines c.args.scenario.now.steps)
-    c.new-text.ensures.bytes c.in_ok-push_version.ensures c.in_ok-push_link.ensures
-    (c.in_ok-push_tags.ensures ∙ ap (λ ts. string_bytes c.push_link.new.text ++ text_with (map line_text (map lines.Tag ts))) c.as_slice.ensures.value)
-    (c.in_ok-push_entries.ensures ∙ ap (λ es. string_bytes c.push_tags.new.text ++ text_with (map line_text (air_lines es))) c.as_slice-2.ensures.value)
-    (c.in_ok-push_steps.ensures ∙ ap (λ ss. string_bytes c.push_entries.new.text ++ text_with (map line_text (flat_map step_lines ss))) c.as_slice-3.ensures.value)
-    c.in_ok-push_end.ensures
+    let said = c.args.scenario.now in
+    let version = gains-line {start = []} [] lines.Version (record { is = c.new-text.ensures.bytes }) c.in_ok-push_version.ensures in
+    let link = gains-line _ (lines.Link said.link) version c.in_ok-push_link.ensures in
+    let tags = gains-lines _ (map lines.Tag said.tags) link
+    (c.in_ok-push_tags.ensures ∙ ap (λ ts. string_bytes c.push_link.new.text ++ text_with (map line_text (map lines.Tag ts))) c.as_slice.ensures.value) in
+    let airs = gains-lines _ (air_lines said.entries) tags
+    (c.in_ok-push_entries.ensures ∙ ap (λ es. string_bytes c.push_tags.new.text ++ text_with (map line_text (air_lines es))) c.as_slice-2.ensures.value) in
+    let steps = gains-lines _ (flat_map step_lines said.steps) airs
+    (c.in_ok-push_steps.ensures ∙ ap (λ ss. string_bytes c.push_entries.new.text ++ text_with (map line_text (flat_map step_lines ss))) c.as_slice-3.ensures.value) in
+    c.new.ensures ∙ ap (λ v. v.items) c.into_bytes.ensures.value ∙ (gains-line _ lines.End steps c.in_ok-push_end.ensures).is

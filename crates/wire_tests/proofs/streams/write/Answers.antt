@@ -1,5 +1,5 @@
 use Rattle.std.proofs.Common.{length, arith}
-use Rattle.line_codes.specs.CodeLaws.{lead_short, blocks_short}
+use Rattle.line_codes.specs.laws.Codes.{lead_short, blocks_short}
 use Rattle.wire_tests.proofs.streams.write.Goals as goal
 
 pub encode_bits-requires : goal.encode_bits-requires

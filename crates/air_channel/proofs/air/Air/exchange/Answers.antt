@@ -18,12 +18,12 @@ returns-clause-air g c =
       frame = c.transmit.new.frame.items;
       stream = c.give.new.stream.items;
       kept = c.hear.new.replies;
-      exchanges = c.next_exchange-self-inside.result;
+      exchanges = c.saturating_add-self-inside.result;
       heard_all = c.hear.ensures.tags;
       wave = c.transmit.ensures.wave;
       stands = c.hear.ensures.replies;
       gives = c.give.ensures.stream;
-      counts = c.next_exchange-self-inside.ensures;
+      counts = c.saturating_add-self-inside.ensures;
     }))
 
 pub returns-clause-got : goal.returns-clause-got
@@ -31,7 +31,7 @@ returns-clause-got g c =
     let is : Exchanged c.self.inside.population c.args.command.now c.args.entry.now =
     record { heard = c.command-heard.result.now; events = c.as_slice.result.now; befallen = c.befall_all.new.self; same = cc; events_are = c.as_slice.ensures.value; befell = c.befall_all.ensures.tags } in
     rw (← c.self.view_is)
-    (exchange_got c.self.inside.several c.self.inside.population c.args.command.now c.args.entry.now is c.hear.new.replies c.give.result c.hear.ensures.replies c.give.ensures.got)
+    (exchange_got c.self.inside.link c.self.inside.several c.self.inside.population c.args.command.now c.args.entry.now is c.hear.new.replies c.give.result c.hear.ensures.replies c.give.ensures.got)
 
 pub returns-clause-counted : goal.returns-clause-counted
 returns-clause-counted g c =

@@ -1,7 +1,7 @@
 -- One symbol more is taken.
 use Rattle.std.proofs.Common.{◌≤◌}
 use Rattle.pie_line.specs.Pie.{longest_interval}
-use Rattle.pie_line.proofs.IntervalsLeft.{left_all}
+use Rattle.pie_line.specs.laws.IntervalsLeft.{left_all}
 use Rattle.air_channel.proofs.TakenIntervals.{takes_more, takes_symbol}
 use Rattle.air_channel.proofs.receiver.Receiver.take_symbols.Goals as goal
 

@@ -1,4 +1,4 @@
-use Rattle.air_channel.proofs.TagSetBits.{filled_none, filled_more, filled_all, small_at}
+use Rattle.air_channel.proofs.TagSetBits.{filled_none, filled_more, filled_all}
 use Rattle.air_channel.proofs.tag_set.TagSet.insert_all.Goals as goal
 
 pub loop-tag-init : goal.loop-tag-init

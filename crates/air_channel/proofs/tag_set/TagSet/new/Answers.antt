@@ -1,4 +1,4 @@
-use Rattle.std.proofs.Common.{arith, refl}
+use Rattle.std.proofs.Common.{arith}
 use Rattle.air_channel.proofs.TagSetBits.{none_in}
 use Rattle.air_channel.proofs.tag_set.TagSet.new.Goals as goal
 

@@ -1,6 +1,6 @@
 use Rattle.std.proofs.Common.{◌≡◌, ◌/◌, ◌<◌, get_or}
 use Rattle.air_events.specs.TagNumbers.{most_tags}
-use Rattle.air_channel.proofs.TagSetBits.{word_read, removed, removed_other, emptied_set, left_set}
+use Rattle.air_channel.proofs.TagSetBits.{word_read, removed, removed_other, emptied_set}
 use Rattle.air_channel.proofs.tag_set.TagSet.remove.Goals as goal
 
 pub invariant_of-self : goal.invariant_of-self

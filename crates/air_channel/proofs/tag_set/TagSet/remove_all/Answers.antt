@@ -1,4 +1,4 @@
-use Rattle.air_channel.proofs.TagSetBits.{emptied_none, emptied_more, emptied_all, small_at}
+use Rattle.air_channel.proofs.TagSetBits.{emptied_none}
 use Rattle.air_channel.proofs.tag_set.TagSet.remove_all.Goals as goal
 
 pub loop-tag-init : goal.loop-tag-init

@@ -1,19 +1,27 @@
-use Rattle.std.proofs.Common.{◌∙◌, ap, get_or, refl}
-use Rattle.air_channel.proofs.SlotPlaces.{put_waiting, put_calling, are_slots, called_placed, length-participations}
-use Rattle.air_channel.specs.Waiting.{slot_place}
+use Rattle.std.proofs.Common.{◌≡◌, ◌∙◌, Some, ap, get_or, refl, subst}
+use Rattle.air_channel.proofs.SlotPlaces.{OnPlaces, put_waits, put_called, are_slots, called_placed, length-participations}
+use Rattle.air_channel.specs.Waiting.{IsLegalParticipation, slot_place}
+use Rattle.air_channel.specs.declared.waiting.Participation.{Participation}
+use Rattle.air_channel.specs.declared.waiting.Participation.TheVariants.{Waits}
 use Rattle.air_channel.proofs.waiting.Waiting.put_on_place.Goals as goal
 
 pub returns-in-Waits-clause-participations : goal.returns-in-Waits-clause-participations
 returns-in-Waits-clause-participations c =
-    put_waiting c.self.inside.bases c.self.inside.wheel c.put.new.self c.args.self.now c.args.number c.in-Waits.session c.in-Waits.slot c.slot_place-place.result c.args.participation
-    c.self.invariant.0 c.self.view_is c.in-Waits.is c.requires.legal (c.slot_place-place.ensures ∙ ap (λ n. slot_place (get_or c.self.inside.bases n 0) c.in-Waits.session c.in-Waits.slot) c.from.ensures) c.put.ensures
+    let on : OnPlaces c.args.self.now = record { bases = c.self.inside.bases; places = c.self.inside.wheel; are = c.self.invariant.0; same = c.self.view_is } in
+    let session = c.in-Waits.session in
+    let slot = c.in-Waits.slot in
+    let range : IsLegalParticipation (Some (Waits session slot)) = subst (λ (p : Participation). IsLegalParticipation (Some p)) c.in-Waits.is c.requires.legal in
+    let there : c.slot_place-place.result ≡ slot_place (get_or c.self.inside.bases session 0) session slot =
+    c.slot_place-place.ensures ∙ ap (λ n. slot_place (get_or c.self.inside.bases n 0) session slot) c.from.ensures in
+    rw c.in-Waits.is (put_waits c.args.self.now on c.put.new.self c.args.number session slot range.0 range.1 (rw (← there) c.put.ensures))
 
 pub returns-in-Waits-clause-slots : goal.returns-in-Waits-clause-slots
 returns-in-Waits-clause-slots c = are_slots c.self.inside.bases c.put.new.self _ refl
 
 pub returns-in-Called-clause-participations : goal.returns-in-Called-clause-participations
 returns-in-Called-clause-participations c =
-    put_calling c.self.inside.bases c.self.inside.wheel c.put-in-Called.new.self c.args.self.now c.args.number c.args.participation c.self.view_is c.in-Called.is c.put-in-Called.ensures
+    let on : OnPlaces c.args.self.now = record { bases = c.self.inside.bases; places = c.self.inside.wheel; are = c.self.invariant.0; same = c.self.view_is } in
+    rw c.in-Called.is (put_called c.args.self.now on c.put-in-Called.new.self c.args.number c.put-in-Called.ensures)
 
 pub returns-in-Called-clause-slots : goal.returns-in-Called-clause-slots
 returns-in-Called-clause-slots c = are_slots c.self.inside.bases c.put-in-Called.new.self _ refl

@@ -1,7 +1,8 @@
 use Rattle.std.proofs.Common.{◌≡◌, sym, subst, ◌∙◌}
-use Rattle.air_model.specs.AwaitedLaws.{silent_awaited}
-use Rattle.air_model.specs.Channel.{Given, got_of}
-use Rattle.air_model.specs.Exchange.{AreLegalTags}
+use Rattle.air_model.specs.laws.AwaitedLaws.{silent_awaited}
+use Rattle.air_model.specs.Channel.{Given, IsReadBy, got_of}
+use Rattle.air_model.specs.Exchange.{AreLegalTags, replies_in}
+use Rattle.air_model.specs.laws.GivenLaws.{given_is_read}
 use Rattle.air_model.specs.Past.{next_record, past_behind_command, next_entry, tags_behind}
 use Rattle.air_model.specs.Reception.{HoldsOfSent, IsUnmistakable}
 use Rattle.air_model.specs.declared.got.Got.TheVariants.{Silence, Stream}
@@ -30,6 +31,8 @@ returns-in-Stream-clause-heard g c = λ start past round slot plays.
     let link = (c.send.ensures.plays start past round slot plays).link in
     let legal : AreLegalTags (tags_behind start past) = subst AreLegalTags plays.tags plays.legal in
     let unmistakable : HoldsOfSent (IsUnmistakable c.args.expect.now) given =
-    given-unmistakable start.several c.args.command.now c.args.expect.now c.args.extended (next_entry start past) (tags_behind start past) c.requires.expects
-    c.answers_are_replies.ensures.reply c.answers_are_replies.ensures.legal c.steps_keep_tags_legal.ensures.befallen legal in
-    heard-awaited start.link given c.send.new.air c.args.expect.now c.args.extended c.hear.result link (c.send.ensures.stream start past round slot plays) came unmistakable c.hear.ensures.received
+    given-unmistakable (record { rows = c.answers_are_replies.ensures.reply; range = c.answers_are_replies.ensures.legal; stays = c.steps_keep_tags_legal.ensures.befallen })
+    start c.args.command.now c.args.expect.now c.args.extended (next_entry start past) (tags_behind start past) c.requires.expects legal in
+    let read : IsReadBy start.link given =
+    given_is_read start.link (replies_in c.args.command.now (next_entry start past) (tags_behind start past)) (next_entry start past).choice start.several in
+    heard-awaited start.link given c.send.new.air c.args.expect.now c.args.extended c.hear.result link (c.send.ensures.stream start past round slot plays) came unmistakable read c.hear.ensures.received

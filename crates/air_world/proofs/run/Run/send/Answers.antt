@@ -1,8 +1,9 @@
-use Rattle.std.proofs.Common.{◌+◌, List, ◌++◌, sym, ap}
-use Rattle.air_model.specs.Past.{next_record}
+use Rattle.std.proofs.Common.{◌+◌, List, ◌++◌, sym, ap, ◌∙◌}
+use Rattle.air_events.specs.Entries.{entry_at}
+use Rattle.air_model.specs.Past.{Start, Item, next_record}
 use Rattle.air_world.proofs.Passing.{passes-same}
-use Rattle.air_world.proofs.Sending.{entry-next, entry-names, left-next, sent-plays, sent-lines, few-exchanges}
-use Rattle.air_world.specs.Playing.{RunValue}
+use Rattle.air_world.proofs.Sending.{Sends, cursor-stands, next-number, entry-names, entry-fits, sent-plays, sent-stream, sent-got, sent-lines, few-exchanges}
+use Rattle.air_world.specs.Playing.{RunValue, PlaysAt}
 use Rattle.air_world.specs.Telling.{exchange_lines}
 use Rattle.report_lines.specs.ReportLine.{ReportLine}
 use Rattle.air_world.proofs.run.Run.send.Goals as goal
@@ -10,32 +11,44 @@ use Rattle.air_world.proofs.run.Run.send.Goals as goal
 pub exchange-got-requires : goal.exchange-got-requires
 exchange-got-requires g c =
     let r = c.requires in
-    let cursor = ap (λ (run : RunValue). run.entries) (sym c.self.view_is) in
-    let number = ap (λ n. n + 1) c.exchanges.ensures in
+    let plays = r.at.plays in
+    let number = next-number r.start r.past c.args.air.now c.args.self.now _ plays (ap (λ n. n + 1) c.exchanges.ensures) in
+    let stands = cursor-stands r.start r.past c.args.air.now c.args.self.now _ plays (ap (λ (run : RunValue). run.entries) (sym c.self.view_is)) in
+    let entry_is = c.next_entry-entry.ensures.entry _ _ stands number ∙ ap (λ n. entry_at r.start.entries n) number in
     record {
-      named = entry-names r.start r.past c.args.air.now c.args.self.now _ r.at.plays
-          (entry-next r.start r.past c.args.air.now c.args.self.now _ _ _ r.at.plays cursor number c.next_entry-entry.ensures.entry);
+      named = entry-names r.start r.past c.args.air.now c.args.self.now _ plays entry_is;
+      few = entry-fits r.start r.past c.args.air.now c.args.self.now _ plays entry_is;
     }
 
-pub returns-clause-plays : goal.returns-clause-plays
-returns-clause-plays g c = λ start past round slot plays.
+pub returns : goal.returns
+returns g c =
     let r = c.requires in
-    let cursor = ap (λ (run : RunValue). run.entries) (sym c.self.view_is) in
-    let number = ap (λ n. n + 1) c.exchanges.ensures in
-    sent-plays start past round slot c.args.command.now c.args.air.now _ c.args.self.now _ _ _ plays c.exchange-got.ensures.air
-    (entry-next start past c.args.air.now c.args.self.now _ _ _ plays cursor number c.next_entry-entry.ensures.entry)
-    (left-next start past c.args.air.now c.args.self.now _ _ _ plays cursor number c.next_entry-entry.ensures.left)
-    (ap (λ (run : RunValue). record run { entries = c.next_entry-entry.new.self }) c.self.view_is)
-    c.exchange-got.ensures.legal
-    (few-exchanges r.start r.past c.args.air.now c.args.self.now 0 r.at.plays r.room)
-
-pub returns-clause-told : goal.returns-clause-told
-returns-clause-told g c = λ start past round slot before plays.
-    let r = c.requires in
-    let cursor = ap (λ (run : RunValue). run.entries) (sym c.self.view_is) in
-    let number = ap (λ n. n + 1) c.exchanges.ensures in
-    let lines = sent-lines start past round slot c.args.command.now c.args.air.now _ c.args.self.now _ plays c.exchange-got.ensures.air
-    (entry-next start past c.args.air.now c.args.self.now _ _ _ plays cursor number c.next_entry-entry.ensures.entry)
-    (few-exchanges r.start r.past c.args.air.now c.args.self.now 0 r.at.plays r.room) in
-    passes-same g.R.Listener.hears before _ (before ++ exchange_lines start (next_record start round slot c.args.command.now past)) _ _ (ap (λ (l : List ReportLine). before ++ l) lines)
-    (c.tell_exchange.ensures before)
+    let air = c.args.air.now in
+    let run = c.args.self.now in
+    let command = c.args.command.now in
+    let number = λ (start : Start) (past : List Item) (plays : PlaysAt start past air run). next-number start past air run _ plays (ap (λ n. n + 1) c.exchanges.ensures) in
+    let stands = λ (start : Start) (past : List Item) (plays : PlaysAt start past air run).
+    cursor-stands start past air run _ plays (ap (λ (run : RunValue). run.entries) (sym c.self.view_is)) in
+    let made : (start : Start) (past : List Item) → PlaysAt start past air run → Sends start past command = λ start past plays. record {
+      air = air;
+      run = run;
+      next = c.exchange-got.new.self;
+      entry = c.next_entry-entry.result.now;
+      plays = plays;
+      is = c.exchange-got.ensures.air;
+      entry_is = c.next_entry-entry.ensures.entry _ _ (stands start past plays) (number start past plays) ∙ ap (λ n. entry_at start.entries n) (number start past plays);
+      legal = c.exchange-got.ensures.legal;
+      few = few-exchanges r.start r.past air run 0 r.at.plays r.room;
+    } in
+    record {
+      plays = λ start past round slot plays.
+          sent-plays start past round slot command (made start past plays) _
+          (ap (λ (run : RunValue). record run { entries = c.next_entry-entry.new.self }) c.self.view_is)
+          (rw (← number start past plays) (c.next_entry-entry.ensures.left _ _ (stands start past plays) (number start past plays)));
+      rest = ap (λ (run : RunValue). record run { entries = c.next_entry-entry.new.self }) c.self.view_is;
+      stream = λ start past round slot plays. sent-stream start past round slot command (made start past plays);
+      got = λ start past round slot plays. c.exchange-got.ensures.got ∙ sent-got start past round slot command (made start past plays);
+      told = λ start past round slot before plays.
+          passes-same g.R.Listener.hears before _ (before ++ exchange_lines start (next_record start round slot command past)) _ _
+          (ap (λ (l : List ReportLine). before ++ l) (sent-lines start past round slot command (made start past plays))) (c.tell_exchange.ensures before);
+    }

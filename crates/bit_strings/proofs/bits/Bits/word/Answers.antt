@@ -1,6 +1,6 @@
 use Rattle.std.proofs.Common.{arith, length-take, drop}
 use Rattle.bit_strings.specs.Numbers.{part_of}
-use Rattle.bit_strings.specs.NumberLaws.{value_of-within}
+use Rattle.bit_strings.specs.laws.Numbers.{value_of-within}
 use Rattle.bit_strings.proofs.bits.Bits.word.Goals as goal
 
 pub overflow_cast-result : goal.overflow_cast-result

@@ -13,7 +13,7 @@ pub returns-then-bits-eq0 : goal.returns-then-bits-eq0
 returns-then-bits-eq0 c =
     let all = value_push c.self.inside.bits c.self.inside.count c.from.result c.args.self c.args.bit c.self.view_is c.self.invariant.0 c.from.ensures in
     let w = whole_front c.args.self c.args.bit (2 * c.self.inside.bits + c.from.result) (front_as _ c.args.self c.self.view_is c.self.invariant.1) c.requires all c.if-bits-eq0.true in
-    subst (λ (number : ℕ). IsEbv number (c.args.self ++ c.args.bit ∷ [])) (sym (c.number_of.ensures w.0 (c.args.self ++ c.args.bit ∷ []) w.1 all)) w.1
+    subst (λ (number : ℕ). IsEbv number (c.args.self ++ c.args.bit ∷ [])) (sym (c.number_of_blocks.ensures w.0 (c.args.self ++ c.args.bit ∷ []) w.1 all)) w.1
 
 pub returns-then-bits-eq-NOTHING : goal.returns-then-bits-eq-NOTHING
 returns-then-bits-eq-NOTHING c =

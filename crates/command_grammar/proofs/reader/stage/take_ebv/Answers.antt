@@ -1,6 +1,6 @@
 use Rattle.std.proofs.Common.{◌++◌, ◌∷◌, [], subst, sym}
 use Rattle.bit_strings.specs.Ebv.{IsCutEbv}
-use Rattle.bit_strings.specs.EbvLaws.{below-ebv}
+use Rattle.bit_strings.specs.laws.Ebv.{below-ebv}
 use Rattle.command_grammar.proofs.reading.FieldStages.{ebv_run, ebv_whole, ebv_stops}
 use Rattle.command_grammar.proofs.reading.EbvFronts.{no_ebv_behind}
 use Rattle.command_grammar.proofs.reader.stage.take_ebv.Goals as goal

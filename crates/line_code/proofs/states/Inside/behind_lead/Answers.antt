@@ -1,5 +1,5 @@
 use Rattle.std.proofs.Common.{refl}
-use Rattle.line_code.proofs.Reading.{reads_none}
+use Rattle.line_code.specs.laws.Reading.{reads_none}
 use Rattle.line_code.proofs.states.Inside.behind_lead.Goals as goal
 
 pub returns : goal.returns

@@ -1,6 +1,6 @@
 use Rattle.std.proofs.Common.{true, [], ◌∷◌, ◌++◌, length, ap, ◌∙◌, refl, arith, length-append}
 use Rattle.std.proofs.lemmas.Bool.{both_ways}
-use Rattle.line_code.proofs.Reading.{reads_short, reads_whole}
+use Rattle.line_code.specs.laws.Reading.{reads_short, reads_whole}
 use Rattle.line_code.proofs.Buffer.{popped}
 use Rattle.line_code.proofs.states.Inside.end.Goals as goal
 

@@ -2,8 +2,8 @@ use Rattle.std.proofs.Common.{◌≡◌, ◌≢◌, ◌+◌, ◌↔◌, inl, inr
 use Rattle.std.proofs.lemmas.Bool.{both_ways}
 use Rattle.bit_strings.specs.BitString.{BitString}
 use Rattle.line_code.specs.States.{InsideValue, fits_of}
-use Rattle.line_code.proofs.Reading.{reads_bad, reads_more, reads_bit, further}
-use Rattle.line_code.proofs.Answered.{each_bit, chosen}
+use Rattle.line_code.specs.laws.Reading.{reads_bad, reads_more, reads_bit, further}
+use Rattle.line_code.specs.laws.LevelTests.{each_bit, chosen}
 use Rattle.line_code.proofs.states.Inside.push.Goals as goal
 
 pub returns-then-not-one_fits-clause-answer : goal.returns-then-not-one_fits-clause-answer

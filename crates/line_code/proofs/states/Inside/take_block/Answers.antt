@@ -2,7 +2,7 @@
 use Rattle.std.proofs.Common.{◌≡◌, ◌∙◌, ap}
 use Rattle.bit_strings.specs.BitString.{BitString}
 use Rattle.line_code.specs.States.{InsideValue}
-use Rattle.line_code.proofs.Reading.{reads_block}
+use Rattle.line_code.specs.laws.Reading.{reads_block}
 use Rattle.line_code.proofs.states.Inside.take_block.Goals as goal
 
 pub returns-clause-reads : goal.returns-clause-reads

@@ -1,4 +1,4 @@
-use Rattle.line_code.proofs.LeadLevels.{seeks_short}
+use Rattle.line_code.specs.laws.Lead.{seeks_short}
 use Rattle.line_code.proofs.states.Seeking.end.Goals as goal
 
 pub returns-clause-refused : goal.returns-clause-refused

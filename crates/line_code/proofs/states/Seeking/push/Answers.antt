@@ -1,7 +1,7 @@
 use Rattle.std.proofs.Common.{◌≡◌, ◌+◌, Bool, List, [], length, arith, sym, subst}
 use Rattle.line_code.specs.States.{Reads}
-use Rattle.line_code.proofs.LeadLevels.{seeks_bad, seeks_more, seeks_size, lead_all, lead_level, lead_other, lead_size}
-use Rattle.line_code.proofs.Answered.{differs, agrees}
+use Rattle.line_code.specs.laws.Lead.{seeks_bad, seeks_more, seeks_size, lead_all, lead_level, lead_other, lead_size}
+use Rattle.line_code.specs.laws.LevelTests.{differs, agrees}
 use Rattle.line_code.proofs.states.Seeking.push.Goals as goal
 
 pub returns-then-lead-level : goal.returns-then-lead-level

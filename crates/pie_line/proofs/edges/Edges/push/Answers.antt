@@ -1,7 +1,8 @@
-use Rattle.std.proofs.Common.{refl, subst}
+use Rattle.std.proofs.Common.{Err, refl, subst}
 use Rattle.pie_line.specs.FrameState.{Moves}
 use Rattle.pie_line.proofs.Leads.{leads-refused}
 use Rattle.pie_line.proofs.DecoderStandsFor.{stands-at, refused-again, answers-bit, answers-more}
+use Rattle.pie_line.proofs.OneAnswer.{refused_so}
 use Rattle.pie_line.proofs.edges.Edges.push.Goals as goal
 use Rattle.pie_line.proofs.edges.Edges.push.Goals.{in-Some-bit, in-None}
 
@@ -28,3 +29,13 @@ returns-clause-answer c = rw (← c.self.view_is) (λ bits xs s.
           let m' = subst (Moves place x next) w.in-None.is m in
           rw w.result-is (answers-more place next bits xs x c.self.inside.count at m')
     ])
+
+pub returns-in-Err-clause-only : goal.returns-in-Err-clause-only
+returns-in-Err-clause-only c = λ bits xs refusal place s refused. refused_so _ _ bits _ refusal place (returns-in-Err-clause-answer c bits xs s) refused
+
+pub returns-in_default-clause-only : goal.returns-in_default-clause-only
+returns-in_default-clause-only c = λ bits xs refusal place s refused.
+    refused_so _ (record { standing = Err c.refusal_of-refusal.result; count = c.self.inside.count }) bits _ refusal place (returns-in_default-clause-answer c bits xs s) refused
+
+pub returns-clause-only : goal.returns-clause-only
+returns-clause-only c = λ bits xs refusal place s refused. refused_so _ _ bits _ refusal place (returns-clause-answer c bits xs s) refused

@@ -1,10 +1,10 @@
 -- What the next line says, or the first reason for which it may not stand there.
 use Rattle.std.proofs.Common.{rules, subst, sym}
 use Rattle.text_fields.specs.Lines.{fields_of}
-use Rattle.scenario_lines.specs.declared.first_fields.Word.{Word}
+use Rattle.scenario_lines.specs.declared.first_fields.Keyword.{Keyword}
 use Rattle.scenario_lines.specs.declared.line.Line.{Line}
 use Rattle.scenario_lines.specs.LineFaults.{BeginsWith, IsFaultyLine, SpellsLine}
-use Rattle.scenario_lines.specs.Spelling.{word_of_line}
+use Rattle.scenario_lines.specs.Spelling.{keyword_of}
 use Rattle.scenario.specs.declared.fault.Fault.TheVariants as faults
 use Rattle.scenario.specs.Faults.{DisagreesAt, IsFaultyAt}
 use Rattle.scenario.specs.Standing.{HasRoom, MayStand}
@@ -15,24 +15,24 @@ use Rattle.scenario.proofs.progress.Progress.said_behind_first.Goals as goal
 
 pub returns-in_default-clause-only : goal.returns-in_default-clause-only
 returns-in_default-clause-only c = λ said spells follows.
-    c.in_default.ensures.none (word_of_line said) (spelled_begins (fields_of c.args.line.now) said spells)
+    c.in_default.ensures.none (keyword_of said) (spelled_begins (fields_of c.args.line.now) said spells)
 
 pub returns-in_default-clause-refused : goal.returns-in_default-clause-refused
-returns-in_default-clause-refused c = λ word begins stands. c.in_default.ensures.none word begins
+returns-in_default-clause-refused c = λ keyword begins stands. c.in_default.ensures.none keyword begins
 
 pub returns-in_err-said-clause-refused : goal.returns-in_err-said-clause-refused
 returns-in_err-said-clause-refused c =
     let standing = standing_of c.args.self.now in
     let fields = fields_of c.args.line.now in
-    let word = c.word-word.result in
+    let keyword = c.keyword-keyword.result in
     let reason = c.in_err-said.field-0.0 in
     let cause = c.from_residual in
-    let begins = subst (λ f. BeginsWith f word) c.in-Some.ensures.value c.word-word.ensures.value in
+    let begins = subst (λ f. BeginsWith f keyword) c.in-Some.ensures.value c.keyword-keyword.ensures.value in
     let faulty = subst (λ f. IsFaultyLine f reason) c.in-Some.ensures.value c.in_err-said.ensures.refused in
-    let stands : MayStand standing word = search rules in
-    let room : HasRoom standing word = search rules in
+    let stands : MayStand standing keyword = search rules in
+    let room : HasRoom standing keyword = search rules in
     of_fault (IsFaultyAt standing fields) cause.result (faults.Line reason) cause.ensures.1
-    (no_line standing fields (record { word = word; begins = begins; stands = stands; room = room }) reason faulty)
+    (no_line standing fields (record { keyword = keyword; begins = begins; stands = stands; room = room }) reason faulty)
 
 pub returns-in_err-agree-clause-refused : goal.returns-in_err-agree-clause-refused
 returns-in_err-agree-clause-refused c =
@@ -42,12 +42,12 @@ returns-in_err-agree-clause-refused c =
     let fault = c.in_err-agree.field-0.0 in
     let cause = c.from_residual-in_err-agree in
     let spells = subst (λ f. SpellsLine f said) c.in-Some.ensures.value c.in_ok-said.ensures.ok in
-    let same = c.word-word.ensures.only (word_of_line said) (spelled_begins c.in-Some.begun said c.in_ok-said.ensures.ok) in
-    let stands : MayStand standing c.word-word.result = search rules in
-    let room : HasRoom standing c.word-word.result = search rules in
+    let same = c.keyword-keyword.ensures.only (keyword_of said) (spelled_begins c.in-Some.begun said c.in_ok-said.ensures.ok) in
+    let stands : MayStand standing c.keyword-keyword.result = search rules in
+    let room : HasRoom standing c.keyword-keyword.result = search rules in
     of_fault (IsFaultyAt standing fields) cause.result fault cause.ensures.1
-    (unfit standing fields said spells (subst (λ (word : Word). MayStand standing word) (sym same) stands)
-    (subst (λ (word : Word). HasRoom standing word) (sym same) room) fault c.in_err-agree.ensures.disagrees)
+    (unfit standing fields said spells (subst (λ (keyword : Keyword). MayStand standing keyword) (sym same) stands)
+    (subst (λ (keyword : Keyword). HasRoom standing keyword) (sym same) room) fault c.in_err-agree.ensures.disagrees)
 
 pub returns-in_err-agree-clause-only : goal.returns-in_err-agree-clause-only
 returns-in_err-agree-clause-only c = λ said spells follows.
@@ -61,14 +61,14 @@ returns-clause-ok c =
     let standing = standing_of c.args.self.now in
     let said = c.in_ok-said.said in
     let spells = subst (λ f. SpellsLine f said) c.in-Some.ensures.value c.in_ok-said.ensures.ok in
-    let same = c.word-word.ensures.only (word_of_line said) (spelled_begins c.in-Some.begun said c.in_ok-said.ensures.ok) in
-    let stands : MayStand standing c.word-word.result = search rules in
-    let room : HasRoom standing c.word-word.result = search rules in (
+    let same = c.keyword-keyword.ensures.only (keyword_of said) (spelled_begins c.in-Some.begun said c.in_ok-said.ensures.ok) in
+    let stands : MayStand standing c.keyword-keyword.result = search rules in
+    let room : HasRoom standing c.keyword-keyword.result = search rules in (
       spells,
       record {
         is = spells.is;
-        stands = subst (λ (word : Word). MayStand standing word) (sym same) stands;
-        room = subst (λ (word : Word). HasRoom standing word) (sym same) room;
+        stands = subst (λ (keyword : Keyword). MayStand standing keyword) (sym same) stands;
+        room = subst (λ (keyword : Keyword). HasRoom standing keyword) (sym same) room;
         agrees = c.in_ok-agree.ensures.ok;
       },
     )

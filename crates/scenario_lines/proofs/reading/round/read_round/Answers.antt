@@ -3,14 +3,15 @@ use Rattle.std.proofs.Common.{arith}
 use Rattle.std.specs.Fmt.{decimal}
 use Rattle.command_text.specs.CommandText.{side_word}
 use Rattle.scenario_lines.specs.Names.{sel_text}
-use Rattle.scenario_lines.proofs.Filled.{number_text, sel_text_is, side_text_is}
-use Rattle.scenario_lines.proofs.Counted.{have_6}
+use Rattle.scenario_lines.proofs.Filled.{number_text, sel_text_is}
+use Rattle.command_text.specs.laws.FieldTexts.{side_is}
+use Rattle.text_fields.specs.laws.FilledFields.{have_6}
 use Rattle.scenario_lines.proofs.reading.round.read_round.Goals as goal
 
 pub returns-in_default-clause-only : goal.returns-in_default-clause-only
 returns-in_default-clause-only c = λ spec is spells.
     c.in_default.ensures.only (sel_text spec.sel) (decimal spec.session) (side_word spec.target) (decimal spec.q) (decimal spec.c) (decimal spec.limit)
-    spells (sel_text_is spec.sel is.named).filled (number_text spec.session (omega arith)).filled (side_text_is spec.target).filled
+    spells (sel_text_is spec.sel is.named).filled (number_text spec.session (omega arith)).filled (side_is spec.target).filled
     (number_text spec.q (omega arith)).filled (number_text spec.c (omega arith)).filled (number_text spec.limit (omega arith)).filled
 
 pub returns-in_default-clause-refused : goal.returns-in_default-clause-refused

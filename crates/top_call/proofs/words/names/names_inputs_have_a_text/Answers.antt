@@ -2,10 +2,10 @@
 use Rattle.std.proofs.Common.{◌≡◌, ℕ, ◌+◌, ◌≤◌, List, [], ◌∷◌, ◌++◌, length, refl, ap, arith, inl, inr}
 use Rattle.text_fields.specs.Lines.{lines_of}
 use Rattle.text_fields.specs.FaultLine.{fault_line}
-use Rattle.decode_lines.specs.DecodeLines.{reason_word}
+use Rattle.checked_lines.specs.LineRules.{reason_word}
 use Rattle.top_call.specs.Job.{Defines}
 use Rattle.top_call.specs.words.Named.{IsCutAt, names_job}
-use Rattle.decode_lines.specs.declared.fault.FaultReason.TheVariants.{End}
+use Rattle.checked_lines.specs.declared.fault.FaultReason.TheVariants.{End}
 use Rattle.text_fields.specs.LineLaws.{some_line}
 use Rattle.top_call.proofs.NamedLines.{BecomeSome, some_names}
 use Rattle.top_call.proofs.words.names.names_inputs_have_a_text.Goals as goal

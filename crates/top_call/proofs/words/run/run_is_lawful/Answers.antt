@@ -9,7 +9,11 @@ returns c mode = record {
   not_refused = text_not_refused c.scenario_texts_are_not_faulty.ensures;
   unread = λ unread bytes text refused. absurd (cc);
   kept = λ bytes text writes. record {
-    headline = record { reports = writes; headline = c.headline.ensures.scenario mode writes.scenario writes.legal };
+    headline = record {
+      reports = writes;
+      headline = c.headline.ensures.scenario mode writes.scenario writes.legal;
+      heard_as_listed = c.headline.ensures.heard_as_listed mode writes.scenario writes.legal;
+    };
     inventory = record { reports = writes; rounds = c.rounds_are_complete.ensures writes.scenario writes.legal };
   };
 }

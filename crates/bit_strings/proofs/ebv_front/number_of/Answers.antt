@@ -1,5 +1,0 @@
-use Rattle.bit_strings.proofs.EbvReading.{number_in_is}
-use Rattle.bit_strings.proofs.ebv_front.number_of.Goals as goal
-
-pub returns : goal.returns
-returns c = λ number vector ebv same. number_in_is c.args.bits number vector ebv same

@@ -1,0 +1,3 @@
+pub mod LineRules
+pub mod Answered
+pub mod laws

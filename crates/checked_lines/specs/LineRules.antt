@@ -1,0 +1,71 @@
+-- Profile: texts of which each line asks for something and is answered by a line: the answers to all of them, or the first
+-- faulty line.
+use Rattle.std.specs.Prelude.{◌≡◌, ◌≢◌, ℕ, ◌+◌, List, [], ◌∷◌, ◌++◌, length, codes}
+use Rattle.std.specs.List.{AllZip, flat_map}
+use Rattle.text_fields.specs.FaultLine.{fault_line}
+use Rattle.text_fields.specs.Lines.{lines_of, fields_of}
+use Rattle.checked_lines.specs.declared.fault.FaultReason.{FaultReason}
+use Rattle.checked_lines.specs.declared.fault.FaultReason.TheVariants.{End, Word, Shape, Number}
+use Rattle.checked_lines.specs.declared.fault.FaultyLine.{FaultyLine}
+
+-- What is said of one line, where R is what lines ask for and A what is answered.
+pub record LineRules (R A : Type 0) : Type 1 where
+  -- the line asks for this
+  pub asks : List ℕ → R → Type 0
+  -- the first reason for which the fields of a line that has its line feed ask for nothing
+  pub is_faulty : List (List ℕ) → FaultReason → Type 0
+  -- the answer is one to the request
+  pub answers : R → A → Type 0
+  -- an answer as a line, with its line feed
+  pub line_of : A → List ℕ
+
+-- the bytes are lines that ask for these requests, in order, and nothing stands behind the last line feed
+pub record AskFor {R A : Type 0} (rules : LineRules R A) (bytes : List ℕ) (requests : List R) : Type 0 where
+  pub lines : List (List ℕ)
+  pub cut : lines_of bytes ≡ lines ++ [] ∷ []
+  pub each : AllZip rules.asks lines requests
+
+-- the bytes ask for something, line by line
+abbrev pub AskForSome : {R A : Type 0} → LineRules R A → List ℕ → Type 0
+AskForSome {R} rules bytes = (requests : List R) × AskFor rules bytes requests
+
+-- the text is the answers to the requests, each on a line of its own, in order
+pub record AreAnswers {R A : Type 0} (rules : LineRules R A) (requests : List R) (text : List ℕ) : Type 0 where
+  pub answers : List A
+  pub each : AllZip rules.answers requests answers
+  pub lines : text ≡ flat_map rules.line_of answers
+
+-- the text is the answers to the lines of the bytes
+pub record Answers {R A : Type 0} (rules : LineRules R A) (bytes text : List ℕ) : Type 0 where
+  pub requests : List R
+  pub asks : AskFor rules bytes requests
+  pub answers : AreAnswers rules requests text
+
+-- the first reason for which a line is faulty, by the lines behind it: a line with none behind it has no line feed
+abbrev pub IsFaultyBefore : {R A : Type 0} → LineRules R A → List (List ℕ) → List ℕ → FaultReason → Type 0
+IsFaultyBefore rules [] line reason = (line ≢ []) × (reason ≡ End)
+IsFaultyBefore rules (next ∷ lines) line reason = rules.is_faulty (fields_of line) reason
+
+-- the first faulty line of the bytes, counted from 1, with its first reason
+pub record IsFirstFault {R A : Type 0} (rules : LineRules R A) (bytes : List ℕ) (fault : FaultyLine) : Type 0 where
+  pub before : List (List ℕ)
+  pub asked : List R
+  pub line : List ℕ
+  pub behind : List (List ℕ)
+  pub cut : lines_of bytes ≡ before ++ line ∷ behind
+  pub spelled : AllZip rules.asks before asked
+  pub number : fault.line ≡ length before + 1
+  pub faulty : IsFaultyBefore rules behind line fault.reason
+
+-- what a reason is called
+abbrev pub reason_word : FaultReason → List ℕ
+reason_word End = codes "end"
+reason_word Word = codes "word"
+reason_word Shape = codes "shape"
+reason_word Number = codes "number"
+
+-- the text is the fault line of the bytes
+pub record IsFaultText {R A : Type 0} (rules : LineRules R A) (bytes text : List ℕ) : Type 0 where
+  pub fault : FaultyLine
+  pub first : IsFirstFault rules bytes fault
+  pub line : text ≡ fault_line fault.line (reason_word fault.reason)

@@ -1,0 +1,23 @@
+-- What the fields spell is read.
+use Rattle.std.proofs.Common.{◌≡◌, ◌∷◌, rules}
+use Rattle.text_fields.specs.NamedFields.{AreFilled}
+use Rattle.text_fields.specs.laws.NamedFieldLaws.{spelled_behind, wrong_shape}
+use Rattle.text_fields.specs.declared.fields_fault.FieldsFault.TheVariants.{Shape}
+use Rattle.command_grammar.specs.Commands.{IsLegalCommand}
+use Rattle.command_text.specs.CommandText.{command_field_count, command_name, commands}
+use Rattle.command_text.specs.laws.CommandTexts.{command_is_not_faulty, command_told, commands_are}
+use Rattle.command_text.proofs.reading.read_command.Goals as goal
+
+pub returns-then-not-are_filled-clause-only : goal.returns-then-not-are_filled-clause-only
+returns-then-not-are_filled-clause-only c = λ command is.
+    let first : c.args.fields ≡ command_name c.in-Some-command_named.kind ∷ c.next.new.self = search rules in
+    let wrong : AreFilled (command_field_count c.in-Some-command_named.kind) c.next.new.self → ⊥ = λ are. search rules in
+    absurd (command_is_not_faulty c.args.fields command Shape is
+    (wrong_shape commands IsLegalCommand commands_are c.in-Some-command_named.kind c.args.fields c.next.new.self first wrong))
+
+pub returns-in-Some-read_behind-clause-only : goal.returns-in-Some-read_behind-clause-only
+returns-in-Some-read_behind-clause-only c = λ command is.
+    let first : c.args.fields ≡ command_name c.in-Some-command_named.kind ∷ c.next.new.self = search rules in
+    command_told c.args.fields c.in-Some-read_behind.command command
+    (spelled_behind commands IsLegalCommand c.in-Some-command_named.kind c.args.fields c.next.new.self c.in-Some-read_behind.command first
+    c.in-Some-read_behind.ensures.value) is

@@ -1,0 +1,50 @@
+-- Fields spell one command, or are faulty for one reason.
+use Rattle.std.proofs.Common.{◌≡◌, ℕ, List, length, refl, sym, ◌∙◌}
+use Rattle.text_fields.specs.Lines.{fields_of}
+use Rattle.text_fields.specs.NamedFields.{AreFilled}
+use Rattle.text_fields.specs.laws.NamedFieldLaws.{IsVocabulary, one_fault, same_behind, spelling_is_not_faulty, texts_come_back, texts_filled}
+use Rattle.text_fields.specs.declared.fields_fault.FieldsFault.{FieldsFault}
+use Rattle.command_grammar.specs.Commands.{IsLegalCommand}
+use Rattle.command_grammar.specs.declared.commands.Command.{Command}
+use Rattle.command_grammar.specs.declared.commands.Command.TheVariants.{QueryRep, Ack, Query, QueryAdjust, Select, Nak, ReqRn, Read, Write, Kill, Lock, Access, BlockWrite, BlockErase}
+use Rattle.command_text.specs.CommandText.{IsCommandText, IsFaultyCommand, command_field_count, command_fields, command_kind, command_line, command_name, commands, other_command_fields}
+use Rattle.command_text.specs.laws.FieldTexts.{command_texts, other_texts}
+use Rattle.command_text.specs.laws.ToldApart.{command_name_told, others_told}
+
+-- a command has as many fields as its name says
+counted : (command : Command) → command_field_count (command_kind command) ≡ length (other_command_fields command)
+counted (QueryRep session) = refl
+counted (Ack rn) = refl
+counted (Query dr code trext sel session target q) = refl
+counted (QueryAdjust session updn) = refl
+counted (Select target action bank pointer mask) = refl
+counted Nak = refl
+counted (ReqRn rn) = refl
+counted (Read bank pointer count rn) = refl
+counted (Write bank pointer covered rn) = refl
+counted (Kill covered rn) = refl
+counted (Lock payload rn) = refl
+counted (Access covered rn) = refl
+counted (BlockWrite bank pointer words rn) = refl
+counted (BlockErase bank pointer count rn) = refl
+
+filled : (command : Command) → IsLegalCommand command → AreFilled (command_field_count (command_kind command)) (other_command_fields command)
+filled command is = texts_filled (other_command_fields command) (command_field_count (command_kind command)) (other_texts command is).are (counted command)
+
+pub commands_are : IsVocabulary commands IsLegalCommand
+commands_are = record { told = command_name_told; filled = filled }
+
+pub command_told : (fields : List (List ℕ)) (one other : Command) → IsCommandText fields one → IsCommandText fields other → one ≡ other
+command_told fields one other is is' =
+    let same = same_behind (command_name (command_kind one)) (command_name (command_kind other)) (other_command_fields one) (other_command_fields other)
+    (sym is.spelling ∙ is'.spelling) in
+    others_told one other is.in_range is'.in_range (command_name_told (command_kind one) (command_kind other) same.0) same.1
+
+pub command_comes_back : (command : Command) → IsLegalCommand command → fields_of (command_line command) ≡ command_fields command
+command_comes_back command is = texts_come_back (command_name (command_kind command)) (other_command_fields command) (command_texts command is)
+
+pub command_is_not_faulty : (fields : List (List ℕ)) (command : Command) (fault : FieldsFault) → IsCommandText fields command → IsFaultyCommand fields fault → ⊥
+command_is_not_faulty fields command fault = spelling_is_not_faulty commands IsLegalCommand commands_are fields command fault
+
+pub one_command_fault : (fields : List (List ℕ)) (one other : FieldsFault) → IsFaultyCommand fields one → IsFaultyCommand fields other → one ≡ other
+one_command_fault fields one other = one_fault commands IsLegalCommand fields one other

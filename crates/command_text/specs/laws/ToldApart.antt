@@ -1,0 +1,223 @@
+-- Two values of a command's field are not spelled alike, nor are two commands.
+use Rattle.std.proofs.Common.{◌≡◌, ◌<◌, ◌≤◌, ◌/◌, ◌%◌, ℕ, Bool, true, false, List, [], ◌∷◌, length, get_or, ap, arith, refl}
+use Rattle.std.specs.Fmt.{decimal}
+use Rattle.std.specs.List.{AllByRecursion}
+use Rattle.std.proofs.lemmas.Bool.Decides.{nat_tests}
+use Rattle.std.proofs.lemmas.List.Elements.{All-from_recursion, recursion_from_All}
+use Rattle.bit_strings.specs.declared.code.Code.{Code}
+use Rattle.bit_strings.specs.declared.code.Code.TheVariants as line_codes
+use Rattle.text_fields.specs.Binary.{binary_digit}
+use Rattle.text_fields.specs.Hexadecimal.{hex_digit, hex_word}
+use Rattle.text_fields.specs.CodeNames.{code_word}
+use Rattle.text_fields.specs.WordLists.{IsWordList}
+use Rattle.text_fields.specs.ToldApart.{binary_told, decimal_told, hex_word_told, hex_words_told}
+use Rattle.text_fields.specs.laws.NamedFieldLaws.{same_behind}
+use Rattle.command_fields.specs.declared.choices.Sel.{Sel}
+use Rattle.command_fields.specs.declared.choices.Sel.TheVariants as sels
+use Rattle.command_fields.specs.declared.choices.Side.{Side}
+use Rattle.command_fields.specs.declared.choices.Side.TheVariants as sides
+use Rattle.command_fields.specs.declared.choices.UpDn.{UpDn}
+use Rattle.command_fields.specs.declared.choices.UpDn.TheVariants as updns
+use Rattle.command_fields.specs.declared.choices.Bank.{Bank}
+use Rattle.command_fields.specs.declared.choices.Bank.TheVariants as banks
+use Rattle.command_fields.specs.declared.choices.MaskBank.{MaskBank}
+use Rattle.command_fields.specs.declared.choices.MaskBank.TheVariants as mask_banks
+use Rattle.command_fields.specs.declared.choices.FlagName.{FlagName}
+use Rattle.command_fields.specs.declared.choices.FlagName.TheVariants as flags
+use Rattle.command_grammar.specs.Commands.{IsLegalCommand, IsWord}
+use Rattle.command_grammar.specs.declared.kinds.CommandKind.{CommandKind}
+use Rattle.command_grammar.specs.declared.kinds.CommandKind.TheVariants as kinds
+use Rattle.command_grammar.specs.declared.commands.Command.{Command}
+use Rattle.command_grammar.specs.declared.commands.Command.TheVariants.{QueryRep, Ack, Query, QueryAdjust, Select, Nak, ReqRn, Read, Write, Kill, Lock, Access, BlockWrite, BlockErase}
+use Rattle.command_text.specs.CommandText.{bank_word, command_kind, command_name, flag_word, mask_bank_word, other_command_fields, payload_digits, sel_word, side_word, updn_word}
+
+-- the letter at a place of two equal texts
+letter : (place : ℕ) (one other : List ℕ) → one ≡ other → get_or one place 0 ≡ get_or other place 0
+letter place one other same = ap (λ (text : List ℕ). get_or text place 0) same
+
+pub flag_told : (one other : FlagName) → flag_word one ≡ flag_word other → one ≡ other
+flag_told flags.S0 flags.S0 same = refl
+flag_told flags.S1 flags.S1 same = refl
+flag_told flags.S2 flags.S2 same = refl
+flag_told flags.S3 flags.S3 same = refl
+flag_told flags.Sl flags.Sl same = refl
+flag_told one other same = absurd (omega (arith, letter 0 _ _ same, letter 1 _ _ same))
+
+pub mask_bank_told : (one other : MaskBank) → mask_bank_word one ≡ mask_bank_word other → one ≡ other
+mask_bank_told mask_banks.Epc mask_banks.Epc same = refl
+mask_bank_told mask_banks.Tid mask_banks.Tid same = refl
+mask_bank_told mask_banks.User mask_banks.User same = refl
+mask_bank_told one other same = absurd (omega (arith, letter 0 _ _ same))
+
+pub bank_told : (one other : Bank) → bank_word one ≡ bank_word other → one ≡ other
+bank_told banks.Reserved banks.Reserved same = refl
+bank_told banks.Epc banks.Epc same = refl
+bank_told banks.Tid banks.Tid same = refl
+bank_told banks.User banks.User same = refl
+bank_told one other same = absurd (omega (arith, letter 0 _ _ same))
+
+pub side_told : (one other : Side) → side_word one ≡ side_word other → one ≡ other
+side_told sides.A sides.A same = refl
+side_told sides.B sides.B same = refl
+side_told one other same = absurd (omega (arith, letter 0 _ _ same))
+
+pub sel_told : (one other : Sel) → sel_word one ≡ sel_word other → one ≡ other
+sel_told sels.All00 sels.All00 same = refl
+sel_told sels.All01 sels.All01 same = refl
+sel_told sels.NotSl sels.NotSl same = refl
+sel_told sels.Sl sels.Sl same = refl
+sel_told one other same = absurd (omega (arith, letter 0 _ _ same, letter 1 _ _ same))
+
+pub updn_told : (one other : UpDn) → updn_word one ≡ updn_word other → one ≡ other
+updn_told updns.Up updns.Up same = refl
+updn_told updns.Same updns.Same same = refl
+updn_told updns.Down updns.Down same = refl
+updn_told one other same = absurd (omega (arith, letter 0 _ _ same))
+
+pub code_told : (one other : Code) → code_word one ≡ code_word other → one ≡ other
+code_told line_codes.Fm0 line_codes.Fm0 same = refl
+code_told line_codes.M2 line_codes.M2 same = refl
+code_told line_codes.M4 line_codes.M4 same = refl
+code_told line_codes.M8 line_codes.M8 same = refl
+code_told one other same = absurd (omega (arith, letter 0 _ _ same, letter 1 _ _ same))
+
+pub digit_told : (one other : Bool) → binary_digit one ≡ binary_digit other → one ≡ other
+digit_told false false same = refl
+digit_told true true same = refl
+digit_told one other same = absurd (omega arith)
+
+pub bit_told : (one other : Bool) → binary_digit one ∷ [] ≡ binary_digit other ∷ [] → one ≡ other
+bit_told one other same =
+    let digits : binary_digit one ≡ binary_digit other = cc in
+    digit_told one other digits
+
+hex_digit_told : (m n : ℕ) → m < 16 → n < 16 → hex_digit m ≡ hex_digit n → m ≡ n
+hex_digit_told m n small small' same = grind (arith, nat_tests)
+
+-- the two parts of a payload
+pub payload_told : (one other : ℕ) → one ≤ 1048575 → other ≤ 1048575 → payload_digits one ≡ payload_digits other → one ≡ other
+payload_told one other small small' same =
+    let first : hex_digit (one / 65536) ≡ hex_digit (other / 65536) = cc in
+    let rest : hex_word (one % 65536) ≡ hex_word (other % 65536) = cc in
+    let upper = hex_digit_told (one / 65536) (other / 65536) (omega arith) (omega arith) first in
+    let lower = hex_word_told (one % 65536) (other % 65536) (omega arith) (omega arith) rest in
+    omega arith
+
+-- the words of a BlockWrite: as a field counts them, and as the command does
+abbrev pub AreBlock : List ℕ → Type 0
+AreBlock words = (1 ≤ length words) × (length words ≤ 255) × AllByRecursion IsWord words
+
+pub block_of_list : (words : List ℕ) → IsWordList 1 255 words → AreBlock words
+block_of_list words is = (is.some, is.room, recursion_from_All IsWord words is.small)
+
+pub list_of_block : (words : List ℕ) → AreBlock words → IsWordList 1 255 words
+list_of_block words is = record { some = is.0; room = is.1; small = All-from_recursion IsWord words is.2 }
+
+pub command_name_told : (one other : CommandKind) → command_name one ≡ command_name other → one ≡ other
+command_name_told kinds.QueryRep kinds.QueryRep same = refl
+command_name_told kinds.Ack kinds.Ack same = refl
+command_name_told kinds.Query kinds.Query same = refl
+command_name_told kinds.QueryAdjust kinds.QueryAdjust same = refl
+command_name_told kinds.Select kinds.Select same = refl
+command_name_told kinds.Nak kinds.Nak same = refl
+command_name_told kinds.ReqRn kinds.ReqRn same = refl
+command_name_told kinds.Read kinds.Read same = refl
+command_name_told kinds.Write kinds.Write same = refl
+command_name_told kinds.Kill kinds.Kill same = refl
+command_name_told kinds.Lock kinds.Lock same = refl
+command_name_told kinds.Access kinds.Access same = refl
+command_name_told kinds.BlockWrite kinds.BlockWrite same = refl
+command_name_told kinds.BlockErase kinds.BlockErase same = refl
+command_name_told one other same = absurd (omega (arith, letter 0 _ _ same, letter 2 _ _ same, letter 5 _ _ same))
+
+-- the parts of two equal lists of fields
+same_2 : (a b a' b' : List ℕ) → a ∷ b ∷ [] ≡ a' ∷ b' ∷ [] → (a ≡ a') × (b ≡ b')
+same_2 a b a' b' same = (cc, cc)
+
+same_4 : (a b c d a' b' c' d' : List ℕ) → a ∷ b ∷ c ∷ d ∷ [] ≡ a' ∷ b' ∷ c' ∷ d' ∷ [] → (a ≡ a') × (b ≡ b') × (c ≡ c') × (d ≡ d')
+same_4 a b c d a' b' c' d' same = (cc, cc, cc, cc)
+
+same_5 : (a b c d e a' b' c' d' e' : List ℕ) → a ∷ b ∷ c ∷ d ∷ e ∷ [] ≡ a' ∷ b' ∷ c' ∷ d' ∷ e' ∷ []
+    → (a ≡ a') × (b ≡ b') × (c ≡ c') × (d ≡ d') × (e ≡ e')
+same_5 a b c d e a' b' c' d' e' same = (cc, cc, cc, cc, cc)
+
+same_7 : (a b c d e f g a' b' c' d' e' f' g' : List ℕ) → a ∷ b ∷ c ∷ d ∷ e ∷ f ∷ g ∷ [] ≡ a' ∷ b' ∷ c' ∷ d' ∷ e' ∷ f' ∷ g' ∷ []
+    → (a ≡ a') × (b ≡ b') × (c ≡ c') × (d ≡ d') × (e ≡ e') × (f ≡ f') × (g ≡ g')
+same_7 a b c d e f g a' b' c' d' e' f' g' same = (cc, cc, cc, cc, cc, cc, cc)
+
+-- two commands of one name with the same fields
+pub others_told : (one other : Command) → IsLegalCommand one → IsLegalCommand other → command_kind one ≡ command_kind other
+    → other_command_fields one ≡ other_command_fields other → one ≡ other
+others_told (QueryRep session) (QueryRep session') is is' kind same =
+    ap QueryRep (decimal_told session session' (omega arith) (omega arith) (same_behind (decimal session) (decimal session') [] [] same).0)
+others_told (Ack rn) (Ack rn') is is' kind same = ap Ack (hex_word_told rn rn' is is' (same_behind (hex_word rn) (hex_word rn') [] [] same).0)
+others_told (Query dr code trext sel session target q) (Query dr' code' trext' sel' session' target' q') is is' kind same =
+    let fields = same_7 _ _ _ _ _ _ _ _ _ _ _ _ _ _ same in
+    let drs = bit_told dr dr' fields.0 in
+    let codes_same = code_told code code' fields.1 in
+    let trexts = bit_told trext trext' fields.2 in
+    let sels_same = sel_told sel sel' fields.3 in
+    let sessions = decimal_told session session' (omega (arith, is.0)) (omega (arith, is'.0)) fields.4 in
+    let targets = side_told target target' fields.5 in
+    let qs = decimal_told q q' (omega (arith, is.1)) (omega (arith, is'.1)) fields.6 in
+    cc
+others_told (QueryAdjust session updn) (QueryAdjust session' updn') is is' kind same =
+    let fields = same_2 _ _ _ _ same in
+    let sessions = decimal_told session session' (omega arith) (omega arith) fields.0 in
+    let updns_same = updn_told updn updn' fields.1 in
+    cc
+others_told (Select target action bank pointer mask) (Select target' action' bank' pointer' mask') is is' kind same =
+    let fields = same_5 _ _ _ _ _ _ _ _ _ _ same in
+    let targets = flag_told target target' fields.0 in
+    let actions = decimal_told action action' (omega (arith, is.0)) (omega (arith, is'.0)) fields.1 in
+    let banks_same = mask_bank_told bank bank' fields.2 in
+    let pointers = decimal_told pointer pointer' (omega (arith, is.1)) (omega (arith, is'.1)) fields.3 in
+    let masks = binary_told mask mask' fields.4 in
+    cc
+others_told Nak Nak is is' kind same = refl
+others_told (ReqRn rn) (ReqRn rn') is is' kind same =
+    ap ReqRn (hex_word_told rn rn' is is' (same_behind (hex_word rn) (hex_word rn') [] [] same).0)
+others_told (Read bank pointer count rn) (Read bank' pointer' count' rn') is is' kind same =
+    let fields = same_4 _ _ _ _ _ _ _ _ same in
+    let banks_same = bank_told bank bank' fields.0 in
+    let pointers = decimal_told pointer pointer' (omega (arith, is.0)) (omega (arith, is'.0)) fields.1 in
+    let counts = decimal_told count count' (omega (arith, is.1)) (omega (arith, is'.1)) fields.2 in
+    let rns = hex_word_told rn rn' is.2 is'.2 fields.3 in
+    cc
+others_told (Write bank pointer covered rn) (Write bank' pointer' covered' rn') is is' kind same =
+    let fields = same_4 _ _ _ _ _ _ _ _ same in
+    let banks_same = bank_told bank bank' fields.0 in
+    let pointers = decimal_told pointer pointer' (omega (arith, is.0)) (omega (arith, is'.0)) fields.1 in
+    let words_same = hex_word_told covered covered' is.1 is'.1 fields.2 in
+    let rns = hex_word_told rn rn' is.2 is'.2 fields.3 in
+    cc
+others_told (Kill covered rn) (Kill covered' rn') is is' kind same =
+    let fields = same_2 _ _ _ _ same in
+    let halves = hex_word_told covered covered' is.0 is'.0 fields.0 in
+    let rns = hex_word_told rn rn' is.1 is'.1 fields.1 in
+    cc
+others_told (Lock payload rn) (Lock payload' rn') is is' kind same =
+    let fields = same_2 _ _ _ _ same in
+    let payloads = payload_told payload payload' (omega (arith, is.0)) (omega (arith, is'.0)) fields.0 in
+    let rns = hex_word_told rn rn' is.1 is'.1 fields.1 in
+    cc
+others_told (Access covered rn) (Access covered' rn') is is' kind same =
+    let fields = same_2 _ _ _ _ same in
+    let halves = hex_word_told covered covered' is.0 is'.0 fields.0 in
+    let rns = hex_word_told rn rn' is.1 is'.1 fields.1 in
+    cc
+others_told (BlockWrite bank pointer words rn) (BlockWrite bank' pointer' words' rn') is is' kind same =
+    let fields = same_4 _ _ _ _ _ _ _ _ same in
+    let banks_same = bank_told bank bank' fields.0 in
+    let pointers = decimal_told pointer pointer' (omega (arith, is.0)) (omega (arith, is'.0)) fields.1 in
+    let blocks = hex_words_told words words' (list_of_block words (is.1, is.2, is.3)).small (list_of_block words' (is'.1, is'.2, is'.3)).small fields.2 in
+    let rns = hex_word_told rn rn' is.4 is'.4 fields.3 in
+    cc
+others_told (BlockErase bank pointer count rn) (BlockErase bank' pointer' count' rn') is is' kind same =
+    let fields = same_4 _ _ _ _ _ _ _ _ same in
+    let banks_same = bank_told bank bank' fields.0 in
+    let pointers = decimal_told pointer pointer' (omega (arith, is.0)) (omega (arith, is'.0)) fields.1 in
+    let counts = decimal_told count count' (omega (arith, is.2)) (omega (arith, is'.2)) fields.2 in
+    let rns = hex_word_told rn rn' is.3 is'.3 fields.3 in
+    cc
+others_told one other is is' kind same = cc

@@ -1,0 +1,6 @@
+pub mod OneReading
+pub mod OneLine
+pub mod SomeLine
+pub mod ReadFields
+pub mod Shapes
+pub mod WrittenLines

@@ -1,0 +1,224 @@
+-- An encode line asks for one thing at most, or is faulty for one reason, and not both.
+use Rattle.std.proofs.Common.{◌≡◌, ℕ, ◌≤◌, List, [], ◌∷◌, drop, Option, Some, None, refl, sym, ◌∙◌, ap, subst, arith, inl, inr, if◌then◌else◌}
+use Rattle.std.specs.Prelude.{codes}
+use Rattle.std.specs.Fmt.{decimal}
+use Rattle.std.specs.Str.{bytes_eq}
+use Rattle.bit_strings.specs.declared.code.Code.TheVariants.{Fm0, M2, M4, M8}
+use Rattle.text_fields.specs.Lines.{fields_of}
+use Rattle.text_fields.specs.Binary.{binary, binary_digit}
+use Rattle.text_fields.specs.CodeNames.{code_word}
+use Rattle.text_fields.specs.FieldTextLaws.{IsFieldText-decimal, IsFieldText-binary}
+use Rattle.text_fields.specs.ToldApart.{decimal_told, binary_told}
+use Rattle.text_fields.specs.laws.FilledFields.{Filled, none_filled, one_more}
+use Rattle.command_text.specs.CommandText.{commands}
+use Rattle.command_text.specs.laws.CommandTexts.{command_told}
+use Rattle.command_text.specs.laws.FieldTexts.{bit_is, code_is}
+use Rattle.command_text.specs.laws.ToldApart.{code_told, digit_told}
+use Rattle.reply_text.specs.ReplyText.{expect_word, reply_fields, replies}
+use Rattle.reply_text.specs.laws.ReplyTexts.{reply_told}
+use Rattle.reply_text.specs.laws.FieldTexts.{expect_word_is_field_text}
+use Rattle.reply_text.specs.laws.ToldApart.{expect_told}
+use Rattle.pie_line.specs.declared.frame.Lead.{Lead}
+use Rattle.pie_line.specs.declared.frame.Lead.TheVariants.{Preamble, FrameSync}
+use Rattle.checked_lines.specs.declared.fault.FaultReason.{FaultReason}
+use Rattle.checked_lines.specs.declared.fault.FaultReason.TheVariants.{End, Word, Shape, Number}
+use Rattle.checked_lines.specs.laws.OneLine.{TellLines}
+use Rattle.encode_lines.proofs.Shapes.{command_shape, reply_shape, shaped}
+use Rattle.encode_lines.specs.EncodeLines.{encode_rules}
+use Rattle.encode_lines.specs.Request.{lead_word, kind_word, request_kind, other_fields, IsWithinLimits, AsksBehind, AsksForRequest, NamesNone, HasShape, AreFaulty, AreFaultyBehind, IsFaultyRequest}
+use Rattle.encode_lines.specs.declared.request.LineKind.{LineKind}
+use Rattle.encode_lines.specs.declared.request.LineKind.TheVariants.{Stream as StreamKind, Pie as PieKind, Command as CommandKind, Reply as ReplyKind, Heard as HeardKind}
+use Rattle.encode_lines.specs.declared.request.Request.{Request}
+use Rattle.encode_lines.specs.declared.request.Request.TheVariants.{Stream, Pie, Command, Reply, Heard}
+
+-- the kind that a first field says
+kind_read : List ℕ → Option LineKind
+kind_read word =
+    (if bytes_eq word (codes "fm0") then Some (StreamKind Fm0)
+    else (if bytes_eq word (codes "m2") then Some (StreamKind M2)
+    else (if bytes_eq word (codes "m4") then Some (StreamKind M4)
+    else (if bytes_eq word (codes "m8") then Some (StreamKind M8)
+    else (if bytes_eq word (codes "pie") then Some PieKind
+    else (if bytes_eq word (codes "command") then Some CommandKind
+    else (if bytes_eq word (codes "reply") then Some ReplyKind
+    else (if bytes_eq word (codes "heard") then Some HeardKind else None))))))))
+
+kind_read_word : (kind : LineKind) → kind_read (kind_word kind) ≡ Some kind
+unfolding kind_read
+kind_read_word (StreamKind Fm0) = refl
+kind_read_word (StreamKind M2) = refl
+kind_read_word (StreamKind M4) = refl
+kind_read_word (StreamKind M8) = refl
+kind_read_word PieKind = refl
+kind_read_word CommandKind = refl
+kind_read_word ReplyKind = refl
+kind_read_word HeardKind = refl
+
+-- a first field says one kind
+kind_told : (one other : LineKind) → kind_word one ≡ kind_word other → one ≡ other
+kind_told one other same = let e : Some one ≡ Some other = sym (kind_read_word one) ∙ ap kind_read same ∙ kind_read_word other in cc
+
+-- two readings of fields are one
+one_reading : (kind kind' : LineKind) (others others' : List (List ℕ)) → kind_word kind ∷ others ≡ kind_word kind' ∷ others' → (kind ≡ kind') × (others ≡ others')
+one_reading kind kind' others others' same =
+    let words : kind_word kind ≡ kind_word kind' = cc in
+    let rest : others ≡ others' = cc in
+    (kind_told kind kind' words, rest)
+
+lead_told : (one other : Lead) → lead_word one ≡ lead_word other → one ≡ other
+lead_told Preamble Preamble same = refl
+lead_told FrameSync FrameSync same = refl
+lead_told Preamble FrameSync same = cc
+lead_told FrameSync Preamble same = cc
+
+-- the fields behind the first spell one request of a kind
+same_behind : (one other : Request) (others : List (List ℕ)) → request_kind one ≡ request_kind other → others ≡ other_fields one → others ≡ other_fields other
+    → IsWithinLimits one → IsWithinLimits other → one ≡ other
+same_behind (Stream code trext bits) (Stream code' trext' bits') others kinds spelled spelled' within within' =
+    let fields : (binary_digit trext ∷ []) ∷ binary bits ∷ [] ≡ (binary_digit trext' ∷ []) ∷ binary bits' ∷ [] = sym spelled ∙ spelled' in
+    let e : trext ≡ trext' = digit_told trext trext' (cc) in
+    let f : bits ≡ bits' = binary_told bits bits' (cc) in
+    cc
+same_behind (Pie tari rtcal trcal pw lead bits) (Pie tari' rtcal' trcal' pw' lead' bits') others kinds spelled spelled' within within' =
+    let fields : decimal tari ∷ decimal rtcal ∷ decimal trcal ∷ decimal pw ∷ lead_word lead ∷ binary bits ∷ []
+    ≡ decimal tari' ∷ decimal rtcal' ∷ decimal trcal' ∷ decimal pw' ∷ lead_word lead' ∷ binary bits' ∷ [] = sym spelled ∙ spelled' in
+    let a : tari ≡ tari' = decimal_told tari tari' (omega (arith, within.0)) (omega (arith, within'.0)) (cc) in
+    let b : rtcal ≡ rtcal' = decimal_told rtcal rtcal' (omega (arith, within.1)) (omega (arith, within'.1)) (cc) in
+    let c : trcal ≡ trcal' = decimal_told trcal trcal' (omega (arith, within.2)) (omega (arith, within'.2)) (cc) in
+    let d : pw ≡ pw' = decimal_told pw pw' (omega (arith, within.3)) (omega (arith, within'.3)) (cc) in
+    let e : lead ≡ lead' = lead_told lead lead' (cc) in
+    let f : bits ≡ bits' = binary_told bits bits' (cc) in
+    cc
+same_behind (Command command) (Command command') others kinds spelled spelled' within within' =
+    let e : command ≡ command' = command_told others command command' (record { in_range = within; spelling = spelled }) (record { in_range = within'; spelling = spelled' }) in
+    cc
+same_behind (Reply expect reply) (Reply expect' reply') others kinds spelled spelled' within within' =
+    let fields : expect_word expect ∷ reply_fields reply ≡ expect_word expect' ∷ reply_fields reply' = sym spelled ∙ spelled' in
+    let e : expect ≡ expect' = expect_told expect expect' within.0 within'.0 (cc) in
+    let f : reply ≡ reply' = reply_told (reply_fields reply) reply reply' (record { in_range = within.1; spelling = refl }) (record { in_range = within'.1; spelling = cc }) in
+    cc
+same_behind (Heard code trext expect reply) (Heard code' trext' expect' reply') others kinds spelled spelled' within within' =
+    let fields : code_word code ∷ (binary_digit trext ∷ []) ∷ expect_word expect ∷ reply_fields reply
+    ≡ code_word code' ∷ (binary_digit trext' ∷ []) ∷ expect_word expect' ∷ reply_fields reply' = sym spelled ∙ spelled' in
+    let e : code ≡ code' = code_told code code' (cc) in
+    let f : trext ≡ trext' = digit_told trext trext' (cc) in
+    let g : expect ≡ expect' = expect_told expect expect' within.0 within'.0 (cc) in
+    let h : reply ≡ reply' = reply_told (reply_fields reply) reply reply' (record { in_range = within.1; spelling = refl }) (record { in_range = within'.1; spelling = cc }) in
+    cc
+same_behind one other others kinds spelled spelled' within within' = cc
+
+-- a line asks for one thing
+same_request : (line : List ℕ) (one other : Request) → AsksForRequest line one → AsksForRequest line other → one ≡ other
+same_request line one other left right =
+    let read = one_reading left.kind right.kind left.others right.others (sym left.fields ∙ right.fields) in
+    same_behind one other left.others (sym left.asks.same_kind ∙ read.0 ∙ right.asks.same_kind)
+    left.asks.spelling (read.1 ∙ right.asks.spelling) left.asks.limits right.asks.limits
+
+lead_filled : (lead : Lead) → Filled (lead_word lead)
+lead_filled Preamble none = cc
+lead_filled FrameSync none = cc
+
+number_filled : (n : ℕ) → n ≤ 999999 → Filled (decimal n)
+number_filled n few = (IsFieldText-decimal n (omega arith)).filled
+
+-- the fields of a request have the shape that its kind wants
+request_shape : (request : Request) (others : List (List ℕ)) → others ≡ other_fields request → IsWithinLimits request → HasShape (request_kind request) others
+request_shape (Stream code trext bits) others spelling limits =
+    rw spelling (one_more 1 (binary_digit trext ∷ []) (binary bits ∷ []) (bit_is trext).filled (one_more 0 (binary bits) [] (IsFieldText-binary bits).filled none_filled))
+request_shape (Pie tari rtcal trcal pw lead bits) others spelling limits =
+    rw spelling (
+    one_more 5 (decimal tari) (decimal rtcal ∷ decimal trcal ∷ decimal pw ∷ lead_word lead ∷ binary bits ∷ []) (number_filled tari limits.0)
+    (one_more 4 (decimal rtcal) (decimal trcal ∷ decimal pw ∷ lead_word lead ∷ binary bits ∷ []) (number_filled rtcal limits.1)
+    (one_more 3 (decimal trcal) (decimal pw ∷ lead_word lead ∷ binary bits ∷ []) (number_filled trcal limits.2)
+    (one_more 2 (decimal pw) (lead_word lead ∷ binary bits ∷ []) (number_filled pw limits.3)
+    (one_more 1 (lead_word lead) (binary bits ∷ []) (lead_filled lead) (one_more 0 (binary bits) [] (IsFieldText-binary bits).filled none_filled)))))
+    )
+request_shape (Command command) others spelling limits = command_shape others command (record { in_range = limits; spelling = spelling })
+request_shape (Reply expect reply) others spelling limits =
+    rw spelling (
+      one_more 0 (expect_word expect) [] (expect_word_is_field_text expect limits.0).filled none_filled,
+      reply_shape (reply_fields reply) reply (record { in_range = limits.1; spelling = refl }),
+    )
+request_shape (Heard code trext expect reply) others spelling limits =
+    rw spelling (
+      one_more 2 (code_word code) ((binary_digit trext ∷ []) ∷ expect_word expect ∷ []) (code_is code).filled
+          (one_more 1 (binary_digit trext ∷ []) (expect_word expect ∷ []) (bit_is trext).filled
+          (one_more 0 (expect_word expect) [] (expect_word_is_field_text expect limits.0).filled none_filled)),
+      reply_shape (reply_fields reply) reply (record { in_range = limits.1; spelling = refl }),
+    )
+
+-- fields of the right shape have the name of something where one has to stand
+shaped_named : (kind : LineKind) (others : List (List ℕ)) → HasShape kind others → ¬ NamesNone kind others
+shaped_named (StreamKind code) others shape none = none
+shaped_named PieKind others shape none = none
+shaped_named CommandKind others shape none = shaped commands others shape none
+shaped_named ReplyKind others shape none = shaped replies (drop 1 others) shape.1 none
+shaped_named HeardKind others shape none = shaped replies (drop 3 others) shape.1 none
+
+-- fields that ask for something are not faulty
+asked_not_faulty : (request : Request) (kind : LineKind) (others : List (List ℕ)) (reason : FaultReason) → AsksBehind kind others request → AreFaulty kind others reason → ⊥
+asked_not_faulty request kind others End asks faulty = faulty
+asked_not_faulty request kind others Number asks faulty = faulty.1 request asks
+asked_not_faulty request kind others Word asks faulty =
+    shaped_named kind others (subst (λ k. HasShape k others) (sym asks.same_kind) (request_shape request others asks.spelling asks.limits)) faulty
+asked_not_faulty request kind others Shape asks faulty =
+    faulty.1 (subst (λ k. HasShape k others) (sym asks.same_kind) (request_shape request others asks.spelling asks.limits))
+
+-- ... behind another reading of the first field
+behind_not_faulty : (line : List ℕ) (request : Request) (reason : FaultReason) → AsksForRequest line request → AreFaultyBehind (fields_of line) reason → ⊥
+behind_not_faulty line request reason asks faulty =
+    let read = one_reading asks.kind faulty.kind asks.others faulty.others (sym asks.fields ∙ faulty.first) in
+    asked_not_faulty request faulty.kind faulty.others reason (subst (λ k. AsksBehind k faulty.others request) read.0 (subst (λ o. AsksBehind asks.kind o request) read.1 asks.asks)) faulty.faulty
+
+pub not_faulty : (line : List ℕ) (request : Request) (reason : FaultReason) → AsksForRequest line request → IsFaultyRequest (fields_of line) reason → ⊥
+not_faulty line request End asks faulty = behind_not_faulty line request End asks faulty
+not_faulty line request Word asks (inl none) = none asks.kind asks.others asks.fields
+not_faulty line request Word asks (inr faulty) = behind_not_faulty line request Word asks faulty
+not_faulty line request Shape asks faulty = behind_not_faulty line request Shape asks faulty
+not_faulty line request Number asks faulty = behind_not_faulty line request Number asks faulty
+
+-- the fields behind the first are faulty for one reason
+same_fault : (kind : LineKind) (others : List (List ℕ)) (one other : FaultReason) → AreFaulty kind others one → AreFaulty kind others other → one ≡ other
+same_fault kind others Word Word left right = refl
+same_fault kind others Word Shape left right = absurd (right.0 left)
+same_fault kind others Word Number left right = absurd (shaped_named kind others right.0 left)
+same_fault kind others Shape Word left right = absurd (left.0 right)
+same_fault kind others Shape Shape left right = refl
+same_fault kind others Shape Number left right = absurd (left.1 right.0)
+same_fault kind others Number Word left right = absurd (shaped_named kind others left.0 right)
+same_fault kind others Number Shape left right = absurd (right.1 left.0)
+same_fault kind others Number Number left right = refl
+same_fault kind others End other left right = absurd left
+same_fault kind others one End left right = absurd right
+
+same_fault_behind : (fields : List (List ℕ)) (one other : FaultReason) → AreFaultyBehind fields one → AreFaultyBehind fields other → one ≡ other
+same_fault_behind fields one other left right =
+    let read = one_reading left.kind right.kind left.others right.others (sym left.first ∙ right.first) in
+    same_fault right.kind right.others one other (subst (λ k. AreFaulty k right.others one) read.0 (subst (λ o. AreFaulty left.kind o one) read.1 left.faulty)) right.faulty
+
+same_reason : (fields : List (List ℕ)) (one other : FaultReason) → IsFaultyRequest fields one → IsFaultyRequest fields other → one ≡ other
+same_reason fields Word Word left right = refl
+same_reason fields Word Shape (inl none) right = absurd (none right.kind right.others right.first)
+same_reason fields Word Number (inl none) right = absurd (none right.kind right.others right.first)
+same_reason fields Word End (inl none) right = absurd (none right.kind right.others right.first)
+same_reason fields Shape Word left (inl none) = absurd (none left.kind left.others left.first)
+same_reason fields Number Word left (inl none) = absurd (none left.kind left.others left.first)
+same_reason fields End Word left (inl none) = absurd (none left.kind left.others left.first)
+same_reason fields Word Shape (inr faulty) right = same_fault_behind fields Word Shape faulty right
+same_reason fields Word Number (inr faulty) right = same_fault_behind fields Word Number faulty right
+same_reason fields Word End (inr faulty) right = same_fault_behind fields Word End faulty right
+same_reason fields Shape Word left (inr faulty) = same_fault_behind fields Shape Word left faulty
+same_reason fields Number Word left (inr faulty) = same_fault_behind fields Number Word left faulty
+same_reason fields End Word left (inr faulty) = same_fault_behind fields End Word left faulty
+same_reason fields Shape Shape left right = refl
+same_reason fields Number Number left right = refl
+same_reason fields End End left right = refl
+same_reason fields Shape Number left right = same_fault_behind fields Shape Number left right
+same_reason fields Shape End left right = same_fault_behind fields Shape End left right
+same_reason fields Number Shape left right = same_fault_behind fields Number Shape left right
+same_reason fields Number End left right = same_fault_behind fields Number End left right
+same_reason fields End Shape left right = same_fault_behind fields End Shape left right
+same_reason fields End Number left right = same_fault_behind fields End Number left right
+
+pub tell_lines : TellLines encode_rules
+tell_lines = record { one_request = same_request; one_reason = same_reason; not_faulty = not_faulty }

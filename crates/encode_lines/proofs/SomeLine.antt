@@ -1,0 +1,81 @@
+-- For each request a line is written.
+use Rattle.std.proofs.Common.{◌≡◌, ◌⊎◌, ◌≤◌, ◌*◌, ℕ, ◌/◌, ◌^◌, Bool, true, false, List, length, refl, inl, inr}
+use Rattle.std.specs.Prelude.{nat_le, ◌==◌}
+use Rattle.std.proofs.lemmas.Bool.{eqb-true, eq-eqb, leb-true, le-leb}
+use Rattle.pie_line.specs.Link.{IsTari, IsRtCal, IsTrCal, IsPw}
+use Rattle.pie_line.specs.declared.frame.Lead.{Lead}
+use Rattle.pie_line.specs.declared.link.LinkRefusal.TheVariants.{Tari, RtCal, TrCal, Pw}
+use Rattle.reply_grammar.specs.Table.{CanBeSent, Suits, suits}
+use Rattle.reply_grammar.specs.laws.Suiting.{suits-true, suits-from}
+use Rattle.reply_grammar.specs.declared.expected.Expect.{Expect}
+use Rattle.reply_grammar.specs.declared.expected.Reply.{Reply}
+use Rattle.reply_grammar.specs.declared.expected.Reply.TheVariants.{Rn16, Epc, Handle, Words, Header, Error}
+use Rattle.encode_lines.specs.Written.{AreWritten, AreOfReply, IsAllowed, IsWave, RefusesLink, link_of}
+use Rattle.encode_lines.specs.declared.request.Request.{Request}
+use Rattle.encode_lines.specs.declared.request.Request.TheVariants.{Stream, Pie, Command, Reply as ReplyLine, Heard}
+
+-- it holds, or it does not
+abbrev OrNot : Type 0 → Type 0
+OrNot P = P ⊎ (¬ P)
+
+both : {P Q : Type 0} → OrNot P → OrNot Q → OrNot (P × Q)
+both (inl p) (inl q) = inl (p, q)
+both (inl p) (inr none) = inr (λ has. none has.1)
+both (inr none) q = inr (λ has. none has.0)
+
+all_three : {P Q R : Type 0} → OrNot P → OrNot Q → OrNot R → OrNot (P × Q × R)
+all_three (inl p) (inl q) (inl r) = inl (p, q, r)
+all_three (inl p) (inl q) (inr none) = inr (λ has. none has.2)
+all_three (inl p) (inr none) r = inr (λ has. none has.1)
+all_three (inr none) q r = inr (λ has. none has.0)
+
+by_le : (a b : ℕ) (test : Bool) → nat_le a b ≡ test → OrNot (a ≤ b)
+by_le a b true e = inl (leb-true a b e)
+by_le a b false e = inr (λ le. let yes = le-leb a b le in absurd cc)
+
+le_or_not : (a b : ℕ) → OrNot (a ≤ b)
+le_or_not a b = by_le a b (nat_le a b) refl
+
+by_eq : (a b : ℕ) (test : Bool) → (a == b) ≡ test → OrNot (a ≡ b)
+by_eq a b true e = inl (eqb-true a b e)
+by_eq a b false e = inr (λ same. let yes = eq-eqb a b same in absurd cc)
+
+eq_or_not : (a b : ℕ) → OrNot (a ≡ b)
+eq_or_not a b = by_eq a b (a == b) refl
+
+by_suits : (expect : Expect) (reply : Reply) (test : Bool) → suits reply expect ≡ test → OrNot (Suits reply expect)
+by_suits expect reply true e = inl (suits-true reply expect e)
+by_suits expect reply false e = inr (λ suit. let yes = suits-from reply expect suit in absurd cc)
+
+sent_or_not : (reply : Reply) → OrNot (CanBeSent reply)
+sent_or_not (Rn16 rn) = inl tt
+sent_or_not (Epc pc epc) = eq_or_not (length epc) (pc / 2 ^ 11)
+sent_or_not (Handle rn) = inl tt
+sent_or_not (Words words) = le_or_not 1 (length words)
+sent_or_not Header = inl tt
+sent_or_not (Error code) = inl tt
+
+allowed_or_not : (expect : Expect) (reply : Reply) → OrNot (IsAllowed expect reply)
+allowed_or_not expect reply = both (by_suits expect reply (suits reply expect) refl) (sent_or_not reply)
+
+some_of_reply : (expect : Expect) (reply : Reply) (written : List (List ℕ)) → OrNot (IsAllowed expect reply) → (fields : List (List ℕ)) × AreOfReply expect reply written fields
+some_of_reply expect reply written (inl allowed) = (_, inl (allowed, refl))
+some_of_reply expect reply written (inr none) = (_, inr (none, refl))
+
+some_wave : (tari rtcal trcal pw : ℕ) (lead : Lead) (bits : List Bool) → OrNot (IsTari tari) → OrNot (IsRtCal tari rtcal) → OrNot (IsTrCal rtcal trcal) → OrNot (IsPw tari pw)
+    → (fields : List (List ℕ)) × (IsWave (link_of tari rtcal trcal pw) lead bits fields ⊎ RefusesLink tari rtcal trcal pw fields)
+some_wave tari rtcal trcal pw lead bits (inr none) b c d = (_, inr (record { refusal = Tari; broken = none; refused = refl }))
+some_wave tari rtcal trcal pw lead bits (inl a) (inr none) c d = (_, inr (record { refusal = RtCal; broken = (a, none); refused = refl }))
+some_wave tari rtcal trcal pw lead bits (inl a) (inl b) (inr none) d = (_, inr (record { refusal = TrCal; broken = (a, b, none); refused = refl }))
+some_wave tari rtcal trcal pw lead bits (inl a) (inl b) (inl c) (inr none) = (_, inr (record { refusal = Pw; broken = (a, b, c, none); refused = refl }))
+some_wave tari rtcal trcal pw lead bits (inl a) (inl b) (inl c) (inl d) =
+    (_, inl (record { legal = record { tari_range = a; rtcal_range = b; trcal_range = c; pw_range = d }; wave = refl }))
+
+pub some_line : (request : Request) → (fields : List (List ℕ)) × AreWritten request fields
+some_line (Stream code trext bits) = (_, refl)
+some_line (Pie tari rtcal trcal pw lead bits) =
+    some_wave tari rtcal trcal pw lead bits (both (le_or_not 6250 tari) (le_or_not tari 25000)) (both (le_or_not (5 * tari) (2 * rtcal)) (le_or_not rtcal (3 * tari)))
+    (both (le_or_not (11 * rtcal) (10 * trcal)) (le_or_not trcal (3 * rtcal))) (all_three (le_or_not 2000 pw) (le_or_not (265 * tari) (1000 * pw)) (le_or_not (1000 * pw) (525 * tari)))
+some_line (Command command) = (_, refl)
+some_line (ReplyLine expect reply) = some_of_reply expect reply _ (allowed_or_not expect reply)
+some_line (Heard code trext expect reply) = some_of_reply expect reply _ (allowed_or_not expect reply)

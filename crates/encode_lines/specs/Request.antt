@@ -1,0 +1,132 @@
+-- Profile: the lines that `encode` reads. A line is a list of fields; the first says what is encoded.
+use Rattle.std.specs.Prelude.{◌≡◌, ◌≢◌, ◌⊎◌, ℕ, ◌+◌, ◌*◌, ◌≤◌, List, [], ◌∷◌, length, take, drop, codes}
+use Rattle.std.specs.Fmt.{decimal}
+use Rattle.text_fields.specs.Lines.{fields_of}
+use Rattle.text_fields.specs.Binary.{binary, binary_digit}
+use Rattle.text_fields.specs.CodeNames.{code_word}
+use Rattle.text_fields.specs.NamedFields.{AreFilled, HaveShape, NameNothing}
+use Rattle.pie_line.specs.declared.frame.Lead.{Lead}
+use Rattle.pie_line.specs.declared.frame.Lead.TheVariants.{Preamble, FrameSync}
+use Rattle.command_grammar.specs.Commands.{IsLegalCommand}
+use Rattle.command_text.specs.CommandText.{command_fields, commands}
+use Rattle.line_code.specs.TableFacts.{longest_lead}
+use Rattle.reply_grammar.specs.Table.{longest_reply}
+use Rattle.reply_grammar.specs.declared.expected.Reply.{Reply as OneReply}
+use Rattle.reply_text.specs.ReplyText.{expect_word, reply_fields, replies, IsExpect, IsReplyForm, IsReplyText}
+use Rattle.checked_lines.specs.declared.fault.FaultReason.{FaultReason}
+use Rattle.checked_lines.specs.declared.fault.FaultReason.TheVariants.{End, Word, Shape, Number}
+use Rattle.encode_lines.specs.declared.request.LineKind.{LineKind}
+use Rattle.encode_lines.specs.declared.request.LineKind.TheVariants.{Stream as StreamKind, Pie as PieKind, Command as CommandKind, Reply as ReplyKind, Heard as HeardKind}
+use Rattle.encode_lines.specs.declared.request.Request.{Request}
+use Rattle.encode_lines.specs.declared.request.Request.TheVariants.{Stream, Pie, Command, Reply, Heard}
+
+-- the most bits of a frame, which each command has room in
+abbrev pub most_frame_bits : ℕ
+most_frame_bits = 8240
+
+-- how many intervals the longest frame has: seven of its header (6.3.1.2.8), and two a bit
+abbrev pub most_frame_intervals : ℕ
+most_frame_intervals = 7 + 2 * most_frame_bits
+
+-- how many levels the longest stream has: the longest lead, and 16 for each bit of the longest reply and for the dummy
+abbrev pub longest_levels : ℕ
+longest_levels = longest_lead + 16 * (longest_reply + 1)
+
+-- the longest duration of a link, in nanoseconds
+abbrev pub longest_duration : ℕ
+longest_duration = 999999
+
+-- the header of a frame (6.3.1.2.8)
+abbrev pub lead_word : Lead → List ℕ
+lead_word Preamble = codes "preamble"
+lead_word FrameSync = codes "sync"
+
+-- the first field of a line
+abbrev pub kind_word : LineKind → List ℕ
+kind_word (StreamKind code) = code_word code
+kind_word PieKind = codes "pie"
+kind_word CommandKind = codes "command"
+kind_word ReplyKind = codes "reply"
+kind_word HeardKind = codes "heard"
+
+-- what the first field of a request's line says
+abbrev pub request_kind : Request → LineKind
+request_kind (Stream code trext bits) = StreamKind code
+request_kind (Pie tari rtcal trcal pw lead bits) = PieKind
+request_kind (Command command) = CommandKind
+request_kind (Reply expect reply) = ReplyKind
+request_kind (Heard code trext expect reply) = HeardKind
+
+-- the one spelling of a request, behind the first field
+abbrev pub other_fields : Request → List (List ℕ)
+other_fields (Stream code trext bits) = (binary_digit trext ∷ []) ∷ binary bits ∷ []
+other_fields (Pie tari rtcal trcal pw lead bits) = decimal tari ∷ decimal rtcal ∷ decimal trcal ∷ decimal pw ∷ lead_word lead ∷ binary bits ∷ []
+other_fields (Command command) = command_fields command
+other_fields (Reply expect reply) = expect_word expect ∷ reply_fields reply
+other_fields (Heard code trext expect reply) = code_word code ∷ (binary_digit trext ∷ []) ∷ expect_word expect ∷ reply_fields reply
+
+-- the limits on the numbers and lists of a line: a stream has the bits of the longest reply at most
+abbrev pub IsWithinLimits : Request → Type 0
+IsWithinLimits (Stream code trext bits) = length bits ≤ longest_reply
+IsWithinLimits (Pie tari rtcal trcal pw lead bits) =
+    (tari ≤ longest_duration) × (rtcal ≤ longest_duration) × (trcal ≤ longest_duration) × (pw ≤ longest_duration) × (length bits ≤ most_frame_bits)
+IsWithinLimits (Command command) = IsLegalCommand command
+IsWithinLimits (Reply expect reply) = IsExpect expect × IsReplyForm reply
+IsWithinLimits (Heard code trext expect reply) = IsExpect expect × IsReplyForm reply
+
+-- behind a first field of this kind, these fields ask for this
+pub record AsksBehind (kind : LineKind) (others : List (List ℕ)) (request : Request) : Type 0 where
+  pub same_kind : kind ≡ request_kind request
+  pub spelling : others ≡ other_fields request
+  pub limits : IsWithinLimits request
+
+-- the line asks for this
+pub record AsksForRequest (line : List ℕ) (request : Request) : Type 0 where
+  pub kind : LineKind
+  pub others : List (List ℕ)
+  pub fields : fields_of line ≡ kind_word kind ∷ others
+  pub asks : AsksBehind kind others request
+
+-- the field in which the name of a command or of a reply has to stand is there, and has none
+abbrev pub NamesNone : LineKind → List (List ℕ) → Type 0
+NamesNone (StreamKind code) others = ⊥
+NamesNone PieKind others = ⊥
+NamesNone CommandKind others = NameNothing commands others
+NamesNone ReplyKind others = NameNothing replies (drop 1 others)
+NamesNone HeardKind others = NameNothing replies (drop 3 others)
+
+-- the number of the fields behind the first is right, and none of them is empty
+abbrev pub HasShape : LineKind → List (List ℕ) → Type 0
+HasShape (StreamKind code) others = AreFilled 2 others
+HasShape PieKind others = AreFilled 6 others
+HasShape CommandKind others = HaveShape commands others
+HasShape ReplyKind others = AreFilled 1 (take 1 others) × HaveShape replies (drop 1 others)
+HasShape HeardKind others = AreFilled 3 (take 3 others) × HaveShape replies (drop 3 others)
+
+-- the first reason for which the fields behind the first ask for nothing
+abbrev pub AreFaulty : LineKind → List (List ℕ) → FaultReason → Type 0
+AreFaulty kind others Word = NamesNone kind others
+AreFaulty kind others Shape = (¬ NamesNone kind others) × (¬ HasShape kind others)
+-- they are there, and one of them isn't of its form, range or length: they ask for nothing
+AreFaulty kind others Number = HasShape kind others × ((request : Request) → ¬ AsksBehind kind others request)
+AreFaulty kind others End = ⊥
+
+-- the first reason for which the fields of a reply are faulty behind others, of which it is said whether none is empty
+abbrev pub IsFaultyReplyBehind : Type 0 → List (List ℕ) → FaultReason → Type 0
+IsFaultyReplyBehind filled fields Word = NameNothing replies fields
+IsFaultyReplyBehind filled fields Shape = (¬ NameNothing replies fields) × (¬ (filled × HaveShape replies fields))
+IsFaultyReplyBehind filled fields Number = filled × HaveShape replies fields × ((reply : OneReply) → ¬ IsReplyText fields reply)
+IsFaultyReplyBehind filled fields End = ⊥
+
+-- behind a first field that a line may begin with, the others are faulty for this reason
+pub record AreFaultyBehind (fields : List (List ℕ)) (reason : FaultReason) : Type 0 where
+  pub kind : LineKind
+  pub others : List (List ℕ)
+  pub first : fields ≡ kind_word kind ∷ others
+  pub faulty : AreFaulty kind others reason
+
+-- the first reason for which the fields of a line that has its line feed ask for nothing
+abbrev pub IsFaultyRequest : List (List ℕ) → FaultReason → Type 0
+-- ... or the first field is none that a line may begin with
+IsFaultyRequest fields Word = ((kind : LineKind) (others : List (List ℕ)) → fields ≢ kind_word kind ∷ others) ⊎ AreFaultyBehind fields Word
+IsFaultyRequest fields reason = AreFaultyBehind fields reason

@@ -1,0 +1,2 @@
+-- The laws of a line code for FM0.
+pub mod Fm0

@@ -1,0 +1,259 @@
+-- What one more level does to what the decoder in the data has read.
+use Rattle.std.proofs.Common.{◌≡◌, ◌≢◌, ℕ, ◌+◌, ◌<◌, ◌↔◌, Bool, true, false, List, [], ◌∷◌, ◌++◌, length, take, drop, Option, Some, None, IsTrue, slice_get, refl, sym, ap, ◌∙◌, arith, append_assoc, length-append}
+use Rattle.std.proofs.lemmas.List.{append_cancel_left, append-nil, nil_from_length, same_from_push, take_all, take-append-drop, take_at}
+use Rattle.bit_strings.specs.Family.{Begins, IsBadAt, IsShortAt}
+use Rattle.line_code.specs.Table.{Context, Table}
+use Rattle.line_code.specs.Stream.{blocks, IsStream, Streams}
+use Rattle.line_code.specs.States.{InsideValue, context_after, fits_of, LastIs, Reads}
+use Rattle.line_code.specs.TableFacts.{IsEven, TellsBits}
+use Rattle.line_code.specs.laws.Streams.{blocks_split}
+use Rattle.line_code.specs.laws.Splits.{blocks-append, context_after-push, front_of, front_more}
+
+-- what stands behind the blocks read, where the levels and more are a stream
+pub record Rest (t : Table) (context : Context) (bits part more : List Bool) : Type 0 where
+  pub all : List Bool
+  pub others : List Bool
+  pub bits_are : all ++ true ∷ [] ≡ bits ++ others
+  pub blocks_are : part ++ more ≡ blocks t context others
+
+pub rest_of : (t : Table) (chips : ℕ) → IsEven t chips → TellsBits t → (trext : Bool) (state : InsideValue) (levels bits more : List Bool)
+    → (r : Reads t trext state levels bits) → Streams t trext (levels ++ more) → Rest t state.context bits r.part more
+rest_of t chips even tells trext state levels bits more r (all, e) =
+    let lead = t.lead trext in
+    let before = blocks t t.start bits in
+    let joined : lead ++ (before ++ (r.part ++ more)) ≡ lead ++ blocks t t.start (all ++ true ∷ []) =
+    sym (append_assoc lead before (r.part ++ more)) ∙ sym (append_assoc (lead ++ before) r.part more)
+    ∙ ap (λ ls. ls ++ more) (append_assoc lead before r.part ∙ sym r.levels_are) ∙ e in
+    let behind = append_cancel_left lead (before ++ (r.part ++ more)) (blocks t t.start (all ++ true ∷ [])) joined in
+    let split = blocks_split t chips even tells bits (all ++ true ∷ []) (r.part ++ more) t.start behind in
+    record { all = all; others = split.0; bits_are = split.1; blocks_are = split.2 ∙ ap (λ c. blocks t c split.0) (sym r.context_is) }
+
+-- the levels begin a stream: that of the bits and a bit that still fits
+pub reads_begins : (t : Table) (trext : Bool) (state : InsideValue) (levels bits : List Bool) → Reads t trext state levels bits → Begins (Streams t trext) levels
+reads_begins t trext state levels bits r =
+    let lead = t.lead trext in
+    let before = blocks t t.start bits in
+    let bit = r.some_bit in
+    let block = t.block state.context bit in
+    let dummy = blocks t (t.next state.context bit) (true ∷ []) in
+    let more = drop state.place block ++ dummy in
+    let front = (r.fits_is bit).0 r.some_fits in
+    let whole : r.part ++ more ≡ blocks t (context_after t t.start bits) (bit ∷ true ∷ []) =
+    sym (append_assoc r.part (drop state.place block) dummy)
+    ∙ ap (λ ls. ls ++ dummy) (ap (λ ls. ls ++ drop state.place block) front ∙ take-append-drop state.place block)
+    ∙ ap (λ c. blocks t c (bit ∷ true ∷ [])) r.context_is in
+    let stream : levels ++ more ≡ lead ++ blocks t t.start ((bits ++ bit ∷ []) ++ true ∷ []) =
+    ap (λ ls. ls ++ more) r.levels_are
+    ∙ append_assoc lead (before ++ r.part) more
+    ∙ ap (λ ls. lead ++ ls) (append_assoc before r.part more ∙ ap (λ ls. before ++ ls) whole ∙ sym (blocks-append t bits (bit ∷ true ∷ []) t.start)
+    ∙ ap (λ bs. blocks t t.start bs) (sym (append_assoc bits (bit ∷ []) (true ∷ [])))) in
+    (more, (bits ++ bit ∷ [], stream))
+
+-- where the next level is that of no bit that still fits, the levels with it begin no stream
+pub reads_stops : (t : Table) (chips : ℕ) → IsEven t chips → TellsBits t → (trext : Bool) (state : InsideValue) (levels bits : List Bool) (level : Bool)
+    → Reads t trext state levels bits
+    → ((bit : Bool) → IsTrue (fits_of state bit) → slice_get (t.block state.context bit) state.place ≢ Some level)
+    → ¬ Begins (Streams t trext) (levels ++ level ∷ [])
+reads_stops t chips even tells trext state levels bits level r none (more, (all, e)) =
+    let rest = rest_of t chips even tells trext state levels bits (level ∷ more) r (all, sym (append_assoc levels (level ∷ []) more) ∙ e) in
+    stops rest.others rest.blocks_are
+  where
+    stops : (others : List Bool) → r.part ++ level ∷ more ≡ blocks t state.context others → ⊥
+    stops [] f = let sizes = sym (length-append r.part (level ∷ more)) ∙ ap length f in omega arith
+    stops (bit ∷ others) f =
+        let place = r.place_is in
+        let begun = r.begun bit in
+        let front = front_of r.part (t.block state.context bit) more (blocks t (t.next state.context bit) others) level (omega arith) f in
+        let fits = (r.fits_is bit).1 (front.0 ∙ ap (λ n. take n (t.block state.context bit)) (sym place)) in
+        none bit fits (ap (λ n. slice_get (t.block state.context bit) n) place ∙ front.1)
+
+-- the refusal of the next level
+pub reads_bad : (t : Table) (chips : ℕ) → IsEven t chips → TellsBits t → (trext : Bool) (state : InsideValue) (levels bits : List Bool) (level : Bool)
+    → Reads t trext state levels bits
+    → ((bit : Bool) → IsTrue (fits_of state bit) → slice_get (t.block state.context bit) state.place ≢ Some level)
+    → (place : ℕ) → place ≡ length levels → IsBadAt (Streams t trext) (levels ++ level ∷ []) place
+reads_bad t chips even tells trext state levels bits level r none place is =
+    let size = length-append levels (level ∷ []) in
+    record {
+      inside = omega arith;
+      begins = rw (take_at levels (level ∷ []) place (sym is)) (reads_begins t trext state levels bits r);
+      stops = rw (take_all (place + 1) (levels ++ level ∷ []) (omega arith)) (reads_stops t chips even tells trext state levels bits level r none);
+    }
+
+-- the state after a level that is not its block's last
+abbrev pub further : InsideValue → Bool → Bool → InsideValue
+further state zero_fits one_fits =
+    record { context = state.context; place = state.place + 1; zero_fits = zero_fits; one_fits = one_fits; taken = state.taken + 1; put = state.put; last = state.last }
+
+-- the state after the last level of a bit's block
+abbrev pub behind : Table → InsideValue → Bool → InsideValue
+behind t state bit =
+    record { context = t.next state.context bit; place = 0; zero_fits = true; one_fits = true; taken = state.taken + 1; put = state.put + 1; last = Some bit }
+
+-- the next level is that of some bit that still fits, and the block goes on
+pub reads_more : (t : Table) (trext : Bool) (state : InsideValue) (levels bits : List Bool) (level : Bool) → Reads t trext state levels bits
+    → (zero_fits one_fits : Bool)
+    → ((bit : Bool) → state.place + 1 < length (t.block state.context bit))
+    → ((bit : Bool) → IsTrue (fits_of (further state zero_fits one_fits) bit) ↔ (IsTrue (fits_of state bit) × (slice_get (t.block state.context bit) state.place ≡ Some level)))
+    → (some_bit : Bool) → IsTrue (fits_of (further state zero_fits one_fits) some_bit)
+    → Reads t trext (further state zero_fits one_fits) (levels ++ level ∷ []) bits
+reads_more t trext state levels bits level r zero_fits one_fits begun fits some_bit some_fits =
+    let lead = t.lead trext in
+    let before = blocks t t.start bits in
+    record {
+      part = r.part ++ level ∷ [];
+      levels_are = ap (λ ls. ls ++ level ∷ []) r.levels_are ∙ append_assoc lead (before ++ r.part) (level ∷ []) ∙ ap (λ ls. lead ++ ls) (append_assoc before r.part (level ∷ []));
+      context_is = r.context_is;
+      place_is = let size = length-append r.part (level ∷ []) in let old = r.place_is in omega arith;
+      begun = begun;
+      fits_is = λ bit.
+          let more = front_more r.part (t.block state.context bit) level state.place r.place_is (r.begun bit) in
+          (λ h. let f = (fits bit).0 h in more.0 ((r.fits_is bit).0 f.0, f.1), λ h. let f = more.1 h in (fits bit).1 ((r.fits_is bit).1 f.0, f.1));
+      some_bit = some_bit;
+      some_fits = some_fits;
+      taken_is = let size = length-append levels (level ∷ []) in let old = r.taken_is in omega arith;
+      put_is = r.put_is;
+      last_is = r.last_is;
+    }
+
+-- before a block each bit fits
+pub all_fit : (t : Table) (state : InsideValue) → state.zero_fits ≡ true → state.one_fits ≡ true → state.place ≡ 0
+    → (bit : Bool) → IsTrue (fits_of state bit) ↔ ([] ≡ take state.place (t.block state.context bit))
+all_fit t state zero_fits one_fits place false = (λ _. rw place refl, λ _. zero_fits)
+all_fit t state zero_fits one_fits place true = (λ _. rw place refl, λ _. one_fits)
+
+-- the next level is the last of a bit's block
+pub reads_bit : (t : Table) (chips : ℕ) → IsEven t chips → (trext : Bool) (state : InsideValue) (levels bits : List Bool) (level bit : Bool)
+    → Reads t trext state levels bits
+    → IsTrue (fits_of state bit) → slice_get (t.block state.context bit) state.place ≡ Some level → length (t.block state.context bit) ≡ state.place + 1
+    → Reads t trext (behind t state bit) (levels ++ level ∷ []) (bits ++ bit ∷ [])
+reads_bit t chips even trext state levels bits level bit r fits at size =
+    let lead = t.lead trext in
+    let before = blocks t t.start bits in
+    let block = t.block state.context bit in
+    let front = (front_more r.part block level state.place r.place_is (r.begun bit)).0 ((r.fits_is bit).0 fits, at) in
+    let whole : r.part ++ level ∷ [] ≡ block = front ∙ take_all (state.place + 1) block (omega arith) in
+    let all : before ++ (r.part ++ level ∷ []) ≡ blocks t t.start (bits ++ bit ∷ []) =
+    ap (λ ls. before ++ ls) (whole ∙ sym (append-nil block) ∙ ap (λ c. blocks t c (bit ∷ [])) r.context_is) ∙ sym (blocks-append t bits (bit ∷ []) t.start) in
+    record {
+      part = [];
+      levels_are =
+          ap (λ ls. ls ++ level ∷ []) r.levels_are ∙ append_assoc lead (before ++ r.part) (level ∷ [])
+          ∙ ap (λ ls. lead ++ ls) (append_assoc before r.part (level ∷ []) ∙ all ∙ sym (append-nil (blocks t t.start (bits ++ bit ∷ []))));
+      context_is = ap (λ c. t.next c bit) r.context_is ∙ sym (context_after-push t bits bit t.start);
+      place_is = refl;
+      begun = λ b. let least = even.least in let long = even.blocks_even (t.next state.context bit) b in omega arith;
+      fits_is = all_fit t (behind t state bit) refl refl refl;
+      some_bit = true;
+      some_fits = refl;
+      taken_is = let more = length-append levels (level ∷ []) in let old = r.taken_is in omega arith;
+      put_is = let more = length-append bits (bit ∷ []) in let old = r.put_is in omega arith;
+      last_is = (bits, refl);
+    }
+
+-- the state after the whole block of a bit
+abbrev pub behind_block : Table → ℕ → InsideValue → Bool → InsideValue
+behind_block t chips state bit =
+    record { context = t.next state.context bit; place = 0; zero_fits = true; one_fits = true; taken = state.taken + chips; put = state.put + 1; last = Some bit }
+
+-- the next levels are the whole block of a bit, of which none was taken
+pub reads_block : (t : Table) (chips : ℕ) → IsEven t chips → (trext : Bool) (state : InsideValue) (levels bits : List Bool) (bit : Bool)
+    → Reads t trext state levels bits → state.place ≡ 0
+    → Reads t trext (behind_block t chips state bit) (levels ++ t.block state.context bit) (bits ++ bit ∷ [])
+reads_block t chips even trext state levels bits bit r fresh =
+    let lead = t.lead trext in
+    let before = blocks t t.start bits in
+    let block = t.block state.context bit in
+    let old = r.place_is in
+    let none : r.part ≡ [] = nil_from_length r.part (omega arith) in
+    let all : before ++ (r.part ++ block) ≡ blocks t t.start (bits ++ bit ∷ []) =
+    ap (λ ls. before ++ ls) (ap (λ ls. ls ++ block) none ∙ sym (append-nil block) ∙ ap (λ c. blocks t c (bit ∷ [])) r.context_is) ∙ sym (blocks-append t bits (bit ∷ []) t.start) in
+    record {
+      part = [];
+      levels_are =
+          ap (λ ls. ls ++ block) r.levels_are ∙ append_assoc lead (before ++ r.part) block
+          ∙ ap (λ ls. lead ++ ls) (append_assoc before r.part block ∙ all ∙ sym (append-nil (blocks t t.start (bits ++ bit ∷ []))));
+      context_is = ap (λ c. t.next c bit) r.context_is ∙ sym (context_after-push t bits bit t.start);
+      place_is = refl;
+      begun = λ b. let least = even.least in let long = even.blocks_even (t.next state.context bit) b in omega arith;
+      fits_is = all_fit t (behind_block t chips state bit) refl refl refl;
+      some_bit = true;
+      some_fits = refl;
+      taken_is = let size = even.blocks_even state.context bit in let more = length-append levels block in let old = r.taken_is in omega arith;
+      put_is = let more = length-append bits (bit ∷ []) in let old = r.put_is in omega arith;
+      last_is = (bits, refl);
+    }
+
+-- behind the lead
+pub reads_none : (t : Table) (chips : ℕ) → IsEven t chips → (trext : Bool) (state : InsideValue) → state.context ≡ t.start → state.place ≡ 0
+    → state.zero_fits ≡ true → state.one_fits ≡ true → state.taken ≡ length (t.lead trext) → state.put ≡ 0 → state.last ≡ None
+    → Reads t trext state (t.lead trext) []
+reads_none t chips even trext state context place zero_fits one_fits taken put last =
+    record {
+      part = [];
+      levels_are = sym (append-nil (t.lead trext));
+      context_is = context;
+      place_is = place;
+      begun = λ b. let least = even.least in let long = even.blocks_even state.context b in omega arith;
+      fits_is = all_fit t state zero_fits one_fits place;
+      some_bit = true;
+      some_fits = one_fits;
+      taken_is = taken;
+      put_is = put;
+      last_is = rw last refl;
+    }
+
+-- what the levels are where they are a stream: whole blocks, the last of them the dummy's
+pub record Finished (t : Table) (trext : Bool) (levels bits : List Bool) : Type 0 where
+  pub front : List Bool
+  pub bits_are : bits ≡ front ++ true ∷ []
+  pub stream : IsStream t trext front levels
+
+-- the levels are whole blocks, the last of them the dummy's
+pub reads_whole : (t : Table) (trext : Bool) (state : InsideValue) (levels bits : List Bool) → Reads t trext state levels bits
+    → state.place ≡ 0 → state.last ≡ Some true → Finished t trext levels bits
+reads_whole t trext state levels bits r place last =
+    let is : LastIs bits (Some true) = rw last at r.last_is in
+    let old = r.place_is in
+    let none : r.part ≡ [] = nil_from_length r.part (omega arith) in
+    record {
+      front = is.0;
+      bits_are = is.1;
+      stream =
+          r.levels_are ∙ ap (λ ls. t.lead trext ++ (blocks t t.start bits ++ ls)) none
+          ∙ ap (λ ls. t.lead trext ++ ls) (append-nil (blocks t t.start bits) ∙ ap (λ bs. blocks t t.start bs) is.1);
+    }
+
+-- the last bit of bits that are not empty
+pub last_of_push : (bits front : List Bool) (bit : Bool) (last : Option Bool) → bits ≡ front ++ bit ∷ [] → LastIs bits last → last ≡ Some bit
+last_of_push bits front bit None e l = let sizes = length-append front (bit ∷ []) in let none = ap length (sym e ∙ l) in absurd (omega arith)
+last_of_push bits front bit (Some b) e l = ap Some (sym (same_from_push front l.0 bit b (sym e ∙ l.1)).1)
+
+-- where the levels are a stream, the block is whole and the last bit is the dummy
+pub reads_finished : (t : Table) (chips : ℕ) → IsEven t chips → TellsBits t → (trext : Bool) (state : InsideValue) (levels bits : List Bool)
+    → Reads t trext state levels bits → Streams t trext levels → (state.place ≡ 0) × (state.last ≡ Some true)
+reads_finished t chips even tells trext state levels bits r (all, e) =
+    let rest = rest_of t chips even tells trext state levels bits [] r (all, append-nil levels ∙ e) in
+    none rest.all rest.others rest.blocks_are rest.bits_are
+  where
+    none : (ends others : List Bool) → r.part ++ [] ≡ blocks t state.context others → ends ++ true ∷ [] ≡ bits ++ others → (state.place ≡ 0) × (state.last ≡ Some true)
+    none ends [] f g =
+        let size = r.place_is ∙ ap length (sym (append-nil r.part) ∙ f) in
+        (size, last_of_push bits ends true state.last (sym (append-nil bits) ∙ sym g) r.last_is)
+    none ends (bit ∷ others) f g =
+        let begun = r.begun bit in
+        let old = r.place_is in
+        let left = length-append r.part [] in
+        let right = length-append (t.block state.context bit) (blocks t (t.next state.context bit) others) in
+        let sizes = ap length f in
+        absurd (omega arith)
+
+-- the refusal at the end
+pub reads_short : (t : Table) (chips : ℕ) → IsEven t chips → TellsBits t → (trext : Bool) (state : InsideValue) (levels bits : List Bool)
+    → Reads t trext state levels bits → ¬ ((state.place ≡ 0) × (state.last ≡ Some true)) → IsShortAt (Streams t trext) levels state.taken
+reads_short t chips even tells trext state levels bits r none =
+    record {
+      whole = r.taken_is;
+      begins = reads_begins t trext state levels bits r;
+      no_member = λ s. none (reads_finished t chips even tells trext state levels bits r s);
+    }

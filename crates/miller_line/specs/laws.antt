@@ -1,0 +1,2 @@
+-- The laws of a line code for Miller.
+pub mod Miller

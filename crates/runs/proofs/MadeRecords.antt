@@ -1,0 +1,107 @@
+-- Each record of a history is the one that its command makes, and what the channel gave in it is a raw stream only where one is chosen.
+use Rattle.std.proofs.Common.{◌≡◌, ℕ, suc, ◌+◌, ◌==◌, Bool, true, false, List, [], ◌∷◌, ◌++◌, length, if◌then◌else◌, refl, ap, sym, ◌∙◌, subst}
+use Rattle.access_ops.specs.declared.OpList.{OpList}
+use Rattle.air_events.specs.Entries.{entry_at, no_entry}
+use Rattle.air_events.specs.declared.Entry.{Entry}
+use Rattle.air_model.specs.Channel.{Given, raw, IsReadBy, IsOfReplies, GoesByReplies}
+use Rattle.air_model.specs.Exchange.{replies_in}
+use Rattle.air_model.specs.Past.{Start, Record, Item, befell, exchanged, operated, ended, tags_behind, exchanges_in, rounds_in, next_entry, next_record, past_behind_command}
+use Rattle.air_model.specs.laws.GivenLaws.{given_is_read, given_of_replies}
+use Rattle.bit_strings.specs.declared.code.Code.{Code}
+use Rattle.command_grammar.specs.declared.commands.Command.{Command}
+use Rattle.runs.specs.Headline.{IsRecordOf, HasNoRawStream}
+use Rattle.runs.specs.History.{slot_reception, past_behind_slot, past_behind_step, past_behind, history_of}
+use Rattle.runs.specs.Listed.{sender_where, sender_listed_by}
+use Rattle.runs.specs.Listing.{Listed, listed_by}
+use Rattle.runs.specs.laws.Growth.{answer-keeps, always-holds}
+use Rattle.scenario.specs.declared.values.Step.{Step}
+use Rattle.scenario.specs.declared.values.Step.TheVariants as steps
+
+-- each record is the one that its command makes, sent when this was past
+abbrev AreMade : Start → List Item → Type 0
+AreMade start [] = Unit {0}
+AreMade start (befell event number ∷ past) = AreMade start past
+AreMade start (exchanged sent ∷ past) = (sent ≡ next_record start sent.round sent.slot sent.command past) × AreMade start past
+AreMade start (operated round slot index result ∷ past) = AreMade start past
+AreMade start (ended round end slots ∷ past) = AreMade start past
+
+made-slot : (start : Start) (operations : OpList) (round slot : ℕ) (command : Command) (past : List Item) → AreMade start past
+    → AreMade start (past_behind_slot start operations round slot command past)
+made-slot start operations round slot command past made =
+    answer-keeps (AreMade start) start operations round slot (slot_reception start round slot command past) (past_behind_command start round slot command past)
+    (record { command = λ command expect extended now awaits holds. (refl, holds); result = λ index result now holds. holds })
+    (λ rn holds. (refl, holds))
+    (refl, made)
+
+made-step : (start : Start) (step : Step) (past : List Item) → AreMade start past → AreMade start (past_behind_step start step past)
+made-step start (steps.Select command) past made = (refl, made)
+made-step start steps.Nak past made = (refl, made)
+made-step start (steps.Event event number) past made = made
+made-step start (steps.Round spec operations) past made =
+    always-holds (AreMade start) start operations (rounds_in past + 1) spec
+    (record {
+      slot = λ outcomes now command are is holds. made-slot start operations (rounds_in past + 1) (length outcomes + 1) command now holds;
+      end = λ outcomes now end are is holds. holds;
+    })
+    (suc spec.limit) [] past tt made
+
+made-steps : (start : Start) (steps : List Step) (past : List Item) → AreMade start past → AreMade start (past_behind start steps past)
+made-steps start [] past made = made
+made-steps start (step ∷ later) past made = made-steps start later (past_behind_step start step past) (made-step start step past made)
+
+made-at : (start : Start) (later : List Item) (sent : Record) (earlier : List Item) → AreMade start (later ++ exchanged sent ∷ earlier)
+    → sent ≡ next_record start sent.round sent.slot sent.command earlier
+made-at start [] sent earlier made = made.0
+made-at start (befell event number ∷ later) sent earlier made = made-at start later sent earlier made
+made-at start (exchanged other ∷ later) sent earlier made = made-at start later sent earlier made.1
+made-at start (operated round slot index result ∷ later) sent earlier made = made-at start later sent earlier made
+made-at start (ended round end slots ∷ later) sent earlier made = made-at start later sent earlier made
+
+-- a record of a history is such a one
+pub made-record : (start : Start) (steps : List Step) (sent : Record) (earlier : List Item) → IsRecordOf (history_of start steps) sent earlier
+    → sent ≡ next_record start sent.round sent.slot sent.command earlier
+made-record start steps sent earlier recorded = made-at start recorded.later sent earlier (subst (AreMade start) recorded.is (made-steps start steps [] tt))
+
+-- what the channel gave in it, where it is a raw stream, is heard by the link
+pub made-read : (start : Start) (sent : Record) (earlier : List Item) → sent ≡ next_record start sent.round sent.slot sent.command earlier → IsReadBy start.link sent.given
+made-read start sent earlier made =
+    let entry = next_entry start earlier in
+    subst (λ (given : Given). IsReadBy start.link given) (sym (ap (λ (r : Record). r.given) made))
+    (given_is_read start.link (replies_in sent.command entry (tags_behind start earlier)) entry.choice start.several)
+
+-- ... and where none is chosen, it is no raw stream
+pub made-of-replies : (start : Start) (sent : Record) (earlier : List Item) → sent ≡ next_record start sent.round sent.slot sent.command earlier → GoesByReplies sent.entry.choice
+    → IsOfReplies sent.given
+made-of-replies start sent earlier made goes =
+    let entry = next_entry start earlier in
+    subst (λ (given : Given). IsOfReplies given) (sym (ap (λ (r : Record). r.given) made))
+    (given_of_replies start.link (replies_in sent.command entry (tags_behind start earlier)) entry.choice start.several
+    (subst (λ (e : Entry). GoesByReplies e.choice) (ap (λ (r : Record). r.entry) made) goes))
+
+if-either : (here : Bool) (one other : Entry) → GoesByReplies one.choice → GoesByReplies other.choice → GoesByReplies (if here then one else other).choice
+if-either true one other first second = first
+if-either false one other first second = second
+
+none-said : (entries : List (ℕ × Entry)) (exchange : ℕ) → HasNoRawStream entries → GoesByReplies (entry_at entries exchange).choice
+none-said [] exchange none = tt
+none-said (entry ∷ entries) exchange none = if-either (entry.0 == exchange) entry.1 (entry_at entries exchange) none.0 (none-said entries exchange none.1)
+
+-- where no entry of a run gives raw levels, no record of its history does
+pub none-given : (start : Start) (sent : Record) (earlier : List Item) → HasNoRawStream start.entries → sent ≡ next_record start sent.round sent.slot sent.command earlier
+    → IsOfReplies sent.given
+none-given start sent earlier none made =
+    made-of-replies start sent earlier made
+    (subst (λ (e : Entry). GoesByReplies e.choice) (sym (ap (λ (r : Record). r.entry) made)) (none-said start.entries (exchanges_in earlier + 1) none))
+
+-- ... and none of an honest round
+pub honest-given : (start : Start) (sent : Record) (earlier : List Item) → sent ≡ next_record start sent.round sent.slot sent.command earlier → sent.entry ≡ no_entry
+    → IsOfReplies sent.given
+honest-given start sent earlier made unsaid = made-of-replies start sent earlier made (subst (λ (e : Entry). GoesByReplies e.choice) (sym unsaid) tt)
+
+none-sent : (listed : List Listed) (code : Code) (trext : Bool) (levels : List Bool) → sender_where listed (raw code trext levels) ≡ []
+none-sent [] code trext levels = refl
+none-sent (one ∷ more) code trext levels = refl
+
+-- a record that was given a raw stream lists no tag
+pub raw-unsent : (sent : Record) (code : Code) (trext : Bool) (levels : List Bool) → sent.given ≡ raw code trext levels → sender_listed_by sent ≡ []
+raw-unsent sent code trext levels is = ap (λ (given : Given). sender_where (listed_by sent) given) is ∙ none-sent (listed_by sent) code trext levels

@@ -1,0 +1,4 @@
+pub mod Growth
+pub mod HeadlineCounts
+pub mod HeadlineLegal
+pub mod Tags

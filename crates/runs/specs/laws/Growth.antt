@@ -1,0 +1,322 @@
+-- A past only grows. What each command and each result of a dialogue keeps, the dialogue keeps; what holds after each slot of a
+-- round and at both of its ends holds of the round; and what holds after each step holds of the run.
+use Rattle.std.proofs.Common.{◌≡◌, ℕ, zero, suc, ◌+◌, ◌≤◌, Bool, true, false, List, [], ◌∷◌, ◌++◌, length, None, refl, ap, sym, ◌∙◌, append_assoc, append-nil, arith}
+use Rattle.std.specs.List.{AllByRecursion}
+use Rattle.access_ops.specs.laws.DialogueLaws.{AwaitsReplies, dialogues-await}
+use Rattle.access_ops.specs.laws.OperationLaws.{Expects}
+use Rattle.access_ops.specs.Operations.{Dialogue, sends, tells, done, dialogue_of}
+use Rattle.access_ops.specs.declared.OpList.{OpList}
+use Rattle.access_ops.specs.declared.op_next.OpResult.{OpResult}
+use Rattle.air_model.specs.Past.{Start, Item, exchanged, operated, ended, next_record, past_behind_command, rounds_in}
+use Rattle.reply_grammar.specs.Reception.{Reception, no_stream, whole_reply, no_such_reply}
+use Rattle.runs.specs.History.{outcome_of, operation_reception, past_behind_dialogue, dialogue_begun, past_behind_listing, ack_reception, past_behind_ack, past_behind_answer, slot_reception, past_behind_slot, past_behind_turn, past_behind_turns, past_behind_round, past_behind_step, past_behind}
+use Rattle.runs.specs.NextItem.{rn_of}
+use Rattle.runs.specs.Report.{item_lines, past_lines}
+use Rattle.report_lines.specs.declared.mode.Mode.{Mode}
+use Rattle.command_grammar.specs.declared.commands.Command.{Command}
+use Rattle.command_grammar.specs.declared.commands.Command.TheVariants as commands
+use Rattle.pie_line.specs.Link.{LinkValue}
+use Rattle.q_round.specs.SpecValue.{SpecValue, IsLegalSpec}
+use Rattle.q_round.specs.Rounds.{Turn, query, adjust, rep, quiet, limit, ends, turn_of, is_over, AreOutcomes, slots_of, answer_of, next_command}
+use Rattle.q_round.specs.laws.SlotLaws.{slots-underway, slots-over}
+use Rattle.q_round.specs.declared.frame.Outcome.{Outcome}
+use Rattle.q_round.specs.declared.round.Next.{Next}
+use Rattle.q_round.specs.declared.round.Next.TheVariants as nexts
+use Rattle.q_round.specs.declared.round.RoundEnd.{RoundEnd}
+use Rattle.q_round.specs.declared.round.RoundEnd.TheVariants as round_ends
+use Rattle.reply_grammar.specs.declared.expected.Expect.{Expect}
+use Rattle.reply_grammar.specs.declared.expected.Reply.TheVariants as replies
+use Rattle.report_lines.specs.ReportLine.{ReportLine}
+use Rattle.scenario.specs.declared.values.Step.{Step}
+use Rattle.scenario.specs.declared.values.Step.TheVariants as steps
+
+-- a past, and what was added to it
+pub record Grows (past behind : List Item) : Type 0 where
+  pub own : List Item
+  pub is : behind ≡ own ++ past
+
+pub grows-none : (past : List Item) → Grows past past
+grows-none past = record { own = []; is = refl }
+
+pub grows-more : (past behind : List Item) (item : Item) → Grows past behind → Grows past (item ∷ behind)
+grows-more past behind item grown = record { own = item ∷ grown.own; is = ap (λ items. item ∷ items) grown.is }
+
+pub grows-on : (past between behind : List Item) → Grows past between → Grows between behind → Grows past behind
+grows-on past between behind first then = record {
+  own = then.own ++ first.own;
+  is = then.is ∙ ap (λ items. then.own ++ items) first.is ∙ sym (append_assoc then.own first.own past);
+}
+
+-- What each command and each result of a dialogue keeps, and the end. `During` speaks of the number of the next result, what is
+-- left of the dialogue, and the past; `After` of the past behind the dialogue.
+pub record DialogueSteps (During : ℕ → Dialogue → List Item → Type 0) (After : List Item → Type 0) (start : Start) (round slot : ℕ) : Type 0 where
+  pub command : (index : ℕ) (command : Command) (expect : Expect) (extended : Bool) (go_on : Reception → Dialogue) (past : List Item)
+      → During index (sends command expect extended go_on) past
+      → During index (go_on (operation_reception start round slot command expect extended past)) (past_behind_command start round slot command past)
+  pub result : (index : ℕ) (result : OpResult) (later : Dialogue) (past : List Item) → During index (tells result later) past
+      → During (index + 1) later (operated round slot index result ∷ past)
+  pub end : (index : ℕ) (past : List Item) → During index done past → After past
+
+-- what holds at first holds behind the dialogue
+pub dialogue-holds : (During : ℕ → Dialogue → List Item → Type 0) (After : List Item → Type 0) (start : Start) (round slot : ℕ)
+    → DialogueSteps During After start round slot
+    → (index : ℕ) (dialogue : Dialogue) (past : List Item) → During index dialogue past → After (past_behind_dialogue start round slot index dialogue past)
+dialogue-holds During After start round slot each index (sends command expect extended go_on) past holds =
+    dialogue-holds During After start round slot each index (go_on (operation_reception start round slot command expect extended past))
+    (past_behind_command start round slot command past) (each.command index command expect extended go_on past holds)
+dialogue-holds During After start round slot each index (tells result later) past holds =
+    dialogue-holds During After start round slot each (index + 1) later (operated round slot index result ∷ past) (each.result index result later past holds)
+dialogue-holds During After start round slot each index done past holds = each.end index past holds
+
+-- what holds of a past, and each command of an operation and each result keeps
+pub record KeptByOperations (Holds : List Item → Type 0) (start : Start) (round slot : ℕ) : Type 0 where
+  pub command : (command : Command) (expect : Expect) (extended : Bool) (past : List Item) → Expects command expect extended → Holds past
+      → Holds (past_behind_command start round slot command past)
+  pub result : (index : ℕ) (result : OpResult) (past : List Item) → Holds past → Holds (operated round slot index result ∷ past)
+
+-- ... holds behind a dialogue
+pub dialogue-keeps : (Holds : List Item → Type 0) (start : Start) (round slot : ℕ) → KeptByOperations Holds start round slot
+    → (index : ℕ) (dialogue : Dialogue) (past : List Item) → AwaitsReplies dialogue → Holds past
+    → Holds (past_behind_dialogue start round slot index dialogue past)
+dialogue-keeps Holds start round slot kept index dialogue past awaits holds =
+    dialogue-holds (λ index left now. AwaitsReplies left × Holds now) Holds start round slot
+    (record {
+      command = λ index command expect extended go_on now during. (during.0.1 _, kept.command command expect extended now during.0.0 during.1);
+      result = λ index result later now during. (during.0, kept.result index result now during.1);
+      end = λ index now during. during.1;
+    })
+    index dialogue past (awaits, holds)
+
+-- what holds where nothing is done, and of the dialogue with each tag whose EPC came whole, holds of what is done behind an ACK
+-- that brought this
+pub begun-holds : (Holds : Dialogue → Type 0) (operations : OpList) (rn : ℕ) (reception : Reception) → Holds done
+    → ((pc : ℕ) (epc : List ℕ) → reception ≡ whole_reply (replies.Epc pc epc) → Holds (dialogue_of operations epc rn))
+    → Holds (dialogue_begun operations rn reception)
+begun-holds Holds operations rn no_stream none whole = none
+begun-holds Holds operations rn no_such_reply none whole = none
+begun-holds Holds operations rn (whole_reply (replies.Rn16 number)) none whole = none
+begun-holds Holds operations rn (whole_reply (replies.Epc pc epc)) none whole = whole pc epc refl
+begun-holds Holds operations rn (whole_reply (replies.Handle number)) none whole = none
+begun-holds Holds operations rn (whole_reply (replies.Words words)) none whole = none
+begun-holds Holds operations rn (whole_reply replies.Header) none whole = none
+begun-holds Holds operations rn (whole_reply (replies.Error code)) none whole = none
+
+-- each command of it awaits a reply of its kind
+pub begun-awaits : (operations : OpList) (rn : ℕ) (reception : Reception) → AwaitsReplies (dialogue_begun operations rn reception)
+begun-awaits operations rn reception = begun-holds AwaitsReplies operations rn reception tt (λ pc epc is. dialogues-await operations epc rn)
+
+-- What holds behind an ACK, and what holds behind each dialogue with a tag whose EPC came whole, holds behind the rest of a slot
+-- whose ACK brought this.
+pub listing-holds : (Holds : List Item → Type 0) (start : Start) (operations : OpList) (round slot rn : ℕ) (reception : Reception) (past : List Item) → Holds past
+    → ((pc : ℕ) (epc : List ℕ) → reception ≡ whole_reply (replies.Epc pc epc) → Holds (past_behind_dialogue start round slot 1 (dialogue_of operations epc rn) past))
+    → Holds (past_behind_listing start operations round slot rn reception past)
+listing-holds Holds start operations round slot rn reception past holds whole =
+    begun-holds (λ dialogue. Holds (past_behind_dialogue start round slot 1 dialogue past)) operations rn reception holds whole
+
+-- What holds where no RN16 came, and behind each ACK with what follows it, holds behind the rest of a slot whose slot command
+-- brought this.
+pub answer-cases : (Holds : List Item → Type 0) (start : Start) (operations : OpList) (round slot : ℕ) (reception : Reception) (past : List Item)
+    → (rn_of reception ≡ None → Holds past)
+    → ((rn : ℕ) → reception ≡ whole_reply (replies.Rn16 rn) → Holds (past_behind_ack start operations round slot rn past))
+    → Holds (past_behind_answer start operations round slot reception past)
+answer-cases Holds start operations round slot no_stream past none whole = none refl
+answer-cases Holds start operations round slot no_such_reply past none whole = none refl
+answer-cases Holds start operations round slot (whole_reply (replies.Rn16 rn)) past none whole = whole rn refl
+answer-cases Holds start operations round slot (whole_reply (replies.Epc pc epc)) past none whole = none refl
+answer-cases Holds start operations round slot (whole_reply (replies.Handle rn)) past none whole = none refl
+answer-cases Holds start operations round slot (whole_reply (replies.Words words)) past none whole = none refl
+answer-cases Holds start operations round slot (whole_reply replies.Header) past none whole = none refl
+answer-cases Holds start operations round slot (whole_reply (replies.Error code)) past none whole = none refl
+
+-- ... also of what holds behind the slot command whatever came
+pub answer-holds : (Holds : List Item → Type 0) (start : Start) (operations : OpList) (round slot : ℕ) (reception : Reception) (past : List Item) → Holds past
+    → ((rn : ℕ) → reception ≡ whole_reply (replies.Rn16 rn) → Holds (past_behind_ack start operations round slot rn past))
+    → Holds (past_behind_answer start operations round slot reception past)
+answer-holds Holds start operations round slot reception past holds whole =
+    answer-cases Holds start operations round slot reception past (λ none. holds) whole
+
+-- what each command of an operation and each result keeps holds behind an ACK and what follows it, where it holds behind the ACK
+pub ack-keeps : (Holds : List Item → Type 0) (start : Start) (operations : OpList) (round slot rn : ℕ) (past : List Item) → KeptByOperations Holds start round slot
+    → Holds (past_behind_command start round slot (commands.Ack rn) past) → Holds (past_behind_ack start operations round slot rn past)
+ack-keeps Holds start operations round slot rn past kept holds =
+    let reception = ack_reception start round slot rn past in
+    dialogue-keeps Holds start round slot kept 1 (dialogue_begun operations rn reception) (past_behind_command start round slot (commands.Ack rn) past)
+    (begun-awaits operations rn reception) holds
+
+-- ... and behind the rest of a slot, where the ACK keeps it too
+pub answer-keeps : (Holds : List Item → Type 0) (start : Start) (operations : OpList) (round slot : ℕ) (reception : Reception) (past : List Item)
+    → KeptByOperations Holds start round slot
+    → ((rn : ℕ) → Holds past → Holds (past_behind_command start round slot (commands.Ack rn) past))
+    → Holds past → Holds (past_behind_answer start operations round slot reception past)
+answer-keeps Holds start operations round slot reception past kept ack holds =
+    answer-holds Holds start operations round slot reception past holds
+    (λ rn is. ack-keeps Holds start operations round slot rn past kept (ack rn holds))
+
+pub dialogue-grows : (start : Start) (round slot index : ℕ) (dialogue : Dialogue) (past : List Item)
+    → Grows past (past_behind_dialogue start round slot index dialogue past)
+dialogue-grows start round slot index dialogue past =
+    dialogue-holds (λ index left now. Grows past now) (λ now. Grows past now) start round slot
+    (record {
+      command = λ index command expect extended go_on now grown. grows-more past now _ grown;
+      result = λ index result later now grown. grows-more past now _ grown;
+      end = λ index now grown. grown;
+    })
+    index dialogue past (grows-none past)
+
+pub listing-grows : (start : Start) (operations : OpList) (round slot rn : ℕ) (reception : Reception) (past : List Item)
+    → Grows past (past_behind_listing start operations round slot rn reception past)
+listing-grows start operations round slot rn reception past = dialogue-grows start round slot 1 (dialogue_begun operations rn reception) past
+
+pub ack-grows : (start : Start) (operations : OpList) (round slot rn : ℕ) (past : List Item) → Grows past (past_behind_ack start operations round slot rn past)
+ack-grows start operations round slot rn past =
+    let sent = past_behind_command start round slot (commands.Ack rn) past in
+    grows-on past sent (past_behind_ack start operations round slot rn past)
+    (grows-more past past (exchanged (next_record start round slot (commands.Ack rn) past)) (grows-none past))
+    (listing-grows start operations round slot rn (ack_reception start round slot rn past) sent)
+
+pub answer-grows : (start : Start) (operations : OpList) (round slot : ℕ) (reception : Reception) (past : List Item)
+    → Grows past (past_behind_answer start operations round slot reception past)
+answer-grows start operations round slot reception past =
+    answer-holds (λ now. Grows past now) start operations round slot reception past (grows-none past)
+    (λ rn is. ack-grows start operations round slot rn past)
+
+pub slot-grows : (start : Start) (operations : OpList) (round slot : ℕ) (command : Command) (past : List Item)
+    → Grows past (past_behind_slot start operations round slot command past)
+slot-grows start operations round slot command past =
+    let sent = past_behind_command start round slot command past in
+    grows-on past sent (past_behind_slot start operations round slot command past)
+    (grows-more past past (exchanged (next_record start round slot command past)) (grows-none past))
+    (answer-grows start operations round slot (slot_reception start round slot command past) sent)
+
+-- ... in a turn, where what follows it grows
+turn-grows : (go_on : List Outcome → List Item → List Item) (start : Start) (operations : OpList) (round : ℕ) (outcomes : List Outcome) (past : List Item) (next : Next)
+    → ((outcomes : List Outcome) (past : List Item) → Grows past (go_on outcomes past))
+    → Grows past (past_behind_turn go_on start operations round outcomes past next)
+turn-grows go_on start operations round outcomes past (nexts.Send command) later =
+    let slot : ℕ = length outcomes + 1 in
+    let behind = past_behind_slot start operations round slot command past in
+    grows-on past behind _ (slot-grows start operations round slot command past) (later (outcome_of (slot_reception start round slot command past) ∷ outcomes) behind)
+turn-grows go_on start operations round outcomes past nexts.Quiet later = grows-more past past _ (grows-none past)
+turn-grows go_on start operations round outcomes past nexts.Limit later = grows-more past past _ (grows-none past)
+
+pub turns-grow : (left : ℕ) (start : Start) (operations : OpList) (round : ℕ) (spec : SpecValue) (outcomes : List Outcome) (past : List Item)
+    → Grows past (past_behind_turns left start operations round spec outcomes past)
+turns-grow zero start operations round spec outcomes past = grows-none past
+turns-grow (suc left) start operations round spec outcomes past =
+    turn-grows (past_behind_turns left start operations round spec) start operations round outcomes past (next_command spec start.link outcomes)
+    (turns-grow left start operations round spec)
+
+pub step-grows : (start : Start) (step : Step) (past : List Item) → Grows past (past_behind_step start step past)
+step-grows start (steps.Select command) past = grows-more past past _ (grows-none past)
+step-grows start steps.Nak past = grows-more past past _ (grows-none past)
+step-grows start (steps.Event event number) past = grows-more past past _ (grows-none past)
+step-grows start (steps.Round spec operations) past = turns-grow (suc spec.limit) start operations (rounds_in past + 1) spec [] past
+
+pub steps-grow : (start : Start) (steps : List Step) (past : List Item) → Grows past (past_behind start steps past)
+steps-grow start [] past = grows-none past
+steps-grow start (step ∷ steps) past =
+    let behind = past_behind_step start step past in
+    grows-on past behind (past_behind start steps behind) (step-grows start step past) (steps-grow start steps behind)
+
+-- the lines of what was added
+abbrev pub added_lines : Mode → LinkValue → List Item → List ReportLine
+added_lines mode link [] = []
+added_lines mode link (item ∷ own) = added_lines mode link own ++ item_lines mode link item
+
+-- they follow the lines of the past
+pub past_lines-more : (mode : Mode) (link : LinkValue) (own past : List Item)
+    → past_lines mode link (own ++ past) ≡ past_lines mode link past ++ added_lines mode link own
+past_lines-more mode link [] past = sym (append-nil (past_lines mode link past))
+past_lines-more mode link (item ∷ own) past =
+    ap (λ lines. lines ++ item_lines mode link item) (past_lines-more mode link own past)
+    ∙ append_assoc (past_lines mode link past) (added_lines mode link own) (item_lines mode link item)
+
+-- what a round does next where it ends so
+abbrev pub next_at_end : RoundEnd → Next
+next_at_end round_ends.Quiet = nexts.Quiet
+next_at_end round_ends.Limit = nexts.Limit
+
+sends-underway : (spec : SpecValue) (link : LinkValue) (turn : Turn) (command : Command) → answer_of spec link turn ≡ nexts.Send command → ends turn ≡ false
+sends-underway spec link query command is = refl
+sends-underway spec link (adjust updn) command is = refl
+sends-underway spec link rep command is = refl
+sends-underway spec link quiet command is = absurd (cc)
+sends-underway spec link limit command is = absurd (cc)
+
+-- where a slot command comes next, the round is not over
+pub send-underway : (spec : SpecValue) (link : LinkValue) (outcomes : List Outcome) (command : Command)
+    → next_command spec link outcomes ≡ nexts.Send command → is_over spec outcomes ≡ false
+send-underway spec link outcomes command is = sends-underway spec link (turn_of spec outcomes) command is
+
+-- What holds at first, after each slot and at the end. `During` speaks of the outcomes so far, the latest first, and the past;
+-- `After` of the past behind the round.
+pub record RoundSteps (During : List Outcome → List Item → Type 0) (After : List Item → Type 0) (start : Start) (operations : OpList) (round : ℕ) (spec : SpecValue) : Type 0 where
+  pub slot : (outcomes : List Outcome) (past : List Item) (command : Command) → AreOutcomes spec outcomes
+      → next_command spec start.link outcomes ≡ nexts.Send command → During outcomes past
+      → During (outcome_of (slot_reception start round (length outcomes + 1) command past) ∷ outcomes) (past_behind_slot start operations round (length outcomes + 1) command past)
+  pub end : (outcomes : List Outcome) (past : List Item) (end : RoundEnd) → AreOutcomes spec outcomes
+      → next_command spec start.link outcomes ≡ next_at_end end → During outcomes past → After (ended round end (length outcomes) ∷ past)
+
+-- a round gives no more slot commands than its limit: a law of rounds
+abbrev pub RoundsKeepLimit : Type 0
+RoundsKeepLimit = (spec : SpecValue) (outcomes : List Outcome) → IsLegalSpec spec → AreOutcomes spec outcomes → slots_of spec outcomes ≤ spec.limit
+
+outcomes-within : (spec : SpecValue) (outcomes : List Outcome) (over : Bool) → is_over spec outcomes ≡ over → AreOutcomes spec outcomes → length outcomes ≤ slots_of spec outcomes
+outcomes-within spec outcomes false on are = rw (slots-underway spec outcomes are on) (omega arith)
+outcomes-within spec outcomes true over are = rw (slots-over spec outcomes are over) (omega arith)
+
+-- a round has at most as many outcomes as its limit
+pub few-outcomes : RoundsKeepLimit → (spec : SpecValue) (outcomes : List Outcome) → IsLegalSpec spec → AreOutcomes spec outcomes → length outcomes ≤ spec.limit
+few-outcomes keeps spec outcomes legal are =
+    let within : slots_of spec outcomes ≤ spec.limit = keeps spec outcomes legal are in
+    let few : length outcomes ≤ slots_of spec outcomes = outcomes-within spec outcomes (is_over spec outcomes) refl are in
+    omega arith
+
+turn-holds : (During : List Outcome → List Item → Type 0) (After : List Item → Type 0) (start : Start) (operations : OpList) (round : ℕ) (spec : SpecValue)
+    → RoundSteps During After start operations round spec
+    → (go_on : List Outcome → List Item → List Item) (outcomes : List Outcome) (past : List Item) → AreOutcomes spec outcomes → During outcomes past
+    → ((outcome : Outcome) (behind : List Item) → AreOutcomes spec (outcome ∷ outcomes) → During (outcome ∷ outcomes) behind → After (go_on (outcome ∷ outcomes) behind))
+    → (next : Next) → next_command spec start.link outcomes ≡ next → After (past_behind_turn go_on start operations round outcomes past next)
+turn-holds During After start operations round spec each go_on outcomes past are holds later (nexts.Send command) is =
+    later _ _ (send-underway spec start.link outcomes command is, are) (each.slot outcomes past command are is holds)
+turn-holds During After start operations round spec each go_on outcomes past are holds later nexts.Quiet is = each.end outcomes past round_ends.Quiet are is holds
+turn-holds During After start operations round spec each go_on outcomes past are holds later nexts.Limit is = each.end outcomes past round_ends.Limit are is holds
+
+-- what holds after each slot, and from there at both ends, holds behind the turns that are left
+pub turns-hold : (During : List Outcome → List Item → Type 0) (After : List Item → Type 0) (start : Start) (operations : OpList) (round : ℕ) (spec : SpecValue)
+    → RoundsKeepLimit → IsLegalSpec spec → RoundSteps During After start operations round spec
+    → (left : ℕ) (outcomes : List Outcome) (past : List Item) → left + length outcomes ≡ spec.limit + 1 → AreOutcomes spec outcomes → During outcomes past
+    → After (past_behind_turns left start operations round spec outcomes past)
+turns-hold During After start operations round spec keeps legal each zero outcomes past count are holds =
+    let few : length outcomes ≤ spec.limit = few-outcomes keeps spec outcomes legal are in
+    absurd (omega arith)
+turns-hold During After start operations round spec keeps legal each (suc left) outcomes past count are holds =
+    turn-holds During After start operations round spec each (past_behind_turns left start operations round spec) outcomes past are holds
+    (λ outcome behind more during. turns-hold During After start operations round spec keeps legal each left (outcome ∷ outcomes) behind (omega arith) more during)
+    (next_command spec start.link outcomes) refl
+
+-- ... also where the limit is none, of what holds at each moment
+pub always-holds : (Holds : List Item → Type 0) (start : Start) (operations : OpList) (round : ℕ) (spec : SpecValue)
+    → RoundSteps (λ outcomes past. Holds past) Holds start operations round spec
+    → (left : ℕ) (outcomes : List Outcome) (past : List Item) → AreOutcomes spec outcomes → Holds past
+    → Holds (past_behind_turns left start operations round spec outcomes past)
+always-holds Holds start operations round spec each zero outcomes past are holds = holds
+always-holds Holds start operations round spec each (suc left) outcomes past are holds =
+    turn-holds (λ outcomes past. Holds past) Holds start operations round spec each (past_behind_turns left start operations round spec) outcomes past are holds
+    (λ outcome behind more during. always-holds Holds start operations round spec each left (outcome ∷ outcomes) behind more during)
+    (next_command spec start.link outcomes) refl
+
+-- ... and behind a whole round
+pub round-holds : (During : List Outcome → List Item → Type 0) (After : List Item → Type 0) (start : Start) (operations : OpList) (spec : SpecValue) (past : List Item)
+    → RoundsKeepLimit → IsLegalSpec spec → RoundSteps During After start operations (rounds_in past + 1) spec → During [] past
+    → After (past_behind_round start operations spec past)
+round-holds During After start operations spec past keeps legal each holds =
+    turns-hold During After start operations (rounds_in past + 1) spec keeps legal each (suc spec.limit) [] past (omega arith) tt holds
+
+-- what each step keeps, a run keeps
+pub steps-hold : (Holds : List Item → Type 0) (Can : Step → Type 0) (start : Start)
+    → ((step : Step) (past : List Item) → Can step → Holds past → Holds (past_behind_step start step past))
+    → (steps : List Step) (past : List Item) → AllByRecursion Can steps → Holds past → Holds (past_behind start steps past)
+steps-hold Holds Can start each [] past can holds = holds
+steps-hold Holds Can start each (step ∷ steps) past can holds =
+    steps-hold Holds Can start each steps (past_behind_step start step past) can.1 (each step past can.0 holds)

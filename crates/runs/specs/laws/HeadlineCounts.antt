@@ -1,0 +1,118 @@
+-- How many exchanges a run has: one for a Select or NAK, and for each slot of a round at most the slot command, an ACK, one command
+-- for the handle and four for each operation.
+use Rattle.std.proofs.Common.{◌≡◌, ℕ, ◌+◌, ◌-◌, ◌*◌, ◌≤◌, List, [], ◌∷◌, ◌++◌, length, arith}
+use Rattle.std.proofs.Math.Nat.{mul-add, mul-one, mul-le-mul, mul-le-mul_left}
+use Rattle.access_ops.specs.laws.DialogueLaws.{SendsAtMost, dialogues-are-few}
+use Rattle.access_ops.specs.Operations.{Dialogue, dialogue_of}
+use Rattle.access_ops.specs.declared.OpList.{OpList}
+use Rattle.air_model.specs.Past.{Start, Item, befell, exchanged, operated, ended, past_behind_command, exchanges_in, rounds_in}
+use Rattle.runs.specs.Headline.{AreLegalSteps, most_operating, most_exchanges}
+use Rattle.runs.specs.History.{past_behind_dialogue, ack_reception, past_behind_ack, slot_reception, past_behind_slot, past_behind_round, past_behind_step, past_behind}
+use Rattle.runs.specs.laws.Growth.{RoundsKeepLimit, dialogue-holds, listing-holds, answer-holds, round-holds, few-outcomes}
+use Rattle.command_grammar.specs.declared.commands.Command.{Command}
+use Rattle.command_grammar.specs.declared.commands.Command.TheVariants as commands
+use Rattle.q_round.specs.SpecValue.{SpecValue, IsLegalSpec}
+use Rattle.scenario.specs.declared.values.Step.{Step}
+use Rattle.scenario.specs.declared.values.Step.TheVariants as steps
+
+-- what is left of a dialogue, with so many commands at most, adds no more exchanges than those
+record FewLeft (most : ℕ) (dialogue : Dialogue) (past : List Item) : Type 0 where
+  pub left : ℕ
+  pub sends_few : SendsAtMost left dialogue
+  pub within : exchanges_in past + left ≤ most
+
+pub dialogue-exchanges : (start : Start) (round slot index most : ℕ) (dialogue : Dialogue) (past : List Item) → SendsAtMost most dialogue
+    → exchanges_in (past_behind_dialogue start round slot index dialogue past) ≤ exchanges_in past + most
+dialogue-exchanges start round slot index most dialogue past few =
+    dialogue-holds (λ index left now. FewLeft (exchanges_in past + most) left now) (λ now. exchanges_in now ≤ exchanges_in past + most) start round slot
+    (record {
+      command = λ index command expect extended go_on now here.
+          record { left = here.left - 1; sends_few = here.sends_few.1 _; within = omega (arith, here.within, here.sends_few.0) };
+      result = λ index result later now here. record { left = here.left; sends_few = here.sends_few; within = here.within };
+      end = λ index now here. omega (arith, here.within);
+    })
+    index dialogue past (record { left = most; sends_few = few; within = omega arith })
+
+-- an ACK, and the operations
+pub ack-exchanges : (start : Start) (operations : OpList) (round slot rn : ℕ) (past : List Item)
+    → exchanges_in (past_behind_ack start operations round slot rn past) ≤ exchanges_in past + (1 + most_operating operations)
+ack-exchanges start operations round slot rn past =
+    let sent = past_behind_command start round slot (commands.Ack rn) past in
+    listing-holds (λ now. exchanges_in now ≤ exchanges_in past + (1 + most_operating operations)) start operations round slot rn
+    (ack_reception start round slot rn past) sent (omega arith)
+    (λ pc epc is.
+    let few : exchanges_in (past_behind_dialogue start round slot 1 (dialogue_of operations epc rn) sent) ≤ exchanges_in past + 1 + most_operating operations =
+    dialogue-exchanges start round slot 1 (most_operating operations) (dialogue_of operations epc rn) sent (dialogues-are-few operations epc rn) in
+    omega (arith, few))
+
+-- a slot command, and an ACK with the operations or none
+pub slot-exchanges : (start : Start) (operations : OpList) (round slot : ℕ) (command : Command) (past : List Item)
+    → exchanges_in (past_behind_slot start operations round slot command past) ≤ exchanges_in past + (2 + most_operating operations)
+slot-exchanges start operations round slot command past =
+    let sent = past_behind_command start round slot command past in
+    answer-holds (λ now. exchanges_in now ≤ exchanges_in past + (2 + most_operating operations)) start operations round slot
+    (slot_reception start round slot command past) sent (omega arith)
+    (λ rn is.
+    let few : exchanges_in (past_behind_ack start operations round slot rn sent) ≤ exchanges_in past + 1 + (1 + most_operating operations) =
+    ack-exchanges start operations round slot rn sent in
+    omega (arith, few))
+
+pub round-exchanges : RoundsKeepLimit → (start : Start) (operations : OpList) (spec : SpecValue) (past : List Item) → IsLegalSpec spec
+    → exchanges_in (past_behind_round start operations spec past) ≤ exchanges_in past + (2 + most_operating operations) * spec.limit
+round-exchanges keeps start operations spec past legal =
+    let each : ℕ = 2 + most_operating operations in
+    round-holds (λ outcomes now. exchanges_in now ≤ exchanges_in past + each * length outcomes) (λ now. exchanges_in now ≤ exchanges_in past + each * spec.limit)
+    start operations spec past keeps legal
+    (record {
+      slot = λ outcomes now command are is holds.
+          let more : exchanges_in (past_behind_slot start operations (rounds_in past + 1) (length outcomes + 1) command now) ≤ exchanges_in now + each =
+          slot-exchanges start operations (rounds_in past + 1) (length outcomes + 1) command now in
+          let next : each * (length outcomes + 1) ≡ each * length outcomes + each * 1 = mul-add each (length outcomes) 1 in
+          omega (arith, more, next, holds, mul-one each);
+      end = λ outcomes now end are is holds.
+          let few : each * length outcomes ≤ each * spec.limit = mul-le-mul_left each (few-outcomes keeps spec outcomes legal are) in
+          omega (arith, few, holds);
+    })
+    (omega arith)
+
+-- the steps' exchanges are added to those of the past
+pub steps-exchanges : RoundsKeepLimit → (start : Start) (steps : List Step) (past : List Item) → AreLegalSteps steps
+    → exchanges_in (past_behind start steps past) ≤ exchanges_in past + most_exchanges steps
+steps-exchanges keeps start [] past legal = omega arith
+steps-exchanges keeps start (steps.Select command ∷ later) past legal =
+    let behind = past_behind_step start (steps.Select command) past in
+    let more : exchanges_in (past_behind start later behind) ≤ exchanges_in behind + most_exchanges later = steps-exchanges keeps start later behind legal.1 in
+    omega arith
+steps-exchanges keeps start (steps.Nak ∷ later) past legal =
+    let behind = past_behind_step start steps.Nak past in
+    let more : exchanges_in (past_behind start later behind) ≤ exchanges_in behind + most_exchanges later = steps-exchanges keeps start later behind legal.1 in
+    omega arith
+steps-exchanges keeps start (steps.Event event number ∷ later) past legal =
+    let behind = past_behind_step start (steps.Event event number) past in
+    let more : exchanges_in (past_behind start later behind) ≤ exchanges_in behind + most_exchanges later = steps-exchanges keeps start later behind legal.1 in
+    omega arith
+steps-exchanges keeps start (steps.Round spec operations ∷ later) past legal =
+    let behind = past_behind_round start operations spec past in
+    let round : exchanges_in behind ≤ exchanges_in past + (2 + most_operating operations) * spec.limit = round-exchanges keeps start operations spec past legal.0.legal in
+    let more : exchanges_in (past_behind start later behind) ≤ exchanges_in behind + most_exchanges later = steps-exchanges keeps start later behind legal.1 in
+    omega arith
+
+-- a step has at most 9,170,000 exchanges: 70,000 slots of 131
+pub few-exchanges : (steps : List Step) → AreLegalSteps steps → most_exchanges steps ≤ 9170000 * length steps
+few-exchanges [] legal = omega arith
+few-exchanges (steps.Select command ∷ later) legal = let few = few-exchanges later legal.1 in omega arith
+few-exchanges (steps.Nak ∷ later) legal = let few = few-exchanges later legal.1 in omega arith
+few-exchanges (steps.Event event number ∷ later) legal = let few = few-exchanges later legal.1 in omega arith
+few-exchanges (steps.Round spec operations ∷ later) legal =
+    let each : 2 + most_operating operations ≤ 131 = omega (arith, legal.0.few) in
+    let round : (2 + most_operating operations) * spec.limit ≤ 131 * 70000 = mul-le-mul each legal.0.legal.limit.1 in
+    let few = few-exchanges later legal.1 in
+    omega (arith, round, few)
+
+-- what is added to a past takes no exchange away
+pub exchanges-grow : (own past : List Item) → exchanges_in past ≤ exchanges_in (own ++ past)
+exchanges-grow [] past = omega arith
+exchanges-grow (befell event number ∷ own) past = exchanges-grow own past
+exchanges-grow (exchanged sent ∷ own) past = let more = exchanges-grow own past in omega arith
+exchanges-grow (operated round slot index result ∷ own) past = exchanges-grow own past
+exchanges-grow (ended round end slots ∷ own) past = exchanges-grow own past

@@ -1,0 +1,2 @@
+-- The law of the definitions of samples.
+pub mod Samples

@@ -1,0 +1,106 @@
+//! The word `encode`: for each line the one that `decode` reads.
+ghost use Rattle.std.specs.Prelude.{◌≡◌, ◌≤◌, ℕ, List, [], ◌++◌, length, OnOk, OnErr, IsErrOf};
+ghost use Rattle.air_io.specs.Flow.{FaultsRose};
+ghost use Rattle.encode_lines.specs.EncodeLines.{Encodes, EncodesLine, IsGrammatical};
+ghost use Rattle.encode_lines.specs.Request.{AsksForRequest};
+ghost use Rattle.encode_lines.specs.declared.request.Request.{Request};
+ghost use Rattle.top_call.specs.Job.{Defines, IsLawful};
+ghost use Rattle.top_call.specs.Outcome.{input_limit, AddsWhole, AddsFront, EndsSo, Tells};
+ghost use Rattle.top_call.specs.UnwrittenBytes.{Sends, Loses};
+ghost use Rattle.top_call.specs.words.Encoded.{encode_job};
+
+use crate::ending::{MOST_INPUT_BYTES, WriteEnd, Wrote, status_of, unread_status};
+use crate::status::Status;
+use crate::words::page::Page;
+use air_io::{Sink, Source, read_to_end, write_all};
+use encode_lines::{
+    Encoder, check_lines, encode_lines_are_not_faulty, encode_lines_have_a_text,
+    encode_lines_have_one_text, fault_text, requests_have_a_line,
+};
+use round_trip::written_lines_are_read_back;
+use std::alloc::Global;
+use text_fields::split_line;
+
+/// Reads the input to its end, and writes what is defined for it. The whole input is checked before a line is written;
+/// then each line is written as it is made.
+pub fn answer<I: Source, O: Sink>(alloc: Global, input: &mut I, output: &mut O) -> Status
+    ensures { Tells encode_job (I.left input.old) (I.left input.new) (O.written output.old) (O.written output.new)
+        (I.faults input.old) (I.faults input.new) (O.faults output.old) (O.faults output.new) (output.new ≡ output.old) result }
+{
+    match read_to_end(alloc, input, MOST_INPUT_BYTES) {
+        Ok(bytes) => status_of(write_encoded(alloc, bytes.as_slice(), output)),
+        Err(end) => unread_status(end),
+    }
+}
+
+/// Writes what is defined for the bytes of an input: a line for each of its lines, or the one line that reports the first
+/// faulty line.
+fn write_encoded<O: Sink>(alloc: Global, input: &[u8], output: &mut O) -> Result<Wrote, WriteEnd>
+    requires { length input.now ≤ input_limit }
+    ensures { EndsSo encode_job input.now (O.written output.old) (O.written output.new) (O.faults output.old) (O.faults output.new) result }
+{
+    match check_lines(input) {
+        Ok(()) => {
+            write_lines(alloc, input, output)?;
+            Ok(Wrote::Text)
+        }
+        Err(fault) => {
+            let line = fault_text(fault);
+            write_all(output, line.as_slice())?;
+            Ok(Wrote::FaultLine)
+        }
+    }
+}
+
+/// Writes a line for each line of an input.
+fn write_lines<O: Sink>(alloc: Global, input: &[u8], output: &mut O) -> Result<(), WriteEnd>
+    requires { IsGrammatical input.now }
+    ensures ok { OnOk result (AddsWhole (Encodes input.now) (O.written output.old) (O.written output.new)) }
+    ensures failed { IsErrOf result WriteEnd.Fault → FaultsRose (O.faults output.old) (O.faults output.new) }
+    ensures front { OnErr result (AddsFront (Encodes input.now) (O.written output.old) (O.written output.new)) }
+{
+    // By this law a line is written for each line that is left, so that there is a whole text.
+    requests_have_a_line();
+    let mut encoder = Encoder::new(alloc)?;
+    let mut text = String::new(alloc);
+    let mut page = Page::new();
+    let mut rest = input;
+    while let Some((line, behind)) = split_line(rest) {
+        put_encoded(&mut encoder, line, &mut text, &mut page, output)?;
+        rest = behind;
+    }
+    page.flush(output)?;
+    Ok(())
+}
+
+/// Lets the line that is written for a line wait on the page. It is made in the text, in place of what that holds.
+fn put_encoded<O: Sink>(
+    encoder: &mut Encoder,
+    line: &[u8],
+    text: &mut String,
+    page: &mut Page,
+    output: &mut O,
+) -> Result<(), WriteEnd>
+    requires { (request : Request) × AsksForRequest line.now request }
+    ensures sent { OnOk result ((written : List ℕ) × EncodesLine line.now [] written
+        × Sends (page.old ++ written) page.new (O.written output.old) (O.written output.new)) }
+    ensures failed { IsErrOf result WriteEnd.Fault → FaultsRose (O.faults output.old) (O.faults output.new) }
+    ensures lost { OnErr result ((written : List ℕ) × EncodesLine line.now [] written
+        × Loses (page.old ++ written) (O.written output.old) (O.written output.new)) }
+    ensures count { O.faults output.old ≤ O.faults output.new }
+{
+    requests_have_a_line();
+    text.clear();
+    encoder.encode_line(line, text)?;
+    page.put(text.as_bytes(), output)?;
+    Ok(())
+}
+
+/// An input has one text or one fault line at most, and never both, and `decode` reads back what is written for it.
+pub fn encode_is_lawful()
+    ensures { IsLawful encode_job }
+{
+    encode_lines_have_one_text();
+    encode_lines_are_not_faulty();
+    written_lines_are_read_back();
+}
