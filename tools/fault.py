@@ -151,6 +151,7 @@ FORMS = {
         *(f"reply EXPECT {reply}" for reply in REPLIES),
         *(f"heard CODE TREXT EXPECT {reply}" for reply in REPLIES),
     ],
+    "probe": ["probe 1", TAG, *COMMANDS, "bits BITS", "event timeout", "event off", "event on", "event expire FLAG", "end"],
     "run": [
         "gen2 1",
         "link TARI RTCAL TRCAL PW DR CODE TREXT",
@@ -177,7 +178,7 @@ FORMS = {
     ],
 }
 REASONS = {
-    "limit": "it is one tag, air line, step or operation too many",
+    "limit": "it is one tag, air line, step, operation or line of a probe too many",
     "tag": "there is no tag of this number",
     "order": "its exchange has a lower number than the one before, or what is said of one exchange stands in the wrong order: events, misses, a choice",
     "twice": "its exchange has a choice already",

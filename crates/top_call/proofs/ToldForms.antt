@@ -8,7 +8,7 @@ use Rattle.std.proofs.lemmas.Str.Parse.{numerals_by_value, tells_digits}
 use Rattle.report_lines.specs.declared.mode.Mode.TheVariants.{Plain, Trace}
 use Rattle.top_call.specs.Form.{words_of, IsForm, AskFor}
 use Rattle.top_call.specs.declared.forms.Form.{Form}
-use Rattle.top_call.specs.declared.forms.Form.TheVariants.{Decode, Encode, Run, Names, Gen}
+use Rattle.top_call.specs.declared.forms.Form.TheVariants.{Decode, Encode, Run, Names, Probe, Gen}
 
 -- the form that words spell, where they spell one
 form_spelled : List (List ℕ) → Form
@@ -16,6 +16,7 @@ form_spelled words =
     if bytes_eq (get_or words 0 []) (codes "decode") then Decode
     else if bytes_eq (get_or words 0 []) (codes "encode") then Encode
     else if bytes_eq (get_or words 0 []) (codes "names") then Names
+    else if bytes_eq (get_or words 0 []) (codes "probe") then Probe
     else if bytes_eq (get_or words 0 []) (codes "gen") then Gen (digits_value 10 (get_or words 1 [])) (digits_value 10 (get_or words 2 []))
     else if length words == 1 then Run Plain
     else Run Trace
@@ -33,6 +34,7 @@ spelled_back Encode fits = refl
 spelled_back (Run Plain) fits = refl
 spelled_back (Run Trace) fits = refl
 spelled_back Names fits = refl
+spelled_back Probe fits = refl
 spelled_back (Gen seed tags) fits = same_made _ _ seed tags (value_of seed fits.0) (value_of tags (omega (arith, fits.1)))
 
 pub forms_told : (words : List (List ℕ)) (one other : Form) → AskFor words one → AskFor words other → one ≡ other

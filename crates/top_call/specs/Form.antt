@@ -5,7 +5,7 @@ use Rattle.std.specs.Global.{Global}
 use Rattle.std.specs.String.{string_bytes}
 use Rattle.report_lines.specs.declared.mode.Mode.TheVariants.{Plain, Trace}
 use Rattle.top_call.specs.declared.forms.Form.{Form}
-use Rattle.top_call.specs.declared.forms.Form.TheVariants.{Decode, Encode, Run, Names, Gen}
+use Rattle.top_call.specs.declared.forms.Form.TheVariants.{Decode, Encode, Run, Names, Probe, Gen}
 use Rattle.made_scenario.specs.Made.{most_made_tags}
 
 -- the bytes of each word
@@ -19,6 +19,7 @@ words_of Encode = codes "encode" ∷ []
 words_of (Run Plain) = codes "run" ∷ []
 words_of (Run Trace) = codes "run" ∷ codes "trace" ∷ []
 words_of Names = codes "names" ∷ []
+words_of Probe = codes "probe" ∷ []
 words_of (Gen seed tags) = codes "gen" ∷ decimal seed ∷ decimal tags ∷ []
 
 -- the numbers of a form are in their ranges

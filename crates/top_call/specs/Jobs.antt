@@ -1,11 +1,12 @@
 -- Profile: what the words of each form do.
 use Rattle.top_call.specs.Job.{Job}
 use Rattle.top_call.specs.declared.forms.Form.{Form}
-use Rattle.top_call.specs.declared.forms.Form.TheVariants.{Decode, Encode, Run, Names, Gen}
+use Rattle.top_call.specs.declared.forms.Form.TheVariants.{Decode, Encode, Run, Names, Probe, Gen}
 use Rattle.top_call.specs.words.Decoded.{decode_job}
 use Rattle.top_call.specs.words.Encoded.{encode_job}
 use Rattle.top_call.specs.words.Reported.{run_job}
 use Rattle.top_call.specs.words.Named.{names_job}
+use Rattle.top_call.specs.words.Probed.{probe_job}
 use Rattle.top_call.specs.words.Generated.{gen_job}
 
 abbrev pub job_of : Form → Job
@@ -13,4 +14,5 @@ job_of Decode = decode_job
 job_of Encode = encode_job
 job_of (Run mode) = run_job mode
 job_of Names = names_job
+job_of Probe = probe_job
 job_of (Gen seed tags) = gen_job seed tags

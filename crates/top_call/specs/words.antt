@@ -3,4 +3,5 @@ pub mod Decoded
 pub mod Encoded
 pub mod Reported
 pub mod Named
+pub mod Probed
 pub mod Generated

@@ -19,6 +19,8 @@ pub enum Form {
     Encode,
     /// The word `run`, and `trace` behind it for a trace: run the scenario of the input, and report.
     Run(Mode),
+    /// The word `probe`: do to the tag of the input what it says, line by line, and tell what the tag answers and what it is.
+    Probe,
     /// The word `names`: copy lines, and add its name behind each line that has one.
     Names,
     /// The word `gen` and two numbers: make the scenario of a seed with so many tags, run it, and write its
@@ -76,6 +78,7 @@ pub fn form_of(words: &[String]) -> Option<Form>
         [word] if is_word(word.as_str(), "encode") => Some(Form::Encode),
         [word] if is_word(word.as_str(), "run") => Some(Form::Run(Mode::Plain)),
         [word] if is_word(word.as_str(), "names") => Some(Form::Names),
+        [word] if is_word(word.as_str(), "probe") => Some(Form::Probe),
         [word, mode] if is_word(word.as_str(), "run") && is_word(mode.as_str(), "trace") => {
             Some(Form::Run(Mode::Trace))
         }

@@ -10,6 +10,7 @@ use crate::words::decode::decode_is_lawful;
 use crate::words::encode::encode_is_lawful;
 use crate::words::generate::gen_is_lawful;
 use crate::words::names::names_are_lawful;
+use crate::words::probe::probe_is_lawful;
 use crate::words::run::run_is_lawful;
 
 /// A list of words asks for one form at most.
@@ -25,6 +26,7 @@ pub fn jobs_are_lawful()
     encode_is_lawful();
     run_is_lawful();
     names_are_lawful();
+    probe_is_lawful();
     gen_is_lawful();
 }
 

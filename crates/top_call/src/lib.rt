@@ -18,4 +18,5 @@ pub use words::decode::decode_is_lawful;
 pub use words::encode::encode_is_lawful;
 pub use words::generate::gen_is_lawful;
 pub use words::names::{names_are_lawful, names_inputs_have_a_text};
+pub use words::probe::probe_is_lawful;
 pub use words::run::{run_inputs_have_a_text, run_is_lawful};

@@ -5,4 +5,5 @@ pub mod encode;
 pub mod generate;
 pub mod names;
 mod page;
+pub mod probe;
 pub mod run;

@@ -1,0 +1,52 @@
+-- The faults of a line as its reader tells them.
+use Rattle.std.proofs.Common.{◌≡◌, ◌<◌, ◌≤◌, ℕ, List, ◌∷◌, sym, subst, ◌⊎◌, inl, inr, arith}
+use Rattle.std.specs.Prelude.{IfErr, IsErrAnd, Result, Ok, Err}
+use Rattle.text_fields.specs.declared.fields_fault.FieldsFault.{FieldsFault}
+use Rattle.probe_lines.specs.declared.line.LineWord.{LineWord}
+use Rattle.probe_lines.specs.declared.line.LineWord.TheVariants as words
+use Rattle.text_fields.specs.declared.fields_fault.FieldsFault.TheVariants as reasons
+use Rattle.probe_lines.specs.LineFaults.{AreFaultyBehind, BeginsWith, IsFaultyProbeLine}
+use Rattle.probe_lines.specs.LineLaws.{LineLaws}
+use Rattle.probe_lines.specs.ProbeText.{IsTooMuch, most_stimuli}
+use Rattle.probe_lines.specs.declared.line.ProbeLine.TheVariants as lines
+use Rattle.probe_lines.specs.declared.line.Stimulus.{Stimulus}
+use Rattle.probe_lines.specs.ProbeLine.{SpellsProbeLine, line_word}
+use Rattle.probe_lines.proofs.LineTexts.{stimulus_is_no_end, word_or_word}
+
+-- a fault that is handed on
+kept : {T : Type 0} (result : Result T FieldsFault) (cause : FieldsFault) (P : FieldsFault → Type 0) → IsErrAnd result (λ fault. fault ≡ cause) → P cause → IfErr result P
+kept (Ok value) cause P is holds = absurd is
+kept (Err fault) cause P is holds = subst P (sym is) holds
+
+-- behind a word
+pub faulty_behind : {T : Type 0} (result : Result T FieldsFault) (cause : FieldsFault) (fields others : List (List ℕ)) (word : LineWord) → IsErrAnd result (λ fault. fault ≡ cause)
+    → fields ≡ line_word word ∷ others → AreFaultyBehind word others cause → IfErr result (IsFaultyProbeLine fields)
+faulty_behind result cause fields others word is first faulty =
+    kept result cause (IsFaultyProbeLine fields) is (inl (record { word = word; begins = record { others = others; first = first }; behind = faulty }))
+
+-- another word
+pub begins_with_bits : (fields others : List (List ℕ)) → fields ≡ line_word words.Bits ∷ others → ¬ BeginsWith fields words.End
+begins_with_bits fields others first begins = word_or_word fields others begins.others words.Bits words.End (λ same. cc) first begins.first
+
+pub begins_with_event : (fields others : List (List ℕ)) → fields ≡ line_word words.Event ∷ others → ¬ BeginsWith fields words.End
+begins_with_event fields others first begins = word_or_word fields others begins.others words.Event words.End (λ same. cc) first begins.first
+
+pub ruleset no_ends = (begins_with_bits, begins_with_event)
+
+-- what is said is known, and has no room
+pub one_too_many : LineLaws → (count : ℕ) (fields : List (List ℕ)) (stimulus : Stimulus) → SpellsProbeLine fields (lines.Stimulus stimulus) → most_stimuli ≤ count
+    → (¬ IsFaultyProbeLine fields reasons.Word) × IsTooMuch count fields
+one_too_many laws count fields stimulus spells full =
+    (laws.not_faulty fields (lines.Stimulus stimulus) reasons.Word spells, record { full = full; needs = stimulus_is_no_end fields stimulus spells })
+
+-- a line that has room, or is the end, is none too many
+pub not_too_much : (count : ℕ) (fields : List (List ℕ)) → (count < most_stimuli) ⊎ BeginsWith fields words.End → ¬ IsTooMuch count fields
+not_too_much count fields (inl room) much = let full = much.full in omega arith
+not_too_much count fields (inr end) much = much.needs end
+
+-- a line with a later fault has a known first field
+pub shape_is_no_word : LineLaws → (fields : List (List ℕ)) → IsFaultyProbeLine fields reasons.Shape → ¬ IsFaultyProbeLine fields reasons.Word
+shape_is_no_word laws fields faulty word = let same = laws.one_fault fields reasons.Shape reasons.Word faulty word in cc
+
+pub number_is_no_word : LineLaws → (fields : List (List ℕ)) → IsFaultyProbeLine fields reasons.Number → ¬ IsFaultyProbeLine fields reasons.Word
+number_is_no_word laws fields faulty word = let same = laws.one_fault fields reasons.Number reasons.Word faulty word in cc

@@ -1,0 +1,10 @@
+mod EventTexts
+mod LineTexts
+mod TagLines
+mod Walks
+mod OneFault
+mod Checking
+mod PlayedParts
+mod HeardAnswers
+mod FaultyLines
+mod Effects

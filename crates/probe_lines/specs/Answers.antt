@@ -1,0 +1,111 @@
+-- What a tag at the bench does, line by line, and the text that tells it. What a tag makes of a command is that of Annex B and
+-- Annex C; the lines are profile.
+use Rattle.std.specs.Prelude.{◌≡◌, ℕ, ◌+◌, Bool, true, false, List, [], ◌∷◌, ◌++◌, codes, Option, Some, None}
+use Rattle.std.specs.List.{AllZip}
+use Rattle.std.specs.Fmt.{decimal}
+use Rattle.text_fields.specs.Lines.{fields_behind, line_with, text_with}
+use Rattle.text_fields.specs.Hexadecimal.{hex_word}
+use Rattle.command_grammar.specs.declared.commands.Command.{Command}
+use Rattle.command_grammar.specs.Commands.{SpellsCommand}
+use Rattle.reply_text.specs.ReplyText.{reply_line}
+use Rattle.report_lines.specs.ReportLine.{TagLine, DoneLine, flags_word, report_text, state_word}
+use Rattle.scenario_lines.specs.declared.tag.TagSpec.{TagSpec}
+use Rattle.tag_machine.specs.declared.numbers.StateNumbers.{StateNumbers}
+use Rattle.tag_machine.specs.declared.numbers.StateNumbers.TheVariants as numbers
+use Rattle.tag_machine.specs.declared.states.Half.{Half}
+use Rattle.tag_machine.specs.declared.states.Password.{Password}
+use Rattle.tag_machine.specs.declared.states.Password.TheVariants as passwords
+use Rattle.tag_machine.specs.Answers.{Outcome, Sent, silent}
+use Rattle.tag_machine.specs.Events.{tag_after_event, tag_of_image}
+use Rattle.tag_machine.specs.Names.{name_of}
+use Rattle.tag_machine.specs.Numbers.{numbers_of}
+use Rattle.tag_machine.specs.Step.{step}
+use Rattle.tag_machine.specs.TagValue.{TagValue}
+use Rattle.probe_lines.specs.declared.effect.Effect.{Effect}
+use Rattle.probe_lines.specs.declared.effect.Effect.TheVariants.{Hears, Befalls, Nothing}
+use Rattle.probe_lines.specs.declared.line.Stimulus.{Stimulus}
+use Rattle.probe_lines.specs.declared.line.Stimulus.TheVariants as stimuli
+
+-- What a line does to the tag. Bits are the command that they spell; where they spell none, the tag hears nothing.
+abbrev pub HasEffect : Stimulus → Effect → Type 0
+HasEffect (stimuli.Command command) effect = effect ≡ Hears command
+HasEffect (stimuli.Event event) effect = effect ≡ Befalls event
+HasEffect (stimuli.Bits bits) (Hears command) = SpellsCommand command bits
+HasEffect (stimuli.Bits bits) Nothing = (command : Command) → ¬ SpellsCommand command bits
+HasEffect (stimuli.Bits bits) (Befalls event) = ⊥
+
+-- the tag after it, and what it answers
+abbrev pub outcome_of : Effect → TagValue → Outcome
+outcome_of (Hears command) tag = step command tag.state tag.body
+outcome_of (Befalls event) tag = record { tag = tag_after_event event tag.state tag.body; answer = None }
+outcome_of Nothing tag = silent tag.state tag.body
+
+-- a reply with the extended preamble, or with the TRext of the Query
+abbrev pub preamble_word : Bool → List ℕ
+preamble_word true = codes "extended"
+preamble_word false = codes "plain"
+
+-- what was answered to the line of this number
+abbrev pub answer_line : ℕ → Option Sent → List ℕ
+answer_line number None = line_with (codes "answer" ∷ decimal number ∷ codes "-" ∷ [])
+answer_line number (Some sent) = line_with (codes "answer" ∷ decimal number ∷ preamble_word sent.extended ∷ reply_line sent.reply ∷ [])
+
+-- a cover, or none
+abbrev pub cover_word : Option ℕ → List ℕ
+cover_word None = codes "-"
+cover_word (Some cover) = hex_word cover
+
+-- a first half with the password that it is a half of, or none
+abbrev pub password_word : Password → List ℕ
+password_word passwords.Kill = codes "kill-"
+password_word passwords.Access = codes "access-"
+
+abbrev pub half_word : Option Half → List ℕ
+half_word None = codes "-"
+half_word (Some half) = password_word half.password ++ hex_word half.value
+
+-- the numbers of a state
+abbrev pub number_fields : StateNumbers → List (List ℕ)
+number_fields numbers.None = []
+number_fields (numbers.Waiting session q slot) = decimal session ∷ decimal q ∷ decimal slot ∷ []
+number_fields (numbers.Replied session q rn) = decimal session ∷ decimal q ∷ hex_word rn ∷ []
+number_fields (numbers.Held held) =
+    decimal held.session ∷ decimal held.q ∷ hex_word held.handle ∷ cover_word held.cover ∷ half_word held.half ∷ []
+
+-- what the tag is behind the line of this number: its state, its flags, and the numbers of the state
+abbrev pub state_line : ℕ → TagValue → List ℕ
+state_line number tag =
+    line_with (codes "state" ∷ decimal number ∷ state_word (name_of tag.state) ∷ flags_word tag.body.flags ∷ [])
+    ++ fields_behind (number_fields (numbers_of tag.state))
+
+-- the lines that tell of one line: an event has no answer
+abbrev pub lines_behind : ℕ → Effect → TagValue → List (List ℕ)
+lines_behind number (Hears command) tag =
+    answer_line number (outcome_of (Hears command) tag).answer ∷ state_line number (outcome_of (Hears command) tag).tag ∷ []
+lines_behind number (Befalls event) tag = state_line number (outcome_of (Befalls event) tag).tag ∷ []
+lines_behind number Nothing tag = answer_line number None ∷ state_line number tag ∷ []
+
+-- the tag as a report tells it, and that this was all
+abbrev pub last_text : TagValue → List ℕ
+last_text tag = report_text (TagLine 0 tag ∷ DoneLine ∷ [])
+
+-- The text behind the line before this number: what each effect makes of the tag, one after another, and then the tag as a report
+-- tells it, and that this was all.
+abbrev pub text_from : ℕ → TagValue → List Effect → List ℕ
+text_from number tag [] = last_text tag
+text_from number tag (effect ∷ effects) =
+    text_with (lines_behind number effect tag) ++ text_from (number + 1) (outcome_of effect tag).tag effects
+
+-- the number of the first line behind that of the tag
+abbrev pub first_number : ℕ
+first_number = 3
+
+-- a tag as the line of a tag gives it: ready, with new flags and no draw made
+abbrev pub tag_of : TagSpec → TagValue
+tag_of tag = tag_of_image tag.image tag.locks tag.words
+
+-- the text tells what comes of this, done to the tag
+pub record Tells (tag : TagValue) (said : List Stimulus) (text : List ℕ) : Type 0 where
+  pub effects : List Effect
+  pub each : AllZip HasEffect said effects
+  pub told : text ≡ text_from first_number tag effects

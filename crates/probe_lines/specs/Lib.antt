@@ -1,0 +1,8 @@
+pub mod ProbeLine
+pub mod LineFaults
+pub mod ProbeText
+pub mod FaultWords
+pub mod LineLaws
+pub mod Answers
+pub mod Heard
+pub mod Played

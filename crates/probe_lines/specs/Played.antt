@@ -1,0 +1,54 @@
+-- What the end of playing a probe says of what was written.
+use Rattle.std.specs.Prelude.{◌≡◌, ℕ, List, ◌++◌, Option, Result, Ok, Err}
+use Rattle.air_io.specs.Flow.{Adds, FaultsRose}
+use Rattle.report_lines.specs.declared.mode.PlayFault.{PlayFault}
+use Rattle.report_lines.specs.declared.mode.PlayFault.TheVariants.{Write, OutOfMemory}
+use Rattle.tag_machine.specs.TagValue.{TagValue}
+use Rattle.probe_lines.specs.declared.line.Stimulus.{Stimulus}
+use Rattle.text_fields.specs.Lines.{text_with}
+use Rattle.probe_lines.specs.declared.effect.Effect.{Effect}
+use Rattle.probe_lines.specs.Answers.{HasEffect, Tells, lines_behind, outcome_of}
+
+-- the text that tells what comes of this, done to the tag, was written whole
+pub record WritesText (tag : TagValue) (said : List Stimulus) (written written' : Option (List ℕ)) : Type 0 where
+  pub text : List ℕ
+  pub tells : Tells tag said text
+  pub added : Adds written written' text
+
+-- a front of it was written
+pub record WritesPart (tag : TagValue) (said : List Stimulus) (written written' : Option (List ℕ)) : Type 0 where
+  pub front : List ℕ
+  pub rest : List ℕ
+  pub tells : Tells tag said (front ++ rest)
+  pub added : Adds written written' front
+
+-- a front of a text was written
+pub record AddsFrontOf (text : List ℕ) (written written' : Option (List ℕ)) : Type 0 where
+  pub front : List ℕ
+  pub rest : List ℕ
+  pub cut : text ≡ front ++ rest
+  pub added : Adds written written' front
+
+-- ... where a write failed, or there was no memory
+abbrev pub StopsIn : List ℕ → (written written' : Option (List ℕ)) → (faults faults' : ℕ) → PlayFault → Type 0
+StopsIn text written written' faults faults' Write = FaultsRose faults faults' × AddsFrontOf text written written'
+StopsIn text written written' faults faults' OutOfMemory = AddsFrontOf text written written'
+
+-- what comes of what is done next was written, and the tag is this behind it
+pub record TellsNext (number : ℕ) (tag : TagValue) (stimulus : Stimulus) (tag' : TagValue) (written written' : Option (List ℕ)) : Type 0 where
+  pub effect : Effect
+  pub has : HasEffect stimulus effect
+  pub becomes : tag' ≡ (outcome_of effect tag).tag
+  pub added : Adds written written' (text_with (lines_behind number effect tag))
+
+-- ... or a front of it was
+pub record StopsAt (number : ℕ) (tag : TagValue) (stimulus : Stimulus) (written written' : Option (List ℕ)) (faults faults' : ℕ) (fault : PlayFault) : Type 0 where
+  pub effect : Effect
+  pub has : HasEffect stimulus effect
+  pub stops : StopsIn (text_with (lines_behind number effect tag)) written written' faults faults' fault
+
+-- what an end says of what was written and is written, and of the count of the sink's faults before and after
+abbrev pub HasPlayed : TagValue → List Stimulus → (written written' : Option (List ℕ)) → (faults faults' : ℕ) → Result (Unit {0}) PlayFault → Type 0
+HasPlayed tag said written written' faults faults' (Ok done) = WritesText tag said written written'
+HasPlayed tag said written written' faults faults' (Err Write) = FaultsRose faults faults' × WritesPart tag said written written'
+HasPlayed tag said written written' faults faults' (Err OutOfMemory) = WritesPart tag said written written'

@@ -1,0 +1,79 @@
+-- Profile: the lines of a probe, and the one spelling of each.
+use Rattle.std.specs.Prelude.{◌≡◌, ◌≢◌, ℕ, ◌≤◌, List, [], ◌∷◌, length, codes}
+use Rattle.text_fields.specs.Binary.{binary}
+use Rattle.text_fields.specs.NamedFields.{Vocabulary, spelled_fields}
+use Rattle.command_fields.specs.declared.choices.FlagName.TheVariants.{S0}
+use Rattle.command_grammar.specs.Commands.{IsLegalCommand}
+use Rattle.command_text.specs.CommandText.{command_fields, flag_word}
+use Rattle.air_events.specs.declared.Event.{Event}
+use Rattle.air_events.specs.declared.Event.TheVariants as events
+use Rattle.scenario_lines.specs.declared.first_fields.EventKind.{EventKind}
+use Rattle.scenario_lines.specs.declared.first_fields.EventKind.TheVariants as kinds
+use Rattle.scenario_lines.specs.declared.first_fields.Keyword.TheVariants as keywords
+use Rattle.scenario_lines.specs.declared.tag.TagSpec.{TagSpec}
+use Rattle.scenario_lines.specs.Names.{event_kind, event_word, keyword_text}
+use Rattle.scenario_lines.specs.Spelling.{tag_fields}
+use Rattle.scenario_lines.specs.TagForm.{IsTag}
+use Rattle.probe_lines.specs.declared.line.LineWord.{LineWord}
+use Rattle.probe_lines.specs.declared.line.LineWord.TheVariants as words
+use Rattle.probe_lines.specs.declared.line.Stimulus.TheVariants as stimuli
+use Rattle.probe_lines.specs.declared.line.ProbeLine.{ProbeLine}
+use Rattle.probe_lines.specs.declared.line.ProbeLine.TheVariants as lines
+
+-- the first line
+abbrev pub version_line : List ℕ
+version_line = codes "probe 1"
+
+-- how many bits one line may have
+abbrev pub most_bits : ℕ
+most_bits = 8240
+
+-- the fields of the second line say the tag, as those of a scenario do
+pub record SpellsTag (fields : List (List ℕ)) (tag : TagSpec) : Type 0 where
+  pub spelling : fields ≡ keyword_text keywords.Tag ∷ tag_fields tag
+  pub is : IsTag tag
+
+-- an event of the one tag that there is: its kind and, where the persistence of a flag ends, the flag
+abbrev pub event_field_count : EventKind → ℕ
+event_field_count kinds.Timeout = 0
+event_field_count kinds.Off = 0
+event_field_count kinds.On = 0
+event_field_count kinds.Expire = 1
+
+abbrev pub other_event_fields : Event → List (List ℕ)
+other_event_fields events.Timeout = []
+other_event_fields events.Off = []
+other_event_fields events.On = []
+other_event_fields (events.Expire flag) = flag_word flag ∷ []
+
+abbrev pub probe_events : Vocabulary EventKind Event
+probe_events = record { name = event_word; count = event_field_count; kind = event_kind; others = other_event_fields }
+
+-- S0 has no expiry (6.3.2.2)
+abbrev pub IsProbeEvent : Event → Type 0
+IsProbeEvent event = event ≢ events.Expire S0
+
+-- the first field of a line that is no command
+abbrev pub line_word : LineWord → List ℕ
+line_word words.Bits = codes "bits"
+line_word words.Event = codes "event"
+line_word words.End = codes "end"
+
+-- the fields of a line behind that of the tag: a command as it is written everywhere, bits, or an event; or the end
+abbrev pub probe_line_fields : ProbeLine → List (List ℕ)
+probe_line_fields (lines.Stimulus (stimuli.Command command)) = command_fields command
+probe_line_fields (lines.Stimulus (stimuli.Bits bits)) = line_word words.Bits ∷ binary bits ∷ []
+probe_line_fields (lines.Stimulus (stimuli.Event event)) = line_word words.Event ∷ spelled_fields probe_events event
+probe_line_fields lines.End = line_word words.End ∷ []
+
+-- each number of the line is in its range
+abbrev pub IsProbeLine : ProbeLine → Type 0
+IsProbeLine (lines.Stimulus (stimuli.Command command)) = IsLegalCommand command
+IsProbeLine (lines.Stimulus (stimuli.Bits bits)) = length bits ≤ most_bits
+IsProbeLine (lines.Stimulus (stimuli.Event event)) = IsProbeEvent event
+IsProbeLine lines.End = Unit {0}
+
+-- the fields say the line
+pub record SpellsProbeLine (fields : List (List ℕ)) (line : ProbeLine) : Type 0 where
+  pub spelling : fields ≡ probe_line_fields line
+  pub is : IsProbeLine line

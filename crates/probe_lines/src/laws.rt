@@ -1,0 +1,71 @@
+//! What holds of the texts of probes and of what is told of them. Each function here states one law by its contract, and does nothing but
+//! call the laws that it follows from.
+ghost use Rattle.std.specs.Prelude.{◌≡◌, ℕ, List};
+ghost use Rattle.std.specs.List.{AllZip};
+ghost use Rattle.scenario_lines.specs.declared.tag.TagSpec.{TagSpec};
+ghost use Rattle.tag_machine.specs.TagValue.{TagValue};
+ghost use Rattle.probe_lines.specs.declared.effect.Effect.{Effect};
+ghost use Rattle.probe_lines.specs.declared.fault.Fault.{Fault};
+ghost use Rattle.probe_lines.specs.declared.line.Stimulus.{Stimulus};
+ghost use Rattle.probe_lines.specs.Answers.{HasEffect, Tells};
+ghost use Rattle.probe_lines.specs.LineLaws.{LineLaws, TagLineLaws};
+ghost use Rattle.probe_lines.specs.ProbeText.{IsFirstFault, IsProbe};
+
+use command_grammar::spelling_laws;
+use command_text::{
+    commands_are_told_apart, commands_have_one_fault, spelled_commands_are_not_faulty,
+};
+use scenario_lines::{lines_are_told_apart, lines_have_one_fault, spelled_lines_are_not_faulty};
+use text_fields::bits_are_told_apart;
+
+/// What the laws of single lines say, together.
+pub(crate) fn line_laws()
+    ensures lines { LineLaws }
+    ensures tags { TagLineLaws }
+{
+    commands_are_told_apart();
+    spelled_commands_are_not_faulty();
+    commands_have_one_fault();
+    bits_are_told_apart();
+    lines_are_told_apart();
+    lines_have_one_fault();
+    spelled_lines_are_not_faulty();
+}
+
+/// Whatever is done to a tag has an effect on it, and one only.
+pub fn stimuli_have_one_effect()
+    ensures some { (said : List Stimulus) → (effects : List Effect) × AllZip HasEffect said effects }
+    ensures one { (said : List Stimulus) (one other : List Effect) → AllZip HasEffect said one → AllZip HasEffect said other → one ≡ other }
+{
+    spelling_laws();
+}
+
+/// One text tells what comes of what is done to a tag.
+pub fn probes_have_one_text()
+    ensures { (tag : TagValue) (said : List Stimulus) (one other : List ℕ) → Tells tag said one → Tells tag said other → one ≡ other }
+{
+    stimuli_have_one_effect();
+}
+
+/// Bytes are the text of one probe at most.
+pub fn probes_are_told_apart()
+    ensures { (bytes : List ℕ) (tag other_tag : TagSpec) (said other_said : List Stimulus) → IsProbe bytes tag said → IsProbe bytes other_tag other_said
+        → (tag ≡ other_tag) × (said ≡ other_said) }
+{
+    line_laws();
+}
+
+/// The text of a probe has no faulty line.
+pub fn probe_texts_are_not_faulty()
+    ensures { (bytes : List ℕ) (tag : TagSpec) (said : List Stimulus) (number : ℕ) (fault : Fault) → IsProbe bytes tag said → IsFirstFault bytes number fault → ⊥ }
+{
+    line_laws();
+}
+
+/// A text has at most one first faulty line, which has one first reason.
+pub fn probe_texts_have_one_fault()
+    ensures { (bytes : List ℕ) (one other : ℕ) (fault reason : Fault) → IsFirstFault bytes one fault → IsFirstFault bytes other reason
+        → (one ≡ other) × (fault ≡ reason) }
+{
+    line_laws();
+}

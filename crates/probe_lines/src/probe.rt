@@ -1,0 +1,62 @@
+//! A probe, read from its text.
+ghost use Rattle.std.specs.Prelude.{◌≡◌, ◌↔◌, List, ℕ, IfOk, IfErr, IsTrue};
+ghost use Rattle.probe_lines.specs.declared.line.Stimulus.{Stimulus};
+ghost use Rattle.probe_lines.specs.ProbeLine.{version_line};
+ghost use Rattle.probe_lines.specs.ProbeText.{AreStimuli, IsFirstFault, IsProbe};
+
+use crate::fault::{Fault, ProbeFault};
+use crate::reading::read_tag_line;
+use crate::stimuli::Stimuli;
+use scenario_lines::TagText;
+use text_fields::split_line;
+
+/// One tag, and what is done to it. It borrows the text that says so, and holds no memory of its own.
+#[derive(Drop)]
+pub struct Probe<'a> {
+    pub(crate) tag: TagText<'a>,
+    pub(crate) stimuli: Stimuli<'a>,
+}
+
+/// Whether a line is the first one of a probe.
+fn is_version(line: &[u8]) -> bool
+    ensures { IsTrue result ↔ (line.now ≡ version_line) }
+{
+    line == b"probe 1".as_slice()
+}
+
+/// The probe of a text. The whole text is looked at, and no memory is taken.
+///
+/// # Errors
+///
+/// The first faulty line, counted from 1, with the first reason that applies to it.
+pub fn read_probe(text: &[u8]) -> Result<Probe<'_>, ProbeFault>
+    ensures ok { IfOk result (λ probe. (said : List Stimulus) × IsProbe text.now probe.tag said × AreStimuli probe.stimuli said) }
+    ensures refused { IfErr result (λ fault. IsFirstFault text.now fault.line fault.reason) }
+{
+    let Some((line, behind)) = split_line(text) else {
+        return Err(ProbeFault {
+            line: 1,
+            reason: Fault::End,
+        });
+    };
+    if !is_version(line) {
+        return Err(ProbeFault {
+            line: 1,
+            reason: Fault::Version,
+        });
+    }
+    let Some((line, behind)) = split_line(behind) else {
+        return Err(ProbeFault {
+            line: 2,
+            reason: Fault::End,
+        });
+    };
+    let tag = match read_tag_line(line) {
+        Ok(tag) => tag,
+        Err(reason) => return Err(ProbeFault { line: 2, reason }),
+    };
+    match Stimuli::new(behind) {
+        Ok(stimuli) => Ok(Probe { tag, stimuli }),
+        Err(fault) => Err(fault),
+    }
+}

@@ -1,0 +1,202 @@
+//! The lines of a probe, read one by one.
+ghost use Rattle.std.specs.Prelude.{◌≡◌, ◌<◌, ◌≤◌, ◌↔◌, ◌⊎◌, [], ◌∷◌, length, IfOk, IfErr, IfSome, IfNone, IsOk, IsTrue, IsFalse, Some};
+ghost use Rattle.text_fields.specs.Binary.{binary};
+ghost use Rattle.text_fields.specs.Lines.{fields_of};
+ghost use Rattle.probe_lines.specs.LineFaults.{AreFaultyBits, AreFaultyEnd, BeginsWith, IsFaultyProbeLine};
+ghost use Rattle.probe_lines.specs.ProbeLine.{SpellsProbeLine, SpellsTag, line_word, most_bits};
+ghost use Rattle.scenario_lines.specs.declared.first_fields.Keyword.{Keyword};
+ghost use Rattle.scenario_lines.specs.Names.{keyword_text};
+ghost use Rattle.probe_lines.specs.ProbeText.{BeginsAsTag, HasRoom, IsFaultyBehind, IsFaultyTagLine, IsTooMuch, most_stimuli};
+
+use crate::events::read_event;
+use crate::fault::Fault;
+use crate::laws::line_laws;
+use crate::line::{LineWord, ProbeLine, Stimulus};
+use command_text::read_command;
+use scenario_lines::{LineFault, TagText, read_tag};
+use text_fields::{Digits, Fields, FieldsFault, is_at_end, one_field};
+
+/// How many bits one line may have.
+pub(crate) const MOST_BITS: u32 = 8_240;
+
+/// How many lines may stand between that of the tag and the end.
+const MOST_STIMULI: u32 = 70_000;
+
+/// The word of this name.
+fn word_named(field: &[u8]) -> Option<LineWord>
+    ensures value { IfSome result (λ word. field.now ≡ line_word word) }
+    ensures only { (word : LineWord) → field.now ≡ line_word word → result ≡ Some word }
+{
+    match field {
+        b"bits" => Some(LineWord::Bits),
+        b"event" => Some(LineWord::Event),
+        b"end" => Some(LineWord::End),
+        _ => None,
+    }
+}
+
+/// The word that a line begins with, and the fields behind it; none exactly where it begins with none of the words.
+fn split_word(line: &[u8]) -> Option<(LineWord, Fields<'_>)>
+    ensures some { IfSome result (λ it. fields_of line.now ≡ line_word it.0 ∷ it.1) }
+    ensures none { IfNone result ((word : LineWord) → ¬ BeginsWith (fields_of line.now) word) }
+{
+    let mut others = Fields::new(line);
+    let word = word_named(others.next()?)?;
+    Some((word, others))
+}
+
+/// The bits that the fields behind `bits` spell.
+fn read_bits<'a>(others: Fields<'a>) -> Result<Digits<'a>, FieldsFault>
+    ensures ok { IfOk result (λ bits. (others.entry ≡ binary bits ∷ []) × (length bits ≤ most_bits)) }
+    ensures refused { IfErr result (AreFaultyBits others.entry) }
+{
+    let Some(field) = one_field(others) else {
+        return Err(FieldsFault::Shape);
+    };
+    match Digits::new(field, MOST_BITS) {
+        Some(bits) => Ok(bits),
+        None => Err(FieldsFault::Number),
+    }
+}
+
+/// Whether nothing stands behind `end`.
+fn read_end(others: Fields) -> Result<(), FieldsFault>
+    ensures ok { IsOk result ↔ (others.entry ≡ []) }
+    ensures refused { IfErr result (AreFaultyEnd others.entry) }
+{
+    if is_at_end(others) {
+        Ok(())
+    } else {
+        Err(FieldsFault::Shape)
+    }
+}
+
+/// What a line says that stands behind that of the tag, and is given without its line feed.
+///
+/// # Errors
+///
+/// The first reason for which it says nothing, whatever stands before it.
+pub(crate) fn read_probe_line(line: &[u8]) -> Result<ProbeLine<'_>, FieldsFault>
+    ensures ok { IfOk result (SpellsProbeLine (fields_of line.now)) }
+    ensures refused { IfErr result (IsFaultyProbeLine (fields_of line.now)) }
+{
+    match split_word(line) {
+        Some((LineWord::Bits, others)) => {
+            Ok(ProbeLine::Stimulus(Stimulus::Bits(read_bits(others)?)))
+        }
+        Some((LineWord::Event, others)) => {
+            Ok(ProbeLine::Stimulus(Stimulus::Event(read_event(others)?)))
+        }
+        Some((LineWord::End, others)) => {
+            read_end(others)?;
+            Ok(ProbeLine::End)
+        }
+        None => {
+            let command = read_command(Fields::new(line))?;
+            Ok(ProbeLine::Stimulus(Stimulus::Command(command)))
+        }
+    }
+}
+
+/// Whether a line begins with `end`.
+#[tactic(auto, using(crate::proofs::FaultyLines::no_ends))]
+fn begins_with_end(line: &[u8]) -> bool
+    ensures yes { IsTrue result → BeginsWith (fields_of line.now) LineWord.End }
+    ensures no { IsFalse result → ¬ BeginsWith (fields_of line.now) LineWord.End }
+{
+    match split_word(line) {
+        Some((LineWord::End, _)) => true,
+        Some((LineWord::Bits, _)) => false,
+        Some((LineWord::Event, _)) => false,
+        None => false,
+    }
+}
+
+/// Whether a line is one too many behind so many.
+fn is_too_much(line: &[u8], count: u32) -> bool
+    ensures yes { IsTrue result → IsTooMuch count (fields_of line.now) }
+    ensures no { IsFalse result → (count < most_stimuli) ⊎ BeginsWith (fields_of line.now) LineWord.End }
+{
+    if count < MOST_STIMULI {
+        return false;
+    }
+    !begins_with_end(line)
+}
+
+/// What a line says that stands behind that of the tag and so many more, and is given without its line feed.
+///
+/// # Errors
+///
+/// The first reason for which it may not stand there.
+#[tactic(auto, using(crate::proofs::FaultyLines::one_too_many))]
+pub(crate) fn read_behind(line: &[u8], count: u32) -> Result<ProbeLine<'_>, Fault>
+    ensures ok { IfOk result (λ says. SpellsProbeLine (fields_of line.now) says × HasRoom count says) }
+    ensures refused { IfErr result (IsFaultyBehind count (fields_of line.now)) }
+{
+    // By these laws a line says something or is faulty for one reason.
+    line_laws();
+    match read_probe_line(line) {
+        Err(FieldsFault::Word) => Err(Fault::Word),
+        Err(FieldsFault::Shape) => {
+            if is_too_much(line, count) {
+                return Err(Fault::Limit);
+            }
+            Err(Fault::Shape)
+        }
+        Err(FieldsFault::Number) => {
+            if is_too_much(line, count) {
+                return Err(Fault::Limit);
+            }
+            Err(Fault::Number)
+        }
+        Ok(ProbeLine::Stimulus(stimulus)) => {
+            if count >= MOST_STIMULI {
+                return Err(Fault::Limit);
+            }
+            Ok(ProbeLine::Stimulus(stimulus))
+        }
+        Ok(ProbeLine::End) => Ok(ProbeLine::End),
+    }
+}
+
+/// Whether a field is `tag`.
+fn is_tag(field: &[u8]) -> bool
+    ensures { IsTrue result ↔ (field.now ≡ keyword_text Keyword.Tag) }
+{
+    matches!(field, b"tag")
+}
+
+/// The fields behind `tag`; none exactly where a line begins with another.
+fn behind_tag(line: &[u8]) -> Option<Fields<'_>>
+    ensures some { IfSome result (λ it. fields_of line.now ≡ keyword_text Keyword.Tag ∷ it) }
+    ensures none { IfNone result (¬ BeginsAsTag (fields_of line.now)) }
+{
+    let mut others = Fields::new(line);
+    if is_tag(others.next()?) {
+        Some(others)
+    } else {
+        None
+    }
+}
+
+/// The tag that the second line says, which is given without its line feed.
+///
+/// # Errors
+///
+/// The first reason for which it says none.
+pub(crate) fn read_tag_line(line: &[u8]) -> Result<TagText<'_>, Fault>
+    ensures ok { IfOk result (SpellsTag (fields_of line.now)) }
+    ensures refused { IfErr result (IsFaultyTagLine (fields_of line.now)) }
+{
+    let Some(others) = behind_tag(line) else {
+        return Err(Fault::Word);
+    };
+    match read_tag(others) {
+        Ok(tag) => Ok(tag),
+        Err(LineFault::Shape) => Err(Fault::Shape),
+        Err(LineFault::Number) => Err(Fault::Number),
+        Err(LineFault::Pc) => Err(Fault::Pc),
+        // The fields of a tag have no other fault.
+        Err(_) => unreachable!(),
+    }
+}

@@ -1,0 +1,105 @@
+//! What is done to the tag, line by line.
+ghost use Rattle.std.specs.Prelude.{◌≡◌, ◌≤◌, ◌<◌, ◌+◌, ℕ, List, [], ◌∷◌, length, IfOk, IfErr, IfSome, IfNone};
+ghost use Rattle.text_fields.specs.Lines.{lines_of};
+ghost use Rattle.probe_lines.specs.declared.line.ProbeLine.{ProbeLine};
+ghost use Rattle.probe_lines.specs.declared.line.Stimulus.{Stimulus};
+ghost use Rattle.probe_lines.specs.ProbeLine.{IsProbeLine};
+ghost use Rattle.probe_lines.specs.ProbeText.{AreStimuli, IsFirstFaultFrom, SayStimuli, within};
+
+use crate::fault::{Fault, ProbeFault};
+use crate::laws::line_laws;
+use crate::line::{ProbeLine, Stimulus};
+use crate::reading::{read_behind, read_probe_line};
+use std::marker::Model;
+use text_fields::split_line;
+
+/// The number of the first line behind that of the tag.
+pub(crate) const FIRST_NUMBER: u32 = 3;
+
+/// What is still done to the tag, as the lines say it that are left. A contract sees these lines.
+#[derive(Drop)]
+pub(crate) struct Stimuli<'a> {
+    rest: &'a [u8],
+}
+
+impl<'a> Model for Stimuli<'a> {
+    ghost use Rattle.std.specs.Prelude.{List, ℕ};
+    ghost use Rattle.text_fields.specs.Lines.{lines_of};
+    ghost use Rattle.probe_lines.specs.declared.line.Stimulus.{Stimulus};
+    ghost use Rattle.probe_lines.specs.ProbeText.{AreStimuli};
+
+    ghost Value = { List (List ℕ) };
+
+    ghost view = { λ a. lines_of a.rest.now };
+
+    ghost invariant = { λ a. (said : List Stimulus) × AreStimuli (lines_of a.rest.now) said };
+}
+
+/// A fault of the line behind that of the tag and so many more.
+fn fault_behind(count: u32, reason: Fault) -> ProbeFault
+    requires { count ≤ 70001 }
+    ensures { result ≡ record { line = 3 + count; reason = reason } }
+{
+    ProbeFault {
+        line: FIRST_NUMBER + count,
+        reason,
+    }
+}
+
+impl<'a> Stimuli<'a> {
+    /// What the lines of a text say, which stands behind the line of the tag. Each line is read.
+    ///
+    /// # Errors
+    ///
+    /// The first faulty line.
+    pub(crate) fn new(text: &'a [u8]) -> Result<Stimuli<'a>, ProbeFault>
+        ensures ok { IfOk result (λ it. (it ≡ lines_of text.now) × (said : List Stimulus) × AreStimuli (lines_of text.now) said) }
+        ensures refused { IfErr result (λ fault. IsFirstFaultFrom (within 0) 3 (lines_of text.now) fault.line fault.reason) }
+    {
+        let mut rest = text;
+        let mut count = 0;
+        loop {
+            let Some((line, behind)) = split_line(rest) else {
+                return Err(fault_behind(count, Fault::End));
+            };
+            match read_behind(line, count) {
+                Ok(ProbeLine::Stimulus(_)) => {
+                    count += 1;
+                    rest = behind;
+                }
+                Ok(ProbeLine::End) => {
+                    return if behind.is_empty() {
+                        Ok(Stimuli { rest: text })
+                    } else {
+                        Err(fault_behind(count + 1, Fault::Extra))
+                    };
+                }
+                Err(fault) => return Err(fault_behind(count, fault)),
+            }
+        }
+    }
+
+    /// What is done next; none where nothing more is.
+    pub(crate) fn next(&mut self) -> Option<Stimulus<'a>>
+        ensures some { IfSome result (λ it. IsProbeLine (ProbeLine.Stimulus it)
+            × ((said : List Stimulus) → SayStimuli self.old said → (left : List Stimulus) × (said ≡ it ∷ left) × SayStimuli self.new left)) }
+        ensures none { IfNone result ((said : List Stimulus) → SayStimuli self.old said → said ≡ []) }
+        ensures fewer { IfSome result (λ _. length self.new < length self.old) }
+    {
+        // A line says one thing alone, and what says something is not faulty.
+        line_laws();
+        let Some((line, behind)) = split_line(self.rest) else {
+            // The end is there.
+            unreachable!()
+        };
+        match read_probe_line(line) {
+            Ok(ProbeLine::Stimulus(stimulus)) => {
+                self.rest = behind;
+                Some(stimulus)
+            }
+            Ok(ProbeLine::End) => None,
+            // Each line says something.
+            Err(_) => unreachable!(),
+        }
+    }
+}

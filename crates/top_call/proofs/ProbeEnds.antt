@@ -1,0 +1,78 @@
+-- The texts of `probe`, by the laws of probes: what holds of them and of fault lines, and how playing one ends.
+use Rattle.std.proofs.Common.{◌≡◌, ℕ, List, Option, Result, Ok, Err, sym, ◌∙◌, ap, subst, inl, inr}
+use Rattle.scenario_lines.specs.declared.tag.TagSpec.{TagSpec}
+use Rattle.report_lines.specs.declared.mode.PlayFault.{PlayFault}
+use Rattle.report_lines.specs.declared.mode.PlayFault.TheVariants as plays
+use Rattle.tag_machine.specs.TagValue.{TagValue}
+use Rattle.text_fields.specs.FaultLine.{fault_line}
+use Rattle.probe_lines.specs.declared.fault.Fault.{Fault}
+use Rattle.probe_lines.specs.declared.line.Stimulus.{Stimulus}
+use Rattle.probe_lines.specs.Answers.{Tells, tag_of}
+use Rattle.probe_lines.specs.FaultWords.{fault_word}
+use Rattle.probe_lines.specs.Played.{HasPlayed, WritesPart}
+use Rattle.probe_lines.specs.ProbeText.{IsFirstFault, IsProbe, IsProbeText}
+use Rattle.top_call.specs.Ending.{end_of_play}
+use Rattle.top_call.specs.Job.{Defines}
+use Rattle.top_call.specs.Outcome.{AddsFront, EndsSo}
+use Rattle.top_call.specs.declared.ending.Wrote.{Wrote}
+use Rattle.top_call.specs.declared.ending.Wrote.TheVariants.{Text}
+use Rattle.top_call.specs.declared.ending.WriteEnd.{WriteEnd}
+use Rattle.top_call.specs.words.Probed.{RefusesProbe, TellsProbe, probe_job}
+
+-- what the laws of probes say: bytes are the text of one probe,
+abbrev pub AreToldApart : Type 0
+AreToldApart = (bytes : List ℕ) (tag other_tag : TagSpec) (said other_said : List Stimulus) → IsProbe bytes tag said → IsProbe bytes other_tag other_said
+    → (tag ≡ other_tag) × (said ≡ other_said)
+
+-- of which one text tells,
+abbrev pub HasOneText : Type 0
+HasOneText = (tag : TagValue) (said : List Stimulus) (one other : List ℕ) → Tells tag said one → Tells tag said other → one ≡ other
+
+-- and which has no fault,
+abbrev pub AreNotFaulty : Type 0
+AreNotFaulty = (bytes : List ℕ) (tag : TagSpec) (said : List Stimulus) (number : ℕ) (fault : Fault) → IsProbe bytes tag said → IsFirstFault bytes number fault → ⊥
+
+-- and bytes have one first fault
+abbrev pub HaveOneFault : Type 0
+HaveOneFault = (bytes : List ℕ) (one other : ℕ) (fault reason : Fault) → IsFirstFault bytes one fault → IsFirstFault bytes other reason → (one ≡ other) × (fault ≡ reason)
+
+pub same_text : AreToldApart → HasOneText → (bytes one other : List ℕ) → TellsProbe bytes one → TellsProbe bytes other → one ≡ other
+same_text told once bytes one other left right =
+    let same = told bytes left.tag right.tag left.said right.said left.is right.is in
+    once (tag_of right.tag) right.said one other
+    (subst (λ (said : List Stimulus). Tells (tag_of right.tag) said one) same.1 (subst (λ (tag : TagSpec). Tells (tag_of tag) left.said one) same.0 left.tells))
+    right.tells
+
+pub same_refusal : HaveOneFault → (bytes one other : List ℕ) → RefusesProbe bytes one → RefusesProbe bytes other → one ≡ other
+same_refusal one_fault bytes one other left right =
+    let faults = one_fault bytes left.number right.number left.fault right.fault left.first right.first in
+    left.line ∙ ap (λ number. fault_line number (fault_word left.fault)) faults.0 ∙ ap (λ fault. fault_line right.number (fault_word fault)) faults.1 ∙ sym right.line
+
+pub text_not_refused : AreNotFaulty → (bytes text : List ℕ) → IsProbeText bytes → RefusesProbe bytes text → ⊥
+text_not_refused not_faulty bytes text allowed refused =
+    not_faulty bytes allowed.tag allowed.said refused.number refused.fault allowed.is refused.first
+
+-- what is there of a text is a front of the defined one
+front_of_probe : (bytes : List ℕ) (tag : TagSpec) (said : List Stimulus) (written written' : Option (List ℕ)) → IsProbe bytes tag said
+    → WritesPart (tag_of tag) said written written' → AddsFront (Defines probe_job bytes) written written'
+front_of_probe bytes tag said written written' is part = record {
+  front = part.front;
+  rest = part.rest;
+  named = inl (record { tag = tag; said = said; is = is; tells = part.tells });
+  added = part.added;
+}
+
+-- the writing ended where playing was cut off
+pub play_failed : (bytes : List ℕ) (tag : TagSpec) (said : List Stimulus) (written written' : Option (List ℕ)) (writes writes' : ℕ) (fault : PlayFault) (end : Result Wrote WriteEnd)
+    → end ≡ Err (end_of_play fault) → IsProbe bytes tag said → HasPlayed (tag_of tag) said written written' writes writes' (Err fault)
+    → EndsSo probe_job bytes written written' writes writes' end
+play_failed bytes tag said written written' writes writes' plays.Write end ends is played =
+    subst (EndsSo probe_job bytes written written' writes writes') (sym ends) (played.0, front_of_probe bytes tag said written written' is played.1)
+play_failed bytes tag said written written' writes writes' plays.OutOfMemory end ends is played =
+    subst (EndsSo probe_job bytes written written' writes writes') (sym ends) (inr (front_of_probe bytes tag said written written' is played))
+
+-- ... and where it wasn't
+pub played_whole : (bytes : List ℕ) (tag : TagSpec) (said : List Stimulus) (written written' : Option (List ℕ)) (writes writes' : ℕ) (done : Unit {0})
+    → IsProbe bytes tag said → HasPlayed (tag_of tag) said written written' writes writes' (Ok done) → EndsSo probe_job bytes written written' writes writes' (Ok Text)
+played_whole bytes tag said written written' writes writes' done is played =
+    record { text = played.text; named = record { tag = tag; said = said; is = is; tells = played.tells }; added = played.added }

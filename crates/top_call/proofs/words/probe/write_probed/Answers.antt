@@ -1,0 +1,29 @@
+-- What comes of the probe, or the line of the first fault.
+use Rattle.std.proofs.Common.{inr, rules}
+use Rattle.top_call.specs.words.Probed.{probe_job}
+use Rattle.top_call.proofs.Ends.{write_failed}
+use Rattle.top_call.proofs.ProbeEnds.{play_failed, played_whole}
+use Rattle.top_call.proofs.words.probe.write_probed.Goals as goal
+
+pub play-requires-clause-tag : goal.play-requires-clause-tag
+play-requires-clause-tag g c = let read = c.in-Ok.ensures.ok in read.1.tag_is.is
+
+pub play-requires-clause-said : goal.play-requires-clause-said
+play-requires-clause-said g c = let read = c.in-Ok.ensures.ok in (read.0, read.2)
+
+pub returns-in_err-play-in-Ok : goal.returns-in_err-play-in-Ok
+returns-in_err-play-in-Ok g c =
+    let read = c.in-Ok.ensures.ok in
+    play_failed c.args.input.now c.in-Ok.probe.tag read.0 _ _ _ _ c.in_err-play-in-Ok.field-0.0 _ (search rules) read.1 (c.in_err-play-in-Ok.ensures read.0 read.2)
+
+pub returns-in_ok-play-in-Ok : goal.returns-in_ok-play-in-Ok
+returns-in_ok-play-in-Ok g c =
+    let read = c.in-Ok.ensures.ok in
+    played_whole c.args.input.now c.in-Ok.probe.tag read.0 _ _ (g.O.Sink.faults c.args.output.now) (g.O.Sink.faults c.args.output.now) c.in_ok-play-in-Ok.field-0 read.1 (c.in_ok-play-in-Ok.ensures read.0 read.2)
+
+pub returns-in_err-write_all-in-Err : goal.returns-in_err-write_all-in-Err
+returns-in_err-write_all-in-Err g c =
+    let fault = c.in-Err.fault in
+    let written = c.in_err-write_all-in-Err.ensures in
+    write_failed probe_job _ _ _ _ _ c.fault_text-line.result.items _ _ (search rules)
+    (inr (record { number = fault.line; fault = fault.reason; first = c.in-Err.ensures.refused; line = c.fault_text-line.ensures })) c.as_slice.ensures.value written.failed written.part

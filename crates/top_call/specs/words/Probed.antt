@@ -1,0 +1,34 @@
+-- Profile: what `probe` writes for the bytes that it read. The whole input is checked before a line is written.
+use Rattle.std.specs.Prelude.{◌≡◌, ℕ, true, List}
+use Rattle.text_fields.specs.FaultLine.{fault_line}
+use Rattle.scenario_lines.specs.declared.tag.TagSpec.{TagSpec}
+use Rattle.probe_lines.specs.declared.fault.Fault.{Fault}
+use Rattle.probe_lines.specs.declared.line.Stimulus.{Stimulus}
+use Rattle.probe_lines.specs.Answers.{Tells, tag_of}
+use Rattle.probe_lines.specs.FaultWords.{fault_word}
+use Rattle.probe_lines.specs.ProbeText.{IsFirstFault, IsProbe, IsProbeText}
+use Rattle.top_call.specs.Job.{Job}
+
+-- the text tells what comes of what the bytes say, done to the tag that they give
+pub record TellsProbe (bytes text : List ℕ) : Type 0 where
+  pub tag : TagSpec
+  pub said : List Stimulus
+  pub is : IsProbe bytes tag said
+  pub tells : Tells (tag_of tag) said text
+
+-- the text is the fault line of bytes that are no probe
+pub record RefusesProbe (bytes text : List ℕ) : Type 0 where
+  pub number : ℕ
+  pub fault : Fault
+  pub first : IsFirstFault bytes number fault
+  pub line : text ≡ fault_line number (fault_word fault)
+
+-- what comes of what is done to one tag
+abbrev pub probe_job : Job
+probe_job = record {
+  input = true;
+  allows = IsProbeText;
+  writes = TellsProbe;
+  refuses = RefusesProbe;
+  promises = λ bytes text. Unit {0};
+}

@@ -1,0 +1,53 @@
+//! The word `probe`: one tag at the bench.
+ghost use Rattle.std.specs.Prelude.{◌≡◌};
+ghost use Rattle.top_call.specs.Job.{IsLawful};
+ghost use Rattle.top_call.specs.Outcome.{EndsSo, Tells};
+ghost use Rattle.top_call.specs.words.Probed.{probe_job};
+
+use crate::ending::{MOST_INPUT_BYTES, WriteEnd, Wrote, status_of, unread_status};
+use crate::status::Status;
+use air_io::{Sink, Source, read_to_end, write_all};
+use probe_lines::{
+    fault_text, play, probe_texts_are_not_faulty, probe_texts_have_one_fault,
+    probes_are_told_apart, probes_have_one_text, read_probe,
+};
+use std::alloc::Global;
+
+/// Reads the input to its end, and writes what is defined for it. The whole input is checked before a line is written.
+pub fn answer<I: Source, O: Sink>(alloc: Global, input: &mut I, output: &mut O) -> Status
+    ensures { Tells probe_job (I.left input.old) (I.left input.new) (O.written output.old) (O.written output.new)
+        (I.faults input.old) (I.faults input.new) (O.faults output.old) (O.faults output.new) (output.new ≡ output.old) result }
+{
+    match read_to_end(alloc, input, MOST_INPUT_BYTES) {
+        Ok(bytes) => status_of(write_probed(alloc, bytes.as_slice(), output)),
+        Err(end) => unread_status(end),
+    }
+}
+
+/// Writes what is defined for the bytes of an input: what comes of what they say, line by line, or the one line that reports the first
+/// faulty line.
+fn write_probed<O: Sink>(alloc: Global, input: &[u8], output: &mut O) -> Result<Wrote, WriteEnd>
+    ensures { EndsSo probe_job input.now (O.written output.old) (O.written output.new) (O.faults output.old) (O.faults output.new) result }
+{
+    match read_probe(input) {
+        Ok(probe) => {
+            play(alloc, probe, output)?;
+            Ok(Wrote::Text)
+        }
+        Err(fault) => {
+            let line = fault_text(fault);
+            write_all(output, line.as_slice())?;
+            Ok(Wrote::FaultLine)
+        }
+    }
+}
+
+/// An input has one text or one fault line at most, and never both.
+pub fn probe_is_lawful()
+    ensures { IsLawful probe_job }
+{
+    probes_are_told_apart();
+    probes_have_one_text();
+    probe_texts_are_not_faulty();
+    probe_texts_have_one_fault();
+}

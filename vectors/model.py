@@ -1,0 +1,386 @@
+"""A tag, as docs/TAG.md has it: each row of its table of commands and states is read there, and each move that a cell names is a function here.
+
+The program is not asked. A tag hears a command as `probe` spells it, and `hear` gives what it answers; `befall` takes an event.
+"""
+
+import os
+import re
+
+TOP = os.path.dirname(os.path.dirname(os.path.abspath(__file__)))
+STATES = ("ready", "arbitrate", "reply", "acknowledged", "open", "secured", "killed", "off")
+BANKS = ("res", "epc", "tid", "user")
+FLAGS = ("s0", "s1", "s2", "s3", "sl")
+ACCESS = ("read", "write", "kill", "lock", "access", "blockwrite", "blockerase")
+# The field of TAG's pairs that guards a word of a bank, by its bank.
+PAIRS = {"kill": 0, "access": 2, "epc": 4, "tid": 6, "user": 8}
+
+
+def cells():
+    """Gives the table 'Each command and event in each state' of docs/TAG.md: the text of a cell by command and state."""
+    with open(f"{TOP}/docs/TAG.md", encoding="utf-8") as it:
+        part = it.read().split("## Each command and event in each state")[1].split("\n## ")[0]
+    rows = [[cell.strip() for cell in line.strip("|\n").split("|")] for line in part.split("\n") if line.startswith("|")]
+    heads = [it.strip("`") for it in rows[0][1:]]
+    assert tuple(heads) == STATES, heads
+    return {(row[0].strip("`").lower(), state): cell.replace(" (profile)", "") for row in rows[2:] for state, cell in zip(heads, row[1:])}
+
+
+CELLS = cells()
+
+
+def words_of(field):
+    return [] if field == "-" else [int(field[at : at + 4], 16) for at in range(0, len(field), 4)]
+
+
+def text_of(words):
+    return "".join(f"{word:04X}" for word in words) or "-"
+
+
+def bits_of(words):
+    return "".join(f"{word:016b}" for word in words)
+
+
+def crc16(bits):
+    """Annex F: preset FFFFh, the polynomial 1021h, complemented."""
+    register = 0xFFFF
+    for bit in bits:
+        top = register >> 15 ^ int(bit)
+        register = register << 1 & 0xFFFF ^ (0x1021 if top else 0)
+    return register ^ 0xFFFF
+
+
+class Tag:
+    def __init__(self, line):
+        _, kill, access, locks, epc, tid, user, words = line.split(" ")
+        self.banks = {"res": words_of(kill) + words_of(access), "epc": [0, *words_of(epc)], "tid": words_of(tid), "user": words_of(user)}
+        self.locks, self.words, self.drawn = locks, words_of(words), 0
+        self.flags = dict.fromkeys(FLAGS[:4], "A") | {"sl": 0}
+        self.ready()
+        self.store_crc()
+
+    # What it holds.
+
+    def ready(self):
+        self.state = "ready"
+        self.session = self.q = self.slot = self.number = self.cover = self.half = None
+
+    def epc_words(self):
+        return self.banks["epc"][2 : 2 + (self.banks["epc"][1] >> 11)]
+
+    def store_crc(self):
+        self.banks["epc"][0] = crc16(bits_of([self.banks["epc"][1], *self.epc_words()]))
+
+    def draw(self):
+        self.drawn += 1
+        return self.words[(self.drawn - 1) % len(self.words)]
+
+    def password(self, kind):
+        upper, lower = self.banks["res"][0:2] if kind == "kill" else self.banks["res"][2:4]
+        return upper << 16 | lower
+
+    # Its lines.
+
+    def state_line(self):
+        flags = "".join(self.flags[it] for it in FLAGS[:4]) + str(self.flags["sl"])
+        numbers = {
+            "arbitrate": lambda: [str(self.slot)],
+            "reply": lambda: [f"{self.number:04X}"],
+            "acknowledged": lambda: [f"{self.number:04X}"],
+        }
+        held = lambda: [f"{self.number:04X}", "-" if self.cover is None else f"{self.cover:04X}", f"{self.half[0]}-{self.half[1]:04X}" if self.half else "-"]
+        if self.state in ("ready", "killed", "off"):
+            return f"{self.state} {flags}"
+        return " ".join([self.state, flags, str(self.session), str(self.q), *numbers.get(self.state, held)()])
+
+    def tag_line(self):
+        flags = self.state_line().split(" ")[1]
+        return " ".join([self.state, flags, self.locks, *(text_of(self.banks[it]) for it in BANKS)])
+
+    # The moves of TAG.
+
+    def stay(self):
+        return None
+
+    def back(self):
+        session, q = self.session, self.q
+        self.ready()
+        self.state, self.session, self.q, self.slot = "arbitrate", session, q, 0
+
+    def close(self):
+        name = f"s{self.session}"
+        self.flags[name] = "B" if self.flags[name] == "A" else "A"
+        self.ready()
+
+    def enter(self, session, q):
+        self.ready()
+        self.session, self.q = session, q
+        self.slot = self.draw() % 2**q
+        return self.reply_now() if self.slot == 0 else self.wait()
+
+    def reply_now(self):
+        self.state, self.slot, self.number = "reply", None, self.draw()
+        return f"plain rn16 {self.number:04X}"
+
+    def wait(self):
+        self.state = "arbitrate"
+
+    def join(self, sel, session, target, q):
+        allowed = {"00": True, "01": True, "10": self.flags["sl"] == 0, "11": self.flags["sl"] == 1}[sel]
+        if allowed and self.flags[f"s{session}"] == target.upper():
+            return self.enter(session, q)
+        self.ready()
+        return None
+
+    def count(self):
+        self.slot = self.slot - 1 if self.slot else 0x7FFF
+        return self.reply_now() if self.slot == 0 else None
+
+    def adjust(self, updn):
+        q = {"up": min(self.q + 1, 15), "same": self.q, "down": max(self.q - 1, 0)}[updn]
+        return self.enter(self.session, q)
+
+    def select(self, target, action, bank, pointer, mask):
+        bits, mask = bits_of(self.banks[bank]), "" if mask == "-" else mask
+        matches = pointer + len(mask) <= len(bits) and bits[pointer : pointer + len(mask)] == mask
+        # 'a' asserts SL or makes A, 'd' deasserts or makes B, 'i' inverts
+        done = [("a", "d"), ("a", ""), ("", "d"), ("i", ""), ("d", "a"), ("d", ""), ("", "a"), ("", "i")][action][0 if matches else 1]
+        if target == "sl":
+            self.flags["sl"] = {"a": 1, "d": 0, "i": 1 - self.flags["sl"], "": self.flags["sl"]}[done]
+        else:
+            old = self.flags[target]
+            self.flags[target] = {"a": "A", "d": "B", "i": "AB"[old == "A"], "": old}[done]
+        self.ready()
+
+    def send(self):
+        self.state = "acknowledged" if self.state == "reply" else self.state
+        return f"plain epc {self.banks['epc'][1]:04X} {text_of(self.epc_words())}"
+
+    def open(self):
+        self.number = self.draw()
+        self.state = "open" if self.password("access") else "secured"
+        return f"plain handle {self.number:04X}"
+
+    def new_cover(self):
+        self.cover = self.draw()
+        return f"plain handle {self.cover:04X}"
+
+    # The rules of open and secured.
+
+    def may(self, field, use):
+        pair = self.locks[PAIRS[field] : PAIRS[field] + 2]
+        if use == "read" and field not in ("kill", "access"):
+            return True
+        return {"00": True, "01": True, "10": self.state == "secured", "11": False}[pair]
+
+    def field_of(self, bank, place):
+        return ("kill" if place < 2 else "access") if bank == "res" else bank
+
+    def read(self, bank, pointer, count):
+        words = self.banks[bank]
+        if count == 0:
+            length = 2 + (self.banks["epc"][1] >> 11)
+            count = (length if bank == "epc" and pointer < length else len(words)) - pointer
+        if count <= 0 or pointer + count > len(words):
+            return "plain error 03"
+        if not all(self.may(self.field_of(bank, it), "read") for it in range(pointer, pointer + count)):
+            return "plain error 04"
+        return f"plain words {text_of(words[pointer : pointer + count])}"
+
+    def change(self, bank, pointer, words):
+        old = self.banks[bank]
+        new = old[:pointer] + words + old[pointer + len(words) :]
+        if pointer + len(words) > len(old) or bank == "epc" and 2 + (new[1] >> 11) > len(old):
+            return "extended error 03"
+        places = range(pointer, pointer + len(words))
+        if bank == "epc" and 0 in places or not all(self.may(self.field_of(bank, it), "write") for it in places):
+            return "extended error 04"
+        self.banks[bank] = new
+        return "extended header"
+
+    def lock(self, payload):
+        bits = f"{payload:020b}"
+        mask, action = bits[:10], bits[10:]
+        if not self.banks["user"] and "1" in mask[8:]:
+            return "extended error 03"
+        pairs = [(at, at + 1) for at in range(0, 10, 2)]
+        if any(mask[perma] == "1" and action[perma] == "0" and self.locks[perma] == "1" for _, perma in pairs):
+            return "extended error 04"
+        old = self.locks
+        new = [action[at] if mask[at] == "1" and old[at // 2 * 2 + 1] == "0" else old[at] for at in range(10)]
+        self.locks = "".join(new)
+        return "extended header"
+
+    def half_of(self, kind, value):
+        """Rules 6 to 8: a half of a password comes, without its cover."""
+        if self.half is None:
+            self.half = (kind, value)
+            return f"plain handle {self.number:04X}"
+        both = self.half[1] << 16 | value
+        if kind == "kill" and self.password("kill") == 0:
+            self.half = None
+            return "extended error 00"
+        if both != self.password(kind):
+            return self.back()
+        self.half = None
+        if kind == "access":
+            self.state = "secured"
+            return f"plain handle {self.number:04X}"
+        self.ready()
+        self.state = "killed"
+        return "extended header"
+
+    def by_rules(self, name, given, rules):
+        """The rules that the cell names, in order. The last field of a command is the tag's number."""
+        if given[-1] != self.number:
+            return None
+        if self.half and name != self.half[0]:
+            return self.back()
+        if "3" in rules:
+            if self.cover is None:
+                return None
+            cover, self.cover = self.cover, None
+        if name == "read":
+            return self.read(*given[:3])
+        if name == "write":
+            return self.change(given[0], given[1], [given[2] ^ cover])
+        if name == "blockwrite":
+            return self.change(given[0], given[1], given[2])
+        if name == "blockerase":
+            return self.change(given[0], given[1], [0] * given[2])
+        if name == "lock":
+            return None if self.state == "open" else self.lock(given[0])
+        return self.half_of(name, given[0] ^ cover)
+
+    # What it hears, and what befalls it.
+
+    def hear(self, line):
+        name, *fields = line.split(" ")
+        given = parsed(name, fields)
+        row = {"req_rn": "req_rn", "queryrep": "queryrep"}.get(name, name)
+        cell = CELLS[row, self.state]
+        if name in ("queryrep", "queryadjust") and self.session is not None and given[0] != self.session:
+            return None
+        if re.fullmatch(r"[1-8](, [1-8])*", cell):
+            return self.by_rules(name, given, cell.split(", "))
+        return self.move(self.case(cell, name, given), name, given)
+
+    def case(self, cell, name, given):
+        """Gives the moves of the first case of a cell that holds."""
+        for case in cell.split("; "):
+            when, _, moves = case.rpartition(": ")
+            holds = {
+                "": True,
+                "half": self.half is not None,
+                "of its session": name == "query" and given[4] == self.session,
+                "its RN16": given[-1:] == [self.number],
+                "its handle": given[-1:] == [self.number],
+            }[when]
+            if holds:
+                return moves.removeprefix("else ")
+        raise AssertionError(cell)
+
+    def move(self, moves, name, given):
+        answer = None
+        for move in moves.split(", then "):
+            answer = {
+                "STAY": self.stay,
+                "BACK": self.back,
+                "CLOSE": self.close,
+                "JOIN": lambda: self.join(given[3], given[4], given[5], given[6]),
+                "COUNT": self.count,
+                "arbitrate, slot counter 7FFFh": lambda: self.count_past(),
+                "ADJUST": lambda: self.adjust(given[1]),
+                "SELECT": lambda: self.select(*given),
+                "SEND": self.send,
+                "OPEN": self.open,
+                "COVER": self.new_cover,
+            }[move]()
+        return answer
+
+    def count_past(self):
+        self.back()
+        self.slot = 0x7FFF
+
+    def befall(self, kind, flag=None):
+        cell = CELLS[kind, self.state]
+        if kind == "expire":
+            self.expire(cell, flag)
+        else:
+            {"STAY": self.stay, "BACK": self.back, "OFF": self.off, "ON": self.on}[cell]()
+
+    def off(self):
+        self.ready()
+        self.state, self.flags["s0"] = "off", "A"
+
+    def on(self):
+        self.ready()
+        self.store_crc()
+
+    def expire(self, cell, flag):
+        for case in cell.split("; "):
+            named = re.fullmatch(r"(?:of )?([S0-9L, ]+)(?:: | is )(.*)", case)
+            if named and flag.upper() in named[1].split(", "):
+                self.flags[flag] = {"A": "A", "this flag is A": "A", "deasserted": 0, "STAY": self.flags[flag]}[named[2]]
+                return
+        assert cell == "STAY", cell
+
+
+def parsed(name, fields):
+    """Gives the fields of a command as numbers, words and names."""
+    word, words, number, same = lambda it: int(it, 16), words_of, int, str
+    kinds = {
+        "queryrep": [number],
+        "ack": [word],
+        "query": [number, same, number, same, number, same, number],
+        "queryadjust": [number, same],
+        "select": [same, number, same, number, same],
+        "nak": [],
+        "req_rn": [word],
+        "read": [same, number, number, word],
+        "write": [same, number, word, word],
+        "kill": [word, word],
+        "lock": [word, word],
+        "access": [word, word],
+        "blockwrite": [same, number, words, word],
+        "blockerase": [same, number, number, word],
+    }[name]
+    assert len(kinds) == len(fields), (name, fields)
+    return [kind(field) for kind, field in zip(kinds, fields)]
+
+
+def command_of(bits):
+    """Gives the command that bits spell, of those that are tried here (6.3.2.11): a NAK, a QueryRep, or an ACK."""
+    if bits == "11000000":
+        return "nak"
+    if re.fullmatch("00[01]{2}", bits):
+        return f"queryrep {int(bits[2:], 2)}"
+    if re.fullmatch("01[01]{16}", bits):
+        return f"ack {int(bits[2:], 2):04X}"
+    return None
+
+
+def done(tag, line):
+    """Does to the tag what a line says, and gives the lines that tell of its answer."""
+    name, _, rest = line.partition(" ")
+    if name == "event":
+        tag.befall(*rest.split(" "))
+        return []
+    command = command_of(rest) if name == "bits" else line
+    return [command and tag.hear(command) or "-"]
+
+
+def standing(tag_line, lines):
+    """Gives the tag behind these lines."""
+    tag = Tag(tag_line)
+    for line in lines:
+        done(tag, line)
+    return tag
+
+
+def played(tag_line, lines):
+    """Gives what `probe` has to write for a tag and what is done to it."""
+    tag, written = Tag(tag_line), []
+    for number, line in enumerate(lines, 3):
+        written.extend(f"answer {number} {it}" for it in done(tag, line))
+        written.append(f"state {number} {tag.state_line()}")
+    return [*written, f"tag 0 {tag.tag_line()}", "done"]
