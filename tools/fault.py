@@ -55,7 +55,7 @@ FIELDS = {
     "TREXT": one_of("0", "1"),
     "LEVELS": digits("levels", 0, 132_000),
     "BITS": digits("bits", 0, 8_240),
-    "EXPECT": ("rn16, epc, handle, same-HHHH, words-N-HHHH, any-HHHH or header-HHHH", expect),
+    "EXPECT": ("rn16, epc, handle, same-HHHH, words-N-HHHH with N from 1 to 255, any-HHHH or header-HHHH", expect),
     "CODE": one_of("fm0", "m2", "m4", "m8"),
     "THRESHOLD": number(0, 255),
     "PER": number(1, 64),
@@ -226,6 +226,10 @@ def shown(text, most=160):
     return front if len(text) <= most else f"{front}.. ({len(text):,} characters)"
 
 
+def counted(fields):
+    return "1 field" if fields == 1 else f"{fields} fields"
+
+
 def spelled(form):
     return form + " .." if form == "pie INTERVALS" else form
 
@@ -255,18 +259,25 @@ def explanation(text, word, fault):
         if "" in fields:
             said.append("a field is empty: one space stands between two fields, and none before or behind the line")
         elif len(forms) == 1:
-            said.append(f"it has {len(fields)} fields")
+            said.append(f"it has {counted(len(fields))}, and its form has {len(forms[0].split(' '))}")
         elif forms:
             said.append("its forms: " + "; ".join(forms))
     elif reason == "word":
         first = line.split(" ")[0]
         begins = list(dict.fromkeys(it.split(" ")[0] for it in FORMS.get(word, [])))
-        if first in begins and len(forms) > 1:
+        if word == "probe" and number_of_line == 2:
+            said.append(f"the second line is: {TAG}")
+        elif first in begins and len(forms) > 1:
             said.append("its forms: " + "; ".join(forms))
         elif first in begins:
             said.append(f"a line that begins with {first} may not stand here")
+        elif word == "encode" and any(it.split(" ")[0] == first for it in COMMANDS):
+            said.append(f"a command stands behind the word command: command {first} ..")
+        elif word == "probe" and first == "command":
+            said.append("a command stands here without the word command, as in: ack A1B2")
         else:
-            said.append(f"a line begins with one of: {' '.join(begins)}")
+            # (the version and the tag of a probe stand in its first two lines alone)
+            said.append(f"a line begins with one of: {' '.join(begins[2:] if word == 'probe' else begins)}")
     elif reason == "version":
         said.append(f"the first line is: {FORMS[word][0]}")
     elif reason == "end":
