@@ -1,6 +1,6 @@
 #!/usr/bin/env python3
 """Writes an input of one kind: inputs.py KIND SIZE > FILE. It has at most SIZE bytes; of the kinds `run` and `slots`, SIZE rounds; of the
-kind `operations`, SIZE operations.
+kind `operations`, SIZE operations; of `many` and `floating`, SIZE rounds of the most tags that version 2 has.
 
 Of decode lines each line is as long as a line may be (or a whole reply), and each stream, reply and sample group is a
 good one, so that the decoder goes over all of it. `scenario` is a scenario without steps, with as many tags of full banks as
@@ -186,6 +186,22 @@ def run(rounds, rng):
     return HEAD + population(rng) + "".join(text) + END
 
 
+HEAD_2 = HEAD.replace("gen2 1", "gen2 2") + "default break\n"
+MOST_TAGS = 4_096
+
+
+def many(rounds, rng):
+    """As many tags as version 2 has, by one line, each in a slot of its own; rounds that ask for A and B in turn."""
+    text = [f"round all 0 {'ab'[number % 2]} 12 fixed 10000\n" for number in range(rounds)]
+    return HEAD_2 + f"copies {MOST_TAGS} 00000000 00000000 0000000000 30003074257BF7194E4000000000 E2000000 - 0000\n" + "".join(text) + END
+
+
+def floating(rounds, rng):
+    """As many tags, with words by chance, in rounds with the rule of annex D that come to 70,000 slots: each QueryAdjust is heard by all that wait."""
+    tags = "".join(f"tag 00000000 00000000 0000000000 30003074257BF7194E400000{number:04X} E200{number:04X} - {words(4, rng)}\n" for number in range(MOST_TAGS))
+    return HEAD_2 + tags + "round all 0 a 12 float-500 70000\n" * rounds + END
+
+
 def slots(rounds, rng):
     """Rounds that begin with Q 15 and go on to their limit. Each tag has one draw word, so that it draws the same slot each time: of half
     the tags two and two draw one of the first slots, and collide there, which keeps Q between 14 and 15; the others wait far behind these."""
@@ -275,7 +291,7 @@ def raw(size, rng):
 def main():
     kind, size = sys.argv[1], int(sys.argv[2])
     rng = random.Random(7)
-    whole = {"scenario": scenario, "long": long, "run": run, "slots": slots, "operations": operations, "raw": raw, "names": names, "probe": probe}
+    whole = {"scenario": scenario, "long": long, "run": run, "slots": slots, "many": many, "floating": floating, "operations": operations, "raw": raw, "names": names, "probe": probe}
     if kind in whole:
         sys.stdout.write(whole[kind](size, rng))
         return

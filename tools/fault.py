@@ -47,6 +47,11 @@ def expect(it):
     return it in ("rn16", "epc", "handle") or bool(re.fullmatch(f"(same|any|header)-{WORD}", it)) or bool(count) and len(count[1]) < 4 and 1 <= int(count[1]) <= 255
 
 
+def rule(it):
+    step = re.fullmatch(f"float-({NUMBER})", it)
+    return it in ("fixed", "frame") or bool(step) and len(step[1]) < 20 and 100 <= int(step[1]) <= 500
+
+
 ANY = "any text", lambda it: True
 FLAG = one_of("s1", "s2", "s3", "sl")
 LENGTH = number(0, 999_999)
@@ -88,6 +93,9 @@ FIELDS = {
     "SESSION": number(0, 3),
     "Q": number(0, 15),
     "C": number(100, 500),
+    "RULE": ("fixed, frame, or float- and a number from 100 to 500, without leading zeros", rule),
+    "N": number(2, 4_096),
+    "SEVERAL": one_of("break", "capture"),
     "LIMIT": number(1, 70_000),
     "PTR": number(0, 268_435_455),
     "COUNT": number(0, 255),
@@ -133,6 +141,28 @@ COMMANDS = (
 REPLIES = ("rn16 HHHH", "epc PC EPC", "handle HHHH", "words WORDS", "header", "error CC")
 TAG = "tag KILL ACCESS LOCKS EPC TID USER WORDS"
 EVENTS = ("timeout TAG", "off TAG", "on TAG", "expire FLAG TAG")
+LINK = "link TARI RTCAL TRCAL PW DR CODE TREXT"
+STEPS = (
+    *(f"air E {event}" for event in EVENTS),
+    "air E miss TAG",
+    "air E pick K",
+    "air E silent",
+    "air E break P",
+    "air E raw LEVELS",
+    "select TARGET ACTION BANK POINTER MASK",
+    "nak",
+    *(f"event {event}" for event in EVENTS),
+)
+OPERATIONS = (
+    "only EPC",
+    "op read BANK PTR COUNT",
+    "op write BANK PTR WORD",
+    "op blockwrite BANK PTR WORDS",
+    "op blockerase BANK PTR COUNT",
+    "op lock PAYLOAD",
+    "op access PASSWORD",
+    "op kill PASSWORD",
+)
 FORMS = {
     "decode": [
         *(f"{code} TREXT LEVELS" for code in ("fm0", "m2", "m4", "m8")),
@@ -152,30 +182,9 @@ FORMS = {
         *(f"heard CODE TREXT EXPECT {reply}" for reply in REPLIES),
     ],
     "probe": ["probe 1", TAG, *COMMANDS, "bits BITS", "event timeout", "event off", "event on", "event expire FLAG", "end"],
-    "run": [
-        "gen2 1",
-        "link TARI RTCAL TRCAL PW DR CODE TREXT",
-        TAG,
-        *(f"air E {event}" for event in EVENTS),
-        "air E miss TAG",
-        "air E pick K",
-        "air E silent",
-        "air E break P",
-        "air E raw LEVELS",
-        "select TARGET ACTION BANK POINTER MASK",
-        "nak",
-        *(f"event {event}" for event in EVENTS),
-        "round SEL SESSION TARGET Q C LIMIT",
-        "only EPC",
-        "op read BANK PTR COUNT",
-        "op write BANK PTR WORD",
-        "op blockwrite BANK PTR WORDS",
-        "op blockerase BANK PTR COUNT",
-        "op lock PAYLOAD",
-        "op access PASSWORD",
-        "op kill PASSWORD",
-        "end",
-    ],
+    "run": ["gen2 1", LINK, TAG, *STEPS, "round SEL SESSION TARGET Q C LIMIT", *OPERATIONS, "end"],
+    # (a scenario of version 2)
+    "run 2": ["gen2 2", LINK, "default SEVERAL", TAG, f"copies N {TAG.removeprefix('tag ')}", *STEPS, "round SEL SESSION TARGET Q RULE LIMIT", *OPERATIONS, "end"],
 }
 REASONS = {
     "limit": "it is one tag, air line, step, operation or line of a probe too many",
@@ -183,6 +192,7 @@ REASONS = {
     "order": "its exchange has a lower number than the one before, or what is said of one exchange stands in the wrong order: events, misses, a choice",
     "twice": "its exchange has a choice already",
     "pc": "the length in PC, the first five bits of the EPC bank, passes the bank's end",
+    "copies": "the length in PC is 0, so that no word of the EPC is raised from copy to copy; or there are more than 4,096 tags with these",
     "tari": "TARI is 6,250 to 25,000",
     "rtcal": "RTCAL is 2.5 to 3 TARI",
     "trcal": "TRCAL is 1.1 to 3 RTCAL",
@@ -234,8 +244,16 @@ def spelled(form):
     return form + " .." if form == "pie INTERVALS" else form
 
 
+def forms_for(text, word):
+    """Gives what the forms of a text are kept by: scenarios have two versions."""
+    if word not in ("run", "upgrade"):
+        return word
+    return "run 2" if text.startswith("gen2 2\n") else "run"
+
+
 def explanation(text, word, fault):
     """Gives the lines that tell of a fault in a text, or none where the fault is not one."""
+    word = forms_for(text, word)
     found = re.fullmatch(r"fault (\d+) (\w+)", fault.strip())
     if not found:
         return []
@@ -246,7 +264,7 @@ def explanation(text, word, fault):
     line = lines[number_of_line - 1]
     said = [f"line {number_of_line}: {shown(line)}" if line else f"line {number_of_line} is empty"]
     forms = forms_of(line, word)
-    if reason in ("shape", "number", "tari", "rtcal", "trcal", "pw", "pc") and len(forms) == 1:
+    if reason in ("shape", "number", "tari", "rtcal", "trcal", "pw", "pc", "copies") and len(forms) == 1:
         said.append(f"its form: {spelled(forms[0])}")
     if reason == "number" and len(forms) == 1:
         faulty = faulty_field(line, forms[0])
@@ -279,7 +297,7 @@ def explanation(text, word, fault):
             # (the version and the tag of a probe stand in its first two lines alone)
             said.append(f"a line begins with one of: {' '.join(begins[2:] if word == 'probe' else begins)}")
     elif reason == "version":
-        said.append(f"the first line is: {FORMS[word][0]}")
+        said.append("the first line is: " + ("gen2 1, or gen2 2" if word == "run" else FORMS[word][0]))
     elif reason == "end":
         said.append("it has no line feed at its end")
     elif reason in REASONS:

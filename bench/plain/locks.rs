@@ -19,6 +19,7 @@ struct Pair {
     permalocked: bool,
 }
 
+#[derive(Clone, Copy)]
 pub struct Locks([Pair; 5]);
 
 impl Locks {

@@ -1,5 +1,6 @@
-//! Explains captures as `gen2run decode` does and makes them as `gen2run encode` does, probes a tag as `gen2run probe` does, plays scenarios as `gen2run run` and `gen2run run trace` do, names what was listed
-//! as `gen2run names` does, and summarises generated scenarios as `gen2run gen` does, in plain Rust and unproved, so that the time
+//! Explains captures as `gen2run decode` does and makes them as `gen2run encode` does, probes a tag as `gen2run probe` does, plays
+//! scenarios as `gen2run run`, `gen2run run trace` and `gen2run run json` do, writes them in version 2 as `gen2run upgrade` does, names
+//! what was listed as `gen2run names` does, and summarises generated scenarios as `gen2run gen` does, in plain Rust and unproved, so that the time
 //! of the proved program can be compared with it. It does the same work: in a run each command is encoded as a frame and decoded,
 //! and each reply that the channel gives is encoded as a stream of levels and decoded.
 
@@ -9,6 +10,7 @@ mod command;
 mod decode;
 mod encode;
 mod generated;
+mod json;
 mod line_code;
 mod locks;
 mod memory;
@@ -18,6 +20,7 @@ mod pie;
 mod probe;
 mod scenario;
 mod tag;
+mod upgrade;
 mod world;
 
 use decode::Explained;
@@ -48,7 +51,7 @@ fn main() -> ExitCode {
             Err(_) => ExitCode::from(4),
         };
     }
-    if !matches!(words[..], ["run"] | ["run", "trace"] | ["names"] | ["probe"]) {
+    if !matches!(words[..], ["run"] | ["run", "trace" | "json"] | ["upgrade" | "names" | "probe"]) {
         return ExitCode::from(2);
     }
     let mut text = String::new();
@@ -60,9 +63,14 @@ fn main() -> ExitCode {
     } else if words == ["probe"] {
         probe::answers(&text).map_err(|line| format!("fault {line}\n"))
     } else {
-        let trace = words.len() == 2;
+        let played = |scenario| match words[..] {
+            ["upgrade"] => upgrade::text(&text),
+            ["run", "trace"] => world::play(scenario, world::Form::Trace),
+            ["run", "json"] => world::play(scenario, world::Form::Json),
+            _ => world::play(scenario, world::Form::Plain),
+        };
         scenario::read(&text)
-            .map(|scenario| world::play(scenario, trace))
+            .map(played)
             .map_err(|line| format!("fault {line}\n"))
     };
     match result {

@@ -13,6 +13,7 @@ pub enum Refusal {
     Locked = 0x04,
 }
 
+#[derive(Clone)]
 pub struct Memory {
     pub reserved: Vec<u16>,
     /// StoredCRC, PC, and the EPC.

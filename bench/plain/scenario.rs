@@ -39,14 +39,24 @@ pub struct Entry {
     pub choice: Option<Choice>,
 }
 
+/// How Q follows what came in the slots.
+#[derive(Clone, Copy)]
+pub enum Rule {
+    /// It stays.
+    Fixed,
+    /// It is the rounded Qfp, which each slot moves by so many thousandths.
+    Float(u32),
+    /// It is set anew behind each whole frame.
+    Frame,
+}
+
 #[derive(Clone, Copy)]
 pub struct Round {
     pub sel: Sel,
     pub session: u8,
     pub target: Flag,
     pub q: u8,
-    /// The step of Qfp, in thousandths.
-    pub step: u32,
+    pub rule: Rule,
     /// The most slots.
     pub limit: u32,
 }
@@ -58,8 +68,18 @@ pub enum Step {
     Round(Round, Operations),
 }
 
+/// What the channel gives of several replies where nothing is chosen.
+#[derive(Clone, Copy)]
+pub enum Several {
+    /// The first one, broken.
+    Break,
+    /// The first one whole.
+    Capture,
+}
+
 pub struct Scenario {
     pub link: Link,
+    pub several: Several,
     pub tags: Vec<Tag>,
     /// By the number of the exchange, from 1.
     pub air: BTreeMap<u32, Entry>,
@@ -70,13 +90,26 @@ pub struct Scenario {
 pub fn read(text: &str) -> Result<Scenario, usize> {
     let mut lines = (1..).zip(text.split_terminator('\n'));
     let (number, version) = lines.next().ok_or(1_usize)?;
-    if version != "gen2 1" {
-        return Err(number);
-    }
-    let (number, line) = lines.next().ok_or(2_usize)?;
+    let is_first_version = match version {
+        "gen2 1" => true,
+        "gen2 2" => false,
+        _ => return Err(number),
+    };
+    let (mut number, line) = lines.next().ok_or(2_usize)?;
     let link = read_link(line).ok_or(number)?;
+    let mut several = Several::Break;
+    if !is_first_version {
+        let default = lines.next().ok_or(3_usize)?;
+        number = default.0;
+        several = match default.1 {
+            "default break" => Several::Break,
+            "default capture" => Several::Capture,
+            _ => return Err(number),
+        };
+    }
     let mut scenario = Scenario {
         link,
+        several,
         tags: Vec::new(),
         air: BTreeMap::new(),
         steps: Vec::new(),
@@ -86,18 +119,19 @@ pub fn read(text: &str) -> Result<Scenario, usize> {
         if line == "end" {
             return Ok(scenario);
         }
-        scenario.read_line(line).ok_or(number)?;
+        scenario.read_line(line, is_first_version).ok_or(number)?;
         last = number;
     }
     Err(last + 1)
 }
 
 impl Scenario {
-    fn read_line(&mut self, line: &str) -> Option<()> {
+    fn read_line(&mut self, line: &str, is_first_version: bool) -> Option<()> {
         let (word, rest) = line.split_once(' ').unwrap_or((line, ""));
         let fields: Vec<&str> = rest.split(' ').collect();
         match word {
             "tag" => self.tags.push(read_tag(&fields)?),
+            "copies" if !is_first_version => self.tags.extend(read_copies(&fields)?),
             "air" => self.read_air(&fields)?,
             "select" => self.steps.push(Step::Select(read_select(&fields)?)),
             "nak" if rest.is_empty() => self.steps.push(Step::Nak),
@@ -106,7 +140,7 @@ impl Scenario {
                 self.steps.push(Step::Event(tag, event));
             }
             "round" => {
-                let round = read_round(&fields)?;
+                let round = read_round(&fields, is_first_version)?;
                 self.steps.push(Step::Round(round, Operations::default()));
             }
             "only" => {
@@ -205,7 +239,8 @@ fn read_levels(field: &str) -> Option<Vec<bool>> {
     (!levels.is_empty()).then_some(levels)
 }
 
-pub fn read_tag(fields: &[&str]) -> Option<Tag> {
+/// The memory of a tag as a line gives it, and its draw words.
+fn read_image(fields: &[&str]) -> Option<(Memory, Vec<u16>)> {
     let [kill, access, locks, epc, tid, user, draws] = fields else {
         return None;
     };
@@ -222,7 +257,30 @@ pub fn read_tag(fields: &[&str]) -> Option<Tag> {
         user: read_words(user)?,
         locks: Locks::read(locks)?,
     };
-    fits.then(|| Tag::new(memory, draws))
+    fits.then_some((memory, draws))
+}
+
+pub fn read_tag(fields: &[&str]) -> Option<Tag> {
+    let (memory, draws) = read_image(fields)?;
+    Some(Tag::new(memory, draws))
+}
+
+/// The tags that a copies line stands for. From one to the next the last word of the EPC, that of the TID and each draw word rise by one.
+fn read_copies(fields: &[&str]) -> Option<Vec<Tag>> {
+    let (count, fields) = fields.split_first()?;
+    let count: u16 = count.parse().ok()?;
+    let (memory, draws) = read_image(fields)?;
+    // The EPC bank has StoredCRC and PC in front of the words that PC counts.
+    let last = 1 + usize::from(memory.epc[1] >> 11);
+    let raise = |word: &mut u16, by: u16| *word = word.wrapping_add(by);
+    let copy = |by| {
+        let (mut memory, mut draws) = (memory.clone(), draws.clone());
+        raise(&mut memory.epc[last], by);
+        raise(memory.tid.last_mut()?, by);
+        draws.iter_mut().for_each(|word| raise(word, by));
+        Some(Tag::new(memory, draws))
+    };
+    (last > 1 && count > 1).then(|| (0..count).map(copy).collect())?
 }
 
 fn read_session(field: &str) -> Option<u8> {
@@ -259,8 +317,19 @@ fn read_select(fields: &[&str]) -> Option<Select> {
     })
 }
 
-fn read_round(fields: &[&str]) -> Option<Round> {
-    let [sel, session, target, q, step, limit] = fields else {
+fn read_rule(field: &str, is_first_version: bool) -> Option<Rule> {
+    if is_first_version {
+        return Some(Rule::Float(field.parse().ok()?));
+    }
+    match field {
+        "fixed" => Some(Rule::Fixed),
+        "frame" => Some(Rule::Frame),
+        _ => Some(Rule::Float(field.strip_prefix("float-")?.parse().ok()?)),
+    }
+}
+
+fn read_round(fields: &[&str], is_first_version: bool) -> Option<Round> {
+    let [sel, session, target, q, rule, limit] = fields else {
         return None;
     };
     Some(Round {
@@ -273,7 +342,7 @@ fn read_round(fields: &[&str]) -> Option<Round> {
         session: read_session(session)?,
         target: if *target == "a" { Flag::A } else { Flag::B },
         q: q.parse().ok()?,
-        step: step.parse().ok()?,
+        rule: read_rule(rule, is_first_version)?,
         limit: limit.parse().ok()?,
     })
 }

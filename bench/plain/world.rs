@@ -9,7 +9,8 @@ use crate::command::{Change, Command, Flag, Query};
 use crate::operation::{ask_number, operate, read_reply};
 use crate::operation::{Answer, Await, Exchange, Failure, Operations, Outcome};
 use crate::pie;
-use crate::scenario::{Choice, Round, Scenario, Step};
+use crate::json;
+use crate::scenario::{Choice, Round, Rule, Scenario, Several, Step};
 use crate::tag::{Reply, State, Tag};
 
 /// What the interrogator makes of an exchange. The bits of a whole reply stand in `World::received`.
@@ -37,9 +38,19 @@ impl Seen {
     }
 }
 
+/// What is written of a run.
+#[derive(Clone, Copy, PartialEq)]
+pub enum Form {
+    Plain,
+    /// With intervals and levels.
+    Trace,
+    /// Each line as an object.
+    Json,
+}
+
 struct World {
     scenario: Scenario,
-    trace: bool,
+    form: Form,
     report: String,
     exchanges: u32,
     seen: Seen,
@@ -54,16 +65,16 @@ struct World {
     quiet: bool,
 }
 
-/// The report of the scenario, with intervals and levels where a trace is wanted.
-pub fn play(scenario: Scenario, trace: bool) -> String {
-    let mut world = play_steps(scenario, trace);
+/// The report of the scenario in this form.
+pub fn play(scenario: Scenario, form: Form) -> String {
+    let mut world = play_steps(scenario, form);
     world.write_end();
     world.report
 }
 
 /// What the run of the scenario counts.
 pub fn summary(scenario: Scenario) -> String {
-    let world = play_steps(scenario, false);
+    let world = play_steps(scenario, Form::Plain);
     let tags = world.scenario.tags.len();
     let listed: u32 = world.seen.counts.iter().map(|(_, count)| count).sum();
     let distinct = world.seen.counts.len();
@@ -72,11 +83,11 @@ pub fn summary(scenario: Scenario) -> String {
 }
 
 /// The world behind the steps of the scenario.
-fn play_steps(mut scenario: Scenario, trace: bool) -> World {
+fn play_steps(mut scenario: Scenario, form: Form) -> World {
     let steps = std::mem::take(&mut scenario.steps);
     let mut world = World {
         scenario,
-        trace,
+        form,
         report: String::new(),
         exchanges: 0,
         seen: Seen::default(),
@@ -89,7 +100,7 @@ fn play_steps(mut scenario: Scenario, trace: bool) -> World {
         slots: 0,
         quiet: true,
     };
-    if trace {
+    if form == Form::Trace {
         world.write_frequency();
     }
     let mut rounds = 0;
@@ -126,7 +137,7 @@ impl World {
         }
         self.send(command, &entry.missed);
         let gave = self.propagate(entry.choice);
-        if self.trace {
+        if self.form == Form::Trace {
             self.write_exchange(gave);
         }
         let link = &self.scenario.link;
@@ -170,7 +181,7 @@ impl World {
 
     /// Writes the levels that the channel gives of the replies, and answers whether it gives any.
     fn propagate(&mut self, choice: Option<Choice>) -> bool {
-        let several = self.replies.len() > 1;
+        let several = self.replies.len() > 1 && matches!(self.scenario.several, Several::Break);
         let (reply, broken) = match choice {
             Some(Choice::Raw(levels)) => {
                 self.levels = levels;
@@ -192,21 +203,25 @@ impl World {
         true
     }
 
-    /// Plays a round with the standard's rule for Q, in thousandths.
+    /// Plays a round by its rule for Q.
     fn play_round(&mut self, number: u32, round: &Round, operations: &Operations) {
         let (mut q, mut q_fp) = (round.q, 1000 * u32::from(round.q));
-        let (mut slots, mut frame, mut all_silent) = (0, 0_u32, true);
+        let (mut slots, mut frame, mut refused, mut all_silent) = (0, 0_u32, 0_u32, true);
         let mut command = self.query(round);
+        let step = if let Rule::Float(step) = round.rule { step } else { 0 };
         loop {
             let heard = self.exchange(&command, false);
             slots += 1;
             frame += 1;
             match heard {
-                Heard::Silence => q_fp = q_fp.saturating_sub(round.step),
+                Heard::Silence => q_fp = q_fp.saturating_sub(step),
                 Heard::Whole if self.received.len() == 16 => {
                     self.acknowledge(number, slots, operations);
                 }
-                Heard::Whole | Heard::Refused => q_fp = (q_fp + round.step).min(15_000),
+                Heard::Whole | Heard::Refused => {
+                    q_fp = (q_fp + step).min(15_000);
+                    refused += 1;
+                }
             }
             all_silent &= heard == Heard::Silence;
             let whole_frame = frame == 1 << q;
@@ -216,15 +231,22 @@ impl World {
             if slots == round.limit {
                 return self.write_round(number, "limit", slots);
             }
-            let rounded = ((q_fp + 500) / 1000) as u8;
-            let change = match rounded.cmp(&q) {
+            let wanted = match round.rule {
+                Rule::Fixed => q,
+                Rule::Float(_) => ((q_fp + 500) / 1000) as u8,
+                Rule::Frame if !whole_frame => q,
+                Rule::Frame if 2 * refused > frame => (q + 1).min(15),
+                Rule::Frame if 4 * refused < frame => q.saturating_sub(1),
+                Rule::Frame => q,
+            };
+            let change = match wanted.cmp(&q) {
                 std::cmp::Ordering::Greater => Some(Change::Up),
                 std::cmp::Ordering::Less => Some(Change::Down),
                 std::cmp::Ordering::Equal => whole_frame.then_some(Change::Same),
             };
             command = match change {
                 Some(change) => {
-                    (q, frame, all_silent) = (rounded, 0, true);
+                    (q, frame, refused, all_silent) = (wanted, 0, 0, true);
                     Command::QueryAdjust {
                         session: round.session,
                         change,
@@ -264,8 +286,12 @@ impl World {
             .first()
             .is_some_and(|&pc| body.len() == 16 * (1 + usize::from(pc >> 11)))
         {
-            write!(self.report, "list {round} {slot} ").unwrap();
-            push_pc_and_epc(&mut self.report, &words);
+            if self.form == Form::Json {
+                json::push_list(&mut self.report, round, slot, &words);
+            } else {
+                write!(self.report, "list {round} {slot} ").unwrap();
+                push_pc_and_epc(&mut self.report, &words);
+            }
             self.operate(round, slot, operations, rn, &words[1..]);
             self.seen.count(words);
         }
@@ -289,8 +315,12 @@ impl World {
                     Err(Failure::Broken) => Outcome::Broken,
                 }
             };
-            write!(self.report, "op {round} {slot} {index} ").unwrap();
-            write_outcome(&mut self.report, &outcome);
+            if self.form == Form::Json {
+                json::push_op(&mut self.report, round, slot, index, &outcome);
+            } else {
+                write!(self.report, "op {round} {slot} {index} ").unwrap();
+                write_outcome(&mut self.report, &outcome);
+            }
             if let Outcome::Silent | Outcome::Broken = outcome {
                 return;
             }
@@ -333,12 +363,25 @@ impl World {
     }
 
     fn write_round(&mut self, number: u32, end: &str, slots: u32) {
-        writeln!(self.report, "round {number} {end} {slots}").unwrap();
+        if self.form == Form::Json {
+            json::push_round(&mut self.report, number, end, slots);
+        } else {
+            writeln!(self.report, "round {number} {end} {slots}").unwrap();
+        }
         self.slots += slots;
         self.quiet &= end == "quiet";
     }
 
     fn write_end(&mut self) {
+        if self.form == Form::Json {
+            for (pc_and_epc, count) in &self.seen.counts {
+                json::push_seen(&mut self.report, *count, pc_and_epc);
+            }
+            for (number, tag) in self.scenario.tags.iter().enumerate() {
+                json::push_tag(&mut self.report, number, tag);
+            }
+            return json::push_done(&mut self.report);
+        }
         for (pc_and_epc, count) in &self.seen.counts {
             write!(self.report, "seen {count} ").unwrap();
             push_pc_and_epc(&mut self.report, pc_and_epc);
@@ -375,24 +418,35 @@ fn write_outcome(report: &mut String, outcome: &Outcome) {
     report.push('\n');
 }
 
-/// Writes the name of the tag's state, and its flags.
-pub fn write_state_and_flags(report: &mut String, tag: &Tag) {
-    report.push_str(match tag.state {
-        State::Off => "off ",
-        State::Killed => "killed ",
-        State::Ready => "ready ",
-        State::Arbitrate { .. } => "arbitrate ",
-        State::Reply { .. } => "reply ",
-        State::Acknowledged { .. } => "acknowledged ",
-        State::Held(held) if held.secured => "secured ",
-        State::Held(_) => "open ",
-    });
+/// The name of a state.
+pub fn state_name(state: State) -> &'static str {
+    match state {
+        State::Off => "off",
+        State::Killed => "killed",
+        State::Ready => "ready",
+        State::Arbitrate { .. } => "arbitrate",
+        State::Reply { .. } => "reply",
+        State::Acknowledged { .. } => "acknowledged",
+        State::Held(held) if held.secured => "secured",
+        State::Held(_) => "open",
+    }
+}
+
+/// Writes the tag's flags.
+pub fn push_flags(report: &mut String, tag: &Tag) {
     report.extend(
         tag.flags
             .iter()
             .map(|&flag| if flag == Flag::A { 'A' } else { 'B' }),
     );
     report.push(if tag.sl { '1' } else { '0' });
+}
+
+/// Writes the name of the tag's state, and its flags.
+pub fn write_state_and_flags(report: &mut String, tag: &Tag) {
+    report.push_str(state_name(tag.state));
+    report.push(' ');
+    push_flags(report, tag);
 }
 
 /// Writes the line of a tag, as it is in the end.

@@ -8,11 +8,11 @@ use Rattle.command_grammar.specs.declared.commands.Command.{Command}
 use Rattle.pie_line.specs.Link.{LinkValue}
 use Rattle.tag_machine.specs.Answers.{Outcome}
 use Rattle.tag_machine.specs.TagValue.{TagValue}
-use Rattle.air_channel.proofs.TagsAtRest.{length-befallen}
+use Rattle.tag_population.proofs.TagsAtRest.{length-befallen}
 use Rattle.air_channel.specs.Air.{AirValue, air_after, next_exchange}
-use Rattle.air_model.specs.Exchange.{outcomes_in, replies_in, Replied, replies_from, tag_after_own_event, tag_after_events, tags_after_event, outcome_in, outcomes_from, tags_after, IsQueryRep, busy_from}
+use Rattle.tag_machine.specs.Exchange.{outcomes_in, replies_in, Replied, replies_from, tag_after_own_event, tag_after_events, tags_after_event, outcome_in, outcomes_from, tags_after, IsQueryRep, busy_from}
 use Rattle.air_model.specs.Channel.{given_in, wave_for, heard_levels, given_of, got_of}
-use Rattle.air_channel.specs.Hearing.{tags_after_events, hearing_from}
+use Rattle.tag_population.specs.Hearing.{tags_after_events, hearing_from}
 use Rattle.air_channel.specs.Kept.{KeptReplies, RepliesStandFor}
 use Rattle.air_model.specs.declared.got.Got.{Got}
 

@@ -17,7 +17,7 @@ use Rattle.reply_grammar.specs.declared.expected.Reply.TheVariants.{Rn16, Epc, H
 use Rattle.reply_grammar.specs.Table.{FitsBank, longest_reply}
 use Rattle.reply_grammar.specs.laws.Suiting.{spelling-within}
 use Rattle.tag_machine.specs.Answers.{Sent, HasFewWords}
-use Rattle.air_model.specs.Exchange.{Replied}
+use Rattle.tag_machine.specs.Exchange.{Replied}
 use Rattle.air_model.specs.Channel.{Given, HasFewLevels, whole_or_silence, first_broken, first_of_several, default_given, given_of, silence, raw, heard_levels, levels_of}
 use Rattle.air_channel.specs.Kept.{KeptReplies, IsKept, RepliesStandFor, kept_levels}
 use Rattle.air_channel.specs.Giving.{Means}

@@ -2,13 +2,4 @@ pub mod RepliesKept
 pub mod GivenReplies
 pub mod Taking
 pub mod TakenIntervals
-pub mod EventsOnTags
 pub mod ExchangeFacts
-pub mod WheelLinks
-pub mod TagSetBits
-pub mod SlotPlaces
-pub mod SeatedTags
-pub mod HeardByCalled
-pub mod QueryRepCalls
-pub mod TagsAtRest
-pub mod HeardByEach

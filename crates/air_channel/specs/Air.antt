@@ -6,7 +6,7 @@ use Rattle.air_events.specs.declared.Several.{Several}
 use Rattle.command_grammar.specs.declared.commands.Command.{Command}
 use Rattle.pie_line.specs.Link.{LinkValue}
 use Rattle.tag_machine.specs.TagValue.{TagValue}
-use Rattle.air_model.specs.Exchange.{outcomes_in, replies_in, tags_after, tags_after_event}
+use Rattle.tag_machine.specs.Exchange.{outcomes_in, replies_in, tags_after, tags_after_event}
 use Rattle.air_model.specs.Channel.{given_in, heard_levels, wave_for}
 
 -- the link, what the channel gives of several replies, the tags in the order of their numbers, the frame that was sent last,

@@ -1,7 +1,7 @@
 -- What is said of what the channel gives, where one reply alone is kept.
 use Rattle.std.specs.Prelude.{◌≡◌, ℕ, List, Some, slice_get}
 use Rattle.pie_line.specs.Link.{LinkValue}
-use Rattle.air_model.specs.Exchange.{Replied}
+use Rattle.tag_machine.specs.Exchange.{Replied}
 use Rattle.air_model.specs.Channel.{Given, silence, whole, broken, raw}
 use Rattle.air_channel.specs.declared.replies.Giving.{Giving}
 use Rattle.air_channel.specs.declared.replies.Giving.TheVariants.{Nothing, Whole, Broken, Raw}

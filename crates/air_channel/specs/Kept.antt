@@ -7,7 +7,7 @@ use Rattle.line_code.specs.Stream.{stream_of}
 use Rattle.line_codes.specs.Codes.{table_of}
 use Rattle.pie_line.specs.Link.{LinkValue}
 use Rattle.tag_machine.specs.Answers.{Sent, IsSent, bits_sent}
-use Rattle.air_model.specs.Exchange.{Replied}
+use Rattle.tag_machine.specs.Exchange.{Replied}
 
 -- the number of the reply that is kept, how many tags replied, and the bits of the reply with that number and its mark, once
 -- there are so many
@@ -27,6 +27,11 @@ pub record IsKept (sent : Sent) (kept : KeptReplies) : Type 0 where
 pub record RepliesStandFor (replies : List Replied) (kept : KeptReplies) : Type 0 where
   pub count_is : kept.count ≡ length replies
   pub wanted_is : (replied : Replied) → slice_get replies kept.wanted ≡ Some replied → IsKept replied.sent kept
+
+-- these replies were taken since there was none, and it is known as before which of them is to be kept
+pub record HasTakenReplies (first : KeptReplies) (replies : List Replied) (now : KeptReplies) : Type 0 where
+  pub same_wanted : now.wanted ≡ first.wanted
+  pub stands : RepliesStandFor replies now
 
 -- the number of the reply that a choice may give
 abbrev pub wanted_by : Option Choice → ℕ

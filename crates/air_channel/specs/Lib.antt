@@ -1,12 +1,6 @@
 pub mod Air
-pub mod Seats
 pub mod Kept
 pub mod Giving
-pub mod Hearing
 pub mod Taken
 pub mod Rooms
 pub mod Lent
-pub mod Wheel
-pub mod TagSets
-pub mod Waiting
-pub mod Seated

@@ -7,13 +7,12 @@ ghost use Rattle.command_grammar.specs.Commands.{IsLegalCommand};
 ghost use Rattle.pie_line.specs.Pie.{longest_interval};
 ghost use Rattle.tag_machine.specs.Hearing.{tag_value_of};
 ghost use Rattle.tag_machine.specs.TagValue.{IsLegalTag};
-ghost use Rattle.air_model.specs.Exchange.{AreLegalTags, IsQueryRep, busy_from};
+ghost use Rattle.tag_machine.specs.Exchange.{AreLegalTags, IsQueryRep, busy_from};
 ghost use Rattle.air_channel.specs.Air.{NamesTags, air_after, air_after_event};
 ghost use Rattle.air_model.specs.Channel.{HasFewLevels, given_in, got_of};
 ghost use Rattle.air_channel.specs.Lent.{KeepsAir};
 ghost use Rattle.air_channel.specs.Rooms.{longest_frame};
 
-use crate::population::Population;
 use crate::receiver::Receiver;
 use crate::replies::Replies;
 use crate::transmit::transmit;
@@ -25,6 +24,7 @@ use std::alloc::Global;
 use std::marker::{Brand, Model};
 use std::sync::ledger::{Blank, Ledger};
 use tag_machine::{AnyTag, Entry, Event, Several, Steps};
+use tag_population::Population;
 
 /// How many bits of a command there is room for, and how many intervals of its frame: more than the 4,162 and
 /// the 8,331 of the longest command.

@@ -2,15 +2,10 @@
 #![tactic(auto)]
 
 mod air;
-mod population;
 mod receiver;
 mod replies;
-mod seat;
-mod tag_set;
 mod transmit;
-mod waiting;
-mod wheel;
 
 pub use air::Air;
 pub use air_model::Got;
-pub use population::Population;
+pub use tag_population::Population;

@@ -1,29 +1,25 @@
 //! The replies to one command, of which the channel gives one or none.
-ghost use Rattle.std.specs.Prelude.{◌≡◌, ℕ, ◌+◌, ◌%◌, ◌<◌, ◌≤◌, List, [], ◌++◌, Option, Some, length, slice_get, IfOk, if◌then◌else◌};
+ghost use Rattle.std.specs.Prelude.{◌≡◌, ℕ, ◌%◌, ◌≤◌, List, [], Some, length, slice_get, IfOk};
 ghost use Rattle.air_events.specs.Streams.{longest_stream};
 ghost use Rattle.line_code.specs.TableFacts.{with_level_flipped};
 ghost use Rattle.pie_line.specs.Link.{LinkValue};
 ghost use Rattle.reply_grammar.specs.Table.{longest_reply};
-ghost use Rattle.tag_machine.specs.Answers.{Sent};
-ghost use Rattle.tag_machine.specs.Hearing.{mark_of};
-ghost use Rattle.tag_machine.specs.Step.{step};
-ghost use Rattle.tag_machine.specs.TagValue.{IsLegalTag};
-ghost use Rattle.air_model.specs.Exchange.{Replied, outcome_unless, reply_of};
+ghost use Rattle.tag_machine.specs.Exchange.{Replied};
 ghost use Rattle.air_model.specs.Channel.{HasFewLevels, default_given, first_broken, given_of, got_of, heard_levels, whole_or_silence};
-ghost use Rattle.air_channel.specs.Kept.{RepliesStandFor, kept_levels, wanted_by};
+ghost use Rattle.air_channel.specs.Kept.{HasTakenReplies, RepliesStandFor, kept_levels, wanted_by};
 ghost use Rattle.air_channel.specs.Giving.{Means};
 ghost use Rattle.air_channel.specs.Rooms.{room_for_streams};
 
-use crate::seat::Seat;
+use air_events::TagNumber;
 use air_model::Got;
 use bit_strings::{Bits, Levels, OutOfMemory};
-use command_grammar::Command;
 use line_codes::encode_bits;
 use pie_line::Link;
 use std::alloc::Global;
 use std::marker::Model;
-use std::sync::ledger::Ledger;
-use tag_machine::{Answered, Choice, Several, Steps};
+use std::mem;
+use tag_machine::{Choice, Several};
+use tag_population::AnswerTaker;
 
 /// How many bits there is room for: more than the 8,225 of the longest reply.
 const ROOM: u32 = 8240;
@@ -31,15 +27,13 @@ const ROOM: u32 = 8240;
 /// The replies to one command, while one tag after another hears it: how many there are, and the one that the
 /// channel may give.
 ///
-/// A contract sees it as a record of these things, without the bits of the other replies.
+/// A contract sees it as a record of these things.
 #[derive(Drop)]
 pub(crate) struct Replies {
     wanted: u32,
     count: u32,
     kept: Bits,
     extended: bool,
-    /// The bits of the reply that came last, where it isn't the one that is kept.
-    passing: Bits,
 }
 
 impl Model for Replies {
@@ -51,7 +45,20 @@ impl Model for Replies {
 
     ghost view = { λ a. record { wanted = a.wanted; count = a.count; bits = a.kept.items; extended = a.extended } };
 
-    ghost invariant = { λ a. (reply_room ≤ a.kept.capacity) × (reply_room ≤ a.passing.capacity) };
+    ghost invariant = { λ a. reply_room ≤ a.kept.capacity };
+}
+
+impl AnswerTaker for Replies {
+    ghost took = { HasTakenReplies };
+
+    #[inline]
+    fn take(&mut self, _number: TagNumber, extended: bool, bits: &mut Bits) {
+        if self.count == self.wanted {
+            mem::swap(&mut self.kept, bits);
+            self.extended = extended;
+        }
+        self.count += 1;
+    }
 }
 
 /// What the channel gives.
@@ -73,13 +80,11 @@ impl Replies {
         ensures { IfOk result (λ replies. replies.count ≡ 0) }
     {
         let kept = Bits::new(alloc, ROOM)?;
-        let passing = Bits::new(alloc, ROOM)?;
         Ok(Replies {
             wanted: 0,
             count: 0,
             kept,
             extended: false,
-            passing,
         })
     }
 
@@ -97,80 +102,6 @@ impl Replies {
     {
         self.wanted = wanted_by(choice);
         self.count = 0;
-    }
-
-    /// Lets a tag hear a command, unless it misses it, and takes in its reply.
-    #[inline]
-    pub(crate) fn hear<L: Ledger>(
-        &mut self,
-        seat: &mut Seat,
-        misses: bool,
-        command: &Command,
-        steps: &mut Steps<L>,
-    )
-        requires { self.old.count < 4294967295 }
-        ensures stands { (replies : List Replied) (number : ℕ) → RepliesStandFor replies self.old
-            → RepliesStandFor (replies ++ reply_of number (outcome_unless misses command.now seat.old).answer) self.new }
-        ensures wanted { self.new.wanted ≡ self.old.wanted }
-        ensures tag { seat.new ≡ (outcome_unless misses command.now seat.old).tag }
-        ensures legal { IsLegalTag seat.new }
-        ensures counted { steps.new ≡ steps.old + (if misses then 0 else 1) }
-    {
-        // Most tags only wait.
-        if seat.hear_in_place(command, misses, steps) {
-            return;
-        }
-        self.hear_moved(seat, command, steps);
-    }
-
-    /// Lets a tag hear a command by which its state may change its kind, and takes in its reply.
-    // Its room for a moved tag is filled at each call, and most tags only wait, so it stands apart.
-    #[inline(never)]
-    fn hear_moved<L: Ledger>(&mut self, seat: &mut Seat, command: &Command, steps: &mut Steps<L>)
-        requires { self.old.count < 4294967295 }
-        ensures stands { (replies : List Replied) (number : ℕ) → RepliesStandFor replies self.old
-            → RepliesStandFor (replies ++ reply_of number (step command.now seat.old.state seat.old.body).answer) self.new }
-        ensures wanted { self.new.wanted ≡ self.old.wanted }
-        ensures tag { seat.new ≡ (step command.now seat.old.state seat.old.body).tag }
-        ensures legal { IsLegalTag seat.new }
-        ensures counted { steps.new ≡ steps.old + 1 }
-    {
-        if self.count == self.wanted {
-            self.hear_wanted(seat, command, steps);
-        } else {
-            self.hear_other(seat, command, steps);
-        }
-    }
-
-    /// Lets a tag hear a command whose reply is kept.
-    fn hear_wanted<L: Ledger>(&mut self, seat: &mut Seat, command: &Command, steps: &mut Steps<L>)
-        requires few { self.old.count < 4294967295 }
-        requires wanted { self.old.count ≡ self.old.wanted }
-        ensures stands { (replies : List Replied) (number : ℕ) → RepliesStandFor replies self.old
-            → RepliesStandFor (replies ++ reply_of number (step command.now seat.old.state seat.old.body).answer) self.new }
-        ensures wanted { self.new.wanted ≡ self.old.wanted }
-        ensures tag { seat.new ≡ (step command.now seat.old.state seat.old.body).tag }
-        ensures legal { IsLegalTag seat.new }
-        ensures counted { steps.new ≡ steps.old + 1 }
-    {
-        let answered = seat.hear(command, &mut self.kept, steps);
-        self.extended = is_extended(answered);
-        self.count += replies_in(answered);
-    }
-
-    /// Lets a tag hear a command whose reply is not kept.
-    fn hear_other<L: Ledger>(&mut self, seat: &mut Seat, command: &Command, steps: &mut Steps<L>)
-        requires few { self.old.count < 4294967295 }
-        requires other { self.old.count ≡ self.old.wanted → ⊥ }
-        ensures stands { (replies : List Replied) (number : ℕ) → RepliesStandFor replies self.old
-            → RepliesStandFor (replies ++ reply_of number (step command.now seat.old.state seat.old.body).answer) self.new }
-        ensures wanted { self.new.wanted ≡ self.old.wanted }
-        ensures tag { seat.new ≡ (step command.now seat.old.state seat.old.body).tag }
-        ensures legal { IsLegalTag seat.new }
-        ensures counted { steps.new ≡ steps.old + 1 }
-    {
-        let answered = seat.hear(command, &mut self.passing, steps);
-        self.count += replies_in(answered);
     }
 
     /// Writes the stream that the channel gives by this choice, or by the default for several replies, to
@@ -305,26 +236,5 @@ fn wanted_by(choice: &Option<Choice>) -> u32
     match choice {
         Some(Choice::Pick(number)) => *number,
         Some(Choice::Silent | Choice::Break(_) | Choice::Raw(_)) | None => 0,
-    }
-}
-
-/// How many replies an answer is.
-fn replies_in(answered: Answered) -> u32
-    ensures most { result ≤ 1 }
-    ensures count { (number : ℕ) (answer : Option Sent) → answered ≡ mark_of answer → result ≡ length (reply_of number answer) }
-{
-    match answered {
-        Answered::Silent => 0,
-        Answered::Plain | Answered::Extended => 1,
-    }
-}
-
-/// Whether an answer has the extended preamble.
-fn is_extended(answered: Answered) -> bool
-    ensures { (sent : Sent) → answered ≡ mark_of (Some sent) → result ≡ sent.extended }
-{
-    match answered {
-        Answered::Extended => true,
-        Answered::Plain | Answered::Silent => false,
     }
 }

@@ -21,7 +21,7 @@ use Rattle.pie_line.specs.declared.frame.Lead.TheVariants.{Preamble, FrameSync}
 use Rattle.reply_grammar.specs.Table.{spelling}
 use Rattle.tag_machine.specs.Answers.{Sent}
 use Rattle.tag_machine.specs.TagValue.{TagValue}
-use Rattle.air_model.specs.Exchange.{Replied, replies_in}
+use Rattle.tag_machine.specs.Exchange.{Replied, replies_in}
 use Rattle.air_model.specs.declared.got.Got.{Got}
 use Rattle.air_model.specs.declared.got.Got.TheVariants as gots
 

@@ -1,5 +1,5 @@
 -- A run as it begins and as it ends.
-use Rattle.std.proofs.Common.{◌≡◌, ◌⊎◌, ℕ, ◌+◌, ◌<◌, ◌==◌, Bool, true, false, List, [], ◌∷◌, ◌++◌, length, map, Option, Some, None, Result, Ok, Err, refl, sym, ◌∙◌, ap, subst, arith}
+use Rattle.std.proofs.Common.{◌≡◌, ◌⊎◌, ℕ, ◌+◌, ◌<◌, ◌≤◌, ◌==◌, Bool, true, false, List, [], ◌∷◌, ◌++◌, length, map, Option, Some, None, Result, Ok, Err, refl, sym, ◌∙◌, ap, subst, arith}
 use Rattle.std.proofs.lemmas.List.{length-map}
 use Rattle.std.proofs.lemmas.List.Elements.{All-head, All-tail, All-nil, All-weaker}
 use Rattle.std.specs.Prelude.{All, IfSome, if◌then◌else◌}
@@ -7,29 +7,33 @@ use Rattle.std.specs.Result.{IfErr, OnOk}
 use Rattle.air_channel.specs.Air.{AirValue, NamesTags}
 use Rattle.air_events.specs.Cursor.{IsLeft}
 use Rattle.air_events.specs.Entries.{entry_at}
+use Rattle.air_events.specs.TagNumbers.{most_tags}
 use Rattle.air_events.specs.declared.Choice.{Choice}
 use Rattle.air_events.specs.declared.Choice.TheVariants as choices
 use Rattle.air_events.specs.declared.Entry.{Entry}
 use Rattle.air_events.specs.declared.Event.{Event}
 use Rattle.air_model.specs.Channel.{HasFewLevels}
-use Rattle.air_model.specs.Exchange.{AreLegalTags}
+use Rattle.tag_machine.specs.Exchange.{AreLegalTags}
 use Rattle.air_model.specs.Past.{tags_behind_from}
 use Rattle.air_world.proofs.Passing.{cut-behind, cut-longer, passes-then}
 use Rattle.air_world.specs.NewAir.{new_air}
-use Rattle.air_world.specs.Playing.{RunValue, IsAt, StandsAt, IsBetweenSteps, NamesItsTags, pair_of}
-use Rattle.air_world.specs.Telling.{Ends, IsCutOff, IsPlayed, Passes, lines_behind, lines_of_run}
+use Rattle.air_world.specs.Playing.{RunValue, IsAt, IsPlayable, StandsAt, IsBetweenSteps, NamesItsTags, pair_of}
+use Rattle.air_world.specs.Telling.{Ends, IsCutOff, IsPlayed, Passes, lines_behind}
 use Rattle.report_lines.specs.ReportLine.{ReportLine, DoneLine}
 use Rattle.report_lines.specs.SeenCounts.{seen_in, seen_line}
 use Rattle.report_lines.specs.declared.mode.PlayFault.{PlayFault}
 use Rattle.report_lines.specs.declared.mode.PlayFault.TheVariants.{OutOfMemory}
 use Rattle.runs.specs.History.{past_behind}
 use Rattle.runs.specs.Listing.{listing_of}
-use Rattle.runs.specs.Report.{last_lines, tag_lines}
+use Rattle.runs.specs.Report.{last_lines, run_lines, tag_lines}
 use Rattle.runs.specs.ScenarioStart.{start_of, history, tag_of}
-use Rattle.scenario.specs.Limits.{IsScenario, IsEntry}
+use Rattle.scenario.specs.Groups.{tags_of}
+use Rattle.scenario.specs.Limits.{IsScenario, IsEntry, IsStep, most_tags_of}
 use Rattle.scenario.specs.declared.values.Scenario.{Scenario}
 use Rattle.scenario.specs.declared.values.Step.{Step}
 use Rattle.scenario_lines.specs.LineForm.{IsChoice, IsEvent, IsPlace}
+use Rattle.scenario_lines.specs.declared.version.Version.{Version}
+use Rattle.scenario_lines.specs.declared.version.Version.TheVariants.{One, Two}
 use Rattle.tag_machine.specs.TagValue.{TagValue}
 
 names-one : (tags : ℕ) (entry : ℕ × Entry) → IsEntry tags entry → NamesTags tags entry.1
@@ -50,7 +54,26 @@ names-all tags (entry ∷ entries) are exchange =
 
 pub scenario-names : (scenario : Scenario) → IsScenario scenario → NamesItsTags (start_of scenario)
 scenario-names scenario is exchange =
-    subst (λ n. NamesTags n (entry_at scenario.entries exchange)) (sym (length-map scenario.tags tag_of)) (names-all (length scenario.tags) scenario.entries is.entries exchange)
+    let tags = tags_of scenario.groups in
+    subst (λ n. NamesTags n (entry_at scenario.entries exchange)) (sym (length-map tags tag_of)) (names-all (length tags) scenario.entries is.entries exchange)
+
+-- its steps can be played on its air
+pub scenario-playable : (scenario : Scenario) (air : AirValue) (steps : List Step) → IsScenario scenario → air ≡ new_air (start_of scenario) → steps ≡ scenario.steps
+    → All (IsPlayable (length air.tags)) steps
+scenario-playable scenario air steps is fresh same =
+    let tags = tags_of scenario.groups in
+    let count : length air.tags ≡ length tags = ap (λ (a : AirValue). length a.tags) fresh ∙ length-map tags tag_of in
+    subst (λ (s : List Step). All (IsPlayable (length air.tags)) s) (sym same)
+    (subst (λ n. All (IsPlayable n) scenario.steps) (sym count)
+    (All-weaker (IsStep scenario.version (length tags)) (IsPlayable (length tags)) (λ step legal. record { version = scenario.version; is = legal }) scenario.steps is.steps))
+
+-- a scenario of either version has few tags
+pub few-of-version : (version : Version) → most_tags_of version ≤ most_tags
+few-of-version One = omega arith
+few-of-version Two = omega arith
+
+pub scenario-few : (scenario : Scenario) → IsScenario scenario → length (tags_of scenario.groups) ≤ most_tags
+scenario-few scenario is = omega (arith, few-of-version scenario.version, is.few_tags)
 
 -- a raw stream of a scenario has few levels
 chosen-few : (choice : Option Choice) → IfSome choice IsChoice → HasFewLevels choice
@@ -80,7 +103,7 @@ pub at-first : (scenario : Scenario) (air : AirValue) (run : RunValue) → IsSce
 at-first scenario air run is fresh legal left left_is run_is = record {
   plays = record {
     names = scenario-names scenario is;
-    few = few-all (length scenario.tags) scenario.entries is.entries;
+    few = few-all (length (tags_of scenario.groups)) scenario.entries is.entries;
     link = ap (λ (a : AirValue). a.link) fresh;
     several = ap (λ (a : AirValue). a.several) fresh;
     tags = ap (λ (a : AirValue). a.tags) fresh ∙ sym (tags-before 0 (start_of scenario).tags);
@@ -118,17 +141,17 @@ stands-slice Heard scenario steps air run same stands = subst (λ (s : List Step
 pub whole-told : {A : Type 0} (hears : A → List ReportLine → A → Type 0) (scenario : Scenario) (old middle new : A) (air : AirValue) (run : RunValue)
     → StandsAt (Passes hears [] old middle) (start_of scenario) (history scenario) air run → run.out_of_memory ≡ false
     → ((before : List ReportLine) → Passes hears before middle new (before ++ (map seen_line run.seen ++ tag_lines 0 air.tags ++ DoneLine ∷ [])))
-    → Passes hears [] old new (lines_of_run (start_of scenario) scenario.steps)
+    → Passes hears [] old new (run_lines (start_of scenario) scenario.steps)
 whole-told hears scenario old middle new air run stands enough last =
     let lines : List ReportLine = lines_behind (start_of scenario) (history scenario) in
-    passes-then hears [] lines (lines_of_run (start_of scenario) scenario.steps) old middle new stands.told
+    passes-then hears [] lines (run_lines (start_of scenario) scenario.steps) old middle new stands.told
     (subst (λ (l : List ReportLine). Passes hears lines middle new (lines ++ l)) (last-told scenario air run stands.at enough) (last lines))
 
 -- ... so the run is played, or its listener met a fault
 pub ends-played : {A : Type 0} (hears : A → List ReportLine → A → Type 0) (failed : A → Option PlayFault) (r : Result (Unit {0}) PlayFault) (scenario : Scenario) (old new : A) (air after : AirValue) (run : RunValue)
-    → Passes hears [] old new (lines_of_run (start_of scenario) scenario.steps) → IsAt (start_of scenario) (history scenario) air run → after ≡ air
+    → Passes hears [] old new (run_lines (start_of scenario) scenario.steps) → IsAt (start_of scenario) (history scenario) air run → after ≡ air
     → OnOk r (failed new ≡ None) → IfErr r (λ fault. (failed new ≡ Some fault) ⊎ (fault ≡ OutOfMemory))
-    → Ends r (IsPlayed hears failed scenario old new after) (IsCutOff hears failed [] old new (lines_of_run (start_of scenario) scenario.steps))
+    → Ends r (IsPlayed hears failed scenario old new after) (IsCutOff hears failed [] old new (run_lines (start_of scenario) scenario.steps))
 ends-played hears failed (Ok done) scenario old new air after run told at kept faultless cause = record {
   passes = told;
   faultless = faultless;
@@ -136,12 +159,12 @@ ends-played hears failed (Ok done) scenario old new air after run told at kept f
   exchanges = ap (λ (a : AirValue). a.exchanges) kept ∙ at.plays.exchanges;
 }
 ends-played hears failed (Err fault) scenario old new air after run told at kept faultless cause =
-    cut-behind hears failed [] (lines_of_run (start_of scenario) scenario.steps) old new fault told cause
+    cut-behind hears failed [] (run_lines (start_of scenario) scenario.steps) old new fault told cause
 
 -- the steps were cut off
 pub cut-history : {A : Type 0} (hears : A → List ReportLine → A → Type 0) (failed : A → Option PlayFault) (scenario : Scenario) (steps : List Step) (old new : A) (fault : PlayFault) → steps ≡ scenario.steps
     → IsCutOff hears failed [] old new (lines_behind (start_of scenario) (past_behind (start_of scenario) steps [])) fault
-    → IsCutOff hears failed [] old new (lines_of_run (start_of scenario) scenario.steps) fault
+    → IsCutOff hears failed [] old new (run_lines (start_of scenario) scenario.steps) fault
 cut-history hears failed scenario steps old new fault same cut =
-    cut-longer hears failed [] (lines_behind (start_of scenario) (history scenario)) (last_lines (start_of scenario) (history scenario)) (lines_of_run (start_of scenario) scenario.steps) old new fault refl
+    cut-longer hears failed [] (lines_behind (start_of scenario) (history scenario)) (last_lines (start_of scenario) (history scenario)) (run_lines (start_of scenario) scenario.steps) old new fault refl
     (subst (λ (s : List Step). IsCutOff hears failed [] old new (lines_behind (start_of scenario) (past_behind (start_of scenario) s [])) fault) same cut)

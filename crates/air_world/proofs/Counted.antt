@@ -5,12 +5,13 @@ use Rattle.std.proofs.lemmas.List.Sums.{count_by-le-length, length-filter}
 use Rattle.std.specs.Borrow.{Bor}
 use Rattle.access_ops.specs.declared.OpList.{OpList}
 use Rattle.air_model.specs.Past.{Start, Item, befell, exchanged, operated, ended, past_behind_command, exchanges_in, rounds_in, tags_behind}
+use Rattle.air_world.proofs.Beginning.{scenario-few}
 use Rattle.air_world.proofs.Rounds.{KeepsLimit}
 use Rattle.air_world.proofs.Slots.{few-listed}
 use Rattle.air_world.specs.Counting.{Counts, Fits, counted_line, counted_lines, nothing_counted}
-use Rattle.air_world.specs.CountingLaws.{counted-append}
+use Rattle.air_world.specs.laws.CountingLaws.{counted-append}
 use Rattle.air_world.specs.Playing.{most_slots}
-use Rattle.air_world.specs.Telling.{lines_behind, lines_of_run}
+use Rattle.air_world.specs.Telling.{lines_behind}
 use Rattle.command_grammar.specs.declared.commands.Command.{Command}
 use Rattle.q_round.specs.declared.round.RoundEnd.{RoundEnd}
 use Rattle.report_lines.specs.Line.{line_of}
@@ -18,7 +19,6 @@ use Rattle.report_lines.specs.ReportLine.{ReportLine, OpLine, RoundLine, SeenLin
 use Rattle.report_lines.specs.SeenCounts.{Seen, distinct, same_pair, seen_among, seen_in}
 use Rattle.report_lines.specs.declared.line.Line.{Line}
 use Rattle.report_lines.specs.declared.line.Line.TheVariants as lines
-use Rattle.report_lines.specs.declared.mode.Mode.TheVariants.{Trace}
 use Rattle.runs.specs.laws.Growth.{answer-keeps, few-outcomes, round-holds}
 use Rattle.runs.specs.laws.HeadlineCounts.{steps-exchanges, few-exchanges}
 use Rattle.runs.specs.laws.HeadlineLegal.{legal-steps}
@@ -26,10 +26,11 @@ use Rattle.runs.specs.laws.Tags.{length-tags}
 use Rattle.runs.specs.Headline.{AreLegalSteps, IsLegalStep}
 use Rattle.runs.specs.History.{past_behind, past_behind_slot, past_behind_step, slot_reception}
 use Rattle.runs.specs.Listing.{Listed, listed_by, listing_of}
-use Rattle.runs.specs.Report.{item_lines, last_lines, list_line, tag_lines}
+use Rattle.runs.specs.Report.{item_lines, last_lines, list_line, run_lines, tag_lines}
 use Rattle.runs.specs.ScenarioStart.{history, start_of, tag_of}
 use Rattle.runs.specs.Summary.{all_quiet, pairs_in, slots_in, summary_of}
 use Rattle.runs.specs.declared.summary.Summary.{Summary}
+use Rattle.scenario.specs.Groups.{tags_of}
 use Rattle.scenario.specs.Limits.{IsScenario}
 use Rattle.scenario.specs.declared.values.Scenario.{Scenario}
 use Rattle.scenario.specs.declared.values.Step.{Step}
@@ -72,8 +73,8 @@ counted-past start (ended round end slots ∷ past) =
     counted-append nothing_counted (lines_behind start past) _ ∙ ap (λ (c : Summary). counted_lines c (RoundLine round end slots ∷ [])) (counted-past start past)
 counted-past start (exchanged sent ∷ past) =
     let more : length (listing_of past) + length (listed_by sent) ≡ length (listing_of past ++ listed_by sent) = sym (length-append (listing_of past) (listed_by sent)) in
-    counted-append nothing_counted (lines_behind start past) (item_lines Trace start.link (exchanged sent))
-    ∙ ap (λ (c : Summary). counted_lines c (item_lines Trace start.link (exchanged sent))) (counted-past start past)
+    counted-append nothing_counted (lines_behind start past) (item_lines start.link (exchanged sent))
+    ∙ ap (λ (c : Summary). counted_lines c (item_lines start.link (exchanged sent))) (counted-past start past)
     ∙ counted-listed (counted_past past) (listed_by sent)
     ∙ ap (λ n. record (counted_past past) { listed = n }) more
 
@@ -82,7 +83,7 @@ distinct-listed : (past : List Item) → length (seen_in (pairs_in past)) ≡ le
 distinct-listed past = length-map (distinct (pairs_in past)) (seen_among (pairs_in past))
 
 -- what is counted of all that is told
-counted-whole : (scenario : Scenario) → counted_lines nothing_counted (lines_of_run (start_of scenario) scenario.steps) ≡ summary_of scenario
+counted-whole : (scenario : Scenario) → counted_lines nothing_counted (run_lines (start_of scenario) scenario.steps) ≡ summary_of scenario
 counted-whole scenario =
     let start : Start = start_of scenario in
     let past : List Item = history scenario in
@@ -139,24 +140,24 @@ summary-fits keeps scenario is =
     let start : Start = start_of scenario in
     let past : List Item = history scenario in
     let legal = legal-steps scenario is in
-    let tags : length start.tags ≡ length scenario.tags = length-map scenario.tags tag_of in
+    let tags : length start.tags ≡ length (tags_of scenario.groups) = length-map (tags_of scenario.groups) tag_of in
     let pairs : length (pairs_in past) ≡ length (listing_of past) = length-map (listing_of past) (λ listed. (listed.pc, listed.epc)) in
     let listed : length (pairs_in past) ≤ exchanges_in past = few-listed past in
     let most = steps-exchanges keeps start scenario.steps [] legal in
     let few = few-exchanges scenario.steps legal in
     let slots : slots_in past ≤ slots_in [] + most_slots * length scenario.steps = steps-slots keeps start scenario.steps [] legal in
     record {
-      tags = omega (arith, tags, is.few_tags);
+      tags = omega (arith, tags, scenario-few scenario is);
       listed = omega (arith, pairs, listed, most, few, is.few_steps);
       distinct = omega (arith, few-distinct (pairs_in past), listed, most, few, is.few_steps);
       slots = omega (arith, slots, is.few_steps);
     }
 
 -- who counted all that is told has the summary
-pub summary-counted : KeepsLimit → (scenario : Scenario) (first later : Summary) → IsScenario scenario → first ≡ nothing_counted → Counts (lines_of_run (start_of scenario) scenario.steps) first later → later ≡ summary_of scenario
+pub summary-counted : KeepsLimit → (scenario : Scenario) (first later : Summary) → IsScenario scenario → first ≡ nothing_counted → Counts (run_lines (start_of scenario) scenario.steps) first later → later ≡ summary_of scenario
 summary-counted keeps scenario first later is fresh counts =
-    let whole : counted_lines first (lines_of_run (start_of scenario) scenario.steps) ≡ summary_of scenario =
-    ap (λ (s : Summary). counted_lines s (lines_of_run (start_of scenario) scenario.steps)) fresh ∙ counted-whole scenario in
+    let whole : counted_lines first (run_lines (start_of scenario) scenario.steps) ≡ summary_of scenario =
+    ap (λ (s : Summary). counted_lines s (run_lines (start_of scenario) scenario.steps)) fresh ∙ counted-whole scenario in
     counts.counted (subst Fits (sym whole) (summary-fits keeps scenario is)) ∙ whole
 
 -- a line that isn't counted
@@ -164,8 +165,12 @@ pub other-line : (counted : Summary) (line : Line) → ((round slot pc : ℕ) (e
     → ((round : ℕ) (end : RoundEnd) (slots : ℕ) → line ≡ lines.Round round end slots → ⊥) → ((count pc : ℕ) (epc : Bor (List ℕ)) → line ≡ lines.Seen count pc epc → ⊥)
     → ((number : ℕ) (tag : Bor AnyTag) → line ≡ lines.Tag number tag → ⊥) → counted ≡ counted_line counted (line_of line)
 other-line counted (lines.Blf numerator denominator) list round seen tag = refl
+other-line counted (lines.Exchange exchange command) list round seen tag = refl
+other-line counted (lines.Missed exchange missed) list round seen tag = refl
+other-line counted (lines.Answer exchange replied extended reply) list round seen tag = refl
 other-line counted (lines.Tx exchange intervals) list round seen tag = refl
 other-line counted (lines.Rx exchange count levels) list round seen tag = refl
+other-line counted (lines.Given given) list round seen tag = refl
 other-line counted (lines.List r s pc epc) list round seen tag = absurd (list r s pc epc refl)
 other-line counted (lines.Op r s index result) list round seen tag = refl
 other-line counted (lines.Round r end slots) list round seen tag = absurd (round r end slots refl)

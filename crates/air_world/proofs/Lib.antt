@@ -1,6 +1,6 @@
 pub mod Beginning
+pub mod Copies
 pub mod Counted
-pub mod KeptReport
 pub mod LastLines
 pub mod Operating
 pub mod Passing

@@ -5,7 +5,6 @@ use Rattle.std.specs.Result.{IfErr, IsErrAnd}
 use Rattle.air_model.specs.Past.{Start, Item}
 use Rattle.air_world.specs.Telling.{Ends, IsCutOff, Passes, lines_behind}
 use Rattle.report_lines.specs.ReportLine.{ReportLine}
-use Rattle.report_lines.specs.declared.mode.Mode.TheVariants.{Trace}
 use Rattle.report_lines.specs.declared.mode.PlayFault.{PlayFault}
 use Rattle.report_lines.specs.declared.mode.PlayFault.TheVariants.{OutOfMemory}
 use Rattle.runs.specs.laws.Growth.{Grows, added_lines, past_lines-more}
@@ -61,8 +60,8 @@ cut-behind hears failed before lines old new fault told cause = record {
 pub cut-past : {A : Type 0} (hears : A → List ReportLine → A → Type 0) (failed : A → Option PlayFault) (before : List ReportLine) (start : Start) (past longer : List Item) (old new : A) (fault : PlayFault)
     → Grows past longer → IsCutOff hears failed before old new (lines_behind start past) fault → IsCutOff hears failed before old new (lines_behind start longer) fault
 cut-past hears failed before start past longer old new fault grows cut =
-    cut-longer hears failed before (lines_behind start past) (added_lines Trace start.link grows.own) (lines_behind start longer) old new fault
-    (ap (λ (items : List Item). lines_behind start items) grows.is ∙ past_lines-more Trace start.link grows.own past) cut
+    cut-longer hears failed before (lines_behind start past) (added_lines start.link grows.own) (lines_behind start longer) old new fault
+    (ap (λ (items : List Item). lines_behind start items) grows.is ∙ past_lines-more start.link grows.own past) cut
 
 pub cut-same : {A : Type 0} (hears : A → List ReportLine → A → Type 0) (failed : A → Option PlayFault) (before : List ReportLine) (start : Start) (past same : List Item) (old new : A) (fault : PlayFault)
     → past ≡ same → IsCutOff hears failed before old new (lines_behind start past) fault → IsCutOff hears failed before old new (lines_behind start same) fault

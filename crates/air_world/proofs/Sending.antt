@@ -1,14 +1,14 @@
 -- What an exchange makes of the air and the run.
 use Rattle.std.proofs.Common.{◌≡◌, ℕ, ◌+◌, ◌<◌, List, [], ◌∷◌, length, sym, ◌∙◌, ap, subst, arith}
 use Rattle.air_channel.specs.Air.{AirValue, NamesTags, air_after, next_exchange, last_exchange}
-use Rattle.air_model.specs.Exchange.{AreLegalTags, outcomes_in, replies_in, tags_after}
+use Rattle.tag_machine.specs.Exchange.{AreLegalTags, outcomes_in, replies_in, tags_after}
 use Rattle.air_model.specs.Channel.{HasFewLevels, given_in, got_of, heard_levels, wave_for}
 use Rattle.air_model.specs.Past.{Start, Record, Item, next_record, past_behind_command, exchanges_in, tags_behind}
 use Rattle.air_events.specs.Entries.{entry_at}
 use Rattle.air_events.specs.declared.Entry.{Entry}
 use Rattle.runs.specs.laws.Tags.{tags-exchanged, length-tags}
 use Rattle.air_world.specs.Playing.{RunValue, PlaysAt, HasRoom, last_exchange_lines}
-use Rattle.air_world.specs.Telling.{exchange_lines}
+use Rattle.runs.specs.Report.{exchange_lines}
 use Rattle.command_grammar.specs.declared.commands.Command.{Command}
 use Rattle.pie_line.specs.Link.{LinkValue}
 use Rattle.report_lines.specs.ReportLine.{ReportLine, TxLine, RxLine}
@@ -110,7 +110,7 @@ sent-got start past round slot command sends = ap (λ g. got_of g) (given-record
 
 -- what is told of the exchange is what a trace has of the record
 pub sent-lines : (start : Start) (past : List Item) (round slot : ℕ) (command : Command) (sends : Sends start past command)
-    → last_exchange_lines sends.next ≡ exchange_lines start (next_record start round slot command past)
+    → last_exchange_lines sends.next ≡ exchange_lines start.link (next_record start round slot command past)
 sent-lines start past round slot command sends =
     let sent : Record = next_record start round slot command past in
     let next = sends.next in

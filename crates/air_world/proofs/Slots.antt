@@ -6,7 +6,7 @@ use Rattle.access_ops.specs.declared.OpList.{OpList}
 use Rattle.air_channel.specs.Air.{AirValue}
 use Rattle.air_events.specs.Cursor.{IsLeft}
 use Rattle.air_events.specs.declared.Entry.{Entry}
-use Rattle.air_model.specs.Exchange.{AreLegalTags, replies_in}
+use Rattle.tag_machine.specs.Exchange.{AreLegalTags, replies_in}
 use Rattle.air_model.specs.Channel.{Given, got_of, heard_levels}
 use Rattle.air_model.specs.Past.{Start, Record, Item, befell, exchanged, operated, ended, next_entry, next_record, past_behind_command, tags_behind, exchanges_in}
 use Rattle.air_model.specs.Reception.{reception_of}
@@ -16,7 +16,7 @@ use Rattle.air_model.specs.declared.got.Got.TheVariants as gots
 use Rattle.air_world.proofs.Passing.{passes-then}
 use Rattle.air_world.specs.Heard.{pair_received, rn16_received}
 use Rattle.air_world.specs.Playing.{RunValue, PlaysAt, IsAt, StandsAt, HasRoom, pair_of}
-use Rattle.air_world.specs.Telling.{Passes, exchange_lines, lines_behind}
+use Rattle.air_world.specs.Telling.{Passes, lines_behind}
 use Rattle.command_grammar.specs.declared.commands.Command.{Command}
 use Rattle.command_grammar.specs.declared.commands.Command.TheVariants as commands
 use Rattle.line_code.specs.Table.{Table}
@@ -31,13 +31,13 @@ use Rattle.reply_grammar.specs.declared.expected.Reply.TheVariants as replies
 use Rattle.reply_wire.specs.Received.{IsReceived}
 use Rattle.report_lines.specs.ReportLine.{ReportLine}
 use Rattle.report_lines.specs.SeenCounts.{Seen, seen_in, count_of}
-use Rattle.report_lines.specs.SeenLaws.{count_of-few}
+use Rattle.report_lines.specs.laws.SeenLaws.{count_of-few}
 use Rattle.runs.proofs.Answering.{TagLaws, given-in-expected}
 use Rattle.tag_machine.specs.TagValue.{TagValue}
 use Rattle.runs.specs.History.{past_behind_dialogue, past_behind_listing, ack_reception, past_behind_ack, past_behind_answer, slot_reception, past_behind_slot}
 use Rattle.runs.specs.NextItem.{expectation_of}
 use Rattle.runs.specs.Listing.{Listed, reception_of_ack, listed_from, listed_by, listing_of}
-use Rattle.runs.specs.Report.{list_line}
+use Rattle.runs.specs.Report.{exchange_lines, list_line}
 
 -- what is known of a stream that came in an exchange whose command expects such a reply
 pub record StreamCame (start : Start) (past : List Item) (round slot : ℕ) (command : Command) (expect : Expect) : Type 0 where
@@ -94,15 +94,15 @@ seen-behind start past air run later left is at enough =
 
 -- the lines behind an exchange: what is told of it, then what it lists
 lines-exchanged : (start : Start) (sent : Record) (past : List Item)
-    → lines_behind start (exchanged sent ∷ past) ≡ (lines_behind start past ++ exchange_lines start sent) ++ map list_line (listed_by sent)
-lines-exchanged start sent past = sym (append_assoc (lines_behind start past) (exchange_lines start sent) (map list_line (listed_by sent)))
+    → lines_behind start (exchanged sent ∷ past) ≡ (lines_behind start past ++ exchange_lines start.link sent) ++ map list_line (listed_by sent)
+lines-exchanged start sent past = sym (append_assoc (lines_behind start past) (exchange_lines start.link sent) (map list_line (listed_by sent)))
 
 -- where an exchange lists nothing
 pub stands-unlisted : (Heard : List ReportLine → Type 0) (start : Start) (sent : Record) (past : List Item) (air : AirValue) (run : RunValue)
     → PlaysAt start (exchanged sent ∷ past) air run → (run.out_of_memory ≡ false → run.seen ≡ seen_in (map pair_of (listing_of past)))
-    → Heard (lines_behind start past ++ exchange_lines start sent) → listed_by sent ≡ [] → StandsAt Heard start (exchanged sent ∷ past) air run
+    → Heard (lines_behind start past ++ exchange_lines start.link sent) → listed_by sent ≡ [] → StandsAt Heard start (exchanged sent ∷ past) air run
 stands-unlisted Heard start sent past air run plays seen told none =
-    let before : List ReportLine = lines_behind start past ++ exchange_lines start sent in
+    let before : List ReportLine = lines_behind start past ++ exchange_lines start.link sent in
     let lines : lines_behind start (exchanged sent ∷ past) ≡ before =
     lines-exchanged start sent past ∙ ap (λ (l : List Listed). before ++ map list_line l) none ∙ append-nil before in
     let same : listing_of past ++ listed_by sent ≡ listing_of past = ap (λ (l : List Listed). listing_of past ++ l) none ∙ append-nil (listing_of past) in
@@ -114,10 +114,10 @@ stands-unlisted Heard start sent past air run plays seen told none =
 -- where it lists one tag
 pub stands-listed : (Heard : List ReportLine → Type 0) (start : Start) (sent : Record) (past : List Item) (listed : Listed) (air : AirValue) (run : RunValue)
     → PlaysAt start (exchanged sent ∷ past) air run → (run.out_of_memory ≡ false → run.seen ≡ seen_in (map pair_of (listing_of past) ++ pair_of listed ∷ []))
-    → Heard ((lines_behind start past ++ exchange_lines start sent) ++ list_line listed ∷ []) → listed_by sent ≡ listed ∷ []
+    → Heard ((lines_behind start past ++ exchange_lines start.link sent) ++ list_line listed ∷ []) → listed_by sent ≡ listed ∷ []
     → StandsAt Heard start (exchanged sent ∷ past) air run
 stands-listed Heard start sent past listed air run plays seen told one =
-    let before : List ReportLine = lines_behind start past ++ exchange_lines start sent in
+    let before : List ReportLine = lines_behind start past ++ exchange_lines start.link sent in
     let lines : lines_behind start (exchanged sent ∷ past) ≡ before ++ list_line listed ∷ [] =
     lines-exchanged start sent past ∙ ap (λ (l : List Listed). before ++ map list_line l) one in
     let same : map pair_of (listing_of past ++ listed_by sent) ≡ map pair_of (listing_of past) ++ pair_of listed ∷ [] =

@@ -7,11 +7,11 @@ use Rattle.std.proofs.lemmas.List.Elements.{All-get_or}
 use Rattle.std.specs.Prelude.{All}
 use Rattle.air_channel.specs.Air.{AirValue, air_after_event}
 use Rattle.air_events.specs.declared.Event.{Event}
-use Rattle.air_model.specs.Exchange.{AreLegalTags}
+use Rattle.tag_machine.specs.Exchange.{AreLegalTags}
 use Rattle.air_model.specs.Past.{Start, Record, Item, befell, exchanges_in, rounds_in, tags_behind}
 use Rattle.air_world.proofs.Passing.{cut-past, cut-same}
 use Rattle.air_world.proofs.Rounds.{KeepsLimit, rounds-slot}
-use Rattle.air_world.specs.Playing.{RunValue, PlaysAt, IsAt, StandsAt, most_in_round}
+use Rattle.air_world.specs.Playing.{RunValue, PlaysAt, IsAt, IsPlayable, StandsAt, most_in_round, most_in_slot, most_slots}
 use Rattle.air_world.specs.Telling.{IsCutOff, lines_behind}
 use Rattle.command_grammar.specs.declared.commands.Command.{Command}
 use Rattle.command_grammar.specs.declared.commands.Command.TheVariants as commands
@@ -26,7 +26,6 @@ use Rattle.runs.specs.Headline.{most_operating}
 use Rattle.runs.specs.History.{past_behind, past_behind_step}
 use Rattle.runs.specs.NextItem.{expectation_of}
 use Rattle.runs.specs.Listing.{reception_of_ack, listed_from, listed_by}
-use Rattle.scenario.specs.Limits.{IsStep}
 use Rattle.scenario.specs.declared.values.Step.{Step}
 use Rattle.scenario.specs.declared.values.Step.TheVariants as steps
 
@@ -63,24 +62,24 @@ stands-befell Heard start past event number air next run at told is legal =
     }
 
 -- how many exchanges a step adds at most
-step-exchanges : KeepsLimit → (tags : ℕ) (start : Start) (step : Step) (past : List Item) → IsStep tags step
+step-exchanges : KeepsLimit → (tags : ℕ) (start : Start) (step : Step) (past : List Item) → IsPlayable tags step
     → exchanges_in (past_behind_step start step past) ≤ exchanges_in past + most_in_round
 step-exchanges keeps tags start (steps.Select command) past is = omega arith
 step-exchanges keeps tags start steps.Nak past is = omega arith
 step-exchanges keeps tags start (steps.Event event number) past is = omega arith
 step-exchanges keeps tags start (steps.Round spec operations) past is =
-    let legal = legal-step tags (steps.Round spec operations) is in
-    let each : 2 + most_operating operations ≤ 131 = omega (arith, legal.few) in
-    let most : (2 + most_operating operations) * spec.limit ≤ 131 * 70000 = mul-le-mul each legal.legal.limit.1 in
+    let legal = legal-step is.version tags (steps.Round spec operations) is.is in
+    let each : 2 + most_operating operations ≤ most_in_slot = omega (arith, legal.few) in
+    let most : (2 + most_operating operations) * spec.limit ≤ most_in_slot * most_slots = mul-le-mul each legal.legal.limit.1 in
     omega (arith, most, round-exchanges keeps start operations spec past legal.legal)
 
 -- ... and how many rounds
-step-rounds : KeepsLimit → (tags : ℕ) (start : Start) (step : Step) (past : List Item) → IsStep tags step → rounds_in (past_behind_step start step past) ≤ rounds_in past + 1
+step-rounds : KeepsLimit → (tags : ℕ) (start : Start) (step : Step) (past : List Item) → IsPlayable tags step → rounds_in (past_behind_step start step past) ≤ rounds_in past + 1
 step-rounds keeps tags start (steps.Select command) past is = omega arith
 step-rounds keeps tags start steps.Nak past is = omega arith
 step-rounds keeps tags start (steps.Event event number) past is = omega arith
 step-rounds keeps tags start (steps.Round spec operations) past is =
-    round-holds (λ outcomes now. rounds_in now ≡ rounds_in past) (λ now. rounds_in now ≤ rounds_in past + 1) start operations spec past keeps ((legal-step tags (steps.Round spec operations) is)).legal
+    round-holds (λ outcomes now. rounds_in now ≡ rounds_in past) (λ now. rounds_in now ≤ rounds_in past + 1) start operations spec past keeps (legal-step is.version tags (steps.Round spec operations) is.is).legal
     (record {
       slot = λ outcomes now command are sends same. rounds-slot start operations (rounds_in past + 1) (length outcomes + 1) command now ∙ same;
       end = λ outcomes now end are sends same. omega (arith, same);
@@ -97,8 +96,8 @@ pub record StepsUnderway (Heard : List ReportLine → Type 0) (start : Start) (f
   pub rounds : rounds_in past ≤ rounds_in first + index
 
 -- a step among others
-pub step-legal : (tags : ℕ) (list : List Step) (index : ℕ) (step : Step) → index < length list → step ≡ get_or list index step → All (IsStep tags) list → IsStep tags step
-step-legal tags list index step inside is all = subst (λ (s : Step). IsStep tags s) (sym is) (All-get_or (IsStep tags) list index step inside all)
+pub step-legal : (tags : ℕ) (list : List Step) (index : ℕ) (step : Step) → index < length list → step ≡ get_or list index step → All (IsPlayable tags) list → IsPlayable tags step
+step-legal tags list index step inside is all = subst (λ (s : Step). IsPlayable tags s) (sym is) (All-get_or (IsPlayable tags) list index step inside all)
 
 -- the number of tags stays
 pub same-count : (start : Start) (past later : List Item) (air next : AirValue) (run then_run : RunValue) → PlaysAt start past air run → PlaysAt start later next then_run → length next.tags ≡ length air.tags
@@ -114,7 +113,7 @@ steps-rest : (start : Start) (list : List Step) (index : ℕ) (step : Step) (pas
 steps-rest start list index step past whole inside is rest = ap (λ (l : List Step). past_behind start l past) (sym (step-drop list index step inside is)) ∙ rest
 
 pub steps-go-on : KeepsLimit → (Heard Later : List ReportLine → Type 0) (start : Start) (first whole : List Item) (tags : ℕ) (list : List Step) (index : ℕ) (step : Step) (air next : AirValue) (run then_run : RunValue)
-    → (u : StepsUnderway Heard start first whole list index air run) → index < length list → step ≡ get_or list index step → IsStep tags step
+    → (u : StepsUnderway Heard start first whole list index air run) → index < length list → step ≡ get_or list index step → IsPlayable tags step
     → StandsAt Later start (past_behind_step start step u.past) next then_run → then_run.out_of_memory ≡ false
     → StepsUnderway Later start first whole list (index + 1) next then_run
 steps-go-on keeps Heard Later start first whole tags list index step air next run then_run u inside is legal stands enough =

@@ -3,4 +3,4 @@ pub mod Telling
 pub mod Playing
 pub mod Heard
 pub mod Counting
-pub mod CountingLaws
+pub mod laws

@@ -5,12 +5,15 @@ use Rattle.air_events.specs.Cursor.{IsLeft}
 use Rattle.air_events.specs.Entries.{entry_at}
 use Rattle.air_events.specs.declared.Entry.{Entry}
 use Rattle.air_model.specs.Channel.{HasFewLevels}
-use Rattle.air_model.specs.Exchange.{AreLegalTags}
+use Rattle.tag_machine.specs.Exchange.{AreLegalTags}
 use Rattle.air_model.specs.Past.{Start, Item, exchanges_in, rounds_in, tags_behind}
 use Rattle.air_world.specs.Telling.{lines_behind}
 use Rattle.report_lines.specs.ReportLine.{ReportLine, TxLine, RxLine}
 use Rattle.report_lines.specs.SeenCounts.{Seen, seen_in}
 use Rattle.runs.specs.Listing.{Listed, listing_of}
+use Rattle.scenario.specs.Limits.{IsStep}
+use Rattle.scenario.specs.declared.values.Step.{Step}
+use Rattle.scenario_lines.specs.declared.version.Version.{Version}
 
 -- what is kept of a run beside the air: what is said of later exchanges, how often each pair of PC and EPC was listed, how many rounds
 -- ended, and whether there was no memory for a count
@@ -53,6 +56,11 @@ pub record IsAt (start : Start) (past : List Item) (air : AirValue) (run : RunVa
 pub record StandsAt (Heard : List ReportLine → Type 0) (start : Start) (past : List Item) (air : AirValue) (run : RunValue) : Type 0 where
   pub at : IsAt start past air run
   pub told : Heard (lines_behind start past)
+
+-- a step that a scenario of some version may have, where there are so many tags
+pub record IsPlayable (tags : ℕ) (step : Step) : Type 0 where
+  pub version : Version
+  pub is : IsStep version tags step
 
 -- so many more exchanges fit before their number has no room
 abbrev pub HasRoom : ℕ → List Item → Type 0

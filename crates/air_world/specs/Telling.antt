@@ -1,27 +1,20 @@
 -- Profile: what a run tells, and who has heard it.
-use Rattle.std.specs.Prelude.{◌≡◌, ◌⊎◌, List, [], ◌++◌, Option, Some, None, Result, Ok, Err}
+use Rattle.std.specs.Prelude.{◌≡◌, ◌⊎◌, ℕ, ◌≤◌, List, [], ◌++◌, Option, Some, None, Result, Ok, Err}
+use Rattle.std.specs.Result.{OnErr, OnOk, IsErrOf}
 use Rattle.air_channel.specs.Air.{AirValue}
-use Rattle.air_model.specs.Past.{Start, Record, Item, exchanges_in, tags_behind}
+use Rattle.air_io.specs.Flow.{Adds, FaultsRose}
+use Rattle.air_model.specs.Past.{Start, Item, exchanges_in, tags_behind}
 use Rattle.report_lines.specs.ReportLine.{ReportLine}
-use Rattle.report_lines.specs.declared.mode.Mode.TheVariants.{Trace}
 use Rattle.report_lines.specs.declared.mode.PlayFault.{PlayFault}
-use Rattle.report_lines.specs.declared.mode.PlayFault.TheVariants.{OutOfMemory}
-use Rattle.runs.specs.Report.{past_lines, trace_lines, report_of}
+use Rattle.report_lines.specs.declared.mode.Mode.{Mode}
+use Rattle.report_lines.specs.declared.mode.PlayFault.TheVariants.{OutOfMemory, Write}
+use Rattle.runs.specs.Report.{past_lines, report_text_of, run_lines}
 use Rattle.runs.specs.ScenarioStart.{start_of, history}
 use Rattle.scenario.specs.declared.values.Scenario.{Scenario}
-use Rattle.scenario.specs.declared.values.Step.{Step}
 
--- A run tells all that a trace has. What of it stays untold by a listener is the listener's choice.
+-- All that a run has to tell of a past is told. What of it stays unsaid is the listener's choice.
 abbrev pub lines_behind : Start → List Item → List ReportLine
-lines_behind start past = past_lines Trace start.link past
-
--- ... of an exchange, before what it lists
-abbrev pub exchange_lines : Start → Record → List ReportLine
-exchange_lines start sent = trace_lines Trace start.link sent
-
--- ... and in all
-abbrev pub lines_of_run : Start → List Step → List ReportLine
-lines_of_run start steps = report_of Trace start steps
+lines_behind start past = past_lines start.link past
 
 -- who had heard the lines before has heard these when the listener has become the new one
 pub record Passes {A : Type 0} (hears : A → List ReportLine → A → Type 0) (before : List ReportLine) (old new : A) (after : List ReportLine) : Type 0 where
@@ -43,7 +36,16 @@ Ends (Err fault) Whole CutOff = CutOff fault
 
 -- A run was told whole, and its air is what the history made of it.
 pub record IsPlayed {A : Type 0} (hears : A → List ReportLine → A → Type 0) (failed : A → Option PlayFault) (scenario : Scenario) (old new : A) (air : AirValue) : Type 0 where
-  pub passes : Passes hears [] old new (lines_of_run (start_of scenario) scenario.steps)
+  pub passes : Passes hears [] old new (run_lines (start_of scenario) scenario.steps)
   pub faultless : failed new ≡ None
   pub tags : air.tags ≡ tags_behind (start_of scenario) (history scenario)
   pub exchanges : air.exchanges ≡ exchanges_in (history scenario)
+
+-- how a run ended, as far as it was written
+pub record IsWritten (r : Result (Unit {0}) PlayFault) (mode : Mode) (scenario : Scenario) (first written : Option (List ℕ)) (before after : ℕ) (air : AirValue) : Type 0 where
+  pub report : OnOk r (Adds first written (report_text_of mode scenario))
+  pub tags : OnOk r (air.tags ≡ tags_behind (start_of scenario) (history scenario))
+  pub exchanges : OnOk r (air.exchanges ≡ exchanges_in (history scenario))
+  pub write : IsErrOf r Write → FaultsRose before after
+  pub part : OnErr r ((front : List ℕ) × (rest : List ℕ) × (report_text_of mode scenario ≡ front ++ rest) × Adds first written front)
+  pub count : before ≤ after

@@ -3,10 +3,12 @@ ghost use Rattle.std.specs.Prelude.{◌≡◌, ◌≤◌, ◌++◌, ℕ, List, [
 ghost use Rattle.air_io.specs.Flow.{Adds, FaultsRose};
 ghost use Rattle.air_model.specs.Past.{exchanges_in, tags_behind};
 ghost use Rattle.air_world.specs.NewAir.{new_air};
-ghost use Rattle.air_world.specs.Telling.{Ends, IsCutOff, IsPlayed, lines_of_run};
+ghost use Rattle.air_world.specs.Telling.{Ends, IsCutOff, IsPlayed, IsWritten};
+ghost use Rattle.report_lines.specs.Spelled.{new_spelling};
+ghost use Rattle.report_lines.specs.declared.mode.Mode.{Mode as ReportMode};
 ghost use Rattle.runs.specs.CompleteRounds.{RoundsAreComplete};
 ghost use Rattle.runs.specs.Headline.{AreHeardAsListed, Headline};
-ghost use Rattle.runs.specs.Report.{report_of, report_text_of};
+ghost use Rattle.runs.specs.Report.{report_of, report_text_of, run_lines};
 ghost use Rattle.runs.specs.ScenarioStart.{history, start_of};
 ghost use Rattle.scenario.specs.Limits.{IsScenario};
 
@@ -14,7 +16,7 @@ use crate::run::{Run, tell_link};
 use air_channel::Air;
 use air_events::{EntryCursor, MOST_TAGS, empty_entry};
 use air_io::Sink;
-use report_lines::{Listener, Mode, PlayFault, TextReport};
+use report_lines::{Listener, Mode, ModeSpelling, PlayFault, TextReport};
 use runs::{headline, rounds_are_complete};
 use scenario::Scenario;
 use std::alloc::Global;
@@ -55,14 +57,49 @@ pub fn play<O: Sink>(
 {
     headline();
     rounds_are_complete();
+    let mut spelling = ModeSpelling::new(alloc, mode, scenario.link)?;
     let mut line = String::with_capacity(alloc, LINE_ROOM)?;
-    let mut report = TextReport::new(mode, out, &mut line);
-    tell_run::<Brand, TextReport<'_, Mode, O>>(Blank::new(1), alloc, scenario, air, &mut report)
+    write_run(alloc, scenario, air, out, &mut spelling, &mut line)
+}
+
+/// Plays a scenario on its air, to which no command was sent yet, and writes what the spelling makes of it. The
+/// spelling, which nothing was told yet, and the room for a line are lent.
+fn write_run<O: Sink>(
+    alloc: Global,
+    scenario: &Scenario,
+    air: &mut Air,
+    out: &mut O,
+    spelling: &mut ModeSpelling,
+    line: &mut String,
+) -> Result<(), PlayFault>
+    requires scenario { IsScenario scenario.now }
+    requires fresh { air.old ≡ new_air (start_of scenario.now) }
+    ensures { (mode : ReportMode) → spelling.old ≡ new_spelling mode scenario.now.link
+        → IsWritten result mode scenario.now (O.written out.old) (O.written out.new) (O.faults out.old) (O.faults out.new) air.new }
+{
+    let mut report = TextReport::new(spelling, out, line);
+    tell_scenario(alloc, scenario, air, &mut report)
+}
+
+/// Plays a scenario on its air, to which no command was sent yet, and tells a listener all of it, with a counter
+/// of steps of its own.
+pub(crate) fn tell_scenario<R: Listener>(
+    alloc: Global,
+    scenario: &Scenario,
+    air: &mut Air,
+    report: &mut R,
+) -> Result<(), PlayFault>
+    requires scenario { IsScenario scenario.now }
+    requires fresh { air.old ≡ new_air (start_of scenario.now) }
+    ensures { Ends result (IsPlayed R.hears R.failed scenario.now report.old report.new air.new)
+        (IsCutOff R.hears R.failed [] report.old report.new (run_lines (start_of scenario.now) scenario.now.steps)) }
+{
+    tell_run::<Brand, R>(Blank::new(1), alloc, scenario, air, report)
 }
 
 /// Plays a scenario on its air, to which no command was sent yet, and tells a listener all of it. The blank is
 /// for the counter of steps.
-pub(crate) fn tell_run<L: Ledger, R: Listener>(
+fn tell_run<L: Ledger, R: Listener>(
     blank: Blank,
     alloc: Global,
     scenario: &Scenario,
@@ -75,7 +112,7 @@ pub(crate) fn tell_run<L: Ledger, R: Listener>(
     requires scenario { IsScenario scenario.now }
     requires fresh { air.old ≡ new_air (start_of scenario.now) }
     ensures { Ends result (IsPlayed R.hears R.failed scenario.now report.old report.new air.new)
-        (IsCutOff R.hears R.failed [] report.old report.new (lines_of_run (start_of scenario.now) scenario.now.steps)) }
+        (IsCutOff R.hears R.failed [] report.old report.new (run_lines (start_of scenario.now) scenario.now.steps)) }
 {
     prove!(air.len() <= u32::from(MOST_TAGS));
     let empty = empty_entry(alloc);

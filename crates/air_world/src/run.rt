@@ -3,8 +3,9 @@ ghost use Rattle.std.specs.Prelude.{◌≡◌, ℕ, ◌+◌, ◌≤◌, ◌<◌,
 ghost use Rattle.air_model.specs.Channel.{got_of, heard_levels};
 ghost use Rattle.air_model.specs.Past.{Item, Start, next_record, past_behind_command};
 ghost use Rattle.air_world.specs.Heard.{rn16_received, pair_received};
-ghost use Rattle.air_world.specs.Playing.{PlaysAt, IsAt, StandsAt, IsBetweenSteps, IsUnderway, last_exchange_lines};
-ghost use Rattle.air_world.specs.Telling.{Ends, IsCutOff, Passes, exchange_lines, lines_behind};
+ghost use Rattle.air_world.specs.Playing.{PlaysAt, IsAt, StandsAt, IsBetweenSteps, IsUnderway, last_exchange_lines, most_in_slot};
+ghost use Rattle.air_world.specs.Telling.{Ends, IsCutOff, Passes, lines_behind};
+ghost use Rattle.runs.specs.Report.{exchange_lines};
 ghost use Rattle.line_codes.specs.Codes.{table_of};
 ghost use Rattle.reply_grammar.specs.Reception.{reception_from};
 ghost use Rattle.reply_wire.specs.Received.{IsReceived};
@@ -89,7 +90,7 @@ impl<'a, L: Ledger> Run<'a, L> {
         ensures got { (start : Start) (past : List Item) (round slot : ℕ) → PlaysAt start past air.old self.old
             → result ≡ got_of (next_record start round slot command.now past).given }
         ensures told { (start : Start) (past : List Item) (round slot : ℕ) (before : List ReportLine) → PlaysAt start past air.old self.old
-            → Passes R.hears before report.old report.new (before ++ exchange_lines start (next_record start round slot command.now past)) }
+            → Passes R.hears before report.old report.new (before ++ exchange_lines start.link (next_record start round slot command.now past)) }
     {
         let entry = self.entries.next_entry(air.exchanges() + 1);
         let got = air.exchange(command, entry, &mut self.steps);
@@ -211,7 +212,7 @@ impl<'a, L: Ledger> Run<'a, L> {
         operations: &OpList,
         report: &mut R,
     ) -> Outcome
-        requires underway { IsUnderway 131 air.old self.old }
+        requires underway { IsUnderway most_in_slot air.old self.old }
         requires enough { self.old.out_of_memory ≡ false }
         requires few { length operations.now.ops ≤ 32 }
         requires expects { expectation_of command.now ≡ Some Expect.Rn16 }

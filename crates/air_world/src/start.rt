@@ -1,17 +1,19 @@
 //! The air of a scenario.
-ghost use Rattle.std.specs.Prelude.{◌≡◌, All, IfOk, map};
-ghost use Rattle.air_world.specs.NewAir.{new_air};
+ghost use Rattle.std.specs.Prelude.{◌≡◌, ◌<◌, ◌≤◌, ◌^◌, ◌++◌, All, IfOk, OnOk, length, map};
+ghost use Rattle.air_world.specs.NewAir.{IsGroupOfTags, new_air};
 ghost use Rattle.runs.specs.ScenarioStart.{start_of, tag_of};
+ghost use Rattle.scenario.specs.Groups.{copies_of, copy_of, raised, raised_at, tags_of};
 ghost use Rattle.scenario.specs.Limits.{IsScenario};
-ghost use Rattle.scenario_lines.specs.TagForm.{IsTag};
+ghost use Rattle.scenario_lines.specs.TagForm.{IsTag, epc_length};
 ghost use Rattle.tag_machine.specs.Hearing.{tag_value_of};
 
 use air_channel::{Air, Population};
-use bit_strings::OutOfMemory;
-use scenario::{Scenario, TagSpec};
+use bit_strings::{List, OutOfMemory};
+use scenario::{Scenario, TagGroup, TagSpec};
 use session_flags::DrawWords;
 use std::alloc::Global;
-use tag_machine::{AnyTag, Several};
+use tag_machine::AnyTag;
+use tag_memory::BankImage;
 
 /// A tag as a scenario gives it: ready, with the flags of a new tag and no draw made.
 fn new_tag(alloc: Global, spec: &TagSpec) -> Result<AnyTag, OutOfMemory>
@@ -22,25 +24,89 @@ fn new_tag(alloc: Global, spec: &TagSpec) -> Result<AnyTag, OutOfMemory>
     AnyTag::of_image(alloc, &spec.image, spec.locks, words)
 }
 
-/// The tags of a scenario, in order.
-fn new_tags(alloc: Global, specs: &[TagSpec]) -> Result<Vec<AnyTag>, OutOfMemory>
-    requires { All IsTag specs.now }
-    ensures { IfOk result (λ tags. map tag_value_of tags.items ≡ map tag_of specs.now) }
+/// A word raised by a number, modulo 65,536.
+fn raised(word: u16, by: u32) -> u16
+    ensures { result ≡ raised by word }
 {
-    let mut tags = Vec::with_capacity(alloc, specs.len())?;
-    for spec in specs {
-        tags.push_reserved(new_tag(alloc, spec)?);
+    let sum = u32::from(word) + by % 65_536;
+    (sum % 65_536) as u16
+}
+
+/// The words, of which the one at this place is raised by a number.
+fn raised_at(alloc: Global, words: &[u16], place: usize, by: u32) -> Result<List<u16>, OutOfMemory>
+    requires place { place < length words.now }
+    requires few { length words.now < 2 ^ 32 }
+    ensures { IfOk result (λ list. list ≡ raised_at by place words.now) }
+{
+    let mut changed = Vec::from_slice(alloc, words)?;
+    changed[place] = raised(changed[place], by);
+    Ok(List::new(changed))
+}
+
+/// The draw words, each raised by a number.
+fn raised_words(alloc: Global, words: &DrawWords, by: u32) -> Result<DrawWords, OutOfMemory>
+    ensures { IfOk result (λ changed. changed ≡ map (raised by) words.now) }
+{
+    let draws = words.words();
+    let mut changed = Vec::with_capacity(alloc, draws.len())?;
+    for word in draws {
+        changed.push_reserved(raised(*word, by));
+    }
+    DrawWords::new(alloc, changed.as_slice())
+}
+
+/// The copy of this number of a tag: the last word of its EPC, the last of its TID and each draw word are raised by the number.
+fn new_copy(alloc: Global, spec: &TagSpec, number: u32) -> Result<AnyTag, OutOfMemory>
+    requires tag { IsTag spec.now }
+    requires epc { 1 ≤ epc_length spec.now }
+    ensures { IfOk result (λ tag. tag_value_of tag ≡ tag_of (copy_of number spec.now)) }
+{
+    let epc = spec.image.epc.as_slice();
+    let tid = spec.image.tid.as_slice();
+    // The EPC stands behind PC, whose first five bits give the number of its words (6.3.2.1.2.2).
+    let last_of_epc = usize::from(epc[0] >> 11);
+    let image = BankImage {
+        kill: spec.image.kill,
+        access: spec.image.access,
+        epc: raised_at(alloc, epc, last_of_epc, number)?,
+        tid: raised_at(alloc, tid, tid.len() - 1, number)?,
+        user: List::new(Vec::from_slice(alloc, spec.image.user.as_slice())?),
+    };
+    let words = raised_words(alloc, &spec.words, number)?;
+    AnyTag::of_image(alloc, &image, spec.locks, words)
+}
+
+/// Adds the tags of a group: the tag as it is written, and behind it its other copies.
+fn push_group(alloc: Global, tags: &mut Vec<AnyTag>, group: &TagGroup) -> Result<(), OutOfMemory>
+    requires { IsGroupOfTags group.now }
+    ensures { OnOk result (map tag_value_of tags.new.items ≡ map tag_value_of tags.old.items ++ map tag_of (copies_of group.now)) }
+{
+    tags.push(new_tag(alloc, &group.spec)?)?;
+    for number in 1..group.count {
+        tags.push(new_copy(alloc, &group.spec, number)?)?;
+    }
+    Ok(())
+}
+
+/// The tags of a scenario, group by group.
+fn new_tags(alloc: Global, groups: &[TagGroup]) -> Result<Vec<AnyTag>, OutOfMemory>
+    requires { All IsGroupOfTags groups.now }
+    ensures { IfOk result (λ tags. map tag_value_of tags.items ≡ map tag_of (tags_of groups.now)) }
+{
+    let mut tags = Vec::new(alloc);
+    for group in groups {
+        push_group(alloc, &mut tags, group)?;
     }
     Ok(tags)
 }
 
-/// The air of a scenario: its link and its tags as they are at the start, with no exchange made. It takes
-/// the memory for all that goes over the air.
+/// The air of a scenario: its link, its tags as they are at the start, what the channel gives of several replies, and no exchange
+/// made. It takes the memory for all that goes over the air.
 pub fn set_up(alloc: Global, scenario: &Scenario) -> Result<Air, OutOfMemory>
     requires { IsScenario scenario.now }
     ensures { IfOk result (λ air. air ≡ new_air (start_of scenario.now)) }
 {
-    let tags = new_tags(alloc, scenario.tags.as_slice())?;
+    let tags = new_tags(alloc, scenario.groups.as_slice())?;
     let population = Population::new(alloc, tags)?;
-    Air::new(alloc, population, scenario.link, Several::Break)
+    Air::new(alloc, population, scenario.link, scenario.several)
 }

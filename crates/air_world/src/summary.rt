@@ -5,7 +5,7 @@ ghost use Rattle.runs.specs.CompleteRounds.{RoundsAreComplete};
 ghost use Rattle.runs.specs.Summary.{is_quiet, summary_of};
 ghost use Rattle.scenario.specs.Limits.{IsScenario};
 
-use crate::playing::tell_run;
+use crate::playing::tell_scenario;
 use crate::start::set_up;
 use bit_strings::OutOfMemory;
 use q_round::{RoundEnd, round_laws};
@@ -13,8 +13,6 @@ use report_lines::{Line, Listener, PlayFault};
 use runs::{Summary, rounds_are_complete};
 use scenario::Scenario;
 use std::alloc::{AllocError, Global};
-use std::marker::Brand;
-use std::sync::ledger::Blank;
 
 /// Counts what a run tells. It formats nothing, and meets no fault.
 #[derive(Drop)]
@@ -50,7 +48,7 @@ fn count_round(counted: &mut Summary, end: RoundEnd, slots: u32)
 impl Listener for Counting {
     ghost use Rattle.std.specs.Prelude.{None};
     ghost use Rattle.air_world.specs.Counting.{Counts};
-    ghost use Rattle.air_world.specs.CountingLaws.{counts-nothing};
+    ghost use Rattle.air_world.specs.laws.CountingLaws.{counts-nothing};
 
     ghost hears = { λ first lines later. Counts lines first.summary later.summary };
 
@@ -71,6 +69,10 @@ impl Listener for Counting {
         None
     }
 
+    fn wants_exchanges(&self) -> bool {
+        false
+    }
+
     ghost nothing = { λ counting. counts-nothing counting.summary };
 }
 
@@ -88,7 +90,7 @@ pub fn summarise(alloc: Global, scenario: &Scenario) -> Result<Summary, OutOfMem
     rounds_are_complete();
     let mut air = set_up(alloc, scenario)?;
     let mut counting = Counting::new();
-    match tell_run::<Brand, Counting>(Blank::new(1), alloc, scenario, &mut air, &mut counting) {
+    match tell_scenario(alloc, scenario, &mut air, &mut counting) {
         Ok(()) => Ok(counting.summary),
         Err(PlayFault::OutOfMemory) => Err(AllocError),
         // Who only counts meets no fault.

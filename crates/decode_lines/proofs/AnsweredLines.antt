@@ -1,5 +1,5 @@
 -- The answers to the lines before a place of an input that comes in pieces.
-use Rattle.std.proofs.Common.{◌≡◌, ◌≢◌, ℕ, List, [], ◌∷◌, ◌++◌, Option, Some, None, Result, Ok, Err, IfErr, OnOk, refl, sym, ◌∙◌, ap, subst, append_assoc}
+use Rattle.std.proofs.Common.{◌≡◌, ◌≢◌, ℕ, List, [], ◌∷◌, ◌++◌, Option, Some, None, Result, Ok, Err, IfErr, OnOk, sym, ◌∙◌, ap, subst, append_assoc}
 use Rattle.std.proofs.lemmas.List.{append-nil}
 use Rattle.std.proofs.lemmas.List.Elements.{All-append, All-nil}
 use Rattle.text_fields.specs.Lines.{Lacks, line_feed}
@@ -25,11 +25,6 @@ pub fault_known : (fault : Option FaultyLine) (known : FaultyLine) (input part t
 fault_known fault known input part text number is stands =
     let told : Stands (Some known) input part text number = rw is at stands in
     subst (λ bytes. IsFirstFault bytes known) (append-nil input) (told [])
-
--- it stays known, whatever comes
-pub fault_stays : (fault : Option FaultyLine) (input piece part text : List ℕ) (number : ℕ) → fault ≢ None → Stands fault input part text number → Stands fault (input ++ piece) part text number
-fault_stays (Some known) input piece part text number some stands = λ more. rw (append_assoc input piece more) (stands (piece ++ more))
-fault_stays None input piece part text number some stands = absurd (some refl)
 
 -- where none is known the lines so far are answered
 pub none_known : (fault : Option FaultyLine) (input part text : List ℕ) (number : ℕ) → fault ≡ None → Stands fault input part text number → Stands None input part text number

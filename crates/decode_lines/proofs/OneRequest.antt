@@ -5,7 +5,7 @@ use Rattle.std.specs.Fmt.{decimal}
 use Rattle.std.proofs.lemmas.List.Elements.{All-head, All-tail}
 use Rattle.text_fields.specs.Binary.{binary, binary_digit}
 use Rattle.text_fields.specs.CodeNames.{code_word}
-use Rattle.text_fields.specs.ToldApart.{decimal_told, binary_told, hex_words_told}
+use Rattle.text_fields.specs.laws.ToldApart.{decimal_told, binary_told, hex_words_told}
 use Rattle.text_fields.specs.Hexadecimal.{hex_words}
 use Rattle.bit_strings.specs.declared.code.Code.{Code}
 use Rattle.reply_text.specs.ReplyText.{expect_word}

@@ -7,8 +7,8 @@ use Rattle.bit_strings.specs.declared.code.Code.TheVariants.{Fm0, M2, M4, M8}
 use Rattle.text_fields.specs.Lines.{fields_of}
 use Rattle.text_fields.specs.Binary.{binary, binary_digit}
 use Rattle.text_fields.specs.CodeNames.{code_word}
-use Rattle.text_fields.specs.FieldTextLaws.{IsFieldText-decimal, IsFieldText-binary}
-use Rattle.text_fields.specs.ToldApart.{decimal_told, binary_told}
+use Rattle.text_fields.specs.laws.FieldTextLaws.{IsFieldText-decimal, IsFieldText-binary}
+use Rattle.text_fields.specs.laws.ToldApart.{decimal_told, binary_told}
 use Rattle.text_fields.specs.laws.FilledFields.{Filled, none_filled, one_more}
 use Rattle.command_text.specs.CommandText.{commands}
 use Rattle.command_text.specs.laws.CommandTexts.{command_told}

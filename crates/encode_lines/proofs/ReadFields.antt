@@ -1,18 +1,16 @@
 -- What is read of the fields behind the first, where a reply stands behind others.
-use Rattle.std.proofs.Common.{◌≡◌, ◌≢◌, ℕ, Bool, List, [], ◌∷◌, refl, ◌∙◌, ap, arith}
-use Rattle.std.specs.Prelude.{IfErr, Result, Err}
+use Rattle.std.proofs.Common.{◌≡◌, ◌≢◌, ℕ, Bool, List, [], ◌∷◌, ◌∙◌, arith}
 use Rattle.std.proofs.lemmas.List.Elements.{All-head, All-tail}
 use Rattle.bit_strings.specs.declared.code.Code.{Code}
 use Rattle.text_fields.specs.Binary.{binary_digit}
 use Rattle.text_fields.specs.CodeNames.{code_word}
-use Rattle.text_fields.specs.NamedFields.{AreFilled, HaveShape}
+use Rattle.text_fields.specs.NamedFields.{AreFilled}
 use Rattle.text_fields.specs.laws.FilledFields.{Filled, have_6, none_filled, one_more}
-use Rattle.reply_text.specs.ReplyText.{expect_word, reply_fields, replies, IsExpect, IsReplyText}
+use Rattle.reply_text.specs.ReplyText.{expect_word, reply_fields, IsExpect, IsReplyText}
 use Rattle.reply_grammar.specs.declared.expected.Expect.{Expect}
 use Rattle.reply_grammar.specs.declared.expected.Reply.{Reply as OneReply}
 use Rattle.checked_lines.specs.declared.fault.FaultReason.{FaultReason}
 use Rattle.checked_lines.specs.declared.fault.FaultReason.TheVariants.{End, Word, Shape, Number}
-use Rattle.encode_lines.proofs.Shapes.{reply_shape}
 use Rattle.encode_lines.specs.Request.{AsksBehind, AreFaulty, IsFaultyReplyBehind}
 use Rattle.encode_lines.specs.declared.request.LineKind.TheVariants.{Pie as PieKind, Reply as ReplyKind, Heard as HeardKind}
 use Rattle.encode_lines.specs.declared.request.Request.{Request}
@@ -20,10 +18,6 @@ use Rattle.encode_lines.specs.declared.request.Request.TheVariants.{Stream, Pie,
 
 three_filled : (a b c : List ℕ) → Filled a → Filled b → Filled c → AreFilled 3 (a ∷ b ∷ c ∷ [])
 three_filled a b c p q r = one_more 2 a (b ∷ c ∷ []) p (one_more 1 b (c ∷ []) q (one_more 0 c [] r none_filled))
-
--- no field behind the first
-pub reply_missing : (others : List (List ℕ)) → others ≡ [] → AreFaulty ReplyKind others Shape
-reply_missing others none = rw none (λ (nothing : ⊥). nothing, λ (has : AreFilled 1 [] × HaveShape replies []). let count = has.0.number in absurd (omega (arith, count)))
 
 -- a line `reply` asks for its reply alone
 no_reply : (field : List ℕ) (tail : List (List ℕ)) → ((expect : Expect) (reply : OneReply) → IsExpect expect → field ≡ expect_word expect → ¬ IsReplyText tail reply)
@@ -38,44 +32,12 @@ no_reply field tail none (Pie tari rtcal trcal pw lead bits) asks = let same = a
 no_reply field tail none (Command command) asks = let same = asks.same_kind in cc
 no_reply field tail none (Heard code trext expect reply) asks = let same = asks.same_kind in cc
 
--- what the fields behind the expectation lack, the line lacks
-faulty_reply : (field : List ℕ) (tail : List (List ℕ)) (reason : FaultReason) → IsFaultyReplyBehind (Filled field) tail reason → AreFaulty ReplyKind (field ∷ tail) reason
-faulty_reply field tail Word faulty = faulty
-faulty_reply field tail Shape faulty = (faulty.0, λ has. faulty.1 (All-head Filled field [] has.0.filled, has.1))
-faulty_reply field tail Number faulty = ((one_more 0 field [] faulty.0 none_filled, faulty.1), no_reply field tail (λ expect reply is front spelled. faulty.2 reply spelled))
-faulty_reply field tail End faulty = faulty
-
 -- what a test says of a field
 pub weaker_front : (P Q : Type 0) → (P → Q) → (Q → P) → (tail : List (List ℕ)) (reason : FaultReason) → IsFaultyReplyBehind P tail reason → IsFaultyReplyBehind Q tail reason
 weaker_front P Q to from tail Word faulty = faulty
 weaker_front P Q to from tail Shape faulty = (faulty.0, λ has. faulty.1 (from has.0, has.1))
 weaker_front P Q to from tail Number faulty = (to faulty.0, faulty.1, faulty.2)
 weaker_front P Q to from tail End faulty = faulty
-
-pub reply_faulty : (others : List (List ℕ)) (field : List ℕ) (tail : List (List ℕ)) (reason : FaultReason) → others ≡ field ∷ tail → IsFaultyReplyBehind (Filled field) tail reason
-    → AreFaulty ReplyKind others reason
-reply_faulty others field tail reason first faulty = rw first (faulty_reply field tail reason faulty)
-
--- the expectation is none
-pub expect_wrong : (others : List (List ℕ)) (field : List ℕ) (tail : List (List ℕ)) (reply : OneReply) → others ≡ field ∷ tail → Filled field → IsReplyText tail reply
-    → ((expect : Expect) → IsExpect expect → field ≢ expect_word expect) → AreFaulty ReplyKind others Number
-expect_wrong others field tail reply first filled spelled none =
-    rw first ((one_more 0 field [] filled none_filled, reply_shape tail reply spelled), no_reply field tail (λ expect other is front text. none expect is front))
-
-pub reply_asked : (others : List (List ℕ)) (field : List ℕ) (tail : List (List ℕ)) (expect : Expect) (reply : OneReply) → others ≡ field ∷ tail → field ≡ expect_word expect → IsExpect expect
-    → IsReplyText tail reply → AsksBehind ReplyKind others (Reply expect reply)
-reply_asked others field tail expect reply first front is spelled = record {
-  same_kind = refl;
-  spelling = first ∙ ap (λ (f : List ℕ). f ∷ tail) front ∙ ap (λ (t : List (List ℕ)). expect_word expect ∷ t) spelled.spelling;
-  limits = (is, spelled.in_range);
-}
-
--- fewer than three fields behind the first
-pub heard_missing : (others : List (List ℕ)) → ((a b c : List ℕ) (rest : List (List ℕ)) → others ≢ a ∷ b ∷ c ∷ rest) → AreFaulty HeardKind others Shape
-heard_missing [] none = (λ (nothing : ⊥). nothing, λ has. let count = has.0.number in absurd (omega (arith, count)))
-heard_missing (a ∷ []) none = (λ (nothing : ⊥). nothing, λ has. let count = has.0.number in absurd (omega (arith, count)))
-heard_missing (a ∷ b ∷ []) none = (λ (nothing : ⊥). nothing, λ has. let count = has.0.number in absurd (omega (arith, count)))
-heard_missing (a ∷ b ∷ c ∷ rest) none = absurd (none a b c rest refl)
 
 -- the three fields in front of a reply are filled
 abbrev pub ThreeFilled : (a b c : List ℕ) → Type 0
@@ -113,27 +75,6 @@ pub heard_faulty : (others : List (List ℕ)) (a b c : List ℕ) (tail : List (L
     → AreFaulty HeardKind others reason
 heard_faulty others a b c tail reason first faulty = rw first (faulty_heard a b c tail reason faulty)
 
--- one of the three is none of its kind
-pub front_wrong : (others : List (List ℕ)) (a b c : List ℕ) (tail : List (List ℕ)) (reply : OneReply) → others ≡ a ∷ b ∷ c ∷ tail → ThreeFilled a b c → IsReplyText tail reply
-    → ((code : Code) (trext : Bool) (expect : Expect) → a ≡ code_word code → b ≡ binary_digit trext ∷ [] → IsExpect expect → c ≡ expect_word expect → ⊥) → AreFaulty HeardKind others Number
-front_wrong others a b c tail reply split filled spelled none =
-    rw split (
-      (three_filled a b c filled.0 filled.1 filled.2, reply_shape tail reply spelled),
-      no_heard a b c tail (λ code trext expect other first second is third text. none code trext expect first second is third),
-    )
-
-pub heard_asked : (others : List (List ℕ)) (a b c : List ℕ) (tail : List (List ℕ)) (code : Code) (trext : Bool) (expect : Expect) (reply : OneReply) → others ≡ a ∷ b ∷ c ∷ tail
-    → a ≡ code_word code → b ≡ binary_digit trext ∷ [] → c ≡ expect_word expect → IsExpect expect → IsReplyText tail reply → AsksBehind HeardKind others (Heard code trext expect reply)
-heard_asked others a b c tail code trext expect reply split first second third is spelled = record {
-  same_kind = refl;
-  spelling = rw (split, first, second, third, spelled.spelling) refl;
-  limits = (is, spelled.in_range);
-}
-
 -- fewer or more than six fields, or an empty one
 pub six_missing : (others : List (List ℕ)) → ((a b c d e f : List ℕ) → others ≡ a ∷ b ∷ c ∷ d ∷ e ∷ f ∷ [] → a ≢ [] → b ≢ [] → c ≢ [] → d ≢ [] → e ≢ [] → f ≢ [] → ⊥) → AreFaulty PieKind others Shape
 six_missing others wanting = (λ (nothing : ⊥). nothing, λ filled. have_6 others filled wanting)
-
--- what is said of a reason that is handed on
-pub reason_handed : {T E : Type 0} (P Q : E → Type 0) (result : Result T E) (reason : E) → result ≡ Err reason → P reason → ((e : E) → P e → Q e) → IfErr result Q
-reason_handed P Q result reason is says weaker = rw is (weaker reason says)

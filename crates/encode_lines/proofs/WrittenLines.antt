@@ -7,7 +7,7 @@ use Rattle.bit_strings.specs.declared.code.Code.{Code}
 use Rattle.text_fields.specs.Binary.{binary, binary_digit}
 use Rattle.text_fields.specs.CodeNames.{code_word}
 use Rattle.text_fields.specs.Lines.{fields_behind, line_feed, line_with}
-use Rattle.text_fields.specs.LineLaws.{line_with-fields_behind}
+use Rattle.text_fields.specs.laws.LineLaws.{line_with-fields_behind}
 use Rattle.line_code.specs.Stream.{stream_of}
 use Rattle.line_codes.specs.Codes.{table_of}
 use Rattle.pie_line.specs.Link.{LinkValue, IsLegalLink}

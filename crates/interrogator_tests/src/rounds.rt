@@ -1,39 +1,41 @@
 //! Rounds, against answers written out by hand.
 
 use q_round::{
-    Code, Command, Link, Next, Outcome, QValue, Round, RoundSpec, Sel, Session, Side, UpDn,
+    Code, Command, Link, Next, Outcome, QValue, Round, RoundSpec, Rule, Sel, Session, Side, UpDn,
 };
 
-/// C, the limit, and whether a round may have them.
-const PARAMETERS: &[(u32, u32, bool)] = &[
-    (99, 300, false),
-    (100, 300, true),
-    (500, 300, true),
-    (501, 300, false),
-    (300, 0, false),
-    (300, 1, true),
-    (300, 70000, true),
-    (300, 70001, false),
+/// The rule for Q, the limit, and whether a round may have them.
+const PARAMETERS: &[(Rule, u32, bool)] = &[
+    (Rule::Float(99), 300, false),
+    (Rule::Float(100), 300, true),
+    (Rule::Float(500), 300, true),
+    (Rule::Float(501), 300, false),
+    (Rule::Float(300), 0, false),
+    (Rule::Float(300), 1, true),
+    (Rule::Fixed, 70000, true),
+    (Rule::Fixed, 70001, false),
+    (Rule::Frame, 0, false),
+    (Rule::Frame, 70000, true),
 ];
 
-/// Whether a round may have this C and this limit, or not, and has its parameters.
-fn has_parameters(c: u32, limit: u32, legal: bool) -> Option<bool> {
+/// Whether a round may have this rule and this limit, or not, and has its parameters.
+fn has_parameters(rule: Rule, limit: u32, legal: bool) -> Option<bool> {
     let session = Session::new(2)?;
     let q = QValue::new(15)?;
-    let Some(spec) = RoundSpec::new(Sel::NotSl, session, Side::B, q, c, limit) else {
+    let Some(spec) = RoundSpec::new(Sel::NotSl, session, Side::B, q, rule, limit) else {
         return Some(!legal);
     };
     let asked = (spec.sel(), spec.session().get(), spec.target()) == (Sel::NotSl, 2, Side::B);
-    let numbers = (spec.q().get(), spec.c(), spec.limit()) == (15, c, limit);
+    let numbers = (spec.q().get(), spec.rule(), spec.limit()) == (15, rule, limit);
     Some(legal && asked && numbers)
 }
 
 #[test]
 fn parameters_in_their_ranges(rt: HostRuntime) {
-    for &(c, limit, legal) in PARAMETERS {
+    for &(rule, limit, legal) in PARAMETERS {
         assert!(rt;
-            has_parameters(c, limit, legal) == Some(true),
-            "C {c}, limit {limit}"
+            has_parameters(rule, limit, legal) == Some(true),
+            "{rule:?}, limit {limit}"
         );
     }
 }
@@ -63,32 +65,52 @@ fn next_of(letter: u8, session: Session) -> Option<Next> {
     Some(Next::Send(Command::QueryAdjust { session, updn }))
 }
 
-/// Q, C, the limit, the outcomes, what follows each, and the number of slot commands in the end.
-type RoundRow = (u8, u32, u32, &'static [u8], &'static [u8], u32);
+/// Q, the rule for it, the limit, the outcomes, what follows each, and the number of slot commands in the end.
+type RoundRow = (u8, Rule, u32, &'static [u8], &'static [u8], u32);
 
 const ROUNDS: &[RoundRow] = &[
     // Qfp 1300, 1000, 1000, 1000, 700, 400: two frames of two slots with a reply in each, and a silent one.
-    (1, 300, 20, b"RSWWSS", b"r=r=rQ", 6),
+    (1, Rule::Float(300), 20, b"RSWWSS", b"r=r=rQ", 6),
     // At Q 0 the first silence ends the round, and it stays ended.
-    (0, 500, 70000, b"SSRW", b"QQQQ", 1),
+    (0, Rule::Float(500), 70000, b"SSRW", b"QQQQ", 1),
     // Qfp 100, 200, 300, 400, 500, 600, 700: five collisions of step 100 raise Q from 0 to 1.
-    (0, 100, 9, b"RRRRRRR", b"====+r=", 8),
+    (0, Rule::Float(100), 9, b"RRRRRRR", b"====+r=", 8),
     // Qfp 500, 1000, 1500, 2000, 2500: each half rounds up.
-    (0, 500, 9, b"RRRRR", b"+r+r+", 6),
+    (0, Rule::Float(500), 9, b"RRRRR", b"+r+r+", 6),
     // Qfp 2500, 2000, 1500, 1000, 500, 0: silence lowers Q from 3 to 1, whose second frame is silent.
-    (3, 500, 9, b"SSSSSS", b"r-r-rQ", 6),
+    (3, Rule::Float(500), 9, b"SSSSSS", b"r-r-rQ", 6),
     // Qfp 2000, 1900, 1800, 1700, 1600, 1500, 1400, 1300, 1200: a frame with one reply isn't silent.
-    (2, 100, 70000, b"WSSSSSSSS", b"rrr=rr-rQ", 9),
+    (2, Rule::Float(100), 70000, b"WSSSSSSSS", b"rrr=rr-rQ", 9),
     // Qfp 14500, 15000, 15000, 15000, 15000: Q rises to 15, and no further.
-    (14, 500, 6, b"RRRRRRS", b"+rrrrLL", 6),
+    (14, Rule::Float(500), 6, b"RRRRRRS", b"+rrrrLL", 6),
     // Qfp 15000, 15000, 14500, 14000: no collision at the top counts later.
-    (15, 500, 9, b"RRSS", b"rrr-", 5),
+    (15, Rule::Float(500), 9, b"RRSS", b"rrr-", 5),
     // The limit ends the round, and it stays ended.
-    (4, 300, 1, b"WSR", b"LLL", 1),
+    (4, Rule::Float(300), 1, b"WSR", b"LLL", 1),
     // Where both ends are reached at one slot, the round ends quiet.
-    (0, 300, 1, b"S", b"Q", 1),
-    (1, 300, 2, b"SSW", b"rQQ", 2),
-    (1, 300, 2, b"WS", b"rL", 2),
+    (0, Rule::Float(300), 1, b"S", b"Q", 1),
+    (1, Rule::Float(300), 2, b"SSW", b"rQQ", 2),
+    (1, Rule::Float(300), 2, b"WS", b"rL", 2),
+    // Q stays, whatever comes: a whole frame begins again.
+    (1, Rule::Fixed, 20, b"RSWWSS", b"r=r=rQ", 6),
+    (0, Rule::Fixed, 4, b"RRRR", b"===L", 4),
+    (2, Rule::Fixed, 70000, b"RRRRSSSSS", b"rrr=rrrQQ", 8),
+    // One collision in two slots leaves Q, and none lowers it.
+    (1, Rule::Frame, 20, b"RSWWS", b"r=r-Q", 5),
+    // In four slots two collisions and one leave Q, none lowers it. At Q 0 it goes no lower.
+    (
+        2,
+        Rule::Frame,
+        20,
+        b"RRSWRSWWSSSWWSWS",
+        b"rrr=rrr=rrr-r-=Q",
+        16,
+    ),
+    // Collisions in more than half of the slots raise it: in 1 of 1, in 2 of 2, in 3 of 4.
+    (0, Rule::Frame, 20, b"RRRRSRR", b"+r+rrr+", 8),
+    // The ends come before the rule.
+    (0, Rule::Frame, 1, b"R", b"L", 1),
+    (2, Rule::Frame, 4, b"SSSS", b"rrrQ", 4),
 ];
 
 /// The Query of a round with this Q.
@@ -106,11 +128,11 @@ fn query(session: Session, q: QValue) -> Command {
 
 /// Whether a round goes as the row says.
 fn goes(row: &RoundRow) -> Option<bool> {
-    let (q, c, limit, outcomes, answers, slots) = *row;
+    let (q, rule, limit, outcomes, answers, slots) = *row;
     let session = Session::new(1)?;
     let link = Link::new(12500, 31250, 50000, 6250, true, Code::M4, false).ok()?;
     let first = QValue::new(q)?;
-    let spec = RoundSpec::new(Sel::Sl, session, Side::A, first, c, limit)?;
+    let spec = RoundSpec::new(Sel::Sl, session, Side::A, first, rule, limit)?;
     let (mut round, start) = Round::start(&spec, &link);
     if start != query(session, first) || round.slots_sent() != 1 {
         return Some(false);
@@ -130,26 +152,35 @@ fn rounds_by_the_table(rt: HostRuntime) {
     }
 }
 
-/// Whether a round of 70,000 slots goes on to its end with a whole reply in each slot: that leaves Qfp, so that only a whole
-/// frame of 32,768 slots brings a QueryAdjust.
-fn goes_on_to_its_limit() -> Option<bool> {
+/// Whether a round of 70,000 slots at Q 15 goes on to its end with this outcome in each slot, where only a whole frame of 32,768
+/// slots brings a QueryAdjust, which leaves Q.
+fn goes_on_to_its_limit(rule: Rule, outcome: Outcome) -> Option<bool> {
     let session = Session::new(0)?;
     let q = QValue::new(15)?;
-    let spec = RoundSpec::new(Sel::All00, session, Side::B, q, 100, 70000)?;
+    let spec = RoundSpec::new(Sel::All00, session, Side::B, q, rule, 70000)?;
     let link = Link::new(12500, 31250, 50000, 6250, false, Code::Fm0, true).ok()?;
     let (mut round, _query) = Round::start(&spec, &link);
     for slot in 1..70000u32 {
         let letter = if slot % 32768 == 0 { b'=' } else { b'r' };
-        if round.next(Outcome::Whole) != next_of(letter, session)? {
+        if round.next(outcome) != next_of(letter, session)? {
             return Some(false);
         }
     }
     let sent = round.slots_sent();
-    let is_end = round.next(Outcome::Whole) == Next::Limit;
+    let is_end = round.next(outcome) == Next::Limit;
     Some(sent == 70000 && is_end && round.slots_sent() == 70000)
 }
 
 #[test]
 fn seventy_thousand_slots(rt: HostRuntime) {
-    assert_eq!(rt; goes_on_to_its_limit(), Some(true));
+    // A whole reply leaves Qfp.
+    assert_eq!(rt;
+        goes_on_to_its_limit(Rule::Float(100), Outcome::Whole),
+        Some(true)
+    );
+    // Whole frames of collisions raise Q no further than 15.
+    assert_eq!(rt;
+        goes_on_to_its_limit(Rule::Frame, Outcome::Refused),
+        Some(true)
+    );
 }

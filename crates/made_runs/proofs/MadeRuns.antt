@@ -1,6 +1,6 @@
 -- The tags of a made scenario: each is ready with the flags of a new tag, and each has an EPC of its own, so that a run that ended
 -- quiet lists each of them.
-use Rattle.std.proofs.Common.{◌≡◌, ◌==◌, ℕ, zero, suc, Bool, true, false, List, [], ◌∷◌, ◌++◌, length, map, get_or, Some, slice_get, if◌then◌else◌, ◌⊎◌, inl, inr, refl, ap, sym, ◌∙◌, arith, length-append}
+use Rattle.std.proofs.Common.{◌≡◌, ◌==◌, ℕ, zero, suc, Bool, true, false, List, [], ◌∷◌, ◌++◌, length, map, get_or, Some, slice_get, if◌then◌else◌, ◌⊎◌, inl, inr, refl, ap, sym, ◌∙◌, subst, arith}
 use Rattle.std.proofs.lemmas.Bool.{and_parts}
 use Rattle.std.proofs.lemmas.List.{length-map}
 use Rattle.air_model.specs.Past.{Item, befell, exchanged, operated, ended}
@@ -10,6 +10,7 @@ use Rattle.runs.specs.Complete.{HasNumber}
 use Rattle.runs.specs.EveryTag.{AllTakePart, HaveOwnEpcs}
 use Rattle.runs.specs.Moments.{Ending, ending_of}
 use Rattle.made_scenario.specs.Made.{made_scenario, made_round, made_tag, numbers_below}
+use Rattle.made_scenario.specs.laws.MadeTags.{numbers-count, tags-made}
 use Rattle.q_round.specs.SpecValue.{IsLegalSpec}
 use Rattle.q_round.specs.declared.round.RoundEnd.{RoundEnd}
 use Rattle.q_round.specs.declared.round.RoundEnd.TheVariants as ends
@@ -22,14 +23,6 @@ at-longer [] last zero found at = inr (refl, cc)
 at-longer [] last (suc place) found at = absurd (cc)
 at-longer (first ∷ list) last zero found at = inl at
 at-longer (first ∷ list) last (suc place) found at = elim (at-longer list last place found at) [ inl here ↦ inl here | inr end ↦ inr (ap suc end.0, end.1) ]
-
-pub numbers-count : (count : ℕ) → length (numbers_below count) ≡ count
-unfolding numbers_below
-numbers-count zero = refl
-numbers-count (suc count) =
-    let all = length-append (numbers_below count) (count ∷ []) in
-    let front = numbers-count count in
-    omega (arith, all, front)
 
 -- the number at a place of the numbers below another is the place
 number-at : (count place number : ℕ) → slice_get (numbers_below count) place ≡ Some number → number ≡ place
@@ -48,13 +41,15 @@ mapped-at f (item ∷ list) (suc place) value at = mapped-at f list place value 
 -- the tag of each number
 made-at : (seed tags number : ℕ) (tag : TagValue) → HasNumber (start_of (made_scenario seed tags)) number tag → tag ≡ tag_of (made_tag seed number)
 made-at seed tags number tag at =
-    let (spec, spec_at, is) = mapped-at tag_of (map (made_tag seed) (numbers_below tags)) number tag at in
+    let alone = subst (λ specs. slice_get (map tag_of specs) number ≡ Some tag) (tags-made seed (numbers_below tags)) at in
+    let (spec, spec_at, is) = mapped-at tag_of (map (made_tag seed) (numbers_below tags)) number tag alone in
     let (place, place_at, made_is) = mapped-at (made_tag seed) (numbers_below tags) number spec spec_at in
     is ∙ ap tag_of (made_is ∙ ap (made_tag seed) (number-at tags number place place_at))
 
 pub made-tags-count : (seed tags : ℕ) → length (start_of (made_scenario seed tags)).tags ≡ tags
 made-tags-count seed tags =
-    length-map (map (made_tag seed) (numbers_below tags)) tag_of ∙ length-map (numbers_below tags) (made_tag seed) ∙ numbers-count tags
+    ap (λ specs. length (map tag_of specs)) (tags-made seed (numbers_below tags))
+    ∙ length-map (map (made_tag seed) (numbers_below tags)) tag_of ∙ length-map (numbers_below tags) (made_tag seed) ∙ numbers-count tags
 
 pub made-take-part : (seed tags : ℕ) → AllTakePart (start_of (made_scenario seed tags)) made_round
 unfolding made_round
@@ -80,7 +75,7 @@ made-own-epcs seed tags number other tag other_tag at other_at same =
 
 pub made-round-legal : IsLegalSpec made_round
 unfolding made_round
-made-round-legal = record { session = omega arith; q = omega arith; step = (omega arith, omega arith); limit = (omega arith, omega arith) }
+made-round-legal = record { session = omega arith; q = omega arith; rule = (omega arith, omega arith); limit = (omega arith, omega arith) }
 
 some-end : (one other : Ending) → Some one ≡ Some other → one ≡ other
 some-end one other same = cc

@@ -1,13 +1,17 @@
 -- A made scenario keeps the limits of scenarios.
-use Rattle.std.proofs.Common.{◌≡◌, ℕ, zero, suc, ◌+◌, ◌*◌, ◌<◌, ◌≤◌, ◌^◌, List, [], ◌∷◌, ◌++◌, map, length, refl, ◌∙◌, arith, length-append}
+use Rattle.std.proofs.Common.{◌≡◌, ℕ, zero, suc, ◌+◌, ◌*◌, ◌<◌, ◌≤◌, ◌^◌, List, [], ◌∷◌, ◌++◌, map, length, refl, ap, ◌∙◌, arith}
 use Rattle.std.specs.List.{AllByRecursion}
 use Rattle.std.proofs.lemmas.List.{length-map}
 use Rattle.std.proofs.lemmas.List.Elements.{All-from_recursion}
-use Rattle.made_scenario.specs.Made.{made_scenario, made_link, made_round, made_tag, draw_words, drawn_at, generator_of, most_made_tags, numbers_below, words_of_tag}
+use Rattle.made_scenario.specs.Made.{made_scenario, made_link, made_round, made_group, made_tag, draw_words, drawn_at, generator_of, most_made_tags, numbers_below, words_of_tag}
 use Rattle.pie_line.specs.Link.{IsLegalLink}
-use Rattle.scenario.specs.Limits.{IsScenario, IsEntry, IsStep, IsOpList, no_operations}
+use Rattle.scenario.specs.Limits.{IsScenario, IsGroup, IsEntry, IsStep, IsOpList, no_operations}
+use Rattle.scenario.specs.Groups.{tags_of}
 use Rattle.access_ops.specs.laws.OperationLaws.{IsLegalOp}
+use Rattle.made_scenario.specs.laws.MadeTags.{numbers-count, tags-made}
 use Rattle.scenario_lines.specs.LineForm.{IsRound}
+use Rattle.scenario_lines.specs.declared.tag.TagSpec.{TagSpec}
+use Rattle.scenario_lines.specs.declared.version.Version.TheVariants as versions
 use Rattle.text_fields.specs.WordLists.{IsWordList}
 use Rattle.scenario_lines.specs.TagForm.{IsTag}
 
@@ -25,14 +29,6 @@ numbers-small : (bound count : ℕ) → count ≤ bound → AllByRecursion (λ n
 unfolding numbers_below
 numbers-small bound zero few = tt
 numbers-small bound (suc count) few = all-push (λ number. number < bound) (numbers_below count) count (numbers-small bound count (omega (arith, few))) (omega (arith, few))
-
-numbers-count : (count : ℕ) → length (numbers_below count) ≡ count
-unfolding numbers_below
-numbers-count zero = refl
-numbers-count (suc count) =
-    let all = length-append (numbers_below count) (count ∷ []) in
-    let front = numbers-count count in
-    omega (arith, all, front)
 
 drawn-small : (seed place : ℕ) → drawn_at (generator_of seed) place < 2 ^ 16
 unfolding drawn_at
@@ -79,26 +75,33 @@ link-legal = record {
   pw_range = (omega arith, omega arith, omega arith);
 }
 
-round-legal : IsRound made_round
+round-legal : IsRound versions.One made_round
 unfolding made_round
 round-legal = record {
-  legal = record { session = omega arith; q = omega arith; step = (omega arith, omega arith); limit = (omega arith, omega arith) };
+  legal = record { session = omega arith; q = omega arith; rule = (omega arith, omega arith); limit = (omega arith, omega arith) };
   named = λ same. absurd (cc);
+  spelled = tt;
 }
 
 no-operations-legal : IsOpList no_operations
 no-operations-legal = record { only = tt; ops = All-from_recursion IsLegalOp [] tt; few = omega arith }
 
+group-legal : (seed number : ℕ) → number < most_made_tags → IsGroup versions.One (made_group seed number)
+group-legal seed number small = record { count = refl; tag = tag-legal seed number small; differ = λ several. absurd (omega (arith, several)) }
+
 pub made-legal : (seed tags : ℕ) → tags ≤ most_made_tags → IsScenario (made_scenario seed tags)
 made-legal seed tags few =
-    let count : length (made_scenario seed tags).tags ≡ tags = length-map (numbers_below tags) (made_tag seed) ∙ numbers-count tags in
+    let all : List TagSpec = tags_of (made_scenario seed tags).groups in
+    let count : length all ≡ tags =
+    ap (λ (specs : List TagSpec). length specs) (tags-made seed (numbers_below tags)) ∙ length-map (numbers_below tags) (made_tag seed) ∙ numbers-count tags in
     record {
       link = link-legal;
-      tags = All-from_recursion IsTag (made_scenario seed tags).tags
-          (all-map (λ number. number < most_made_tags) IsTag (made_tag seed) (tag-legal seed) (numbers_below tags) (numbers-small most_made_tags tags few));
-      entries = All-from_recursion (IsEntry (length (made_scenario seed tags).tags)) [] tt;
+      several = refl;
+      groups = All-from_recursion (IsGroup versions.One) (made_scenario seed tags).groups
+          (all-map (λ number. number < most_made_tags) (IsGroup versions.One) (made_group seed) (group-legal seed) (numbers_below tags) (numbers-small most_made_tags tags few));
+      entries = All-from_recursion (IsEntry (length all)) [] tt;
       rising = tt;
-      steps = All-from_recursion (IsStep (length (made_scenario seed tags).tags)) (made_scenario seed tags).steps ((round-legal, no-operations-legal), tt);
+      steps = All-from_recursion (IsStep versions.One (length all)) (made_scenario seed tags).steps ((round-legal, no-operations-legal), tt);
       few_tags = omega (arith, count, few);
       few_air_lines = omega arith;
       few_steps = omega arith;

@@ -1,17 +1,21 @@
 -- Profile: the scenario of the words `gen SEED TAGS`. The tags' random words come from a generator, PCG32 (XSH RR 64/32, O'Neill).
 use Rattle.std.specs.Prelude.{ℕ, zero, suc, ◌+◌, ◌*◌, ◌%◌, ◌^◌, true, false, List, [], ◌∷◌, ◌++◌, map}
+use Rattle.air_events.specs.declared.Several.TheVariants as severals
 use Rattle.bit_strings.specs.declared.code.Code.TheVariants as codes
 use Rattle.command_fields.specs.declared.choices.Sel.TheVariants as sels
 use Rattle.command_fields.specs.declared.choices.Side.TheVariants as sides
 use Rattle.lock_rules.specs.Lock.{locks_of}
 use Rattle.pie_line.specs.Link.{LinkValue}
 use Rattle.q_round.specs.SpecValue.{SpecValue}
+use Rattle.q_round.specs.declared.rule.Rule.TheVariants as rules
 use Rattle.rand_pcg.specs.Lcg.{Lcg, started, increment_of, advance}
 use Rattle.rand_pcg.specs.Pcg.{multiplier_64, pcg32}
 use Rattle.scenario.specs.Limits.{no_operations}
 use Rattle.scenario.specs.declared.values.Scenario.{Scenario}
 use Rattle.scenario.specs.declared.values.Step.TheVariants as steps
+use Rattle.scenario.specs.declared.values.TagGroup.{TagGroup}
 use Rattle.scenario_lines.specs.declared.tag.TagSpec.{TagSpec}
+use Rattle.scenario_lines.specs.declared.version.Version.TheVariants as versions
 
 -- how many tags are made at most
 abbrev pub most_made_tags : ℕ
@@ -65,19 +69,26 @@ numbered_tag number words = record {
 abbrev pub made_tag : (seed number : ℕ) → TagSpec
 made_tag seed number = numbered_tag number (draw_words seed number)
 
+-- no tag has copies
+abbrev pub made_group : (seed number : ℕ) → TagGroup
+made_group seed number = record { count = 1; spec = made_tag seed number }
+
 -- Tari 12.5, RTcal 31.25, TRcal 50 and PW 6.25 microseconds, DR 64/3, Miller with M of 4, and no pilot tone
 abbrev pub made_link : LinkValue
 made_link = record { tari = 12500; rtcal = 31250; trcal = 50000; pw = 6250; dr = true; code = codes.M4; trext = false }
 
--- a round over all tags whose inventoried flag of S0 is A, that begins with Q of 6, moves Qfp by 0.3 and has at most 10,000 slots
+-- a round over all tags whose inventoried flag of S0 is A, that begins with Q of 6, moves Qfp by 0.3 (Annex D) and has at most 10,000 slots
 unfoldable pub made_round : SpecValue
-made_round = record { sel = sels.All00; session = 0; target = sides.A; q = 6; c = 300; limit = 10000 }
+made_round = record { sel = sels.All00; session = 0; target = sides.A; q = 6; rule = rules.Float 300; limit = 10000 }
 
--- the scenario of a seed with so many tags: nothing is said of any exchange, and its one step is the round, without operations
+-- the scenario of a seed with so many tags, of version 1: nothing is said of any exchange, and its one step is the round, without
+-- operations
 abbrev pub made_scenario : (seed tags : ℕ) → Scenario
 made_scenario seed tags = record {
+  version = versions.One;
   link = made_link;
-  tags = map (made_tag seed) (numbers_below tags);
+  several = severals.Break;
+  groups = map (made_group seed) (numbers_below tags);
   entries = [];
   steps = steps.Round made_round no_operations ∷ [];
 }

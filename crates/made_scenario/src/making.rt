@@ -2,8 +2,8 @@
 ghost use Rattle.std.specs.Prelude.{◌≡◌, ◌+◌, ◌*◌, ◌<◌, ◌≤◌, ◌^◌, [], ◌∷◌, length, map, IfOk, OnOk};
 ghost use Rattle.made_scenario.specs.Made.{
   made_scenario,
+  made_group,
   made_round,
-  made_tag,
   numbered_tag,
   numbers_below,
   generator_of,
@@ -22,7 +22,7 @@ use bit_strings::{List, OutOfMemory};
 use lock_rules::Locks;
 use rand_core::utils::NextWord;
 use rand_pcg::Lcg64Xsh32;
-use scenario::{Scenario, Step, TagSpec};
+use scenario::{Scenario, Several, Step, TagGroup, TagSpec, Version};
 use session_flags::DrawWords;
 use std::alloc::Global;
 use tag_memory::BankImage;
@@ -85,18 +85,19 @@ fn numbered_tag(alloc: Global, number: u16, words: DrawWords) -> Result<TagSpec,
     })
 }
 
-/// The tags, in order, with the words of one generator.
-fn made_tags(alloc: Global, seed: u64, count: u32) -> Result<List<TagSpec>, OutOfMemory>
+/// The tags, in order, with the words of one generator. None has copies.
+fn made_groups(alloc: Global, seed: u64, count: u32) -> Result<List<TagGroup>, OutOfMemory>
     requires { count ≤ most_made_tags }
-    ensures { IfOk result (λ tags. tags ≡ map (made_tag seed) (numbers_below count)) }
+    ensures { IfOk result (λ groups. groups ≡ map (made_group seed) (numbers_below count)) }
 {
     let mut generator = Lcg64Xsh32::new(seed, DRAW_STREAM);
-    let mut tags = Vec::with_capacity(alloc, count as usize)?;
+    let mut groups = Vec::with_capacity(alloc, count as usize)?;
     for number in 0..count {
         let words = draw_words(alloc, &mut generator)?;
-        tags.push_reserved(numbered_tag(alloc, number as u16, words)?);
+        let spec = numbered_tag(alloc, number as u16, words)?;
+        groups.push_reserved(TagGroup { count: 1, spec });
     }
-    Ok(List::new(tags))
+    Ok(List::new(groups))
 }
 
 /// The one step.
@@ -114,15 +115,18 @@ fn made_steps(alloc: Global) -> Result<List<Step>, OutOfMemory>
 
 /// The scenario of a seed with so many tags: the tag of each number has the EPC
 /// `3074257BF7194E400000` and the four hexadecimal digits of its number, and the next 64 words of the
-/// generator. One round is run over them, without operations, and nothing is said of any exchange.
+/// generator. One round is run over them, without operations, and nothing is said of any exchange. It is
+/// of version 1.
 pub fn made_scenario(alloc: Global, seed: u64, tags: u32) -> Result<Scenario, OutOfMemory>
     requires { tags ≤ most_made_tags }
     ensures scenario { IfOk result (λ scenario. scenario ≡ made_scenario seed tags) }
     ensures legal { IfOk result IsScenario }
 {
     Ok(Scenario {
+        version: Version::One,
         link: made_link(),
-        tags: made_tags(alloc, seed, tags)?,
+        several: Several::Break,
+        groups: made_groups(alloc, seed, tags)?,
         entries: List::new(Vec::new(alloc)),
         steps: made_steps(alloc)?,
     })

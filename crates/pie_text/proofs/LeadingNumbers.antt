@@ -15,7 +15,7 @@ use Rattle.std.proofs.lemmas.Simd.{get_or-chunk}
 use Rattle.std.proofs.lemmas.Str.{digit_value_digit}
 use Rattle.std.proofs.lemmas.Str.Parse.{numerals_by_value, tells_digits, digit_at, digits_value-take-le}
 use Rattle.text_fields.specs.Lines.{Lacks, fields_of, space}
-use Rattle.text_fields.specs.LineLaws.{pieces_between-cut, whole_piece}
+use Rattle.text_fields.specs.laws.LineLaws.{pieces_between-cut, whole_piece}
 use Rattle.pie_text.specs.FieldEnd.{IsFieldEnd}
 use Rattle.pie_text.specs.Spelling.{IsNumber, decimal_value}
 

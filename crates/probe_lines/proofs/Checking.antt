@@ -2,7 +2,7 @@
 use Rattle.std.proofs.Common.{◌≡◌, ◌≢◌, ◌≤◌, ◌<◌, ◌+◌, ℕ, List, [], ◌∷◌, length, refl, sym, ◌∙◌, ap, ap₂, subst, arith}
 use Rattle.std.specs.List.{join_with_byte}
 use Rattle.std.proofs.lemmas.List.Splits.{join_with_byte-slice_split}
-use Rattle.text_fields.specs.LineLaws.{some_line}
+use Rattle.text_fields.specs.laws.LineLaws.{some_line}
 use Rattle.text_fields.specs.Lines.{fields_of, line_feed, lines_of}
 use Rattle.text_fields.specs.declared.fields_fault.FieldsFault.{FieldsFault}
 use Rattle.scenario_lines.specs.declared.tag.TagSpec.{TagSpec}
@@ -60,13 +60,6 @@ pub record HasReadTo (all left : List (List ℕ)) (count : ℕ) : Type 0 where
   pub few : count ≤ most_stimuli
   pub faults : (number : ℕ) (fault : Fault) → IsFirstFaultFrom (within count) (3 + count) left number fault → IsFirstFaultFrom (within 0) 3 all number fault
   pub says : (said : List Stimulus) → SayStimuli left said → count + length said ≤ most_stimuli → (whole : List Stimulus) × AreStimuli all whole
-
-pub nothing_read : (all : List (List ℕ)) → HasReadTo all all 0
-nothing_read all = record {
-  few = omega arith;
-  faults = λ number fault is. is;
-  says = λ said say few. (said, record { say = say; few = omega arith });
-}
 
 -- one line more
 pub one_read : (all left : List (List ℕ)) (line : List ℕ) (behind : List (List ℕ)) (count : ℕ) (stimulus : Stimulus) → HasReadTo all left count → left ≡ line ∷ behind

@@ -1,5 +1,5 @@
 -- The faults of a line as its reader tells them.
-use Rattle.std.proofs.Common.{◌≡◌, ◌<◌, ◌≤◌, ℕ, List, ◌∷◌, sym, subst, ◌⊎◌, inl, inr, arith}
+use Rattle.std.proofs.Common.{◌≡◌, ◌<◌, ◌≤◌, ℕ, List, ◌∷◌, sym, subst, ◌⊎◌, inl, arith}
 use Rattle.std.specs.Prelude.{IfErr, IsErrAnd, Result, Ok, Err}
 use Rattle.text_fields.specs.declared.fields_fault.FieldsFault.{FieldsFault}
 use Rattle.probe_lines.specs.declared.line.LineWord.{LineWord}
@@ -38,15 +38,3 @@ pub one_too_many : LineLaws → (count : ℕ) (fields : List (List ℕ)) (stimul
     → (¬ IsFaultyProbeLine fields reasons.Word) × IsTooMuch count fields
 one_too_many laws count fields stimulus spells full =
     (laws.not_faulty fields (lines.Stimulus stimulus) reasons.Word spells, record { full = full; needs = stimulus_is_no_end fields stimulus spells })
-
--- a line that has room, or is the end, is none too many
-pub not_too_much : (count : ℕ) (fields : List (List ℕ)) → (count < most_stimuli) ⊎ BeginsWith fields words.End → ¬ IsTooMuch count fields
-not_too_much count fields (inl room) much = let full = much.full in omega arith
-not_too_much count fields (inr end) much = much.needs end
-
--- a line with a later fault has a known first field
-pub shape_is_no_word : LineLaws → (fields : List (List ℕ)) → IsFaultyProbeLine fields reasons.Shape → ¬ IsFaultyProbeLine fields reasons.Word
-shape_is_no_word laws fields faulty word = let same = laws.one_fault fields reasons.Shape reasons.Word faulty word in cc
-
-pub number_is_no_word : LineLaws → (fields : List (List ℕ)) → IsFaultyProbeLine fields reasons.Number → ¬ IsFaultyProbeLine fields reasons.Word
-number_is_no_word laws fields faulty word = let same = laws.one_fault fields reasons.Number reasons.Word faulty word in cc

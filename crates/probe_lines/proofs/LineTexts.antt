@@ -2,7 +2,7 @@
 use Rattle.std.proofs.Common.{◌≡◌, ◌≢◌, ℕ, Bool, List, [], ◌∷◌, ap, get_or, arith, refl, sym, ◌∙◌, inl, inr, subst}
 use Rattle.std.specs.Prelude.{codes}
 use Rattle.text_fields.specs.Binary.{binary}
-use Rattle.text_fields.specs.FieldTextLaws.{IsFieldText-binary}
+use Rattle.text_fields.specs.laws.FieldTextLaws.{IsFieldText-binary}
 use Rattle.text_fields.specs.NamedFields.{AreFilled, spelled_fields}
 use Rattle.text_fields.specs.declared.fields_fault.FieldsFault.{FieldsFault}
 use Rattle.text_fields.specs.declared.fields_fault.FieldsFault.TheVariants as reasons

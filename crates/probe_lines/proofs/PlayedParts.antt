@@ -89,13 +89,6 @@ part_of first said number tag before written between after front rest effects so
       added = Adds-more written between after so_far.text front so_far.added adds;
     }
 
--- nothing more was written
-pub part_so_far : HaveEffects → (first : TagValue) (said : List Stimulus) (number : ℕ) (tag : TagValue) (before : List (List ℕ)) (written written' : Option (List ℕ))
-    → PlayedTo first said number tag before written written' → WritesPart first said written written'
-part_so_far have first said number tag before written written' so_far =
-    let effects = have so_far.left in
-    part_of first said number tag before written written' written' [] (text_from number tag effects.0) effects.0 so_far effects.1 refl (Adds-nothing written')
-
 -- a part of what comes of the next line was
 pub part_of_next : HaveEffects → (first : TagValue) (said : List Stimulus) (number : ℕ) (tag : TagValue) (before behind : List (List ℕ)) (written between after : Option (List ℕ))
     (stimulus : Stimulus) (effect : Effect) (piece front rest : List ℕ) → (so_far : PlayedTo first said number tag before written between) → Next stimulus behind so_far.left
@@ -145,14 +138,6 @@ pub no_memory_next : {T : Type 0} (result : Result T PlayFault) (number : ℕ) (
 no_memory_next result number tag stimulus effect written faults is has =
     kept result OutOfMemory (StopsAt number tag stimulus written written faults faults) is
     (record { effect = effect; has = has; stops = nothing_of (text_with (lines_behind number effect tag)) written })
-
-pub stopped_next : {T : Type 0} (result : Result T PlayFault) (cause : PlayFault) (number : ℕ) (tag : TagValue) (stimulus : Stimulus) (effect : Effect) (piece : List ℕ)
-    (written written' : Option (List ℕ)) (faults faults' : ℕ) → IsErrAnd result (λ fault. fault ≡ cause) → HasEffect stimulus effect
-    → piece ≡ text_with (lines_behind number effect tag) → StopsIn piece written written' faults faults' cause
-    → IfErr result (StopsAt number tag stimulus written written' faults faults')
-stopped_next result cause number tag stimulus effect piece written written' faults faults' is has told stops =
-    kept result cause (StopsAt number tag stimulus written written' faults faults') is
-    (record { effect = effect; has = has; stops = subst (λ (p : List ℕ). StopsIn p written written' faults faults' cause) told stops })
 
 -- an end of playing, where what comes next was cut off
 stop_played : HaveEffects → (first : TagValue) (said : List Stimulus) (number : ℕ) (tag : TagValue) (before behind : List (List ℕ)) (written between after : Option (List ℕ))

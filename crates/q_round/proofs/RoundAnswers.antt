@@ -1,5 +1,5 @@
 -- What a round that keeps no outcomes does is what the table says of the outcomes.
-use Rattle.std.proofs.Common.{◌≡◌, ◌≢◌, ℕ, ◌+◌, ◌^◌, ◌==◌, ◌&&◌, nat_lt, Bool, true, false, List, ◌∷◌, length, Option, Some, None, refl, ap, sym, ◌∙◌, subst, add-one, add-zero, eq-eqb, if◌then◌else◌}
+use Rattle.std.proofs.Common.{◌≡◌, ◌≢◌, ℕ, ◌+◌, ◌^◌, ◌==◌, ◌&&◌, Bool, true, false, List, ◌∷◌, length, Option, Some, None, refl, ap, sym, ◌∙◌, subst, add-one, add-zero, eq-eqb, if◌then◌else◌}
 use Rattle.std.proofs.lemmas.Bool.{ne_eqb}
 use Rattle.command_fields.specs.declared.choices.UpDn.{UpDn}
 use Rattle.command_fields.specs.declared.choices.UpDn.TheVariants.{Up, Same, Down}
@@ -9,19 +9,19 @@ use Rattle.q_round.specs.declared.frame.Outcome.{Outcome}
 use Rattle.q_round.specs.declared.round.Next.TheVariants.{Send, Limit}
 use Rattle.q_round.specs.declared.round.Stage.TheVariants as stages
 use Rattle.q_round.specs.SpecValue.{SpecValue}
-use Rattle.q_round.specs.Rounds.{q_nearest, Turn, adjust, rep, limit, turn_after, turn_of, frame_of, is_over, slots_of}
+use Rattle.q_round.specs.Rounds.{goes_up, goes_down, Turn, adjust, rep, limit, turn_of, frame_of, is_over, slots_of}
 use Rattle.q_round.specs.laws.SlotLaws.{slots-underway}
+use Rattle.q_round.proofs.TurnFacts.{turn_at}
 use Rattle.q_round.specs.RoundValue.{RoundValue, frame_after_outcome, change_of, frame_begun_by, IsFrameOf, IsStageOf, RoundStandsFor, IsNextAnswer}
 
 -- the line of the table behind one more outcome, by what the frame knows
 pub turn-is : (spec : SpecValue) (outcomes : List Outcome) (outcome : Outcome) (frame : Frame) → IsFrameOf frame spec outcomes →
-    let next = frame_after_outcome spec.c outcome frame in
-    turn_of spec (outcome ∷ outcomes) ≡ turn_after spec.limit (length outcomes + 1) next.qfp next.q next.slots next.silent
-turn-is spec outcomes outcome frame s = rw (s.q, s.qfp, s.slots, s.silent, add-one (length (frame_of spec outcomes)))
+    turn_of spec (outcome ∷ outcomes) ≡ turn_at spec (length outcomes + 1) (frame_after_outcome spec.rule outcome frame)
+turn-is spec outcomes outcome frame s = rw (s.q, s.qfp, s.slots, s.refused, s.silent, add-one (length (frame_of spec outcomes)))
 
 -- its second line
-pub turn-limit : (most sent qfp q slots : ℕ) (silent : Bool) → (slots == 2 ^ q && silent) ≡ false → sent ≡ most → turn_after most sent qfp q slots silent ≡ limit
-turn-limit most sent qfp q slots silent h e = rw (h, eq-eqb sent most e)
+pub turn-limit : (spec : SpecValue) (sent : ℕ) (frame : Frame) → (frame.slots == 2 ^ frame.q && frame.silent) ≡ false → sent ≡ spec.limit → turn_at spec sent frame ≡ limit
+turn-limit spec sent frame h e = rw (h, eq-eqb sent spec.limit e)
 
 -- what follows where the round goes on
 abbrev pub turn_for : Option UpDn → Turn
@@ -36,30 +36,32 @@ turn-for false false true = refl
 turn-for false false false = refl
 
 -- the lines below them
-pub turn-on : (most sent : ℕ) (frame : Frame) → (frame.slots == 2 ^ frame.q && frame.silent) ≡ false → sent ≢ most →
-    turn_after most sent frame.qfp frame.q frame.slots frame.silent ≡ turn_for (change_of frame)
-turn-on most sent frame h other = rw (h, ne_eqb sent most other)
-    (turn-for (nat_lt frame.q (q_nearest frame.qfp)) (nat_lt (q_nearest frame.qfp) frame.q) (frame.slots == 2 ^ frame.q))
+pub turn-on : (spec : SpecValue) (sent : ℕ) (frame : Frame) → (frame.slots == 2 ^ frame.q && frame.silent) ≡ false → sent ≢ spec.limit →
+    turn_at spec sent frame ≡ turn_for (change_of spec.rule frame)
+turn-on spec sent frame h other = rw (h, ne_eqb sent spec.limit other)
+    (turn-for (goes_up spec.rule frame.q frame.qfp frame.slots frame.refused) (goes_down spec.rule frame.q frame.qfp frame.slots frame.refused) (frame.slots == 2 ^ frame.q))
 
 -- the frame that a QueryAdjust begins
 pub frame-begun : (spec : SpecValue) (outcomes : List Outcome) (outcome : Outcome) (frame : Frame) (updn : UpDn) → IsFrameOf frame spec outcomes →
-    turn_of spec (outcome ∷ outcomes) ≡ adjust updn → IsFrameOf (frame_begun_by updn (frame_after_outcome spec.c outcome frame)) spec (outcome ∷ outcomes)
+    turn_of spec (outcome ∷ outcomes) ≡ adjust updn → IsFrameOf (frame_begun_by updn (frame_after_outcome spec.rule outcome frame)) spec (outcome ∷ outcomes)
 frame-begun spec outcomes outcome frame updn s t = record {
   goes_on = rw t;
   q = rw (t, s.q);
   qfp = rw s.qfp;
   slots = rw t;
+  refused = rw t;
   silent = rw t;
 }
 
 -- the frame that goes on
 pub frame-goes_on : (spec : SpecValue) (outcomes : List Outcome) (outcome : Outcome) (frame : Frame) → IsFrameOf frame spec outcomes →
-    turn_of spec (outcome ∷ outcomes) ≡ rep → IsFrameOf (frame_after_outcome spec.c outcome frame) spec (outcome ∷ outcomes)
+    turn_of spec (outcome ∷ outcomes) ≡ rep → IsFrameOf (frame_after_outcome spec.rule outcome frame) spec (outcome ∷ outcomes)
 frame-goes_on spec outcomes outcome frame s t = record {
   goes_on = rw t;
   q = rw (t, s.q);
   qfp = rw s.qfp;
   slots = rw (t, s.slots) (add-one (length (frame_of spec outcomes)));
+  refused = rw (t, s.refused);
   silent = rw (t, s.silent);
 }
 
@@ -68,23 +70,23 @@ pub underway : (round : RoundValue) (spec : SpecValue) (outcomes : List Outcome)
     round.stage ≡ stages.Underway frame → IsFrameOf frame spec outcomes
 underway round spec outcomes frame s is = subst (λ stage. IsStageOf stage spec outcomes) is s.stage
 
--- the frame with one more outcome, which the step of the parameters has moved
+-- the frame with one more outcome, by the rule of the parameters
 next-is : (round : RoundValue) (spec : SpecValue) (outcome : Outcome) (frame next : Frame) → round.spec ≡ spec →
-    next ≡ frame_after_outcome round.spec.c outcome frame → next ≡ frame_after_outcome spec.c outcome frame
-next-is round spec outcome frame next is value = value ∙ ap (λ parameters. frame_after_outcome parameters.c outcome frame) is
+    next ≡ frame_after_outcome round.spec.rule outcome frame → next ≡ frame_after_outcome spec.rule outcome frame
+next-is round spec outcome frame next is value = value ∙ ap (λ parameters. frame_after_outcome parameters.rule outcome frame) is
 
 -- the round ends at its limit
 pub stands-limit : (round : RoundValue) (spec : SpecValue) (outcomes : List Outcome) (outcome : Outcome) (frame next : Frame) →
     RoundStandsFor round spec outcomes → is_over spec outcomes ≡ false → round.stage ≡ stages.Underway frame →
-    next ≡ frame_after_outcome round.spec.c outcome frame → (next.slots == 2 ^ next.q && next.silent) ≡ false → round.slots_sent ≡ round.spec.limit →
+    next ≡ frame_after_outcome round.spec.rule outcome frame → (next.slots == 2 ^ next.q && next.silent) ≡ false → round.slots_sent ≡ round.spec.limit →
     IsNextAnswer Limit (record { spec = round.spec; stage = stages.Limit; slots_sent = round.slots_sent }) spec (outcome ∷ outcomes)
 stands-limit round spec outcomes outcome frame next s on is value h full =
     let at = underway round spec outcomes frame s is in
     let n = next-is round spec outcome frame next s.spec_is value in
-    let after = frame_after_outcome spec.c outcome frame in
+    let after = frame_after_outcome spec.rule outcome frame in
     let h' = subst (λ (f : Frame). (f.slots == 2 ^ f.q && f.silent) ≡ false) n h in
     let count : length outcomes + 1 ≡ spec.limit = sym (slots-underway spec outcomes s.outcomes_are on) ∙ sym s.sent ∙ full ∙ ap (λ p. p.limit) s.spec_is in
-    let t : turn_of spec (outcome ∷ outcomes) ≡ limit = turn-is spec outcomes outcome frame at ∙ turn-limit spec.limit (length outcomes + 1) after.qfp after.q after.slots after.silent h' count in
+    let t : turn_of spec (outcome ∷ outcomes) ≡ limit = turn-is spec outcomes outcome frame at ∙ turn-limit spec (length outcomes + 1) after h' count in
     record {
       stands = record {
         spec_is = s.spec_is;
@@ -99,21 +101,21 @@ stands-limit round spec outcomes outcome frame next s on is value h full =
 -- what follows where the round goes on
 goes-on : (round : RoundValue) (spec : SpecValue) (outcomes : List Outcome) (outcome : Outcome) (frame next : Frame) →
     RoundStandsFor round spec outcomes → is_over spec outcomes ≡ false → round.stage ≡ stages.Underway frame →
-    next ≡ frame_after_outcome round.spec.c outcome frame → (next.slots == 2 ^ next.q && next.silent) ≡ false → round.slots_sent ≢ round.spec.limit →
-    turn_of spec (outcome ∷ outcomes) ≡ turn_for (change_of next)
+    next ≡ frame_after_outcome round.spec.rule outcome frame → (next.slots == 2 ^ next.q && next.silent) ≡ false → round.slots_sent ≢ round.spec.limit →
+    turn_of spec (outcome ∷ outcomes) ≡ turn_for (change_of round.spec.rule next)
 goes-on round spec outcomes outcome frame next s on is value h other =
     let at = underway round spec outcomes frame s is in
     let n = next-is round spec outcome frame next s.spec_is value in
-    let after = frame_after_outcome spec.c outcome frame in
+    let after = frame_after_outcome spec.rule outcome frame in
     let h' = subst (λ (f : Frame). (f.slots == 2 ^ f.q && f.silent) ≡ false) n h in
     let count : length outcomes + 1 ≡ round.slots_sent = sym (slots-underway spec outcomes s.outcomes_are on) ∙ sym s.sent in
     let other' : length outcomes + 1 ≢ spec.limit = λ e. other (sym count ∙ e ∙ sym (ap (λ p. p.limit) s.spec_is)) in
-    turn-is spec outcomes outcome frame at ∙ turn-on spec.limit (length outcomes + 1) after h' other' ∙ ap (λ f. turn_for (change_of f)) (sym n)
+    turn-is spec outcomes outcome frame at ∙ turn-on spec (length outcomes + 1) after h' other' ∙ ap (λ f. turn_for (change_of spec.rule f)) (sym n) ∙ ap (λ p. turn_for (change_of p.rule next)) (sym s.spec_is)
 
 -- it adjusts Q
 pub stands-adjust : (round : RoundValue) (spec : SpecValue) (outcomes : List Outcome) (outcome : Outcome) (frame next : Frame) (updn : UpDn) →
     RoundStandsFor round spec outcomes → is_over spec outcomes ≡ false → round.stage ≡ stages.Underway frame →
-    next ≡ frame_after_outcome round.spec.c outcome frame → (next.slots == 2 ^ next.q && next.silent) ≡ false → round.slots_sent ≢ round.spec.limit → change_of next ≡ Some updn →
+    next ≡ frame_after_outcome round.spec.rule outcome frame → (next.slots == 2 ^ next.q && next.silent) ≡ false → round.slots_sent ≢ round.spec.limit → change_of round.spec.rule next ≡ Some updn →
     IsNextAnswer (Send (QueryAdjust round.spec.session updn)) (record { spec = round.spec; stage = stages.Underway (frame_begun_by updn next); slots_sent = round.slots_sent + 1 }) spec (outcome ∷ outcomes)
 stands-adjust round spec outcomes outcome frame next updn s on is value h other due =
     let at = underway round spec outcomes frame s is in
@@ -133,7 +135,7 @@ stands-adjust round spec outcomes outcome frame next updn s on is value h other 
 -- or it goes on in the same frame
 pub stands-rep : (round : RoundValue) (spec : SpecValue) (outcomes : List Outcome) (outcome : Outcome) (frame next : Frame) →
     RoundStandsFor round spec outcomes → is_over spec outcomes ≡ false → round.stage ≡ stages.Underway frame →
-    next ≡ frame_after_outcome round.spec.c outcome frame → (next.slots == 2 ^ next.q && next.silent) ≡ false → round.slots_sent ≢ round.spec.limit → change_of next ≡ None →
+    next ≡ frame_after_outcome round.spec.rule outcome frame → (next.slots == 2 ^ next.q && next.silent) ≡ false → round.slots_sent ≢ round.spec.limit → change_of round.spec.rule next ≡ None →
     IsNextAnswer (Send (QueryRep round.spec.session)) (record { spec = round.spec; stage = stages.Underway next; slots_sent = round.slots_sent + 1 }) spec (outcome ∷ outcomes)
 stands-rep round spec outcomes outcome frame next s on is value h other due =
     let at = underway round spec outcomes frame s is in

@@ -1,4 +1,4 @@
--- The rule of Annex D has what an inventory goes by.
+-- Each rule has what an inventory goes by.
 use Rattle.std.proofs.Common.{◌≡◌, ◌+◌, List, ◌∷◌, length, refl, ap, add-one, arith}
 use Rattle.command_fields.specs.declared.choices.UpDn.TheVariants.{Up, Same, Down}
 use Rattle.pie_line.specs.Link.{LinkValue}
@@ -7,27 +7,27 @@ use Rattle.q_round.specs.laws.RoundFacts.{IsNextTurn, RoundFacts}
 use Rattle.q_round.specs.Rounds.{Turn, query, adjust, rep, quiet, limit, turn_of, q_of, frame_of, AreOutcomes, answer_of, next_command}
 use Rattle.q_round.specs.SpecValue.{SpecValue, IsLegalSpec}
 use Rattle.q_round.specs.RoundValue.{IsCounted}
-use Rattle.q_round.proofs.RoundLaws.{next_at, frame_at, turn-at, sound, q-in-range, quiet-frame}
-use Rattle.q_round.proofs.TurnFacts.{IsTurn, counted-frame, rep-sound}
+use Rattle.q_round.proofs.RoundLaws.{next_at, counted-at, turn-known, q-in-range, quiet-frame}
+use Rattle.q_round.proofs.TurnFacts.{IsTurn, rep-sound}
 
 -- by cases on the turn
 turn-fits : (spec : SpecValue) (link : LinkValue) (outcome : Outcome) (before : List Outcome) (turn : Turn) → turn_of spec (outcome ∷ before) ≡ turn →
-    AreOutcomes spec (outcome ∷ before) → IsCounted (next_at spec outcome before) → IsTurn turn spec.limit (length before + 1) (next_at spec outcome before) →
+    IsLegalSpec spec → AreOutcomes spec (outcome ∷ before) → IsCounted (next_at spec outcome before) → IsTurn turn spec.limit (length before + 1) (next_at spec outcome before) →
     IsNextTurn (next_command spec link (outcome ∷ before)) spec.session (q_of spec before) (outcome ∷ frame_of spec before) (q_of spec (outcome ∷ before)) (frame_of spec (outcome ∷ before))
-turn-fits spec link outcome before query t are s known = absurd known
-turn-fits spec link outcome before (adjust Up) t are s known = rw t (record { session_is = refl; q_moves = refl; frame_is = refl })
-turn-fits spec link outcome before (adjust Down) t are s known =
+turn-fits spec link outcome before query t legal are s known = absurd known
+turn-fits spec link outcome before (adjust Up) t legal are s known = rw t (record { session_is = refl; q_moves = refl; frame_is = refl })
+turn-fits spec link outcome before (adjust Down) t legal are s known =
     let above = known.1 in
     rw t (record { session_is = refl; q_moves = omega arith; frame_is = refl })
-turn-fits spec link outcome before (adjust Same) t are s known = rw t (record { session_is = refl; q_moves = refl; frame_is = refl })
-turn-fits spec link outcome before rep t are s known = rw t (record {
+turn-fits spec link outcome before (adjust Same) t legal are s known = rw t (record { session_is = refl; q_moves = refl; frame_is = refl })
+turn-fits spec link outcome before rep t legal are s known = rw t (record {
   session_is = refl;
   q_is = refl;
   frame_is = refl;
-  room = rw (← add-one (length (frame_of spec before))) (rep-sound (next_at spec outcome before) s known.1 known.2).slots;
+  room = rw (← add-one (length (frame_of spec before))) (rep-sound (next_at spec outcome before) s known.1).slots;
 })
-turn-fits spec link outcome before quiet t are s known = rw t (quiet-frame spec link outcome before are (ap (λ turn. answer_of spec link turn) t))
-turn-fits spec link outcome before limit t are s known = rw t tt
+turn-fits spec link outcome before quiet t legal are s known = rw t (quiet-frame spec link outcome before legal are (ap (λ turn. answer_of spec link turn) t))
+turn-fits spec link outcome before limit t legal are s known = rw t tt
 
 pub facts : (spec : SpecValue) (link : LinkValue) → IsLegalSpec spec → RoundFacts spec link
 facts spec link legal = record {
@@ -35,7 +35,6 @@ facts spec link legal = record {
   first_q = refl;
   first_frame = refl;
   range = λ outcomes are. q-in-range spec outcomes legal are;
-  turn = λ outcome before are. turn-fits spec link outcome before (turn_of spec (outcome ∷ before)) refl are
-      (counted-frame spec.c outcome (frame_at spec before) legal.step (sound spec before legal are.1 are.0))
-      (turn-at spec outcome before are.0);
+  turn = λ outcome before are. turn-fits spec link outcome before (turn_of spec (outcome ∷ before)) refl legal are
+      (counted-at spec outcome before legal are) (turn-known spec outcome before legal are);
 }

@@ -1,7 +1,6 @@
 -- The laws of rounds, by what is known at each turn.
 use Rattle.std.proofs.Common.{◌≡◌, ℕ, ◌+◌, ◌^◌, ◌<◌, ◌≤◌, Bool, true, false, List, [], ◌∷◌, ◌++◌, length, refl, ap, sym, ◌∙◌, subst, add-one, arith}
 use Rattle.std.specs.List.{AllByRecursion}
-use Rattle.command_fields.specs.declared.choices.UpDn.TheVariants.{Up, Same, Down}
 use Rattle.command_grammar.specs.declared.commands.Command.TheVariants.{QueryRep}
 use Rattle.pie_line.specs.Link.{LinkValue}
 use Rattle.q_round.specs.declared.frame.Frame.{Frame}
@@ -9,11 +8,11 @@ use Rattle.q_round.specs.declared.frame.Outcome.{Outcome}
 use Rattle.q_round.specs.declared.frame.Outcome.TheVariants.{Silence, Whole, Refused}
 use Rattle.q_round.specs.declared.round.Next.TheVariants.{Send, Quiet}
 use Rattle.q_round.specs.SpecValue.{SpecValue, IsLegalSpec}
-use Rattle.q_round.specs.Rounds.{qfp_of, is_silent, all_silent, Turn, query, adjust, rep, quiet, limit, q_after, frame_after, ends, turn_of, q_of, frame_of, is_over, AreOutcomes, slots_of, answer_of, next_command}
+use Rattle.q_round.specs.Rounds.{qfp_of, is_silent, all_silent, refused_in, Turn, query, adjust, rep, quiet, limit, q_after, frame_after, ends, turn_of, q_of, frame_of, is_over, AreOutcomes, slots_of, answer_of, next_command}
 use Rattle.q_round.specs.RoundValue.{IsSoundFrame, IsCounted, frame_after_outcome, IsFrameOf}
 use Rattle.q_round.specs.laws.RoundLaws.{IsSilentFrame}
 use Rattle.q_round.specs.laws.SlotLaws.{slots-underway}
-use Rattle.q_round.proofs.TurnFacts.{IsTurn, turn-tells, counted-frame, up-sound, down-sound, same-sound, rep-sound, some-slots, both}
+use Rattle.q_round.proofs.TurnFacts.{IsTurn, turn-tells, counted-frame, begun-sound, rep-sound, some-slots, both}
 use Rattle.q_round.proofs.RoundAnswers.{turn-is}
 
 -- the frame behind these outcomes
@@ -22,23 +21,24 @@ frame_at spec outcomes = record {
   q = q_of spec outcomes;
   qfp = qfp_of spec outcomes;
   slots = length (frame_of spec outcomes);
+  refused = refused_in (frame_of spec outcomes);
   silent = all_silent (frame_of spec outcomes);
 }
 
 -- the frame with one more outcome
 abbrev pub next_at : SpecValue → Outcome → List Outcome → Frame
-next_at spec outcome before = frame_after_outcome spec.c outcome (frame_at spec before)
+next_at spec outcome before = frame_after_outcome spec.rule outcome (frame_at spec before)
 
 frame-at : (spec : SpecValue) (outcomes : List Outcome) → is_over spec outcomes ≡ false → IsFrameOf (frame_at spec outcomes) spec outcomes
-frame-at spec outcomes on = record { goes_on = on; q = refl; qfp = refl; slots = refl; silent = refl }
+frame-at spec outcomes on = record { goes_on = on; q = refl; qfp = refl; slots = refl; refused = refl; silent = refl }
 
 -- what is known at the turn behind one more outcome
-pub turn-at : (spec : SpecValue) (outcome : Outcome) (before : List Outcome) → is_over spec before ≡ false →
+pub turn-at : (spec : SpecValue) (outcome : Outcome) (before : List Outcome) → is_over spec before ≡ false → IsCounted (next_at spec outcome before) →
     IsTurn (turn_of spec (outcome ∷ before)) spec.limit (length before + 1) (next_at spec outcome before)
-turn-at spec outcome before on =
+turn-at spec outcome before on s =
     let next = next_at spec outcome before in
     subst (λ turn. IsTurn turn spec.limit (length before + 1) next) (sym (turn-is spec before outcome (frame_at spec before) (frame-at spec before on)))
-    (turn-tells spec.limit (length before + 1) next)
+    (turn-tells spec (length before + 1) next s)
 
 -- ... by cases on the turn
 frame-sound : (spec : SpecValue) (outcome : Outcome) (before : List Outcome) (turn : Turn) → turn_of spec (outcome ∷ before) ≡ turn → ends turn ≡ false →
@@ -47,17 +47,21 @@ frame-sound : (spec : SpecValue) (outcome : Outcome) (before : List Outcome) (tu
 frame-sound spec outcome before query t goes on s known = absurd known
 frame-sound spec outcome before quiet t goes on s known = absurd (cc)
 frame-sound spec outcome before limit t goes on s known = absurd (cc)
-frame-sound spec outcome before (adjust Up) t goes on s known = rw t (up-sound (next_at spec outcome before) s known.1)
-frame-sound spec outcome before (adjust Down) t goes on s known = rw t (down-sound (next_at spec outcome before) s known.1)
-frame-sound spec outcome before (adjust Same) t goes on s known = rw t (same-sound (next_at spec outcome before) s known.1)
-frame-sound spec outcome before rep t goes on s known = rw t (rw (← add-one (length (frame_of spec before))) (rep-sound (next_at spec outcome before) s known.1 known.2))
+frame-sound spec outcome before (adjust updn) t goes on s known = rw t (begun-sound updn (next_at spec outcome before) s known.1)
+frame-sound spec outcome before rep t goes on s known = rw t (rw (← add-one (length (frame_of spec before))) (rep-sound (next_at spec outcome before) s known.1))
 
 pub sound : (spec : SpecValue) (outcomes : List Outcome) → IsLegalSpec spec → AreOutcomes spec outcomes → is_over spec outcomes ≡ false → IsSoundFrame (frame_at spec outcomes)
-sound spec [] legal are on = record { q = legal.q; qfp = omega (arith, legal.q); low = omega arith; high = omega arith; slots = some-slots spec.q }
+sound spec [] legal are on = record { q = legal.q; qfp = omega (arith, legal.q); slots = some-slots spec.q; refused = omega arith }
 sound spec (outcome ∷ before) legal are on =
-    frame-sound spec outcome before (turn_of spec (outcome ∷ before)) refl on are.0
-    (counted-frame spec.c outcome (frame_at spec before) legal.step (sound spec before legal are.1 are.0))
-    (turn-at spec outcome before are.0)
+    let s = counted-frame spec.rule outcome (frame_at spec before) (sound spec before legal are.1 are.0) in
+    frame-sound spec outcome before (turn_of spec (outcome ∷ before)) refl on are.0 s (turn-at spec outcome before are.0 s)
+
+pub counted-at : (spec : SpecValue) (outcome : Outcome) (before : List Outcome) → IsLegalSpec spec → AreOutcomes spec (outcome ∷ before) → IsCounted (next_at spec outcome before)
+counted-at spec outcome before legal are = counted-frame spec.rule outcome (frame_at spec before) (sound spec before legal are.1 are.0)
+
+pub turn-known : (spec : SpecValue) (outcome : Outcome) (before : List Outcome) → IsLegalSpec spec → AreOutcomes spec (outcome ∷ before) →
+    IsTurn (turn_of spec (outcome ∷ before)) spec.limit (length before + 1) (next_at spec outcome before)
+turn-known spec outcome before legal are = turn-at spec outcome before are.0 (counted-at spec outcome before legal are)
 
 -- no round gives more slot commands than its limit
 within : (spec : SpecValue) (outcome : Outcome) (before : List Outcome) (turn : Turn) → turn_of spec (outcome ∷ before) ≡ turn → slots_of spec before ≤ spec.limit →
@@ -65,15 +69,13 @@ within : (spec : SpecValue) (outcome : Outcome) (before : List Outcome) (turn : 
 within spec outcome before query t most count known = absurd known
 within spec outcome before quiet t most count known = rw t (omega arith)
 within spec outcome before limit t most count known = rw t (omega arith)
-within spec outcome before (adjust Up) t most count known = let other = known.0 in rw t (omega arith)
-within spec outcome before (adjust Down) t most count known = let other = known.0 in rw t (omega arith)
-within spec outcome before (adjust Same) t most count known = let other = known.0 in rw t (omega arith)
+within spec outcome before (adjust updn) t most count known = let other = known.0 in rw t (omega arith)
 within spec outcome before rep t most count known = let other = known.0 in rw t (omega arith)
 
 pub slots-within : (spec : SpecValue) (outcomes : List Outcome) → IsLegalSpec spec → AreOutcomes spec outcomes → slots_of spec outcomes ≤ spec.limit
 slots-within spec [] legal are = legal.limit.0
 slots-within spec (outcome ∷ before) legal are =
-    within spec outcome before (turn_of spec (outcome ∷ before)) refl (slots-within spec before legal are.1) (slots-underway spec before are.1 are.0) (turn-at spec outcome before are.0)
+    within spec outcome before (turn_of spec (outcome ∷ before)) refl (slots-within spec before legal are.1) (slots-underway spec before are.1 are.0) (turn-known spec outcome before legal are)
 
 -- Q is in its range, also where the round is over
 kept : (turn : Turn) (q : ℕ) → ends turn ≡ true → q_after turn q ≡ q
@@ -111,11 +113,11 @@ quiet-turn spec link rep h = absurd (cc)
 quiet-turn spec link quiet h = refl
 quiet-turn spec link limit h = absurd (cc)
 
-pub quiet-frame : (spec : SpecValue) (link : LinkValue) (outcome : Outcome) (before : List Outcome) → AreOutcomes spec (outcome ∷ before) →
+pub quiet-frame : (spec : SpecValue) (link : LinkValue) (outcome : Outcome) (before : List Outcome) → IsLegalSpec spec → AreOutcomes spec (outcome ∷ before) →
     next_command spec link (outcome ∷ before) ≡ Quiet → IsSilentFrame (q_of spec before) (outcome ∷ frame_of spec before)
-quiet-frame spec link outcome before are h =
+quiet-frame spec link outcome before legal are h =
     let t = quiet-turn spec link (turn_of spec (outcome ∷ before)) h in
-    let known = subst (λ turn. IsTurn turn spec.limit (length before + 1) (next_at spec outcome before)) t (turn-at spec outcome before are.0) in
+    let known = subst (λ turn. IsTurn turn spec.limit (length before + 1) (next_at spec outcome before)) t (turn-known spec outcome before legal are) in
     record {
       whole = rw (← add-one (length (frame_of spec before))) known.0;
       silent = all-silent (outcome ∷ frame_of spec before) known.1;

@@ -1,5 +1,5 @@
 -- What a round that keeps no outcomes knows of them (profile).
-use Rattle.std.specs.Prelude.{◌≡◌, ℕ, ◌+◌, ◌*◌, ◌^◌, ◌<◌, ◌≤◌, ◌==◌, ◌&&◌, nat_lt, true, false, List, length, Option, Some, None, if◌then◌else◌}
+use Rattle.std.specs.Prelude.{◌≡◌, ℕ, ◌+◌, ◌^◌, ◌<◌, ◌≤◌, ◌==◌, ◌&&◌, true, false, List, length, Option, Some, None, if◌then◌else◌}
 use Rattle.command_fields.specs.declared.choices.UpDn.{UpDn}
 use Rattle.command_fields.specs.declared.choices.UpDn.TheVariants.{Up, Same, Down}
 use Rattle.q_round.specs.declared.frame.Frame.{Frame}
@@ -9,8 +9,9 @@ use Rattle.q_round.specs.declared.round.Next.{Next}
 use Rattle.q_round.specs.declared.round.Next.TheVariants as nexts
 use Rattle.q_round.specs.declared.round.Stage.{Stage}
 use Rattle.q_round.specs.declared.round.Stage.TheVariants.{Underway, Quiet, Limit}
+use Rattle.q_round.specs.declared.rule.Rule.{Rule}
 use Rattle.q_round.specs.SpecValue.{SpecValue}
-use Rattle.q_round.specs.Rounds.{qfp_after, qfp_of, q_nearest, is_silent, all_silent, q_moved_by, quiet, limit, turn_of, q_of, frame_of, is_over, is_end, AreOutcomes, slots_of, next_command}
+use Rattle.q_round.specs.Rounds.{qfp_after, qfp_of, is_silent, all_silent, one_if_refused, refused_in, goes_up, goes_down, q_moved_by, quiet, limit, turn_of, q_of, frame_of, is_over, is_end, AreOutcomes, slots_of, next_command}
 
 -- what a contract sees of a round
 pub record RoundValue : Type 0 where
@@ -18,39 +19,44 @@ pub record RoundValue : Type 0 where
   pub stage : Stage
   pub slots_sent : ℕ
 
--- before the outcome of a slot: Q is the rounded Qfp, and the frame has a slot left
+-- before the outcome of a slot: the frame has a slot left
 pub record IsSoundFrame (frame : Frame) : Type 0 where
   pub q : frame.q ≤ 15
   pub qfp : frame.qfp ≤ 15000
-  pub low : 1000 * frame.q ≤ frame.qfp + 500
-  pub high : frame.qfp + 500 < 1000 * frame.q + 1000
   pub slots : frame.slots < 2 ^ frame.q
+  pub refused : frame.refused ≤ frame.slots
 
--- behind it: Qfp has moved by at most 500
+-- behind it
 pub record IsCounted (frame : Frame) : Type 0 where
   pub q : frame.q ≤ 15
   pub qfp : frame.qfp ≤ 15000
-  pub low : 1000 * frame.q ≤ frame.qfp + 1000
-  pub high : frame.qfp < 1000 * frame.q + 1000
   pub slots : frame.slots ≤ 2 ^ frame.q
+  pub refused : frame.refused ≤ frame.slots
 
-abbrev pub frame_after_outcome : ℕ → Outcome → Frame → Frame
-frame_after_outcome c outcome frame = record {
+abbrev pub frame_after_outcome : Rule → Outcome → Frame → Frame
+frame_after_outcome rule outcome frame = record {
   q = frame.q;
-  qfp = qfp_after c outcome frame.qfp;
+  qfp = qfp_after rule outcome frame.qfp;
   slots = frame.slots + 1;
+  refused = frame.refused + one_if_refused outcome;
   silent = is_silent outcome && frame.silent;
 }
 
 -- how Q changes behind a slot that doesn't end the round; none where the frame goes on
-abbrev pub change_of : Frame → Option UpDn
-change_of frame =
-    if nat_lt frame.q (q_nearest frame.qfp) then Some Up else
-    if nat_lt (q_nearest frame.qfp) frame.q then Some Down else
+abbrev pub change_of : Rule → Frame → Option UpDn
+change_of rule frame =
+    if goes_up rule frame.q frame.qfp frame.slots frame.refused then Some Up else
+    if goes_down rule frame.q frame.qfp frame.slots frame.refused then Some Down else
     if frame.slots == 2 ^ frame.q then Some Same else None
 
+-- Q stays from 0 to 15
+abbrev pub IsMovable : UpDn → ℕ → Type 0
+IsMovable Up q = q < 15
+IsMovable Same q = Unit {0}
+IsMovable Down q = 0 < q
+
 abbrev pub frame_begun_by : UpDn → Frame → Frame
-frame_begun_by updn frame = record { q = q_moved_by updn frame.q; qfp = frame.qfp; slots = 0; silent = true }
+frame_begun_by updn frame = record { q = q_moved_by updn frame.q; qfp = frame.qfp; slots = 0; refused = 0; silent = true }
 
 abbrev pub IsSoundStage : Stage → Type 0
 IsSoundStage (Underway frame) = IsSoundFrame frame
@@ -68,6 +74,7 @@ pub record IsFrameOf (frame : Frame) (spec : SpecValue) (outcomes : List Outcome
   pub q : frame.q ≡ q_of spec outcomes
   pub qfp : frame.qfp ≡ qfp_of spec outcomes
   pub slots : frame.slots ≡ length (frame_of spec outcomes)
+  pub refused : frame.refused ≡ refused_in (frame_of spec outcomes)
   pub silent : frame.silent ≡ all_silent (frame_of spec outcomes)
 
 abbrev pub IsStageOf : Stage → SpecValue → List Outcome → Type 0

@@ -1,6 +1,6 @@
 -- What an interrogator does after each slot of a round, by the outcomes of its slots so far (6.3.2.8 Inventorying Tag
--- populations; the rule for Q is the informative one of Annex D, in thousandths, with numbers of this profile).
--- A list of outcomes stands latest first.
+-- populations). There are three rules for Q: the informative one of Annex D, in thousandths with numbers of this profile, and two of this
+-- profile. A list of outcomes stands latest first.
 use Rattle.std.specs.Prelude.{◌≡◌, ℕ, ◌+◌, ◌-◌, ◌*◌, ◌/◌, ◌^◌, ◌==◌, nat_lt, min, Bool, true, false, ◌&&◌, List, [], ◌∷◌, length, if◌then◌else◌}
 use Rattle.command_fields.specs.declared.choices.UpDn.{UpDn}
 use Rattle.command_fields.specs.declared.choices.UpDn.TheVariants.{Up, Same, Down}
@@ -10,19 +10,23 @@ use Rattle.q_round.specs.declared.round.Next.{Next}
 use Rattle.q_round.specs.declared.round.Next.TheVariants.{Send, Quiet, Limit}
 use Rattle.q_round.specs.declared.frame.Outcome.{Outcome}
 use Rattle.q_round.specs.declared.frame.Outcome.TheVariants.{Silence, Whole, Refused}
+use Rattle.q_round.specs.declared.rule.Rule.{Rule}
+use Rattle.q_round.specs.declared.rule.Rule.TheVariants.{Fixed, Float, Frame}
 use Rattle.q_round.specs.SpecValue.{SpecValue}
 
 -- Annex D: a slot without a reply lowers Qfp, one with a collision raises it, and one with a single reply leaves it.
 -- What is no RN16 counts as a collision, and Qfp is kept from 0 to 15 (profile).
-abbrev pub qfp_after : ℕ → Outcome → ℕ → ℕ
-qfp_after c Silence qfp = qfp - c
-qfp_after c Whole qfp = qfp
-qfp_after c Refused qfp = min (qfp + c) 15000
+abbrev pub qfp_after : Rule → Outcome → ℕ → ℕ
+qfp_after (Float c) Silence qfp = qfp - c
+qfp_after (Float c) Whole qfp = qfp
+qfp_after (Float c) Refused qfp = min (qfp + c) 15000
+qfp_after Fixed outcome qfp = qfp
+qfp_after Frame outcome qfp = qfp
 
--- Qfp in thousandths: at first Q, and then moved by each outcome
+-- Qfp in thousandths: at first Q, and then moved by each outcome, where the rule has one
 abbrev pub qfp_of : SpecValue → List Outcome → ℕ
 qfp_of spec [] = 1000 * spec.q
-qfp_of spec (outcome ∷ before) = qfp_after spec.c outcome (qfp_of spec before)
+qfp_of spec (outcome ∷ before) = qfp_after spec.rule outcome (qfp_of spec before)
 
 -- Annex D: what Q is to be, Qfp rounded to a whole number
 abbrev pub q_nearest : ℕ → ℕ
@@ -37,6 +41,29 @@ abbrev pub all_silent : List Outcome → Bool
 all_silent [] = true
 all_silent (outcome ∷ before) = is_silent outcome && all_silent before
 
+abbrev pub one_if_refused : Outcome → ℕ
+one_if_refused Silence = 0
+one_if_refused Whole = 0
+one_if_refused Refused = 1
+
+-- how many slots of a frame count as collisions
+abbrev pub refused_in : List Outcome → ℕ
+refused_in [] = 0
+refused_in (outcome ∷ before) = refused_in before + one_if_refused outcome
+
+-- Whether the rule raises Q behind a slot, by the Q of the frame, Qfp, the number of slots that the frame has, and how many of them
+-- count as collisions. 6.3.2.11.2.1: a whole frame has 2 ^ Q slots.
+abbrev pub goes_up : Rule → (q qfp slots refused : ℕ) → Bool
+goes_up Fixed q qfp slots refused = false
+goes_up (Float c) q qfp slots refused = nat_lt q (q_nearest qfp)
+goes_up Frame q qfp slots refused = slots == 2 ^ q && nat_lt (2 ^ q) (2 * refused) && nat_lt q 15
+
+-- whether it lowers Q
+abbrev pub goes_down : Rule → (q qfp slots refused : ℕ) → Bool
+goes_down Fixed q qfp slots refused = false
+goes_down (Float c) q qfp slots refused = nat_lt (q_nearest qfp) q
+goes_down Frame q qfp slots refused = slots == 2 ^ q && nat_lt (4 * refused) (2 ^ q) && nat_lt 0 q
+
 -- what comes next in a round: the Query, a QueryAdjust, a QueryRep, or one of the two ends
 pub data Turn : Type 0 where
   query : Turn
@@ -45,15 +72,15 @@ pub data Turn : Type 0 where
   quiet : Turn
   limit : Turn
 
--- The table: the first line that applies after so many slots of the round, with the Qfp after them, the Q of the
--- frame, the number of its slots and whether all of them were silent. 6.3.2.11.2.1: a frame has 2 ^ Q slots.
-abbrev pub turn_after : (most sent qfp q slots : ℕ) → Bool → Turn
-turn_after most sent qfp q slots silent =
-    if slots == 2 ^ q && silent then quiet else
-    if sent == most then limit else
-    if nat_lt q (q_nearest qfp) then adjust Up else
-    if nat_lt (q_nearest qfp) q then adjust Down else
-    if slots == 2 ^ q then adjust Same else rep
+-- The table: the first line that applies after so many slots of the round, with the Q of the frame, the Qfp after its slots, and
+-- the frame, which ends with the last slot.
+abbrev pub turn_after : SpecValue → (sent q qfp : ℕ) → List Outcome → Turn
+turn_after spec sent q qfp frame =
+    if length frame == 2 ^ q && all_silent frame then quiet else
+    if sent == spec.limit then limit else
+    if goes_up spec.rule q qfp (length frame) (refused_in frame) then adjust Up else
+    if goes_down spec.rule q qfp (length frame) (refused_in frame) then adjust Down else
+    if length frame == 2 ^ q then adjust Same else rep
 
 -- 6.3.2.11.2.2 QueryAdjust: it moves Q by one, or leaves it
 abbrev pub q_moved_by : UpDn → ℕ → ℕ
@@ -90,7 +117,7 @@ course_of spec [] = course_with query spec.q []
 course_of spec (outcome ∷ before) =
     let course = course_of spec before in
     let frame = outcome ∷ course.frame in
-    course_with (turn_after spec.limit (length before + 1) (qfp_of spec (outcome ∷ before)) course.q (length frame) (all_silent frame)) course.q frame
+    course_with (turn_after spec (length before + 1) course.q (qfp_of spec (outcome ∷ before)) frame) course.q frame
 
 abbrev pub turn_of : SpecValue → List Outcome → Turn
 turn_of spec outcomes = (course_of spec outcomes).turn

@@ -87,8 +87,7 @@ impl Round {
     }
 
     /// What follows the outcome of the slot that the last command began: the next slot command, or the
-    /// end of the round (Annex D, in whole numbers of this profile). After the end it is the same end,
-    /// whatever the outcome.
+    /// end of the round, by the rule for Q. After the end it is the same end, whatever the outcome.
     pub fn next(&mut self, outcome: Outcome) -> Next
         // The round stands for the list of outcomes that it was given, the latest first.
         ensures answer { (spec : SpecValue) (outcomes : List Outcome) → RoundStandsFor self.old spec outcomes → is_over spec outcomes ≡ false →
@@ -104,7 +103,8 @@ impl Round {
             Stage::Quiet => return Next::Quiet,
             Stage::Limit => return Next::Limit,
         };
-        let frame = frame.counting(outcome, self.spec.c());
+        let rule = self.spec.rule();
+        let frame = frame.counting(outcome, rule);
         if frame.is_whole_and_silent() {
             self.stage = Stage::Quiet;
             return Next::Quiet;
@@ -115,7 +115,7 @@ impl Round {
         }
         self.slots_sent += 1;
         let session = self.spec.session();
-        if let Some(updn) = frame.change() {
+        if let Some(updn) = frame.change(rule) {
             self.stage = Stage::Underway(frame.begin(updn));
             return Next::Send(Command::QueryAdjust { session, updn });
         }

@@ -1,11 +1,11 @@
 //! The parameters of a round.
 ghost use Rattle.std.specs.Prelude.{◌≡◌, ◌↔◌, IsNone, IfSome};
 
-use crate::{QValue, Sel, Session, Side};
+use crate::{QValue, Rule, Sel, Session, Side};
 use std::marker::Model;
 
-/// The parameters of a round: the fields of its Query (6.3.2.11.2.1 Query), and the numbers of the rule
-/// for Q. They are always in their ranges.
+/// The parameters of a round: the fields of its Query (6.3.2.11.2.1 Query), the rule for Q, and the limit
+/// of slot commands. They are always in their ranges.
 ///
 /// A contract sees it as a record of its parameters.
 #[derive(Clone, Copy, Debug, PartialEq, Eq)]
@@ -14,7 +14,7 @@ pub struct RoundSpec {
     session: Session,
     target: Side,
     q: QValue,
-    c: u32,
+    rule: Rule,
     limit: u32,
 }
 
@@ -23,34 +23,34 @@ impl Model for RoundSpec {
 
     ghost Value = { SpecValue };
 
-    ghost view = { λ a. record { sel = a.sel; session = a.session; target = a.target; q = a.q; c = a.c; limit = a.limit } };
+    ghost view = { λ a. record { sel = a.sel; session = a.session; target = a.target; q = a.q; rule = a.rule; limit = a.limit } };
 
-    ghost invariant = { λ a. IsLegalSpec (record { sel = a.sel; session = a.session; target = a.target; q = a.q; c = a.c; limit = a.limit }) };
+    ghost invariant = { λ a. IsLegalSpec (record { sel = a.sel; session = a.session; target = a.target; q = a.q; rule = a.rule; limit = a.limit }) };
 
-    ghost inverse = { λ v. record { sel = v.sel; session = v.session; target = v.target; q = v.q; c = v.c; limit = v.limit } };
+    ghost inverse = { λ v. record { sel = v.sel; session = v.session; target = v.target; q = v.q; rule = v.rule; limit = v.limit } };
 }
 
 impl RoundSpec {
-    ghost use Rattle.q_round.specs.SpecValue.{SpecValue, IsStep, IsLimit, IsLegalSpec};
+    ghost use Rattle.q_round.specs.SpecValue.{SpecValue, IsLegalRule, IsLimit, IsLegalSpec};
 
     /// A round with these parameters: which tags take part, by their SL and by their inventoried flag of
-    /// the session, the first Q, the step `c` of Qfp in thousandths (Annex D), from 100 to 500, and the
-    /// number of slot commands after which the round ends at the latest, from 1 to 70,000. Both ranges
-    /// are profile. None comes exactly where one of the two is broken.
+    /// the session, the first Q, the rule for Q, and the number of slot commands after which the round ends
+    /// at the latest, from 1 to 70,000. None comes exactly where this number, or that of `Rule::Float`, is
+    /// out of its range. Both ranges are profile.
     pub fn new(
         sel: Sel,
         session: Session,
         target: Side,
         q: QValue,
-        c: u32,
+        rule: Rule,
         limit: u32,
     ) -> Option<RoundSpec>
-        ensures spec { IfSome result (λ spec. spec ≡ record { sel = sel; session = session; target = target; q = q; c = c; limit = limit }) }
+        ensures spec { IfSome result (λ spec. spec ≡ record { sel = sel; session = session; target = target; q = q; rule = rule; limit = limit }) }
         ensures legal { IfSome result IsLegalSpec }
-        ensures none { IsNone result ↔ ¬ (IsStep c × IsLimit limit) }
+        ensures none { IsNone result ↔ ¬ (IsLegalRule rule × IsLimit limit) }
     {
         prove!(session.get() <= 3 && q.get() <= 15);
-        if c < 100 || c > 500 || limit < 1 || limit > 70000 {
+        if !rule.is_in_range() || limit < 1 || limit > 70000 {
             return None;
         }
         Some(RoundSpec {
@@ -58,7 +58,7 @@ impl RoundSpec {
             session,
             target,
             q,
-            c,
+            rule,
             limit,
         })
     }
@@ -95,12 +95,12 @@ impl RoundSpec {
         self.q
     }
 
-    /// By how much a slot moves Qfp, in thousandths.
-    pub fn c(&self) -> u32
-        ensures value { result ≡ self.now.c }
+    /// The rule for Q.
+    pub fn rule(&self) -> Rule
+        ensures value { result ≡ self.now.rule }
         ensures legal { IsLegalSpec self.now }
     {
-        self.c
+        self.rule
     }
 
     /// The number of slot commands after which the round ends at the latest.

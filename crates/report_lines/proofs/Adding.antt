@@ -1,12 +1,13 @@
 -- The text of one line more.
-use Rattle.std.proofs.Common.{◌≡◌, ℕ, ◌≤◌, List, [], ◌++◌, take, drop, Option, Some, None, Result, Ok, Err, refl, sym, ap, ◌∙◌, subst, arith, append_assoc}
+use Rattle.std.proofs.Common.{◌≡◌, ◌⊎◌, inl, inr, ℕ, ◌≤◌, true, false, List, [], ◌++◌, take, drop, Option, Some, None, Result, Ok, Err, refl, sym, ap, ◌∙◌, subst, arith, append_assoc}
 use Rattle.std.proofs.lemmas.List.{append-nil, take-append-drop}
-use Rattle.std.specs.Result.{result_err, IsErrAnd}
+use Rattle.std.specs.Result.{OnOk, result_err, IsErrAnd}
+use Rattle.std.specs.Option.{is_some}
 use Rattle.air_io.specs.Flow.{Adds, FaultsRose}
 use Rattle.air_io.specs.laws.Flow.{Adds-more}
 use Rattle.report_lines.specs.TextReport.{IsAdded}
 use Rattle.report_lines.specs.declared.mode.PlayFault.{PlayFault}
-use Rattle.report_lines.specs.declared.mode.PlayFault.TheVariants.{Write, OutOfMemory}
+use Rattle.report_lines.specs.declared.mode.PlayFault.TheVariants.{Write}
 
 rose-later : (first before after : ℕ) → first ≤ before → FaultsRose before after → FaultsRose first after
 rose-later first before after count rose = record { no_less = omega arith; larger_or_last = λ same. rose.larger_or_last (omega arith) }
@@ -43,20 +44,39 @@ added-part text line piece first old new before was is count added same written 
   count = omega (arith, added.count, rose.no_less);
 }
 
--- ... or nothing, where there was no memory for it
-pub added-nothing : (text line : List ℕ) (first written : Option (List ℕ)) (before after : ℕ) → IsAdded text first written before after None
-    → IsAdded (text ++ line) first written before after (Some OutOfMemory)
-added-nothing text line first written before after added = record {
-  front = added.front;
-  rest = added.rest ++ line;
-  split = ap (λ (bytes : List ℕ). bytes ++ line) added.split ∙ append_assoc added.front added.rest line;
-  whole = λ none. absurd (cc);
-  added = added.added;
-  rose = λ write. absurd (cc);
-  count = added.count;
-}
-
 -- a fault that is handed on
 pub fault-kept : {T : Type 0} (r : Result T PlayFault) (cause : PlayFault) (P : Option PlayFault → Type 0) → IsErrAnd r (λ fault. fault ≡ cause) → P (Some cause) → P (result_err r)
 fault-kept (Ok x) cause P is holds = absurd is
 fault-kept (Err fault) cause P is holds = subst (λ (f : PlayFault). P (Some f)) (sym is) holds
+
+-- where a fault was met, further lines add nothing
+pub added-nothing : (text more : List ℕ) (first written : Option (List ℕ)) (before after : ℕ) (fault : Option PlayFault) → is_some fault ≡ true
+    → IsAdded text first written before after fault → IsAdded (text ++ more) first written before after fault
+added-nothing text more first written before after None met added = absurd (cc)
+added-nothing text more first written before after (Some fault) met added = record {
+  front = added.front;
+  rest = added.rest ++ more;
+  split = ap (λ (bytes : List ℕ). bytes ++ more) added.split ∙ append_assoc added.front added.rest more;
+  whole = λ none. absurd (cc);
+  added = added.added;
+  rose = added.rose;
+  count = added.count;
+}
+
+-- a fault was met, or none was
+pub not-met : (fault : Option PlayFault) → is_some fault ≡ false → fault ≡ None
+not-met None is = refl
+not-met (Some fault) is = absurd (cc)
+
+pub not-both : (fault : Option PlayFault) → is_some fault ≡ true → fault ≡ None → ⊥
+not-both None met none = absurd (cc)
+not-both (Some fault) met none = absurd (cc)
+
+-- what holds at an end without a fault
+pub without-fault : {T P : Type 0} (r : Result T PlayFault) → result_err r ≡ None → OnOk r P → P
+without-fault (Ok x) none holds = holds
+without-fault (Err fault) none holds = absurd (cc)
+
+pub met-or-not : (fault : Option PlayFault) → (fault ≡ None) ⊎ (is_some fault ≡ true)
+met-or-not None = inl refl
+met-or-not (Some fault) = inr refl

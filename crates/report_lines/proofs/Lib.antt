@@ -1,4 +1,5 @@
 pub mod Adding
+pub mod Digits
 pub mod Pieces
 pub mod Raising
 pub mod OneName

@@ -7,7 +7,7 @@ use Rattle.indexmap.specs.IndexMap.{insert_entry}
 use Rattle.report_lines.specs.declared.seen.Listed.{Listed}
 use Rattle.report_lines.specs.Entries.{seen_of, seen_of_entry}
 use Rattle.report_lines.specs.SeenCounts.{Seen, same_pair, count_of, seen_in, seen_more, total_of}
-use Rattle.report_lines.specs.SeenLaws.{seen_in-more}
+use Rattle.report_lines.specs.laws.SeenLaws.{seen_in-more}
 
 -- the derived test of keys is that of pairs
 abbrev pub same_listed : Listed → Listed → Bool

@@ -5,7 +5,6 @@ use Rattle.std.specs.List.{flat_map}
 use Rattle.std.proofs.lemmas.Bool.{cases_eq}
 use Rattle.std.proofs.lemmas.Bool.Decides.{nat_tests}
 use Rattle.std.proofs.lemmas.List.Elements.{All-nil, All-cons, All-head, All-tail}
-use Rattle.text_fields.specs.Binary.{or_hyphen}
 use Rattle.text_fields.specs.Lines.{fields_of}
 use Rattle.text_fields.specs.Hexadecimal.{hex_digit, hex_word, hex_words}
 use Rattle.text_fields.specs.WordLists.{digit_number, word_number, words_of_digits}
@@ -14,7 +13,7 @@ use Rattle.epc_sgtin.specs.Epc.{IsSgtin}
 use Rattle.epc_sgtin.specs.EpcFaults.{RefusesEpc}
 use Rattle.epc_sgtin.specs.declared.encoding.EpcFault.{EpcFault}
 use Rattle.sgtin_text.specs.SgtinText.{name_line}
-use Rattle.report_lines.specs.Names.{IsNamed, HasName, BecomesLines}
+use Rattle.report_lines.specs.Names.{IsNamed, BecomesLines}
 use Rattle.report_lines.proofs.OneName.{AreNotRefused, six_of}
 
 -- what a law of SGTINs says: words are those of one, or are refused

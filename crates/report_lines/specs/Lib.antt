@@ -1,9 +1,11 @@
 pub mod ReportLine
 pub mod Line
+pub mod JsonLines
+pub mod Unescaped
 pub mod Names
 pub mod Kept
+pub mod Spelled
 pub mod TextReport
-pub mod TextReportLaws
 pub mod SeenCounts
 pub mod Entries
-pub mod SeenLaws
+pub mod laws

@@ -1,5 +1,5 @@
 -- Profile: the lines of the report of a run, and the one spelling of each.
-use Rattle.std.specs.Prelude.{ℕ, Bool, List, [], ◌∷◌, ◌++◌, map, codes}
+use Rattle.std.specs.Prelude.{ℕ, Bool, true, false, List, [], ◌∷◌, ◌++◌, map, codes}
 use Rattle.std.specs.List.{flat_map}
 use Rattle.std.specs.Fmt.{decimal}
 use Rattle.text_fields.specs.Binary.{binary, binary_digit}
@@ -7,7 +7,13 @@ use Rattle.text_fields.specs.Hexadecimal.{hex_byte, hex_word, hex_words}
 use Rattle.access_ops.specs.declared.op_next.OpResult.{OpResult}
 use Rattle.access_ops.specs.declared.op_next.OpResult.TheVariants as results
 use Rattle.text_fields.specs.Lines.{line_feed, line_with}
-use Rattle.command_text.specs.CommandText.{side_letter}
+use Rattle.command_text.specs.CommandText.{command_fields, side_letter}
+use Rattle.command_grammar.specs.declared.commands.Command.{Command}
+use Rattle.reply_grammar.specs.declared.expected.Reply.{Reply}
+use Rattle.reply_text.specs.ReplyText.{reply_fields}
+use Rattle.wave_dump.specs.Exchanged.{Exchanged}
+use Rattle.wave_dump.specs.declared.exchanged.Gave.{Gave}
+use Rattle.wave_dump.specs.declared.exchanged.Gave.TheVariants as gave
 use Rattle.q_round.specs.declared.round.RoundEnd.{RoundEnd}
 use Rattle.q_round.specs.declared.round.RoundEnd.TheVariants as ends
 use Rattle.value_text.specs.ValueText.{locks_text}
@@ -20,10 +26,18 @@ use Rattle.tag_machine.specs.TagValue.{TagValue}
 pub data ReportLine : Type 0 where
   -- the backscatter link frequency, as a numerator and a denominator in nanoseconds
   BlfLine : (numerator denominator : ℕ) → ReportLine
+  -- a command was sent in an exchange
+  ExchangeLine : (exchange : ℕ) → (command : Command) → ReportLine
+  -- a tag missed it, as the scenario says
+  MissedLine : (exchange tag : ℕ) → ReportLine
+  -- a tag answered it: with the extended preamble or by the link's TRext, and what it sent
+  AnswerLine : (exchange tag : ℕ) → (extended : Bool) → (reply : Reply) → ReportLine
   -- the intervals of the frame that was sent in an exchange, in nanoseconds
   TxLine : (exchange : ℕ) → (intervals : List ℕ) → ReportLine
   -- how many tags replied in an exchange, and the levels that came
   RxLine : (exchange count : ℕ) → (levels : List Bool) → ReportLine
+  -- an exchange is over: what the channel gave, beside all that was sent and came
+  GivenLine : (exchanged : Exchanged) → ReportLine
   -- a tag was listed: PC and EPC, with the round and the slot
   ListLine : (round slot pc : ℕ) → (epc : List ℕ) → ReportLine
   -- an operation with a listed tag had its result: its number, counted from 1, with the round and the slot
@@ -72,11 +86,28 @@ result_fields results.Silent = codes "silent" ∷ []
 result_fields results.Broken = codes "broken" ∷ []
 result_fields results.Denied = codes "denied" ∷ []
 
+-- a reply with the extended preamble, or by the link's TRext
+abbrev pub preamble_word : Bool → List ℕ
+preamble_word true = codes "extended"
+preamble_word false = codes "plain"
+
+-- what the channel gave: nothing, a tag's reply whole or broken at a level, counted from 0, or a raw stream
+abbrev pub given_fields : Gave → List (List ℕ)
+given_fields gave.Silence = codes "silence" ∷ []
+given_fields (gave.Whole tag reply) = codes "whole" ∷ decimal tag ∷ []
+given_fields (gave.Broken tag place) = codes "broken" ∷ decimal tag ∷ decimal place ∷ []
+given_fields gave.Raw = codes "raw" ∷ []
+
 -- the fields of a line
 abbrev pub report_fields : ReportLine → List (List ℕ)
 report_fields (BlfLine numerator denominator) = codes "blf" ∷ (decimal numerator ++ codes "/" ++ decimal denominator) ∷ []
+report_fields (ExchangeLine exchange command) = codes "exchange" ∷ decimal exchange ∷ command_fields command
+report_fields (MissedLine exchange tag) = codes "missed" ∷ decimal exchange ∷ decimal tag ∷ []
+report_fields (AnswerLine exchange tag extended reply) =
+    codes "answer" ∷ decimal exchange ∷ decimal tag ∷ preamble_word extended ∷ reply_fields reply
 report_fields (TxLine exchange intervals) = codes "tx" ∷ decimal exchange ∷ map decimal intervals
 report_fields (RxLine exchange count levels) = codes "rx" ∷ decimal exchange ∷ decimal count ∷ binary levels ∷ []
+report_fields (GivenLine exchanged) = codes "given" ∷ decimal exchanged.number ∷ given_fields exchanged.given
 report_fields (ListLine round slot pc epc) = codes "list" ∷ decimal round ∷ decimal slot ∷ hex_word pc ∷ hex_words epc ∷ []
 report_fields (OpLine round slot index result) = codes "op" ∷ decimal round ∷ decimal slot ∷ decimal index ∷ result_fields result
 report_fields (RoundLine round end slots) = codes "round" ∷ decimal round ∷ end_word end ∷ decimal slots ∷ []

@@ -1,7 +1,7 @@
 -- Profile: what is told, as text that is written line by line.
-use Rattle.std.specs.Prelude.{◌≡◌, ℕ, ◌≤◌, List, [], ◌++◌, Option, Some, None}
+use Rattle.std.specs.Prelude.{◌≡◌, ℕ, ◌≤◌, List, [], ◌∷◌, ◌++◌, Option, Some, None}
 use Rattle.air_io.specs.Flow.{Adds, FaultsRose}
-use Rattle.report_lines.specs.ReportLine.{ReportLine, text_by}
+use Rattle.report_lines.specs.ReportLine.{ReportLine}
 use Rattle.report_lines.specs.declared.mode.PlayFault.{PlayFault}
 use Rattle.report_lines.specs.declared.mode.PlayFault.TheVariants.{Write}
 
@@ -16,8 +16,18 @@ pub record IsAdded (text : List ℕ) (first written : Option (List ℕ)) (before
   pub rose : fault ≡ Some Write → FaultsRose before after
   pub count : before ≤ after
 
--- Since a moment at which no fault had been met, the text of these lines was added, each spelled in the one way.
-pub record HearsText {S : Type 0} (text_of : S → ReportLine → List ℕ) (lines : List ReportLine) (spelling later : S) (was is : Option PlayFault)
-    (first written : Option (List ℕ)) (before after : ℕ) : Type 0 where
-  pub spelled : later ≡ spelling
-  pub text : was ≡ None → IsAdded (text_by (text_of spelling) lines) first written before after is
+-- where a spelling stands behind lines
+abbrev pub spelling_behind : {S : Type 0} → (S → ReportLine → S) → S → List ReportLine → S
+spelling_behind behind spelling [] = spelling
+spelling_behind behind spelling (line ∷ lines) = spelling_behind behind (behind spelling line) lines
+
+-- the text of lines, each spelled as the spelling stands behind those before it
+abbrev pub text_from : {S : Type 0} → (S → ReportLine → List ℕ) → (S → ReportLine → S) → S → List ReportLine → List ℕ
+text_from text_of behind spelling [] = []
+text_from text_of behind spelling (line ∷ lines) = text_of spelling line ++ text_from text_of behind (behind spelling line) lines
+
+-- Since a moment at which no fault had been met, the text of these lines was added, each spelled as the spelling stood.
+pub record HearsText {S : Type 0} (text_of : S → ReportLine → List ℕ) (behind : S → ReportLine → S) (lines : List ReportLine) (spelling later : S)
+    (was is : Option PlayFault) (first written : Option (List ℕ)) (before after : ℕ) : Type 0 where
+  pub spelled : was ≡ None → is ≡ None → later ≡ spelling_behind behind spelling lines
+  pub text : was ≡ None → IsAdded (text_from text_of behind spelling lines) first written before after is

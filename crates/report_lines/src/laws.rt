@@ -1,7 +1,11 @@
-//! What holds of the counts of what was listed, and of the names of lines. The functions here state it by their contracts.
+//! What holds of the counts of what was listed, of the names of lines, and of their objects. The functions here state it by their contracts.
 ghost use Rattle.std.specs.Prelude.{◌≡◌, ◌≤◌, ◌++◌, ℕ, List, [], ◌∷◌, length};
+ghost use Rattle.std.specs.List.{AllByRecursion};
+ghost use Rattle.report_lines.specs.JsonLines.{json_pairs};
 ghost use Rattle.report_lines.specs.Names.{AreWithNames, BecomesLines};
+ghost use Rattle.report_lines.specs.ReportLine.{ReportLine};
 ghost use Rattle.report_lines.specs.SeenCounts.{count_of, seen_in, seen_more};
+ghost use Rattle.report_lines.specs.Unescaped.{HasWords, IsPlainPair};
 
 use epc_sgtin::sgtin_laws;
 
@@ -20,3 +24,8 @@ pub fn lines_have_names()
     // Words are those of one SGTIN, or are refused.
     sgtin_laws();
 }
+
+/// No key of the object of a line has a byte that JSON escapes, and no text in it.
+pub fn objects_need_no_escape()
+    ensures { (line : ReportLine) → HasWords line → AllByRecursion IsPlainPair (json_pairs line) }
+{}

@@ -2,11 +2,14 @@
 //! is profile.
 #![tactic(auto)]
 
+mod exchange_lines;
+mod json_lines;
 mod laws;
 mod line;
 mod lines;
 mod listener;
 mod mode;
+mod mode_spelling;
 mod naming;
 mod results;
 mod seen;
@@ -14,7 +17,9 @@ mod spelling;
 mod tags;
 mod text_report;
 
-pub use laws::{lines_have_names, seen_laws};
+pub use exchange_lines::{push_answer_line, push_exchange_line, push_given_line, push_missed_line};
+pub use json_lines::push_json_line;
+pub use laws::{lines_have_names, objects_need_no_escape, seen_laws};
 pub use line::Line;
 pub use lines::{
     push_blf_line, push_done_line, push_list_line, push_round_line, push_rx_line, push_seen_line,
@@ -22,6 +27,7 @@ pub use lines::{
 };
 pub use listener::Listener;
 pub use mode::{Mode, PlayFault};
+pub use mode_spelling::ModeSpelling;
 pub use naming::named;
 pub use results::push_op_line;
 pub use seen::SeenCounts;

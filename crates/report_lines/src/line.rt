@@ -1,8 +1,10 @@
 //! What a run tells, as values.
 use access_ops::OpResult;
+use command_grammar::Command;
 use q_round::RoundEnd;
-use reply_grammar::EpcWords;
+use reply_grammar::{EpcWords, Reply};
 use tag_machine::AnyTag;
+use wave_dump::Exchanged;
 
 /// What a run tells at one time. It borrows what it tells of.
 #[derive(Clone, Copy)]
@@ -14,9 +16,34 @@ pub enum Line<'a> {
         /// What it divides, in nanoseconds.
         denominator: u32,
     },
+    /// A command was sent.
+    Exchange {
+        /// The number of the exchange, counted from 1 over the whole run.
+        exchange: u64,
+        /// The command.
+        command: &'a Command,
+    },
+    /// A tag missed it, as the scenario says.
+    Missed {
+        /// The number of the exchange.
+        exchange: u64,
+        /// The number of the tag, counted from 0.
+        tag: u32,
+    },
+    /// A tag answered it.
+    Answer {
+        /// The number of the exchange.
+        exchange: u64,
+        /// The number of the tag.
+        tag: u32,
+        /// With the extended preamble, whatever the TRext of the Query says (6.3.2.11.3).
+        extended: bool,
+        /// What it sent.
+        reply: &'a Reply,
+    },
     /// A frame was sent.
     Tx {
-        /// The number of the exchange, counted from 1 over the whole run.
+        /// The number of the exchange.
         exchange: u64,
         /// The intervals of the frame, in nanoseconds.
         intervals: &'a [u32],
@@ -30,6 +57,8 @@ pub enum Line<'a> {
         /// The levels that came.
         levels: &'a [bool],
     },
+    /// An exchange is over.
+    Given(Exchanged<'a>),
     /// A tag was listed.
     List {
         /// The number of the round, counted from 1 over the whole run.

@@ -88,7 +88,7 @@ pub fn push_list_line(
 }
 
 /// How a round ended, as a word.
-fn end_name(end: RoundEnd) -> &'static str
+pub(crate) fn end_name(end: RoundEnd) -> &'static str
     ensures { result.now ≡ end_word end }
 {
     match end {

@@ -1,5 +1,6 @@
 //! Who hears what a run tells.
-ghost use Rattle.std.specs.Prelude.{◌≡◌, List, [], ◌∷◌, ◌++◌, Option};
+ghost use Rattle.std.specs.Prelude.{◌≡◌, List, [], ◌∷◌, ◌++◌, IsFalse, Option, true};
+ghost use Rattle.report_lines.specs.Kept.{is_of_exchanges};
 ghost use Rattle.report_lines.specs.Line.{line_of};
 ghost use Rattle.report_lines.specs.ReportLine.{ReportLine};
 ghost use Rattle.report_lines.specs.declared.mode.PlayFault.{PlayFault as Fault};
@@ -22,6 +23,11 @@ pub trait Listener {
     /// The first fault that was met, if one was.
     fn fault(&self) -> Option<PlayFault>
         ensures { result ≡ failed self.now };
+
+    /// Whether a line that says who said what in an exchange may make a difference. Where not, nobody has to tell it.
+    fn wants_exchanges(&self) -> bool
+        ensures { IsFalse result → (first : Self) (lines : List ReportLine) (line : ReportLine) → is_of_exchanges line ≡ true
+            → hears first lines self.now → hears first (lines ++ line ∷ []) self.now };
 
     /// No line changes nothing.
     ghost nothing: { (listener : Self) → hears listener [] listener };

@@ -13,6 +13,13 @@ pub enum Mode {
     Plain,
     /// Besides, for each exchange, the intervals that were sent and the levels that came back.
     Trace,
+    /// The lines of `Plain`, each as a JSON object. A line takes memory.
+    Json,
+    /// The lines of `Plain`, and of the exchanges that are told who said what: the command, who missed it, what each
+    /// tag answered, and what the channel gave.
+    Exchanges,
+    /// The waves of the exchanges that are told, as a value change dump (IEEE 1364), and no line of a report.
+    Vcd,
 }
 
 /// Why a run was cut off, with a part of its report written from the beginning on.

@@ -1,10 +1,14 @@
 //! How lines are spelled.
-ghost use Rattle.std.specs.Prelude.{◌≡◌, ◌++◌, ℕ, List, OnOk, not};
+ghost use Rattle.std.specs.Prelude.{◌≡◌, ◌++◌, ℕ, List, [], IsFalse, OnOk, true, not};
 ghost use Rattle.std.specs.String.{string_bytes};
-ghost use Rattle.report_lines.specs.Kept.{is_of_trace, kept_line_text, keeps};
+ghost use Rattle.report_lines.specs.Kept.{is_of_exchanges, is_of_trace, kept_line_text, keeps, line_text_of};
 ghost use Rattle.report_lines.specs.Line.{line_of};
 ghost use Rattle.report_lines.specs.ReportLine.{ReportLine, report_line_text};
 
+use crate::exchange_lines::{
+    push_answer_line, push_exchange_line, push_given_line, push_missed_line,
+};
+use crate::json_lines::push_json_line;
 use crate::line::Line;
 use crate::lines::{
     push_blf_line, push_done_line, push_list_line, push_round_line, push_rx_line, push_seen_line,
@@ -15,14 +19,22 @@ use crate::results::push_op_line;
 use crate::tags::push_tag_line;
 use bit_strings::OutOfMemory;
 
-/// How each line is spelled.
+/// How lines are spelled, one after another.
 pub trait Spelling {
-    /// The text of a line.
+    /// The text of a line, where the spelling stands so.
     ghost text_of: { Self → ReportLine → List ℕ };
 
+    /// Where it stands behind a line.
+    ghost behind: { Self → ReportLine → Self };
+
     /// Adds the text of a line. After an error a part of it may have been added.
-    fn spell(&self, line: &Line<'_>, text: &mut String) -> Result<(), OutOfMemory>
-        ensures { OnOk result (string_bytes text.new ≡ string_bytes text.old ++ text_of self.now (line_of line.now)) };
+    fn spell(&mut self, line: &Line<'_>, text: &mut String) -> Result<(), OutOfMemory>
+        ensures text { OnOk result (string_bytes text.new ≡ string_bytes text.old ++ text_of self.old (line_of line.now)) }
+        ensures behind { OnOk result (self.new ≡ behind self.old (line_of line.now)) };
+
+    /// Whether a line that says who said what in an exchange may make a difference.
+    fn wants_exchanges(&self) -> bool
+        ensures { IsFalse result → (line : ReportLine) → is_of_exchanges line ≡ true → (text_of self.now line ≡ []) × (behind self.now line ≡ self.now) };
 }
 
 /// Writes a line of a report.
@@ -34,6 +46,14 @@ pub fn push_line(text: &mut String, line: &Line<'_>) -> Result<(), OutOfMemory>
             numerator,
             denominator,
         } => push_blf_line(text, numerator, denominator),
+        Line::Exchange { exchange, command } => push_exchange_line(text, exchange, command),
+        Line::Missed { exchange, tag } => push_missed_line(text, exchange, tag),
+        Line::Answer {
+            exchange,
+            tag,
+            extended,
+            reply,
+        } => push_answer_line(text, exchange, tag, extended, reply),
         Line::Tx {
             exchange,
             intervals,
@@ -43,6 +63,7 @@ pub fn push_line(text: &mut String, line: &Line<'_>) -> Result<(), OutOfMemory>
             count,
             levels,
         } => push_rx_line(text, exchange, count, levels),
+        Line::Given(exchanged) => push_given_line(text, exchanged.number, exchanged.given),
         Line::List {
             round,
             slot,
@@ -69,25 +90,46 @@ fn is_of_trace(line: &Line<'_>) -> bool
     matches!(line, Line::Blf { .. } | Line::Tx { .. } | Line::Rx { .. })
 }
 
+/// A report of exchanges alone has this line.
+fn is_of_exchanges(line: &Line<'_>) -> bool
+    ensures { result ≡ is_of_exchanges (line_of line.now) }
+{
+    matches!(
+        line,
+        Line::Exchange { .. } | Line::Missed { .. } | Line::Answer { .. } | Line::Given(_)
+    )
+}
+
 impl Mode {
     /// A report of this mode has the line.
     fn keeps(self, line: &Line<'_>) -> bool
         ensures { result ≡ keeps self (line_of line.now) }
     {
         match self {
-            Mode::Plain => !is_of_trace(line),
-            Mode::Trace => true,
+            Mode::Plain | Mode::Json => !is_of_trace(line) && !is_of_exchanges(line),
+            Mode::Trace => !is_of_exchanges(line),
+            Mode::Exchanges => !is_of_trace(line),
+            Mode::Vcd => true,
         }
     }
-}
 
-/// The report of this mode.
-impl Spelling for Mode {
-    ghost text_of = { kept_line_text };
+    /// Writes a line that the report of this mode has.
+    fn push_line(self, text: &mut String, line: &Line<'_>) -> Result<(), OutOfMemory>
+        ensures { OnOk result (string_bytes text.new ≡ string_bytes text.old ++ line_text_of self (line_of line.now)) }
+    {
+        match self {
+            Mode::Plain | Mode::Trace | Mode::Exchanges => push_line(text, line),
+            Mode::Json => push_json_line(text, line),
+            Mode::Vcd => Ok(()),
+        }
+    }
 
-    fn spell(&self, line: &Line<'_>, text: &mut String) -> Result<(), OutOfMemory> {
+    /// Writes a line, if the report of this mode has it.
+    pub(crate) fn push_kept(self, text: &mut String, line: &Line<'_>) -> Result<(), OutOfMemory>
+        ensures { OnOk result (string_bytes text.new ≡ string_bytes text.old ++ kept_line_text self (line_of line.now)) }
+    {
         if self.keeps(line) {
-            push_line(text, line)
+            self.push_line(text, line)
         } else {
             Ok(())
         }

@@ -20,7 +20,7 @@ use text_fields::{push_next_name, push_next_number, push_next_words};
 use value_text::push_locks;
 
 /// The name of a state (6.3.2.4 Tag states and slot counter); that of a tag without power is profile.
-fn state_text(state: StateName) -> &'static str
+pub(crate) fn state_text(state: StateName) -> &'static str
     ensures { result.now ≡ state_word state }
 {
     match state {
@@ -42,17 +42,23 @@ pub fn push_next_state(text: &mut String, state: StateName) -> Result<(), OutOfM
     push_next_name(text, state_text(state))
 }
 
-/// Writes the inventoried flags of S0 to S3 and the selected flag as the next field. After an error the text may hold a part of
-/// them.
-pub fn push_next_flags(text: &mut String, flags: &Flags) -> Result<(), OutOfMemory>
-    ensures { OnOk result (string_bytes text.new ≡ string_bytes text.old ++ space ∷ flags_word flags.now) }
+/// Writes the inventoried flags of S0 to S3 and the selected flag.
+pub(crate) fn push_flags(text: &mut String, flags: &Flags) -> Result<(), OutOfMemory>
+    ensures { OnOk result (string_bytes text.new ≡ string_bytes text.old ++ flags_word flags.now) }
 {
-    text.push(' ')?;
     text.push_str(side_letter(flags.s0))?;
     text.push_str(side_letter(flags.s1))?;
     text.push_str(side_letter(flags.s2))?;
     text.push_str(side_letter(flags.s3))?;
     text.push(if flags.sl { '1' } else { '0' })
+}
+
+/// Writes the flags as the next field. After an error the text may hold a part of them.
+pub fn push_next_flags(text: &mut String, flags: &Flags) -> Result<(), OutOfMemory>
+    ensures { OnOk result (string_bytes text.new ≡ string_bytes text.old ++ space ∷ flags_word flags.now) }
+{
+    text.push(' ')?;
+    push_flags(text, flags)
 }
 
 /// Writes the ten lock bits as the next field.

@@ -9,9 +9,9 @@ use Rattle.std.proofs.lemmas.List.Elements.{All-append, All-cons, All-head, All-
 use Rattle.bit_strings.specs.declared.code.Code.{Code}
 use Rattle.text_fields.specs.Binary.{binary, binary_digit}
 use Rattle.text_fields.specs.CodeNames.{code_word}
-use Rattle.text_fields.specs.FieldTextLaws.{IsFieldText-binary, IsFieldText-cons, IsFieldText-decimal, IsFieldText-one}
+use Rattle.text_fields.specs.laws.FieldTextLaws.{IsFieldText-binary, IsFieldText-cons, IsFieldText-decimal, IsFieldText-one}
 use Rattle.text_fields.specs.Lines.{IsFieldText, Lacks, line_feed, line_with, lines_of, space}
-use Rattle.text_fields.specs.LineLaws.{fields_come_back, lines_come_back}
+use Rattle.text_fields.specs.laws.LineLaws.{fields_come_back, lines_come_back}
 use Rattle.line_code.specs.Stream.{stream_of}
 use Rattle.line_codes.specs.Codes.{table_of}
 use Rattle.line_codes.specs.laws.Codes.{stream_most}

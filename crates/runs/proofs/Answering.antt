@@ -6,7 +6,7 @@ use Rattle.std.specs.List.{AllByRecursion}
 use Rattle.std.proofs.lemmas.Bool.{eq-eqb}
 use Rattle.access_ops.specs.laws.OperationLaws.{Expects}
 use Rattle.access_ops.specs.Operations.{words_expected}
-use Rattle.air_model.specs.Exchange.{AreLegalTags, outcomes_in, replies_in, Replied, tag_after_own_event, tag_after_events, is_missed, outcome_unless, outcomes_from, reply_of, replies_from}
+use Rattle.tag_machine.specs.Exchange.{AreLegalTags, outcomes_in, replies_in, Replied, tag_after_own_event, tag_after_events, is_missed, outcome_unless, outcomes_from, reply_of, replies_from}
 use Rattle.air_model.specs.Channel.{given_in}
 use Rattle.air_model.specs.Past.{Start}
 use Rattle.air_model.specs.Reception.{has_handle, is_expected, HoldsOfSent, IsReplyFor, IsGivenFor, IsUnmistakable}

@@ -8,7 +8,7 @@ use Rattle.std.specs.List.{AllByRecursion}
 use Rattle.std.specs.Prelude.{nat_eq}
 use Rattle.access_ops.specs.declared.OpList.{OpList}
 use Rattle.air_model.specs.Channel.{Given, silence, whole, broken, raw, IsOfReplies}
-use Rattle.air_model.specs.Exchange.{Replied}
+use Rattle.tag_machine.specs.Exchange.{Replied}
 use Rattle.air_model.specs.Past.{Start, Record, Item, befell, exchanged, operated, ended, tag_behind, next_entry}
 use Rattle.air_model.specs.Reception.{is_expected, reception_of}
 use Rattle.air_events.specs.Entries.{no_entry, entry_at}

@@ -6,53 +6,63 @@ use Rattle.air_model.specs.Channel.{heard_levels, wave_for}
 use Rattle.air_model.specs.Past.{Start, Record, Item, exchanged, tags_behind}
 use Rattle.runs.specs.Headline.{is_round_line, is_list_line}
 use Rattle.runs.specs.Listing.{Listed, listed_by, listing_of}
-use Rattle.runs.specs.Report.{trace_lines, list_line, item_lines, past_lines, tag_lines, last_lines}
-use Rattle.report_lines.specs.declared.mode.Mode.{Mode}
-use Rattle.report_lines.specs.declared.mode.Mode.TheVariants.{Plain, Trace}
-use Rattle.pie_line.specs.Link.{LinkValue}
-use Rattle.report_lines.specs.ReportLine.{ReportLine, TxLine, RxLine, OpLine, SeenLine, TagLine, DoneLine}
+use Rattle.runs.specs.Report.{exchange_lines, first_lines, list_line, item_lines, past_lines, tag_lines, last_lines}
+use Rattle.report_lines.specs.Kept.{is_plain}
+use Rattle.pie_line.specs.Link.{LinkValue, blf_of}
+use Rattle.report_lines.specs.ReportLine.{ReportLine, BlfLine, TxLine, RxLine, ListLine, OpLine, RoundLine, SeenLine, TagLine, DoneLine}
 use Rattle.report_lines.specs.SeenCounts.{Seen, seen_in}
 use Rattle.tag_machine.specs.TagValue.{TagValue}
 
--- no line of an exchange's trace passes, and none behind the steps
+-- no line passes that not each report has
+abbrev pub PassesNoTrace : (ReportLine → Bool) → Type 0
+PassesNoTrace test = (line : ReportLine) → is_plain line ≡ false → test line ≡ false
+
+-- ... and none behind the steps
 pub record PassesFew (test : ReportLine → Bool) : Type 0 where
-  pub tx : (exchange : ℕ) (intervals : List ℕ) → test (TxLine exchange intervals) ≡ false
-  pub rx : (exchange count : ℕ) (levels : List Bool) → test (RxLine exchange count levels) ≡ false
+  pub trace : PassesNoTrace test
   pub seen : (count pc : ℕ) (epc : List ℕ) → test (SeenLine count pc epc) ≡ false
   pub tag : (number : ℕ) (tag : TagValue) → test (TagLine number tag) ≡ false
   pub done : test DoneLine ≡ false
 
+pub round-no-trace : (round : ℕ) → PassesNoTrace (is_round_line round)
+round-no-trace round (RoundLine number end slots) is = absurd (cc)
+round-no-trace round line is = refl
+
 pub round-lines-pass : (round : ℕ) → PassesFew (is_round_line round)
 round-lines-pass round = record {
-  tx = λ exchange intervals. refl;
-  rx = λ exchange count levels. refl;
+  trace = round-no-trace round;
   seen = λ count pc epc. refl;
   tag = λ number tag. refl;
   done = refl;
 }
+
+pub list-no-trace : (round slot : ℕ) → PassesNoTrace (is_list_line round slot)
+list-no-trace round slot (ListLine in_round in_slot pc epc) is = absurd (cc)
+list-no-trace round slot line is = refl
 
 pub list-lines-pass : (round slot : ℕ) → PassesFew (is_list_line round slot)
 list-lines-pass round slot = record {
-  tx = λ exchange intervals. refl;
-  rx = λ exchange count levels. refl;
+  trace = list-no-trace round slot;
   seen = λ count pc epc. refl;
   tag = λ number tag. refl;
   done = refl;
 }
 
-no-trace : (test : ReportLine → Bool) → PassesFew test → (mode : Mode) (link : LinkValue) (sent : Record) → filter test (trace_lines mode link sent) ≡ []
-no-trace test few Plain link sent = refl
-no-trace test few Trace link sent =
-    rw (few.tx sent.exchange (wave_for link sent.command), few.rx sent.exchange (length sent.replies) (heard_levels link sent.given)) refl
+no-exchange : (test : ReportLine → Bool) → PassesFew test → (link : LinkValue) (sent : Record) → filter test (exchange_lines link sent) ≡ []
+no-exchange test few link sent =
+    rw (few.trace (TxLine sent.exchange (wave_for link sent.command)) refl, few.trace (RxLine sent.exchange (length sent.replies) (heard_levels link sent.given)) refl) refl
+
+pub no-first : (test : ReportLine → Bool) → PassesNoTrace test → (link : LinkValue) → filter test (first_lines link) ≡ []
+no-first test none link = rw (none (BlfLine (blf_of link).0 (blf_of link).1) refl) refl
 
 -- of an exchange those that list something may pass
-pub sent-passes : (test : ReportLine → Bool) → PassesFew test → (mode : Mode) (link : LinkValue) (sent : Record) (past : List Item)
-    → filter test (past_lines mode link (exchanged sent ∷ past)) ≡ filter test (past_lines mode link past) ++ filter test (map list_line (listed_by sent))
-sent-passes test few mode link sent past =
-    filter-append test (past_lines mode link past) (item_lines mode link (exchanged sent))
-    ∙ ap (λ (lines : List ReportLine). filter test (past_lines mode link past) ++ lines)
-    (filter-append test (trace_lines mode link sent) (map list_line (listed_by sent))
-    ∙ ap (λ (lines : List ReportLine). lines ++ filter test (map list_line (listed_by sent))) (no-trace test few mode link sent))
+pub sent-passes : (test : ReportLine → Bool) → PassesFew test → (link : LinkValue) (sent : Record) (past : List Item)
+    → filter test (past_lines link (exchanged sent ∷ past)) ≡ filter test (past_lines link past) ++ filter test (map list_line (listed_by sent))
+sent-passes test few link sent past =
+    filter-append test (past_lines link past) (item_lines link (exchanged sent))
+    ∙ ap (λ (lines : List ReportLine). filter test (past_lines link past) ++ lines)
+    (filter-append test (exchange_lines link sent) (map list_line (listed_by sent))
+    ∙ ap (λ (lines : List ReportLine). lines ++ filter test (map list_line (listed_by sent))) (no-exchange test few link sent))
 
 -- where no list line passes, what is listed adds nothing
 pub no-listed : (test : ReportLine → Bool) → ((listed : Listed) → test (list_line listed) ≡ false) → (listing : List Listed)
@@ -61,25 +71,25 @@ no-listed test fails [] = refl
 no-listed test fails (listed ∷ listing) = rw (fails listed) (no-listed test fails listing)
 
 -- ... and no exchange
-pub sent-adds-none : (test : ReportLine → Bool) → PassesFew test → ((listed : Listed) → test (list_line listed) ≡ false) → (mode : Mode) (link : LinkValue) (sent : Record) (past : List Item)
-    → filter test (past_lines mode link (exchanged sent ∷ past)) ≡ filter test (past_lines mode link past)
-sent-adds-none test few fails mode link sent past =
-    sent-passes test few mode link sent past
-    ∙ ap (λ (lines : List ReportLine). filter test (past_lines mode link past) ++ lines) (no-listed test fails (listed_by sent))
-    ∙ append-nil (filter test (past_lines mode link past))
+pub sent-adds-none : (test : ReportLine → Bool) → PassesFew test → ((listed : Listed) → test (list_line listed) ≡ false) → (link : LinkValue) (sent : Record) (past : List Item)
+    → filter test (past_lines link (exchanged sent ∷ past)) ≡ filter test (past_lines link past)
+sent-adds-none test few fails link sent past =
+    sent-passes test few link sent past
+    ∙ ap (λ (lines : List ReportLine). filter test (past_lines link past) ++ lines) (no-listed test fails (listed_by sent))
+    ∙ append-nil (filter test (past_lines link past))
 
 -- an event has no line
-pub befell-passes : (test : ReportLine → Bool) (mode : Mode) (link : LinkValue) (past : List Item)
-    → filter test (past_lines mode link past ++ []) ≡ filter test (past_lines mode link past)
-befell-passes test mode link past = ap (λ (lines : List ReportLine). filter test lines) (append-nil (past_lines mode link past))
+pub befell-passes : (test : ReportLine → Bool) (link : LinkValue) (past : List Item)
+    → filter test (past_lines link past ++ []) ≡ filter test (past_lines link past)
+befell-passes test link past = ap (λ (lines : List ReportLine). filter test lines) (append-nil (past_lines link past))
 
 -- where the line of a result does not pass, the result adds nothing
-pub operated-passes : (test : ReportLine → Bool) (mode : Mode) (link : LinkValue) (round slot index : ℕ) (result : OpResult) (past : List Item)
+pub operated-passes : (test : ReportLine → Bool) (link : LinkValue) (round slot index : ℕ) (result : OpResult) (past : List Item)
     → test (OpLine round slot index result) ≡ false
-    → filter test (past_lines mode link past ++ OpLine round slot index result ∷ []) ≡ filter test (past_lines mode link past)
-operated-passes test mode link round slot index result past fails =
-    filter-append test (past_lines mode link past) (OpLine round slot index result ∷ [])
-    ∙ rw fails (append-nil (filter test (past_lines mode link past)))
+    → filter test (past_lines link past ++ OpLine round slot index result ∷ []) ≡ filter test (past_lines link past)
+operated-passes test link round slot index result past fails =
+    filter-append test (past_lines link past) (OpLine round slot index result ∷ [])
+    ∙ rw fails (append-nil (filter test (past_lines link past)))
 
 no-last : (test : ReportLine → Bool) → PassesFew test → (seen : List Seen) (number : ℕ) (tags : List TagValue)
     → filter test (map (λ seen. SeenLine seen.count seen.pc seen.epc) seen ++ tag_lines number tags ++ DoneLine ∷ []) ≡ []
@@ -87,14 +97,14 @@ no-last test few [] number [] = rw few.done refl
 no-last test few [] number (tag ∷ tags) = rw (few.tag number tag) (no-last test few [] (number + 1) tags)
 no-last test few (one ∷ more) number tags = rw (few.seen one.count one.pc one.epc) (no-last test few more number tags)
 
--- of a report those of the steps may pass
-pub report-passes : (test : ReportLine → Bool) → PassesFew test → (mode : Mode) (start : Start) (past : List Item)
-    → filter test (past_lines mode start.link past ++ last_lines start past) ≡ filter test (past_lines mode start.link past)
-report-passes test few mode start past =
-    filter-append test (past_lines mode start.link past) (last_lines start past)
-    ∙ ap (λ (lines : List ReportLine). filter test (past_lines mode start.link past) ++ lines)
+-- of a run those of the steps may pass
+pub run-passes : (test : ReportLine → Bool) → PassesFew test → (start : Start) (past : List Item)
+    → filter test (past_lines start.link past ++ last_lines start past) ≡ filter test (past_lines start.link past)
+run-passes test few start past =
+    filter-append test (past_lines start.link past) (last_lines start past)
+    ∙ ap (λ (lines : List ReportLine). filter test (past_lines start.link past) ++ lines)
     (no-last test few (seen_in (map (λ listed. (listed.pc, listed.epc)) (listing_of past))) 0 (tags_behind start past))
-    ∙ append-nil (filter test (past_lines mode start.link past))
+    ∙ append-nil (filter test (past_lines start.link past))
 
 -- two tests in one
 pub and-false : (a b : Bool) → b ≡ false → (a && b) ≡ false

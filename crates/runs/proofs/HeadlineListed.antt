@@ -4,18 +4,16 @@ use Rattle.std.proofs.lemmas.List.Elements.{filter-append}
 use Rattle.access_ops.specs.laws.OperationLaws.{Expects}
 use Rattle.access_ops.specs.declared.OpList.{OpList}
 use Rattle.air_model.specs.Channel.{Given, whole}
-use Rattle.air_model.specs.Exchange.{Replied}
+use Rattle.tag_machine.specs.Exchange.{Replied}
 use Rattle.air_model.specs.Past.{Start, Record, Item, befell, exchanged, operated, ended, next_record, rounds_in}
 use Rattle.air_model.specs.Reception.{has_handle, is_expected, reception_of}
 use Rattle.reply_grammar.specs.Reception.{Reception, no_stream, whole_reply, no_such_reply}
 use Rattle.runs.specs.Headline.{IsSelect, IsLegalStep, AreLegalSteps, IsRecordOf, Acknowledges, IsGivenWhole, is_list_line, begins_slot}
 use Rattle.runs.specs.History.{past_behind_answer, slot_reception, past_behind_slot, past_behind_round, past_behind_step, history_of}
 use Rattle.runs.specs.Listing.{Listed, reception_of_ack, listed_from, listed_by}
-use Rattle.runs.specs.Report.{list_line, past_lines, last_lines}
-use Rattle.report_lines.specs.declared.mode.Mode.{Mode}
-use Rattle.report_lines.specs.declared.mode.Mode.TheVariants.{Plain, Trace}
+use Rattle.runs.specs.Report.{list_line, past_lines, run_lines}
 use Rattle.runs.specs.laws.Growth.{RoundsKeepLimit, answer-holds, ack-keeps, round-holds, steps-hold}
-use Rattle.runs.proofs.HeadlineLines.{list-lines-pass, sent-passes, befell-passes, operated-passes, report-passes, and-false}
+use Rattle.runs.proofs.HeadlineLines.{list-lines-pass, sent-passes, befell-passes, operated-passes, run-passes, and-false}
 use Rattle.runs.proofs.HeadlineSlots.{next-begins, slot-rounds}
 use Rattle.command_grammar.specs.declared.commands.Command.{Command}
 use Rattle.command_grammar.specs.declared.commands.Command.TheVariants as commands
@@ -30,6 +28,21 @@ use Rattle.reply_grammar.specs.declared.expected.Reply.TheVariants as replies
 use Rattle.report_lines.specs.ReportLine.{ReportLine, ListLine, RoundLine}
 use Rattle.scenario.specs.declared.values.Step.{Step}
 use Rattle.scenario.specs.declared.values.Step.TheVariants as steps
+
+-- a record tells of this PC and EPC, in its round and slot: they came whole in reply to its ACK
+pub record Tells (sent : Record) (listed : Listed) : Type 0 where
+  pub round_is : sent.round ≡ listed.round
+  pub slot_is : sent.slot ≡ listed.slot
+  pub rn : ℕ
+  pub acknowledges : Acknowledges sent rn
+  pub heard : reception_of expects.Epc sent.given ≡ whole_reply (replies.Epc listed.pc listed.epc)
+
+-- a list line of a past is that of one of its records
+pub record IsTold (history : List Item) (listed : Listed) : Type 0 where
+  pub sent : Record
+  pub earlier : List Item
+  pub recorded : IsRecordOf history sent earlier
+  pub tells : Tells sent listed
 
 abbrev pub is_ack : Command → Bool
 is_ack (commands.Ack rn) = true
@@ -185,14 +198,14 @@ before-at round slot (operated number place index result ∷ later) sent earlier
 before-at round slot (ended number end slots ∷ later) sent earlier before ack = before-at round slot later sent earlier before ack
 
 -- the list lines of a round and slot among the lines of a past
-abbrev pub list_lines : Mode → LinkValue → ℕ → ℕ → List Item → List ReportLine
-list_lines mode link round slot past = filter (is_list_line round slot) (past_lines mode link past)
+abbrev pub list_lines : LinkValue → ℕ → ℕ → List Item → List ReportLine
+list_lines link round slot past = filter (is_list_line round slot) (past_lines link past)
 
-no-end-line : (mode : Mode) (link : LinkValue) (round slot number : ℕ) (end : RoundEnd) (slots : ℕ) (past : List Item)
-    → list_lines mode link round slot (ended number end slots ∷ past) ≡ list_lines mode link round slot past
-no-end-line mode link round slot number end slots past =
-    filter-append (is_list_line round slot) (past_lines mode link past) (RoundLine number end slots ∷ [])
-    ∙ append-nil (list_lines mode link round slot past)
+no-end-line : (link : LinkValue) (round slot number : ℕ) (end : RoundEnd) (slots : ℕ) (past : List Item)
+    → list_lines link round slot (ended number end slots ∷ past) ≡ list_lines link round slot past
+no-end-line link round slot number end slots past =
+    filter-append (is_list_line round slot) (past_lines link past) (RoundLine number end slots ∷ [])
+    ∙ append-nil (list_lines link round slot past)
 
 -- no other command than an ACK lists anything
 lists-none : (sent : Record) (command : Command) → is_ack command ≡ false → listed_from sent (reception_of_ack sent command) ≡ []
@@ -225,40 +238,39 @@ no-line : (round slot : ℕ) (sent : Record) (ack : Bool) → is_ack sent.comman
 no-line round slot sent false is other = ap (λ (listing : List Listed). filter (is_list_line round slot) (map list_line listing)) (lists-none sent sent.command is)
 no-line round slot sent true is other = lists-elsewhere round slot sent (reception_of_ack sent sent.command) (other refl)
 
-passes-record : (mode : Mode) (link : LinkValue) (round slot : ℕ) (sent : Record) (past : List Item) → (is_ack sent.command ≡ true → (sent.round == round && sent.slot == slot) ≡ false)
-    → list_lines mode link round slot (exchanged sent ∷ past) ≡ list_lines mode link round slot past
-passes-record mode link round slot sent past other =
-    sent-passes (is_list_line round slot) (list-lines-pass round slot) mode link sent past
-    ∙ ap (λ (lines : List ReportLine). list_lines mode link round slot past ++ lines) (no-line round slot sent (is_ack sent.command) refl other)
-    ∙ append-nil (list_lines mode link round slot past)
+passes-record : (link : LinkValue) (round slot : ℕ) (sent : Record) (past : List Item) → (is_ack sent.command ≡ true → (sent.round == round && sent.slot == slot) ≡ false)
+    → list_lines link round slot (exchanged sent ∷ past) ≡ list_lines link round slot past
+passes-record link round slot sent past other =
+    sent-passes (is_list_line round slot) (list-lines-pass round slot) link sent past
+    ∙ ap (λ (lines : List ReportLine). list_lines link round slot past ++ lines) (no-line round slot sent (is_ack sent.command) refl other)
+    ∙ append-nil (list_lines link round slot past)
 
 -- where all ACKs come before a round and slot, nothing is listed there
-none-before : (mode : Mode) (link : LinkValue) (round slot : ℕ) (past : List Item) → AcksBefore round slot past → list_lines mode link round slot past ≡ []
-none-before Plain link round slot [] before = refl
-none-before Trace link round slot [] before = refl
-none-before mode link round slot (befell event number ∷ past) before = befell-passes (is_list_line round slot) mode link past ∙ none-before mode link round slot past before
-none-before mode link round slot (exchanged sent ∷ past) before =
-    passes-record mode link round slot sent past (λ ack. other-place sent.round sent.slot round slot (before.0 ack))
-    ∙ none-before mode link round slot past before.1
-none-before mode link round slot (operated number place index result ∷ past) before =
-    operated-passes (is_list_line round slot) mode link number place index result past refl ∙ none-before mode link round slot past before
-none-before mode link round slot (ended number end slots ∷ past) before = no-end-line mode link round slot number end slots past ∙ none-before mode link round slot past before
+none-before : (link : LinkValue) (round slot : ℕ) (past : List Item) → AcksBefore round slot past → list_lines link round slot past ≡ []
+none-before link round slot [] before = refl
+none-before link round slot (befell event number ∷ past) before = befell-passes (is_list_line round slot) link past ∙ none-before link round slot past before
+none-before link round slot (exchanged sent ∷ past) before =
+    passes-record link round slot sent past (λ ack. other-place sent.round sent.slot round slot (before.0 ack))
+    ∙ none-before link round slot past before.1
+none-before link round slot (operated number place index result ∷ past) before =
+    operated-passes (is_list_line round slot) link number place index result past refl ∙ none-before link round slot past before
+none-before link round slot (ended number end slots ∷ past) before = no-end-line link round slot number end slots past ∙ none-before link round slot past before
 
 -- what follows an ACK lists nothing in its round and slot
-none-after : (mode : Mode) (link : LinkValue) (later : List Item) (sent : Record) (earlier : List Item) → AcksRise (later ++ exchanged sent ∷ earlier) → is_ack sent.command ≡ true
-    → list_lines mode link sent.round sent.slot (later ++ exchanged sent ∷ earlier) ≡ list_lines mode link sent.round sent.slot (exchanged sent ∷ earlier)
-none-after mode link [] sent earlier rise ack = refl
-none-after mode link (befell event number ∷ later) sent earlier rise ack =
-    befell-passes (is_list_line sent.round sent.slot) mode link (later ++ exchanged sent ∷ earlier) ∙ none-after mode link later sent earlier rise ack
-none-after mode link (exchanged other ∷ later) sent earlier rise ack =
-    passes-record mode link sent.round sent.slot other (later ++ exchanged sent ∷ earlier)
+none-after : (link : LinkValue) (later : List Item) (sent : Record) (earlier : List Item) → AcksRise (later ++ exchanged sent ∷ earlier) → is_ack sent.command ≡ true
+    → list_lines link sent.round sent.slot (later ++ exchanged sent ∷ earlier) ≡ list_lines link sent.round sent.slot (exchanged sent ∷ earlier)
+none-after link [] sent earlier rise ack = refl
+none-after link (befell event number ∷ later) sent earlier rise ack =
+    befell-passes (is_list_line sent.round sent.slot) link (later ++ exchanged sent ∷ earlier) ∙ none-after link later sent earlier rise ack
+none-after link (exchanged other ∷ later) sent earlier rise ack =
+    passes-record link sent.round sent.slot other (later ++ exchanged sent ∷ earlier)
     (λ its. later-place other.round other.slot sent.round sent.slot (before-at other.round other.slot later sent earlier (rise.0 its) ack))
-    ∙ none-after mode link later sent earlier rise.1 ack
-none-after mode link (operated number place index result ∷ later) sent earlier rise ack =
-    operated-passes (is_list_line sent.round sent.slot) mode link number place index result (later ++ exchanged sent ∷ earlier) refl
-    ∙ none-after mode link later sent earlier rise ack
-none-after mode link (ended number end slots ∷ later) sent earlier rise ack =
-    no-end-line mode link sent.round sent.slot number end slots (later ++ exchanged sent ∷ earlier) ∙ none-after mode link later sent earlier rise ack
+    ∙ none-after link later sent earlier rise.1 ack
+none-after link (operated number place index result ∷ later) sent earlier rise ack =
+    operated-passes (is_list_line sent.round sent.slot) link number place index result (later ++ exchanged sent ∷ earlier) refl
+    ∙ none-after link later sent earlier rise ack
+none-after link (ended number end slots ∷ later) sent earlier rise ack =
+    no-end-line link sent.round sent.slot number end slots (later ++ exchanged sent ∷ earlier) ∙ none-after link later sent earlier rise ack
 
 -- an EPC is expected
 epc-expected : (reply : Reply) (handle pc : ℕ) (epc : List ℕ) → reply ≡ replies.Epc pc epc
@@ -270,16 +282,20 @@ epc-expected (replies.Words words) handle pc epc is = absurd (cc)
 epc-expected replies.Header handle pc epc is = absurd (cc)
 epc-expected (replies.Error code) handle pc epc is = absurd (cc)
 
--- what a record of an ACK lists that was given an EPC whole
-own-listed : (sent : Record) (rn pc : ℕ) (epc : List ℕ) (replied : Replied) → Acknowledges sent rn → IsGivenWhole sent.given pc epc replied
-    → map list_line (listed_by sent) ≡ ListLine sent.round sent.slot pc epc ∷ []
-own-listed sent rn pc epc replied acknowledges given =
-    let ack : listed_by sent ≡ listed_from sent (reception_of expects.Epc sent.given) = ap (λ (command : Command). listed_from sent (reception_of_ack sent command)) acknowledges in
-    let came : reception_of expects.Epc sent.given ≡ reception_of expects.Epc (whole replied) = ap (λ (g : Given). reception_of expects.Epc g) given.unbroken in
-    let expected : is_expected expects.Epc replied.sent ≡ true = epc-expected replied.sent.reply replied.sent.handle pc epc given.reply in
-    let heard : reception_of expects.Epc (whole replied) ≡ whole_reply (replies.Epc pc epc) =
-    ap (λ (b : Bool). if b then whole_reply replied.sent.reply else no_such_reply) expected ∙ ap (λ (r : Reply). whole_reply r) given.reply in
-    ap (λ (listing : List Listed). map list_line listing) (ack ∙ ap (λ (r : Reception). listed_from sent r) (came ∙ heard))
+-- what a record lists in whose ACK this PC and EPC were heard
+own-listed : (sent : Record) (listed : Listed) → Tells sent listed → map list_line (listed_by sent) ≡ list_line listed ∷ []
+own-listed sent listed tells =
+    let ack : listed_by sent ≡ listed_from sent (reception_of expects.Epc sent.given) = ap (λ (command : Command). listed_from sent (reception_of_ack sent command)) tells.acknowledges in
+    ap (λ (listing : List Listed). map list_line listing) (ack ∙ ap (λ (r : Reception). listed_from sent r) tells.heard)
+    ∙ ap (λ (round : ℕ). ListLine round sent.slot listed.pc listed.epc ∷ []) tells.round_is
+    ∙ ap (λ (slot : ℕ). ListLine listed.round slot listed.pc listed.epc ∷ []) tells.slot_is
+
+-- an EPC that was given whole is heard whole
+pub given-heard : (given : Given) (pc : ℕ) (epc : List ℕ) (replied : Replied) → IsGivenWhole given pc epc replied → reception_of expects.Epc given ≡ whole_reply (replies.Epc pc epc)
+given-heard given pc epc replied whole_is =
+    let came : reception_of expects.Epc given ≡ reception_of expects.Epc (whole replied) = ap (λ (g : Given). reception_of expects.Epc g) whole_is.unbroken in
+    let expected : is_expected expects.Epc replied.sent ≡ true = epc-expected replied.sent.reply replied.sent.handle pc epc whole_is.reply in
+    came ∙ ap (λ (b : Bool). if b then whole_reply replied.sent.reply else no_such_reply) expected ∙ ap (λ (r : Reply). whole_reply r) whole_is.reply
 
 own-line : (round slot pc : ℕ) (epc : List ℕ) → filter (is_list_line round slot) (ListLine round slot pc epc ∷ []) ≡ ListLine round slot pc epc ∷ []
 own-line round slot pc epc =
@@ -291,57 +307,82 @@ ack-of : (sent : Record) (rn : ℕ) → Acknowledges sent rn → is_ack sent.com
 ack-of sent rn acknowledges = ap is_ack acknowledges
 
 -- the one line
-listed-at : (mode : Mode) (link : LinkValue) (later : List Item) (sent : Record) (earlier : List Item) (rn pc : ℕ) (epc : List ℕ) (replied : Replied)
-    → AcksRise (later ++ exchanged sent ∷ earlier) → AcksBefore sent.round sent.slot earlier → Acknowledges sent rn → IsGivenWhole sent.given pc epc replied
-    → list_lines mode link sent.round sent.slot (later ++ exchanged sent ∷ earlier) ≡ ListLine sent.round sent.slot pc epc ∷ []
-listed-at mode link later sent earlier rn pc epc replied rise before acknowledges given =
-    none-after mode link later sent earlier rise (ack-of sent rn acknowledges)
-    ∙ sent-passes (is_list_line sent.round sent.slot) (list-lines-pass sent.round sent.slot) mode link sent earlier
+listed-at : (link : LinkValue) (later : List Item) (sent : Record) (earlier : List Item) (listed : Listed) → Tells sent listed
+    → AcksRise (later ++ exchanged sent ∷ earlier) → AcksBefore sent.round sent.slot earlier
+    → list_lines link sent.round sent.slot (later ++ exchanged sent ∷ earlier) ≡ filter (is_list_line sent.round sent.slot) (list_line listed ∷ [])
+listed-at link later sent earlier listed tells rise before =
+    none-after link later sent earlier rise (ack-of sent tells.rn tells.acknowledges)
+    ∙ sent-passes (is_list_line sent.round sent.slot) (list-lines-pass sent.round sent.slot) link sent earlier
     ∙ ap (λ (lines : List ReportLine). lines ++ filter (is_list_line sent.round sent.slot) (map list_line (listed_by sent)))
-    (none-before mode link sent.round sent.slot earlier before)
-    ∙ ap (λ (lines : List ReportLine). filter (is_list_line sent.round sent.slot) lines) (own-listed sent rn pc epc replied acknowledges given)
-    ∙ own-line sent.round sent.slot pc epc
+    (none-before link sent.round sent.slot earlier before)
+    ∙ ap (λ (lines : List ReportLine). filter (is_list_line sent.round sent.slot) lines) (own-listed sent listed tells)
 
 rise-tail : (later past : List Item) → AcksRise (later ++ past) → AcksRise past
 rise-tail [] past rise = rise
 rise-tail (item ∷ later) past rise = rise-tail later past (rise-split item (later ++ past) rise)
 
-pub listed-once : RoundsKeepLimit → (mode : Mode) (start : Start) (steps : List Step) (sent : Record) (earlier : List Item) (rn pc : ℕ) (epc : List ℕ) (replied : Replied)
-    → AreLegalSteps steps → IsRecordOf (history_of start steps) sent earlier → Acknowledges sent rn → IsGivenWhole sent.given pc epc replied
-    → filter (is_list_line sent.round sent.slot) (past_lines mode start.link (history_of start steps) ++ last_lines start (history_of start steps)) ≡ ListLine sent.round sent.slot pc epc ∷ []
-listed-once keeps mode start steps sent earlier rn pc epc replied legal recorded acknowledges given =
+pub listed-once : RoundsKeepLimit → (start : Start) (steps : List Step) (listed : Listed) → AreLegalSteps steps → IsTold (history_of start steps) listed
+    → filter (is_list_line listed.round listed.slot) (run_lines start steps) ≡ list_line listed ∷ []
+listed-once keeps start steps listed legal told =
     let history = history_of start steps in
-    let rise : AcksRise (recorded.later ++ exchanged sent ∷ earlier) = subst AcksRise recorded.is (history-rises keeps start steps legal) in
-    let own : AcksRise (exchanged sent ∷ earlier) = rise-tail recorded.later (exchanged sent ∷ earlier) rise in
-    report-passes (is_list_line sent.round sent.slot) (list-lines-pass sent.round sent.slot) mode start history
-    ∙ ap (λ (past : List Item). list_lines mode start.link sent.round sent.slot past) recorded.is
-    ∙ listed-at mode start.link recorded.later sent earlier rn pc epc replied rise (own.0 (ack-of sent rn acknowledges)) acknowledges given
+    let sent = told.sent in
+    let rise : AcksRise (told.recorded.later ++ exchanged sent ∷ told.earlier) = subst AcksRise told.recorded.is (history-rises keeps start steps legal) in
+    let own : AcksRise (exchanged sent ∷ told.earlier) = rise-tail told.recorded.later (exchanged sent ∷ told.earlier) rise in
+    ap (λ (round : ℕ). filter (is_list_line round listed.slot) (run_lines start steps)) (sym told.tells.round_is)
+    ∙ ap (λ (slot : ℕ). filter (is_list_line sent.round slot) (run_lines start steps)) (sym told.tells.slot_is)
+    ∙ run-passes (is_list_line sent.round sent.slot) (list-lines-pass sent.round sent.slot) start history
+    ∙ ap (λ (past : List Item). list_lines start.link sent.round sent.slot past) told.recorded.is
+    ∙ listed-at start.link told.recorded.later sent told.earlier listed told.tells rise (own.0 (ack-of sent told.tells.rn told.tells.acknowledges))
+    ∙ ap (λ (round : ℕ). filter (is_list_line round sent.slot) (list_line listed ∷ [])) told.tells.round_is
+    ∙ ap (λ (slot : ℕ). filter (is_list_line listed.round slot) (list_line listed ∷ [])) told.tells.slot_is
+    ∙ own-line listed.round listed.slot listed.pc listed.epc
 
--- two ACKs of one round and slot are one record
+-- two records send ACKs in one round and slot
+record SameSlot (left right : Record) : Type 0 where
+  pub left_ack : is_ack left.command ≡ true
+  pub right_ack : is_ack right.command ≡ true
+  pub round : left.round ≡ right.round
+  pub slot : left.slot ≡ right.slot
+
+-- ... so they are one record
 same-record : (left_later : List Item) (left : Record) (left_earlier right_later : List Item) (right : Record) (right_earlier : List Item)
     → left_later ++ exchanged left ∷ left_earlier ≡ right_later ++ exchanged right ∷ right_earlier → AcksRise (left_later ++ exchanged left ∷ left_earlier)
-    → is_ack left.command ≡ true → is_ack right.command ≡ true → left.round ≡ right.round → left.slot ≡ right.slot → left ≡ right
-same-record [] left left_earlier [] right right_earlier same rise left_ack right_ack round slot = cc
-same-record [] left left_earlier (item ∷ right_later) right right_earlier same rise left_ack right_ack round slot =
+    → SameSlot left right → left ≡ right
+same-record [] left left_earlier [] right right_earlier same rise here = cc
+same-record [] left left_earlier (item ∷ right_later) right right_earlier same rise here =
     let tails : left_earlier ≡ right_later ++ exchanged right ∷ right_earlier = cc in
-    let before : AcksBefore left.round left.slot (right_later ++ exchanged right ∷ right_earlier) = subst (AcksBefore left.round left.slot) tails (rise.0 left_ack) in
-    absurd (not-itself right.round right.slot left.round left.slot (sym round) (sym slot) (before-at left.round left.slot right_later right right_earlier before right_ack))
-same-record (item ∷ left_later) left left_earlier [] right right_earlier same rise left_ack right_ack round slot =
+    let before : AcksBefore left.round left.slot (right_later ++ exchanged right ∷ right_earlier) = subst (AcksBefore left.round left.slot) tails (rise.0 here.left_ack) in
+    absurd (not-itself right.round right.slot left.round left.slot (sym here.round) (sym here.slot) (before-at left.round left.slot right_later right right_earlier before here.right_ack))
+same-record (item ∷ left_later) left left_earlier [] right right_earlier same rise here =
     let head : item ≡ exchanged right = cc in
     let tails : left_later ++ exchanged left ∷ left_earlier ≡ right_earlier = cc in
     let rise_right : AcksRise (exchanged right ∷ (left_later ++ exchanged left ∷ left_earlier)) =
     subst (λ (first : Item). AcksRise (first ∷ (left_later ++ exchanged left ∷ left_earlier))) head rise in
-    absurd (not-itself left.round left.slot right.round right.slot round slot
-    (before-at right.round right.slot left_later left left_earlier (rise_right.0 right_ack) left_ack))
-same-record (item ∷ left_later) left left_earlier (other ∷ right_later) right right_earlier same rise left_ack right_ack round slot =
+    absurd (not-itself left.round left.slot right.round right.slot here.round here.slot
+    (before-at right.round right.slot left_later left left_earlier (rise_right.0 here.right_ack) here.left_ack))
+same-record (item ∷ left_later) left left_earlier (other ∷ right_later) right right_earlier same rise here =
     let tails : left_later ++ exchanged left ∷ left_earlier ≡ right_later ++ exchanged right ∷ right_earlier = cc in
     same-record left_later left left_earlier right_later right right_earlier tails
-    (rise-split item (left_later ++ exchanged left ∷ left_earlier) rise) left_ack right_ack round slot
+    (rise-split item (left_later ++ exchanged left ∷ left_earlier) rise) here
 
-pub one-ack : RoundsKeepLimit → (start : Start) (steps : List Step) (left right : Record) (left_earlier right_earlier : List Item) (left_rn right_rn : ℕ) → AreLegalSteps steps
-    → IsRecordOf (history_of start steps) left left_earlier → IsRecordOf (history_of start steps) right right_earlier
-    → Acknowledges left left_rn → Acknowledges right right_rn → left.round ≡ right.round → left.slot ≡ right.slot → left ≡ right
-one-ack keeps start steps left right left_earlier right_earlier left_rn right_rn legal left_recorded right_recorded left_ack right_ack round slot =
-    same-record left_recorded.later left left_earlier right_recorded.later right right_earlier (sym left_recorded.is ∙ right_recorded.is)
-    (subst AcksRise left_recorded.is (history-rises keeps start steps legal))
-    (ack-of left left_rn left_ack) (ack-of right right_rn right_ack) round slot
+-- a record of a history sends an ACK in this round and slot
+pub record IsAckAt (history : List Item) (round slot : ℕ) : Type 0 where
+  pub sent : Record
+  pub earlier : List Item
+  pub recorded : IsRecordOf history sent earlier
+  pub rn : ℕ
+  pub acknowledges : Acknowledges sent rn
+  pub round_is : sent.round ≡ round
+  pub slot_is : sent.slot ≡ slot
+
+pub one-ack : RoundsKeepLimit → (start : Start) (steps : List Step) (round slot : ℕ) → AreLegalSteps steps
+    → (one other : IsAckAt (history_of start steps) round slot) → one.sent ≡ other.sent
+one-ack keeps start steps round slot legal one other =
+    same-record one.recorded.later one.sent one.earlier other.recorded.later other.sent other.earlier (sym one.recorded.is ∙ other.recorded.is)
+    (subst AcksRise one.recorded.is (history-rises keeps start steps legal))
+    (record {
+      left_ack = ack-of one.sent one.rn one.acknowledges;
+      right_ack = ack-of other.sent other.rn other.acknowledges;
+      round = one.round_is ∙ sym other.round_is;
+      slot = one.slot_is ∙ sym other.slot_is;
+    })

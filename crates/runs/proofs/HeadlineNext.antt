@@ -9,7 +9,6 @@ use Rattle.reply_grammar.specs.Reception.{Reception}
 use Rattle.runs.specs.Headline.{IsSelect, IsLegalStep, AreLegalSteps, begins_slot, begins_slot_of, slot_records}
 use Rattle.runs.specs.History.{outcome_of, operation_reception, past_behind_dialogue, dialogue_begun, ack_reception, past_behind_ack, past_behind_answer, slot_reception, past_behind_round, past_behind_step, past_behind, history_of}
 use Rattle.runs.specs.NextItem.{finished_in, reception_of_slot, outcomes_of_round, rn_of, rn_received, item_by_rule, dialogue_behind_record, dialogue_behind_result, dialogue_behind_exchange, dialogue_left, results_behind_exchange, results_told, item_of_slots, item_in_round, item_of_step, next_item, GrowsByNext}
-use Rattle.report_lines.specs.declared.mode.Mode.TheVariants.{Plain}
 use Rattle.runs.specs.laws.Growth.{RoundsKeepLimit, dialogue-holds, begun-awaits, answer-cases, next_at_end, round-holds}
 use Rattle.runs.proofs.HeadlineLines.{and-true}
 use Rattle.runs.proofs.HeadlineSlots.{Fresh, step-fresh, first-fresh, next-begins, expects-begins-none}
@@ -24,34 +23,44 @@ use Rattle.reply_grammar.specs.declared.expected.Expect.{Expect}
 use Rattle.scenario.specs.declared.values.Step.{Step}
 use Rattle.scenario.specs.declared.values.Step.TheVariants as steps
 
--- within a round that began with so many rounds and steps behind it: the past so far, with the outcomes of its slots, the RN16
--- that was just received, and what is left of the dialogue with the tag that was listed last
-record Inside (start : Start) (all : List Step) (operations : OpList) (finished rounds : ℕ) (outcomes : List Outcome) (received : Option ℕ) (left : Dialogue) (past : List Item) : Type 0 where
-  pub grows : GrowsByNext start all past
-  pub finished_is : finished_in past ≡ finished
-  pub rounds_are : rounds_in past ≡ rounds
-  pub outcomes_are : outcomes_of_round (rounds + 1) past ≡ outcomes
+-- a round that is under way: the step of a run that it is, behind so many finished steps and so many ended rounds
+record UnderWay : Type 0 where
+  pub start : Start
+  pub all : List Step
+  pub finished : ℕ
+  pub rounds : ℕ
+  pub spec : SpecValue
+  pub operations : OpList
+  pub at : slice_get all finished ≡ Some (steps.Round spec operations)
+
+-- within the round: the past so far, with the outcomes of its slots, the RN16 that was just received, and what is left of the dialogue
+-- with the tag that was listed last
+record Inside (on : UnderWay) (outcomes : List Outcome) (received : Option ℕ) (left : Dialogue) (past : List Item) : Type 0 where
+  pub grows : GrowsByNext on.start on.all past
+  pub finished_is : finished_in past ≡ on.finished
+  pub rounds_are : rounds_in past ≡ on.rounds
+  pub outcomes_are : outcomes_of_round (on.rounds + 1) past ≡ outcomes
   pub received_is : rn_received past ≡ received
-  pub left_is : dialogue_left start operations past ≡ left
+  pub left_is : dialogue_left on.start on.operations past ≡ left
 
 -- what comes next within a round
-next-inside : (start : Start) (all : List Step) (operations : OpList) (finished rounds : ℕ) (outcomes : List Outcome) (received : Option ℕ) (left : Dialogue) (past : List Item) (spec : SpecValue)
-    → slice_get all finished ≡ Some (steps.Round spec operations) → Inside start all operations finished rounds outcomes received left past
-    → next_item start all past ≡ Some (item_in_round start spec (rounds + 1) outcomes past left)
-next-inside start all operations finished rounds outcomes received left past spec at inside =
-    ap (λ n. item_of_step start past (slice_get all n)) inside.finished_is
-    ∙ ap (λ (step : Option Step). item_of_step start past step) at
-    ∙ ap (λ n. Some (item_in_round start spec (n + 1) (outcomes_of_round (n + 1) past) past (dialogue_left start operations past))) inside.rounds_are
-    ∙ ap (λ (o : List Outcome). Some (item_in_round start spec (rounds + 1) o past (dialogue_left start operations past))) inside.outcomes_are
-    ∙ ap (λ (dialogue : Dialogue). Some (item_in_round start spec (rounds + 1) outcomes past dialogue)) inside.left_is
+next-inside : (on : UnderWay) (outcomes : List Outcome) (received : Option ℕ) (left : Dialogue) (past : List Item) → Inside on outcomes received left past
+    → next_item on.start on.all past ≡ Some (item_in_round on.start on.spec (on.rounds + 1) outcomes past left)
+next-inside on outcomes received left past inside =
+    let start = on.start in
+    let spec = on.spec in
+    ap (λ n. item_of_step start past (slice_get on.all n)) inside.finished_is
+    ∙ ap (λ (step : Option Step). item_of_step start past step) on.at
+    ∙ ap (λ n. Some (item_in_round start spec (n + 1) (outcomes_of_round (n + 1) past) past (dialogue_left start on.operations past))) inside.rounds_are
+    ∙ ap (λ (o : List Outcome). Some (item_in_round start spec (on.rounds + 1) o past (dialogue_left start on.operations past))) inside.outcomes_are
+    ∙ ap (λ (dialogue : Dialogue). Some (item_in_round start spec (on.rounds + 1) outcomes past dialogue)) inside.left_is
 
 -- ... where no operation is left
-next-of-slots : (start : Start) (all : List Step) (operations : OpList) (finished rounds : ℕ) (outcomes : List Outcome) (received : Option ℕ) (past : List Item) (spec : SpecValue)
-    → slice_get all finished ≡ Some (steps.Round spec operations) → Inside start all operations finished rounds outcomes received done past
-    → next_item start all past ≡ Some (item_of_slots start spec (rounds + 1) outcomes past received)
-next-of-slots start all operations finished rounds outcomes received past spec at inside =
-    next-inside start all operations finished rounds outcomes received done past spec at inside
-    ∙ ap (λ (rn : Option ℕ). Some (item_of_slots start spec (rounds + 1) outcomes past rn)) inside.received_is
+next-of-slots : (on : UnderWay) (outcomes : List Outcome) (received : Option ℕ) (past : List Item) → Inside on outcomes received done past
+    → next_item on.start on.all past ≡ Some (item_of_slots on.start on.spec (on.rounds + 1) outcomes past received)
+next-of-slots on outcomes received past inside =
+    next-inside on outcomes received done past inside
+    ∙ ap (λ (rn : Option ℕ). Some (item_of_slots on.start on.spec (on.rounds + 1) outcomes past rn)) inside.received_is
 
 -- the exchanges of a round finish no step
 round-unfinished : (sent : Record) (past : List Item) (rounds : ℕ) → sent.round ≡ rounds + 1 → finished_in (exchanged sent ∷ past) ≡ finished_in past
@@ -66,41 +75,48 @@ slot-done start operations sent (commands.Ack rn) begins = absurd (cc)
 slot-done start operations sent command begins = refl
 
 -- a slot command of the round: it brings one outcome more, and an RN16 or none
-inside-sent : (start : Start) (all : List Step) (operations : OpList) (finished rounds : ℕ) (outcomes : List Outcome) (past : List Item) (command : Command)
-    → begins_slot command ≡ true → next_item start all past ≡ Some (exchanged (next_record start (rounds + 1) (length outcomes + 1) command past))
-    → Inside start all operations finished rounds outcomes None done past
-    → Inside start all operations finished rounds (outcome_of (slot_reception start (rounds + 1) (length outcomes + 1) command past) ∷ outcomes)
-    (rn_of (slot_reception start (rounds + 1) (length outcomes + 1) command past)) done
-    (past_behind_command start (rounds + 1) (length outcomes + 1) command past)
-inside-sent start all operations finished rounds outcomes past command begins next inside =
-    let sent = next_record start (rounds + 1) (length outcomes + 1) command past in
-    let this : begins_slot_of (rounds + 1) sent ≡ true = and-true (begins_slot command) (rounds + 1 == rounds + 1) begins (eq-eqb (rounds + 1) (rounds + 1) refl) in
-    let slots : slot_records (rounds + 1) (exchanged sent ∷ past) ≡ sent ∷ slot_records (rounds + 1) past = rw this refl in
+inside-sent : (on : UnderWay) (outcomes : List Outcome) (past : List Item) (command : Command)
+    → begins_slot command ≡ true → next_item on.start on.all past ≡ Some (exchanged (next_record on.start (on.rounds + 1) (length outcomes + 1) command past))
+    → Inside on outcomes None done past
+    → Inside on (outcome_of (slot_reception on.start (on.rounds + 1) (length outcomes + 1) command past) ∷ outcomes)
+    (rn_of (slot_reception on.start (on.rounds + 1) (length outcomes + 1) command past)) done
+    (past_behind_command on.start (on.rounds + 1) (length outcomes + 1) command past)
+inside-sent on outcomes past command begins next inside =
+    let round : ℕ = on.rounds + 1 in
+    let sent = next_record on.start round (length outcomes + 1) command past in
+    let this : begins_slot_of round sent ≡ true = and-true (begins_slot command) (round == round) begins (eq-eqb round round refl) in
+    let slots : slot_records round (exchanged sent ∷ past) ≡ sent ∷ slot_records round past = rw this refl in
     record {
       grows = (next, inside.grows);
-      finished_is = round-unfinished sent past rounds refl ∙ inside.finished_is;
+      finished_is = round-unfinished sent past on.rounds refl ∙ inside.finished_is;
       rounds_are = inside.rounds_are;
       outcomes_are = ap (λ (sents : List Record). map (λ sent. outcome_of (reception_of_slot sent)) sents) slots
           ∙ ap (λ (o : List Outcome). outcome_of (reception_of_slot sent) ∷ o) inside.outcomes_are;
       received_is = rw begins refl;
-      left_is = ap (λ (dialogue : Dialogue). dialogue_behind_exchange start operations sent command dialogue) inside.left_is
-          ∙ slot-done start operations sent command begins;
+      left_is = ap (λ (dialogue : Dialogue). dialogue_behind_exchange on.start on.operations sent command dialogue) inside.left_is
+          ∙ slot-done on.start on.operations sent command begins;
     }
 
--- what an exchange leaves that begins no slot: it brings no outcome, and no RN16 of a slot
-inside-exchange : (start : Start) (all : List Step) (operations : OpList) (finished rounds : ℕ) (outcomes : List Outcome) (received : Option ℕ) (left now_left : Dialogue) (past : List Item) (sent : Record)
-    → sent.round ≡ rounds + 1 → begins_slot sent.command ≡ false → next_item start all past ≡ Some (exchanged sent)
-    → dialogue_left start operations (exchanged sent ∷ past) ≡ now_left
-    → Inside start all operations finished rounds outcomes received left past → Inside start all operations finished rounds outcomes None now_left (exchanged sent ∷ past)
-inside-exchange start all operations finished rounds outcomes received left now_left past sent round_is begins_none next left_is inside =
-    let slots : slot_records (rounds + 1) (exchanged sent ∷ past) ≡ slot_records (rounds + 1) past = rw begins_none refl in
+-- an exchange of the round begins no slot, comes next, and leaves this of the dialogue
+record IsBetweenSlots (on : UnderWay) (left : Dialogue) (past : List Item) (sent : Record) : Type 0 where
+  pub round_is : sent.round ≡ on.rounds + 1
+  pub begins_none : begins_slot sent.command ≡ false
+  pub next : next_item on.start on.all past ≡ Some (exchanged sent)
+  pub left_is : dialogue_left on.start on.operations (exchanged sent ∷ past) ≡ left
+
+-- ... it brings no outcome, and no RN16 of a slot
+inside-exchange : (on : UnderWay) (outcomes : List Outcome) (received : Option ℕ) (left now_left : Dialogue) (past : List Item) (sent : Record)
+    → IsBetweenSlots on now_left past sent → Inside on outcomes received left past → Inside on outcomes None now_left (exchanged sent ∷ past)
+inside-exchange on outcomes received left now_left past sent between inside =
+    let none = between.begins_none in
+    let slots : slot_records (on.rounds + 1) (exchanged sent ∷ past) ≡ slot_records (on.rounds + 1) past = rw none refl in
     record {
-      grows = (next, inside.grows);
-      finished_is = round-unfinished sent past rounds round_is ∙ inside.finished_is;
+      grows = (between.next, inside.grows);
+      finished_is = round-unfinished sent past on.rounds between.round_is ∙ inside.finished_is;
       rounds_are = inside.rounds_are;
       outcomes_are = ap (λ (sents : List Record). map (λ sent. outcome_of (reception_of_slot sent)) sents) slots ∙ inside.outcomes_are;
-      received_is = rw begins_none refl;
-      left_is = left_is;
+      received_is = rw none refl;
+      left_is = between.left_is;
     }
 
 -- a command of an operation goes on with the dialogue
@@ -115,28 +131,33 @@ tells-none (commands.Ack rn) expect extended told suits = absurd suits
 tells-none command expect extended told suits = refl
 
 -- within a dialogue, whose next result has this number
-record InDialogue (start : Start) (all : List Step) (operations : OpList) (finished rounds : ℕ) (outcomes : List Outcome) (index : ℕ) (left : Dialogue) (past : List Item) : Type 0 where
-  pub inside : Inside start all operations finished rounds outcomes None left past
+record InDialogue (on : UnderWay) (outcomes : List Outcome) (index : ℕ) (left : Dialogue) (past : List Item) : Type 0 where
+  pub inside : Inside on outcomes None left past
   pub told_is : results_told past + 1 ≡ index
   pub awaits : AwaitsReplies left
 
 -- a dialogue grows by what comes next alone
-inside-dialogue : (start : Start) (all : List Step) (operations : OpList) (finished rounds : ℕ) (outcomes : List Outcome) (slot index : ℕ) (left : Dialogue) (past : List Item) (spec : SpecValue)
-    → slice_get all finished ≡ Some (steps.Round spec operations) → length outcomes ≡ slot → InDialogue start all operations finished rounds outcomes index left past
-    → Inside start all operations finished rounds outcomes None done (past_behind_dialogue start (rounds + 1) slot index left past)
-inside-dialogue start all operations finished rounds outcomes slot index left past spec at count holds =
-    dialogue-holds (InDialogue start all operations finished rounds outcomes) (Inside start all operations finished rounds outcomes None done) start (rounds + 1) slot
+inside-dialogue : (on : UnderWay) (outcomes : List Outcome) (slot index : ℕ) (left : Dialogue) (past : List Item)
+    → length outcomes ≡ slot → InDialogue on outcomes index left past
+    → Inside on outcomes None done (past_behind_dialogue on.start (on.rounds + 1) slot index left past)
+inside-dialogue on outcomes slot index left past count holds =
+    let start = on.start in
+    let round : ℕ = on.rounds + 1 in
+    dialogue-holds (InDialogue on outcomes) (Inside on outcomes None done) start round slot
     (record {
       command = λ index command expect extended go_on now here.
-          let sent = next_record start (rounds + 1) slot command now in
+          let sent = next_record start round slot command now in
           let suits : Expects command expect extended = here.awaits.0 in
           record {
-            inside = inside-exchange start all operations finished rounds outcomes None (sends command expect extended go_on)
-                (go_on (operation_reception start (rounds + 1) slot command expect extended now)) now sent refl (expects-begins-none command expect extended suits)
-                (next-inside start all operations finished rounds outcomes None (sends command expect extended go_on) now spec at here.inside
-                ∙ ap (λ n. Some (exchanged (next_record start (rounds + 1) n command now))) count)
-                (ap (λ (dialogue : Dialogue). dialogue_behind_exchange start operations sent command dialogue) here.inside.left_is
-                ∙ goes-on start operations sent command expect extended (sends command expect extended go_on) suits)
+            inside = inside-exchange on outcomes None (sends command expect extended go_on)
+                (go_on (operation_reception start round slot command expect extended now)) now sent
+                (record {
+                  round_is = refl;
+                  begins_none = expects-begins-none command expect extended suits;
+                  next = next-inside on outcomes None (sends command expect extended go_on) now here.inside ∙ ap (λ n. Some (exchanged (next_record start round n command now))) count;
+                  left_is = ap (λ (dialogue : Dialogue). dialogue_behind_exchange start on.operations sent command dialogue) here.inside.left_is
+                      ∙ goes-on start on.operations sent command expect extended (sends command expect extended go_on) suits;
+                })
                 here.inside;
             told_is = ap (λ n. n + 1) (tells-none command expect extended (results_told now) suits) ∙ here.told_is;
             awaits = here.awaits.1 _;
@@ -144,9 +165,9 @@ inside-dialogue start all operations finished rounds outcomes slot index left pa
       result = λ index result later now here. record {
         inside = record {
           grows = (
-            next-inside start all operations finished rounds outcomes None (tells result later) now spec at here.inside
-                ∙ ap (λ n. Some (operated (rounds + 1) n (results_told now + 1) result)) count
-                ∙ ap (λ n. Some (operated (rounds + 1) slot n result)) here.told_is,
+            next-inside on outcomes None (tells result later) now here.inside
+                ∙ ap (λ n. Some (operated round n (results_told now + 1) result)) count
+                ∙ ap (λ n. Some (operated round slot n result)) here.told_is,
             here.inside.grows,
           );
           finished_is = here.inside.finished_is;
@@ -163,30 +184,33 @@ inside-dialogue start all operations finished rounds outcomes slot index left pa
     index left past holds
 
 -- the ACK that follows a whole RN16, and what follows it
-inside-ack : (start : Start) (all : List Step) (operations : OpList) (finished rounds : ℕ) (outcomes : List Outcome) (slot rn : ℕ) (past : List Item) (spec : SpecValue)
-    → slice_get all finished ≡ Some (steps.Round spec operations) → length outcomes ≡ slot → Inside start all operations finished rounds outcomes (Some rn) done past
-    → Inside start all operations finished rounds outcomes None done (past_behind_ack start operations (rounds + 1) slot rn past)
-inside-ack start all operations finished rounds outcomes slot rn past spec at count inside =
-    let sent = next_record start (rounds + 1) slot (commands.Ack rn) past in
-    let begun = dialogue_begun operations rn (ack_reception start (rounds + 1) slot rn past) in
-    inside-dialogue start all operations finished rounds outcomes slot 1 begun (exchanged sent ∷ past) spec at count
+inside-ack : (on : UnderWay) (outcomes : List Outcome) (slot rn : ℕ) (past : List Item) → length outcomes ≡ slot → Inside on outcomes (Some rn) done past
+    → Inside on outcomes None done (past_behind_ack on.start on.operations (on.rounds + 1) slot rn past)
+inside-ack on outcomes slot rn past count inside =
+    let start = on.start in
+    let round : ℕ = on.rounds + 1 in
+    let sent = next_record start round slot (commands.Ack rn) past in
+    let begun = dialogue_begun on.operations rn (ack_reception start round slot rn past) in
+    inside-dialogue on outcomes slot 1 begun (exchanged sent ∷ past) count
     (record {
-      inside = inside-exchange start all operations finished rounds outcomes (Some rn) done begun past sent refl refl
-          (next-of-slots start all operations finished rounds outcomes (Some rn) past spec at inside
-          ∙ ap (λ n. Some (exchanged (next_record start (rounds + 1) n (commands.Ack rn) past))) count)
-          refl inside;
+      inside = inside-exchange on outcomes (Some rn) done begun past sent
+          (record {
+            round_is = refl;
+            begins_none = refl;
+            next = next-of-slots on outcomes (Some rn) past inside ∙ ap (λ n. Some (exchanged (next_record start round n (commands.Ack rn) past))) count;
+            left_is = refl;
+          })
+          inside;
       told_is = refl;
-      awaits = begun-awaits operations rn (ack_reception start (rounds + 1) slot rn past);
+      awaits = begun-awaits on.operations rn (ack_reception start round slot rn past);
     })
 
-inside-answer : (start : Start) (all : List Step) (operations : OpList) (finished rounds : ℕ) (outcomes : List Outcome) (slot : ℕ) (reception : Reception) (past : List Item) (spec : SpecValue)
-    → slice_get all finished ≡ Some (steps.Round spec operations) → length outcomes ≡ slot → Inside start all operations finished rounds outcomes (rn_of reception) done past
-    → Inside start all operations finished rounds outcomes None done (past_behind_answer start operations (rounds + 1) slot reception past)
-inside-answer start all operations finished rounds outcomes slot reception past spec at count inside =
-    answer-cases (Inside start all operations finished rounds outcomes None done) start operations (rounds + 1) slot reception past
-    (λ none. subst (λ (received : Option ℕ). Inside start all operations finished rounds outcomes received done past) none inside)
-    (λ rn is. inside-ack start all operations finished rounds outcomes slot rn past spec at count
-    (subst (λ (reception : Reception). Inside start all operations finished rounds outcomes (rn_of reception) done past) is inside))
+inside-answer : (on : UnderWay) (outcomes : List Outcome) (slot : ℕ) (reception : Reception) (past : List Item) → length outcomes ≡ slot → Inside on outcomes (rn_of reception) done past
+    → Inside on outcomes None done (past_behind_answer on.start on.operations (on.rounds + 1) slot reception past)
+inside-answer on outcomes slot reception past count inside =
+    answer-cases (Inside on outcomes None done) on.start on.operations (on.rounds + 1) slot reception past
+    (λ none. subst (λ (received : Option ℕ). Inside on outcomes received done past) none inside)
+    (λ rn is. inside-ack on outcomes slot rn past count (subst (λ (reception : Reception). Inside on outcomes (rn_of reception) done past) is inside))
 
 -- between steps, of which so many are finished
 record Between (start : Start) (all : List Step) (finished : ℕ) (past : List Item) : Type 0 where
@@ -194,7 +218,7 @@ record Between (start : Start) (all : List Step) (finished : ℕ) (past : List I
   pub finished_is : finished_in past ≡ finished
   pub received_is : rn_received past ≡ None
   pub over : (operations : OpList) → dialogue_left start operations past ≡ done
-  pub fresh : Fresh Plain start.link past
+  pub fresh : Fresh start.link past
 
 -- what a round leaves
 record Behind (start : Start) (all : List Step) (finished : ℕ) (past : List Item) : Type 0 where
@@ -209,25 +233,25 @@ end-item start round outcomes past round_ends.Quiet = refl
 end-item start round outcomes past round_ends.Limit = refl
 
 round-grows : RoundsKeepLimit → (start : Start) (all : List Step) (finished : ℕ) (past : List Item) (spec : SpecValue) (operations : OpList) → IsLegalSpec spec
-    → slice_get all finished ≡ Some (steps.Round spec operations) → Between start all finished past → Behind start all (finished + 1) (past_behind_round start operations spec past)
-round-grows keeps start all finished past spec operations legal at between =
+    → slice_get all finished ≡ Some (steps.Round spec operations) × Between start all finished past → Behind start all (finished + 1) (past_behind_round start operations spec past)
+round-grows keeps start all finished past spec operations legal (at, between) =
     let rounds : ℕ = rounds_in past in
-    round-holds (λ outcomes now. Inside start all operations finished rounds outcomes None done now) (λ now. Behind start all (finished + 1) now)
+    let on : UnderWay = record { start = start; all = all; finished = finished; rounds = rounds; spec = spec; operations = operations; at = at } in
+    round-holds (λ outcomes now. Inside on outcomes None done now) (λ now. Behind start all (finished + 1) now)
     start operations spec past keeps legal
     (record {
       slot = λ outcomes now command are is inside.
           let slot : ℕ = length outcomes + 1 in
           let begins : begins_slot command ≡ true = next-begins spec start.link outcomes command is in
           let next : next_item start all now ≡ Some (exchanged (next_record start (rounds + 1) slot command now)) =
-          next-of-slots start all operations finished rounds outcomes None now spec at inside
-          ∙ ap (λ (next : Next). Some (item_by_rule start (rounds + 1) outcomes now next)) is in
+          next-of-slots on outcomes None now inside ∙ ap (λ (next : Next). Some (item_by_rule start (rounds + 1) outcomes now next)) is in
           let reception = slot_reception start (rounds + 1) slot command now in
-          inside-answer start all operations finished rounds (outcome_of reception ∷ outcomes) slot reception (past_behind_command start (rounds + 1) slot command now) spec at
+          inside-answer on (outcome_of reception ∷ outcomes) slot reception (past_behind_command start (rounds + 1) slot command now)
           (sym (add-one (length outcomes)))
-          (inside-sent start all operations finished rounds outcomes now command begins next inside);
+          (inside-sent on outcomes now command begins next inside);
       end = λ outcomes now end are is inside. record {
         grows = (
-          next-of-slots start all operations finished rounds outcomes None now spec at inside
+          next-of-slots on outcomes None now inside
               ∙ ap (λ (next : Next). Some (item_by_rule start (rounds + 1) outcomes now next)) is
               ∙ ap (λ (item : Item). Some item) (end-item start (rounds + 1) outcomes now end),
           inside.grows,
@@ -288,7 +312,7 @@ step-grows-by-next keeps start all finished past (steps.Event event number) lega
   over = λ operations. refl;
 }
 step-grows-by-next keeps start all finished past (steps.Round spec operations) legal at between =
-    round-grows keeps start all finished past spec operations legal.legal at between
+    round-grows keeps start all finished past spec operations legal.legal (at, between)
 
 -- a run grows by what comes next, and nothing comes next where no step is left
 record Ends (start : Start) (all : List Step) (history : List Item) : Type 0 where
@@ -311,13 +335,13 @@ steps-grow-by-next keeps start all (step ∷ left) finished past legal at betwee
       finished_is = behind.finished_is;
       received_is = behind.received_is;
       over = behind.over;
-      fresh = step-fresh keeps Plain start step past legal.0 between.fresh;
+      fresh = step-fresh keeps start step past legal.0 between.fresh;
     })
 
 history-ends : RoundsKeepLimit → (start : Start) (all : List Step) → AreLegalSteps all → Ends start all (history_of start all)
 history-ends keeps start all legal =
     steps-grow-by-next keeps start all all 0 [] legal (λ place more is. ap (λ n. slice_get all n) (is ∙ omega arith))
-    (record { grows = tt; finished_is = refl; received_is = refl; over = λ operations. refl; fresh = first-fresh Plain start.link })
+    (record { grows = tt; finished_is = refl; received_is = refl; over = λ operations. refl; fresh = first-fresh start.link })
 
 pub history-grows : RoundsKeepLimit → (start : Start) (all : List Step) → AreLegalSteps all → GrowsByNext start all (history_of start all)
 history-grows keeps start all legal = (history-ends keeps start all legal).grows

@@ -3,35 +3,42 @@ use Rattle.std.proofs.Common.{◌≡◌, List, [], ◌∷◌, ◌++◌, filter, 
 use Rattle.std.proofs.lemmas.List.Elements.{filter-append}
 use Rattle.air_model.specs.Past.{Start, Item, befell, exchanged, operated, ended}
 use Rattle.runs.specs.Headline.{is_op_line, op_lines}
-use Rattle.runs.specs.Report.{past_lines, last_lines}
+use Rattle.runs.specs.History.{history_of}
+use Rattle.runs.specs.Report.{past_lines, last_lines, run_lines, report_of}
 use Rattle.report_lines.specs.declared.mode.Mode.{Mode}
-use Rattle.report_lines.specs.declared.mode.Mode.TheVariants.{Plain, Trace}
-use Rattle.runs.proofs.HeadlineLines.{PassesFew, sent-adds-none, befell-passes, report-passes}
+use Rattle.runs.proofs.HeadlineKept.{kept-pass}
+use Rattle.scenario.specs.declared.values.Step.{Step}
+use Rattle.runs.proofs.HeadlineLines.{PassesNoTrace, PassesFew, sent-adds-none, befell-passes, run-passes}
 use Rattle.pie_line.specs.Link.{LinkValue}
 use Rattle.report_lines.specs.ReportLine.{ReportLine, OpLine, RoundLine}
 
+op-no-trace : PassesNoTrace is_op_line
+op-no-trace (OpLine round slot index result) is = absurd (cc)
+op-no-trace line is = refl
+
 op-lines-pass : PassesFew is_op_line
 op-lines-pass = record {
-  tx = λ exchange intervals. refl;
-  rx = λ exchange count levels. refl;
+  trace = op-no-trace;
   seen = λ count pc epc. refl;
   tag = λ number tag. refl;
   done = refl;
 }
 
-past-tells : (mode : Mode) (link : LinkValue) (past : List Item) → filter is_op_line (past_lines mode link past) ≡ op_lines past
-past-tells Plain link [] = refl
-past-tells Trace link [] = refl
-past-tells mode link (befell event number ∷ past) = befell-passes is_op_line mode link past ∙ past-tells mode link past
-past-tells mode link (exchanged sent ∷ past) = sent-adds-none is_op_line op-lines-pass (λ listed. refl) mode link sent past ∙ past-tells mode link past
-past-tells mode link (operated round slot index result ∷ past) =
-    filter-append is_op_line (past_lines mode link past) (OpLine round slot index result ∷ [])
-    ∙ ap (λ (lines : List ReportLine). lines ++ OpLine round slot index result ∷ []) (past-tells mode link past)
-past-tells mode link (ended round end slots ∷ past) =
-    filter-append is_op_line (past_lines mode link past) (RoundLine round end slots ∷ [])
-    ∙ append-nil (filter is_op_line (past_lines mode link past)) ∙ past-tells mode link past
+past-tells : (link : LinkValue) (past : List Item) → filter is_op_line (past_lines link past) ≡ op_lines past
+past-tells link [] = refl
+past-tells link (befell event number ∷ past) = befell-passes is_op_line link past ∙ past-tells link past
+past-tells link (exchanged sent ∷ past) = sent-adds-none is_op_line op-lines-pass (λ listed. refl) link sent past ∙ past-tells link past
+past-tells link (operated round slot index result ∷ past) =
+    filter-append is_op_line (past_lines link past) (OpLine round slot index result ∷ [])
+    ∙ ap (λ (lines : List ReportLine). lines ++ OpLine round slot index result ∷ []) (past-tells link past)
+past-tells link (ended round end slots ∷ past) =
+    filter-append is_op_line (past_lines link past) (RoundLine round end slots ∷ [])
+    ∙ append-nil (filter is_op_line (past_lines link past)) ∙ past-tells link past
 
 -- behind the steps no result is told
-pub report-tells : (mode : Mode) (start : Start) (past : List Item)
-    → filter is_op_line (past_lines mode start.link past ++ last_lines start past) ≡ op_lines past
-report-tells mode start past = report-passes is_op_line op-lines-pass mode start past ∙ past-tells mode start.link past
+run-tells : (start : Start) (past : List Item)
+    → filter is_op_line (past_lines start.link past ++ last_lines start past) ≡ op_lines past
+run-tells start past = run-passes is_op_line op-lines-pass start past ∙ past-tells start.link past
+
+pub report-tells : (mode : Mode) (start : Start) (steps : List Step) → filter is_op_line (report_of mode start steps) ≡ op_lines (history_of start steps)
+report-tells mode start steps = kept-pass is_op_line op-no-trace mode (run_lines start steps) ∙ run-tells start (history_of start steps)

@@ -1,7 +1,7 @@
 -- Each list line is what a present tag sent, where no raw stream is given: from what the channel gave to a reply, and from the
 -- reply to the tag with its number.
 use Rattle.std.proofs.Common.{◌≡◌, ℕ, zero, suc, ◌+◌, Bool, true, false, inl, inr, List, [], ◌∷◌, Contains, Option, Some, None, slice_get, if◌then◌else◌, refl, ap, sym, ◌∙◌, subst, arith}
-use Rattle.air_model.specs.Exchange.{replies_in, Replied, reply_of, replies_from, is_missed, outcome_unless, outcome_in, outcomes_from, tag_after_events}
+use Rattle.tag_machine.specs.Exchange.{replies_in, Replied, reply_of, replies_from, is_missed, outcome_unless, outcome_in, outcomes_from, tag_after_events}
 use Rattle.air_model.specs.Channel.{given_in, Given, silence, whole, broken, raw, whole_or_silence, first_broken, default_given, given_of, IsOfReplies}
 use Rattle.air_model.specs.Past.{Start, Record, Item, tag_behind, tags_behind, tags_behind_from, next_entry, next_record, is_hearer, hearers_of}
 use Rattle.air_model.specs.Reception.{is_expected, reception_of}
@@ -13,11 +13,11 @@ use Rattle.air_events.specs.declared.Several.{Several}
 use Rattle.air_events.specs.declared.Several.TheVariants as severals
 use Rattle.runs.specs.Headline.{AreLegalSteps, Acknowledges, tag_in, IsFromTag, IsGivenWhole, IsSentByATag, HasNoRawStream}
 use Rattle.runs.specs.History.{history_of}
-use Rattle.runs.specs.Report.{report_of}
-use Rattle.report_lines.specs.declared.mode.Mode.{Mode}
+use Rattle.runs.specs.Listing.{Listed}
 use Rattle.runs.specs.laws.Growth.{RoundsKeepLimit}
-use Rattle.runs.proofs.Among.{Among, among-split, among-of, contains-of}
-use Rattle.runs.proofs.HeadlineTold.{IsTold, told-report, told-ack}
+use Rattle.runs.proofs.Among.{Among, among-split, contains-of}
+use Rattle.runs.proofs.HeadlineListed.{IsTold}
+use Rattle.runs.proofs.HeadlineTold.{told-ack}
 use Rattle.runs.proofs.MadeRecords.{made-record, none-given}
 use Rattle.command_grammar.specs.declared.commands.Command.{Command}
 use Rattle.command_grammar.specs.declared.commands.Command.TheVariants as commands
@@ -25,7 +25,6 @@ use Rattle.pie_line.specs.Link.{LinkValue}
 use Rattle.reply_grammar.specs.declared.expected.Expect.TheVariants as expects
 use Rattle.reply_grammar.specs.declared.expected.Reply.{Reply}
 use Rattle.reply_grammar.specs.declared.expected.Reply.TheVariants as replies
-use Rattle.report_lines.specs.ReportLine.{ListLine}
 use Rattle.scenario.specs.declared.values.Step.{Step}
 use Rattle.tag_machine.specs.Answers.{Sent}
 use Rattle.tag_machine.specs.Step.{step}
@@ -185,17 +184,15 @@ given-whole (broken replied place) pc epc of heard = absurd (cc)
 given-whole (raw code trext levels) pc epc of heard = absurd of
 
 -- a list line is that of one record, which has what a tag sent, where no raw stream is given
-pub sent-by-a-tag : RoundsKeepLimit → (mode : Mode) (start : Start) (steps : List Step) (round slot pc : ℕ) (epc : List ℕ) → AreLegalSteps steps → HasNoRawStream start.entries
-    → Contains (report_of mode start steps) (ListLine round slot pc epc) → IsSentByATag start (history_of start steps) round slot pc epc
-sent-by-a-tag keeps mode start steps round slot pc epc legal none contains =
-    let history = history_of start steps in
-    let found : IsTold history round slot pc epc = told-report mode start history round slot pc epc (among-of (ListLine round slot pc epc) (report_of mode start steps) contains) in
+pub sent-by-a-tag : RoundsKeepLimit → (start : Start) (steps : List Step) (listed : Listed) → AreLegalSteps steps → HasNoRawStream start.entries
+    → IsTold (history_of start steps) listed → IsSentByATag start (history_of start steps) listed.round listed.slot listed.pc listed.epc
+sent-by-a-tag keeps start steps listed legal none found =
     let made = made-record start steps found.sent found.earlier found.recorded in
-    let (replied, given) = given-whole found.sent.given pc epc (none-given start found.sent found.earlier none made) found.tells.heard in
+    let (replied, given) = given-whole found.sent.given listed.pc listed.epc (none-given start found.sent found.earlier none made) found.tells.heard in
     record {
       sent = found.sent;
       earlier = found.earlier;
-      ack = told-ack keeps start steps round slot pc epc legal found;
+      ack = told-ack keeps start steps listed legal found;
       replied = replied;
       given = given;
       from_tag = from-tag start found.sent found.earlier found.tells.rn replied made found.tells.acknowledges given.unbroken;

@@ -4,31 +4,31 @@ use Rattle.std.proofs.lemmas.List.Elements.{filter-append}
 use Rattle.air_model.specs.Past.{Start, Item, befell, exchanged, operated, ended, tag_behind, tags_behind_from}
 use Rattle.runs.specs.Headline.{is_tag_line, tag_lines_behind}
 use Rattle.runs.specs.Listing.{listed_by, listing_of}
-use Rattle.runs.specs.Report.{item_lines, past_lines, tag_lines, last_lines}
+use Rattle.runs.specs.Report.{item_lines, past_lines, tag_lines, last_lines, run_lines, report_of}
+use Rattle.runs.proofs.HeadlineKept.{kept-pass}
+use Rattle.runs.proofs.HeadlineLines.{PassesNoTrace, no-listed}
 use Rattle.report_lines.specs.declared.mode.Mode.{Mode}
-use Rattle.report_lines.specs.declared.mode.Mode.TheVariants.{Plain, Trace}
-use Rattle.runs.proofs.HeadlineLines.{no-listed}
+use Rattle.runs.specs.History.{history_of}
+use Rattle.scenario.specs.declared.values.Step.{Step}
 use Rattle.pie_line.specs.Link.{LinkValue}
 use Rattle.report_lines.specs.ReportLine.{ReportLine, SeenLine, TagLine, DoneLine}
 use Rattle.report_lines.specs.SeenCounts.{Seen, seen_in}
 use Rattle.tag_machine.specs.TagValue.{TagValue}
 
 -- no item has a tag line
-no-item : (mode : Mode) (link : LinkValue) (item : Item) → filter is_tag_line (item_lines mode link item) ≡ []
-no-item mode link (befell event number) = refl
-no-item Plain link (exchanged sent) = no-listed is_tag_line (λ listed. refl) (listed_by sent)
-no-item Trace link (exchanged sent) = no-listed is_tag_line (λ listed. refl) (listed_by sent)
-no-item mode link (operated round slot index result) = refl
-no-item mode link (ended round end slots) = refl
+no-item : (link : LinkValue) (item : Item) → filter is_tag_line (item_lines link item) ≡ []
+no-item link (befell event number) = refl
+no-item link (exchanged sent) = no-listed is_tag_line (λ listed. refl) (listed_by sent)
+no-item link (operated round slot index result) = refl
+no-item link (ended round end slots) = refl
 
 -- no past has one
-no-past : (mode : Mode) (link : LinkValue) (past : List Item) → filter is_tag_line (past_lines mode link past) ≡ []
-no-past Plain link [] = refl
-no-past Trace link [] = refl
-no-past mode link (item ∷ past) =
-    filter-append is_tag_line (past_lines mode link past) (item_lines mode link item)
-    ∙ ap (λ (lines : List ReportLine). lines ++ filter is_tag_line (item_lines mode link item)) (no-past mode link past)
-    ∙ no-item mode link item
+no-past : (link : LinkValue) (past : List Item) → filter is_tag_line (past_lines link past) ≡ []
+no-past link [] = refl
+no-past link (item ∷ past) =
+    filter-append is_tag_line (past_lines link past) (item_lines link item)
+    ∙ ap (λ (lines : List ReportLine). lines ++ filter is_tag_line (item_lines link item)) (no-past link past)
+    ∙ no-item link item
 
 tags-alone : (number : ℕ) (starts : List TagValue) (past : List Item)
     → filter is_tag_line (tag_lines number (tags_behind_from number starts past) ++ DoneLine ∷ []) ≡ tag_lines_behind number starts past
@@ -41,9 +41,16 @@ seen-then-tags [] number starts past = tags-alone number starts past
 seen-then-tags (one ∷ more) number starts past = seen-then-tags more number starts past
 
 -- those of each tag are all
-pub report-tags : (mode : Mode) (start : Start) (past : List Item)
-    → filter is_tag_line (past_lines mode start.link past ++ last_lines start past) ≡ tag_lines_behind 0 start.tags past
-report-tags mode start past =
-    filter-append is_tag_line (past_lines mode start.link past) (last_lines start past)
-    ∙ ap (λ (lines : List ReportLine). lines ++ filter is_tag_line (last_lines start past)) (no-past mode start.link past)
+run-tags : (start : Start) (past : List Item)
+    → filter is_tag_line (past_lines start.link past ++ last_lines start past) ≡ tag_lines_behind 0 start.tags past
+run-tags start past =
+    filter-append is_tag_line (past_lines start.link past) (last_lines start past)
+    ∙ ap (λ (lines : List ReportLine). lines ++ filter is_tag_line (last_lines start past)) (no-past start.link past)
     ∙ seen-then-tags (seen_in (map (λ listed. (listed.pc, listed.epc)) (listing_of past))) 0 start.tags past
+
+tag-no-trace : PassesNoTrace is_tag_line
+tag-no-trace (TagLine number tag) is = absurd (cc)
+tag-no-trace line is = refl
+
+pub report-tags : (mode : Mode) (start : Start) (steps : List Step) → filter is_tag_line (report_of mode start steps) ≡ tag_lines_behind 0 start.tags (history_of start steps)
+report-tags mode start steps = kept-pass is_tag_line tag-no-trace mode (run_lines start steps) ∙ run-tags start (history_of start steps)

@@ -1,7 +1,7 @@
 -- What the channel gives in a record of a history is what the interrogator expects, or is not mistaken for it.
 use Rattle.std.proofs.Common.{◌≡◌, ◌∷◌, ◌++◌, [], List, Bool, Some, sym, ap, ◌∙◌, subst, append_assoc}
 use Rattle.access_ops.specs.laws.OperationLaws.{Expects}
-use Rattle.air_model.specs.Exchange.{AreLegalTags}
+use Rattle.tag_machine.specs.Exchange.{AreLegalTags}
 use Rattle.air_model.specs.Channel.{Given}
 use Rattle.air_model.specs.Past.{Start, Record, Item, exchanged, next_entry, next_record, tags_behind}
 use Rattle.air_model.specs.Reception.{HoldsOfSent, IsGivenFor, IsUnmistakable}

@@ -10,7 +10,7 @@ use Rattle.access_ops.specs.declared.op_next.Answer.TheVariants.{Silence, Got}
 use Rattle.access_ops.specs.declared.op_next.OpNext.{OpNext}
 use Rattle.access_ops.specs.declared.op_next.OpNext.TheVariants.{Send, Result}
 use Rattle.access_ops.specs.declared.op_next.OpResult.{OpResult}
-use Rattle.air_model.specs.Exchange.{AreLegalTags, outcome_unless, outcomes_from, tags_after, tags_after_event, tag_after_events, is_missed}
+use Rattle.tag_machine.specs.Exchange.{AreLegalTags, outcome_unless, outcomes_from, tags_after, tags_after_event, tag_after_events, is_missed}
 use Rattle.air_model.specs.Channel.{given_in, Given, silence, whole, broken, raw}
 use Rattle.air_model.specs.Past.{Start, Item, befell, operated, ended, next_record, next_entry, past_behind_command, rounds_in, tags_behind, tags_behind_from}
 use Rattle.air_model.specs.Reception.{has_handle, has_preamble, is_expected, reception_of, reception_with, IsGiven}
@@ -20,7 +20,7 @@ use Rattle.air_model.specs.laws.ReceptionLaws.{from_whole}
 use Rattle.bit_strings.specs.declared.code.Code.{Code}
 use Rattle.runs.proofs.Answering.{SendsInRange, StaysLegal, events-legal, given-of-answers}
 use Rattle.runs.specs.laws.Growth.{dialogue-holds, listing-holds, answer-holds, always-holds, steps-hold}
-use Rattle.runs.proofs.LegalStart.{start-legal, selection-legal}
+use Rattle.runs.proofs.LegalStart.{CopiesAreTags, start-legal, selection-legal}
 use Rattle.runs.specs.laws.Tags.{tags-exchanged, tags-befell, tags-operated, tags-ended}
 use Rattle.runs.specs.History.{operation_reception, past_behind_dialogue, ack_reception, past_behind_ack, slot_reception, past_behind_slot, past_behind_round, past_behind_step}
 use Rattle.runs.specs.ScenarioStart.{start_of, history}
@@ -46,10 +46,12 @@ use Rattle.reply_grammar.specs.declared.expected.Reply.TheVariants as replies
 use Rattle.reply_wire.specs.Received.{IsReceived}
 use Rattle.reply_wire.specs.Receiving.{received_of}
 use Rattle.reply_wire.specs.laws.ReceivedLaws.{received_there}
+use Rattle.scenario.specs.Groups.{tags_of}
 use Rattle.scenario.specs.Limits.{IsStep, IsScenario}
 use Rattle.scenario.specs.declared.values.Scenario.{Scenario}
 use Rattle.scenario.specs.declared.values.Step.{Step}
 use Rattle.scenario.specs.declared.values.Step.TheVariants as steps
+use Rattle.scenario_lines.specs.declared.version.Version.{Version}
 use Rattle.tag_machine.specs.Answers.{Sent, IsSent}
 use Rattle.tag_machine.specs.Step.{step}
 use Rattle.tag_machine.specs.TagValue.{TagValue, StateValue, BodyValue, IsLegalTag}
@@ -72,6 +74,7 @@ pub record Laws : Type 0 where
   pub befallen : StaysLegal
   pub rounds : RoundsLegal
   pub operations : OperationsLegal
+  pub copies : CopiesAreTags
 
 -- the tags are legal behind the past and behind each earlier one
 abbrev pub AreLegalBehind : Start → List Item → Type 0
@@ -251,19 +254,21 @@ round-legal laws start operations spec past ops lawful legal =
     })
     (suc spec.limit) [] past tt legal
 
-step-legal : Laws → (start : Start) (tags : ℕ) (step : Step) (past : List Item) → IsStep tags step → AreLegalBehind start past → AreLegalBehind start (past_behind_step start step past)
-step-legal laws start tags (steps.Select command) past is legal = legal-sent laws start 0 0 command past (selection-legal tags command is) legal
-step-legal laws start tags steps.Nak past is legal = legal-sent laws start 0 0 commands.Nak past tt legal
-step-legal laws start tags (steps.Event event number) past is legal = legal-befell laws start event number past legal
-step-legal laws start tags (steps.Round spec operations) past is legal =
+step-legal : Laws → (start : Start) (version : Version) (tags : ℕ) (step : Step) (past : List Item) → IsStep version tags step → AreLegalBehind start past
+    → AreLegalBehind start (past_behind_step start step past)
+step-legal laws start version tags (steps.Select command) past is legal = legal-sent laws start 0 0 command past (selection-legal version tags command is) legal
+step-legal laws start version tags steps.Nak past is legal = legal-sent laws start 0 0 commands.Nak past tt legal
+step-legal laws start version tags (steps.Event event number) past is legal = legal-befell laws start event number past legal
+step-legal laws start version tags (steps.Round spec operations) past is legal =
     round-legal laws start operations spec past (recursion_from_All IsLegalOp operations.ops is.1.ops) is.0.legal legal
 
 history-legal : Laws → (scenario : Scenario) → IsScenario scenario → AreLegalBehind (start_of scenario) (history scenario)
 history-legal laws scenario is =
     let start = start_of scenario in
-    let tags = length scenario.tags in
-    steps-hold (AreLegalBehind start) (IsStep tags) start (step-legal laws start tags) scenario.steps [] (recursion_from_All (IsStep tags) scenario.steps is.steps)
-    (first-legal 0 start.tags (start-legal scenario is))
+    let version = scenario.version in
+    let tags = length (tags_of scenario.groups) in
+    steps-hold (AreLegalBehind start) (IsStep version tags) start (step-legal laws start version tags) scenario.steps [] (recursion_from_All (IsStep version tags) scenario.steps is.steps)
+    (first-legal 0 start.tags (start-legal laws.copies scenario is))
 
 -- the tags behind each past of the history of a scenario
 pub past-legal : Laws → (scenario : Scenario) (later earlier : List Item) → IsScenario scenario → history scenario ≡ later ++ earlier

@@ -2,7 +2,8 @@
 use Rattle.std.proofs.Common.{ℕ, ◌/◌, ◌%◌, ◌^◌, ◌<◌, List, [], ◌∷◌, map, subst, arith}
 use Rattle.std.proofs.lemmas.List.Elements.{All-cons, All-from_recursion, recursion_from_All}
 use Rattle.std.specs.List.{AllByRecursion}
-use Rattle.air_model.specs.Exchange.{AreLegalTags}
+use Rattle.std.specs.Prelude.{All}
+use Rattle.tag_machine.specs.Exchange.{AreLegalTags}
 use Rattle.runs.specs.ScenarioStart.{start_of, tag_of}
 use Rattle.bit_strings.specs.laws.Numbers.{value_of-below}
 use Rattle.bit_strings.specs.Words.{bits_of_words}
@@ -12,9 +13,12 @@ use Rattle.command_grammar.specs.declared.commands.Command.TheVariants as comman
 use Rattle.gen2_crc.specs.Crc.{crc16_of}
 use Rattle.gen2_crc.specs.laws.CheckNumbers.{length-crc16_of}
 use Rattle.reply_grammar.specs.Table.{AreWords}
-use Rattle.scenario.specs.Limits.{IsStep, IsScenario}
+use Rattle.scenario.specs.Groups.{tags_of}
+use Rattle.scenario.specs.Limits.{IsGroup, IsStep, IsScenario}
 use Rattle.scenario.specs.declared.values.Scenario.{Scenario}
 use Rattle.scenario.specs.declared.values.Step.TheVariants as steps
+use Rattle.scenario.specs.declared.values.TagGroup.{TagGroup}
+use Rattle.scenario_lines.specs.declared.version.Version.{Version}
 use Rattle.scenario_lines.specs.TagForm.{IsTag}
 use Rattle.scenario_lines.specs.TagLaws.{banks-legal}
 use Rattle.scenario_lines.specs.declared.tag.TagSpec.{TagSpec}
@@ -62,10 +66,16 @@ new-legal-each : (tags : List TagSpec) → AllByRecursion IsTag tags → AreLega
 new-legal-each [] are = tt
 new-legal-each (tag ∷ tags) are = (new-legal tag are.0, new-legal-each tags are.1)
 
-pub start-legal : (scenario : Scenario) → IsScenario scenario → AreLegalTags (start_of scenario).tags
-start-legal scenario is = new-legal-each scenario.tags (recursion_from_All IsTag scenario.tags is.tags)
+-- copies of tags that a scenario may have are such tags: a law of scenarios
+abbrev pub CopiesAreTags : Type 0
+CopiesAreTags = (version : Version) (groups : List TagGroup) → All (IsGroup version) groups → All IsTag (tags_of groups)
+
+pub start-legal : CopiesAreTags → (scenario : Scenario) → IsScenario scenario → AreLegalTags (start_of scenario).tags
+start-legal copies scenario is =
+    let tags = tags_of scenario.groups in
+    new-legal-each tags (recursion_from_All IsTag tags (copies scenario.version scenario.groups is.groups))
 
 -- the numbers of a Select step are within their fields
-pub selection-legal : (tags : ℕ) (command : Command) → IsStep tags (steps.Select command) → IsLegalCommand command
-selection-legal tags (commands.Select target action bank pointer mask) is = (is.action, omega (arith, is.pointer), is.mask)
-selection-legal tags command is = absurd is
+pub selection-legal : (version : Version) (tags : ℕ) (command : Command) → IsStep version tags (steps.Select command) → IsLegalCommand command
+selection-legal version tags (commands.Select target action bank pointer mask) is = (is.action, omega (arith, is.pointer), is.mask)
+selection-legal version tags command is = absurd is

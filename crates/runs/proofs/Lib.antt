@@ -3,6 +3,7 @@ pub mod Answering
 pub mod HeadlineAll
 pub mod HeadlineHeard
 pub mod HeadlineLines
+pub mod HeadlineKept
 pub mod HeadlineListed
 pub mod HeadlineNext
 pub mod HeadlineOperations

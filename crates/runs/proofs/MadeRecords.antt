@@ -4,7 +4,7 @@ use Rattle.access_ops.specs.declared.OpList.{OpList}
 use Rattle.air_events.specs.Entries.{entry_at, no_entry}
 use Rattle.air_events.specs.declared.Entry.{Entry}
 use Rattle.air_model.specs.Channel.{Given, raw, IsReadBy, IsOfReplies, GoesByReplies}
-use Rattle.air_model.specs.Exchange.{replies_in}
+use Rattle.tag_machine.specs.Exchange.{replies_in}
 use Rattle.air_model.specs.Past.{Start, Record, Item, befell, exchanged, operated, ended, tags_behind, exchanges_in, rounds_in, next_entry, next_record, past_behind_command}
 use Rattle.air_model.specs.laws.GivenLaws.{given_is_read, given_of_replies}
 use Rattle.bit_strings.specs.declared.code.Code.{Code}

@@ -19,12 +19,32 @@ use Rattle.tag_machine.specs.Step.{step}
 use Rattle.tag_machine.specs.TagValue.{StateValue, ReadyState, ArbitrateState, ReplyState, AcknowledgedState, OpenState, SecuredState, KilledState, UnpoweredState, BodyValue, TagValue}
 use Rattle.runs.specs.TagInRound.{is_matched, IsToCome, HasAnswered, IsCounter, IsUnlisted, IsAfterSlot, IsCounterBefore, IsBeforeSlot, flags_in_round, KeepsBody, StandsAfterSlot, StandsBeforeSlot, slot_answer_of}
 
+-- a frame of a round so far
+pub record Frame : Type 0 where
+  pub session : ℕ
+  pub q : ℕ
+  pub slots : List SlotOutcome
+
+-- a slot of the frame ends so, and behind it the round goes on with this Q and frame
+pub record Turn (on : Frame) : Type 0 where
+  pub outcome : SlotOutcome
+  pub next_q : ℕ
+  pub next_slots : List SlotOutcome
+  pub small : on.q ≤ 15
+  pub next_small : next_q ≤ 15
+
+-- a tag in the round: what it was just after the Query, and whether it was listed in an earlier slot, and in this one
+pub record Member : Type 0 where
+  pub first : TagValue
+  pub listed : Bool
+  pub listed_now : Bool
+
 -- What is known of what a slot command makes of a tag that wasn't listed before it, or was. The flags are those before it.
-record GoesOn (session q : ℕ) (frame : List SlotOutcome) (matched : Bool) (first : BodyValue) (listed listed_now : Bool) (before : Flags) (outcome : Outcome) : Type 0 where
-  state : IsAfterSlot session q frame matched listed outcome.tag.state
-  body : KeepsBody session listed first outcome.tag.body
+record GoesOn (on : Frame) (first : TagValue) (listed listed_now : Bool) (before : Flags) (outcome : Outcome) : Type 0 where
+  state : IsAfterSlot on.session on.q on.slots (is_matched first.state) listed outcome.tag.state
+  body : KeepsBody on.session listed first.body outcome.tag.body
   answer : outcome.answer ≡ slot_answer_of outcome.tag.state
-  flags : outcome.tag.body.flags ≡ flags_in_round session listed_now before
+  flags : outcome.tag.body.flags ≡ flags_in_round on.session listed_now before
 
 -- a choice between two outcomes
 choose : (P : Outcome → Type 0) (test : Bool) (x y : Outcome) → (test ≡ true → P x) → (test ≡ false → P y) → P (if test then x else y)
@@ -87,42 +107,44 @@ counter-next q outcome frame slot small room (inr back) later = inr (record {
 -- The parts of GoesOn, by what the tag does.
 
 -- it waits, or takes no part, and is silent
-stays : (session q : ℕ) (frame : List SlotOutcome) (matched : Bool) (first : BodyValue) (listed : Bool) (state : StateValue) (body : BodyValue)
-    → slot_answer_of state ≡ None → IsAfterSlot session q frame matched listed state → KeepsBody session listed first body
-    → GoesOn session q frame matched first listed false body.flags (silent state body)
-stays session q frame matched first listed state body none is kept = record { state = is; body = kept; answer = sym none; flags = refl }
+stays : (on : Frame) (first : TagValue) (listed : Bool) (state : StateValue) (body : BodyValue)
+    → slot_answer_of state ≡ None → IsAfterSlot on.session on.q on.slots (is_matched first.state) listed state → KeepsBody on.session listed first.body body
+    → GoesOn on first listed false body.flags (silent state body)
+stays on first listed state body none is kept = record { state = is; body = kept; answer = sym none; flags = refl }
 
 -- it answers with a new RN16
-replies : (session q own_q : ℕ) (frame : List SlotOutcome) (matched : Bool) (first : BodyValue) (listed : Bool) (body : BodyValue)
-    → IsUnlisted session q matched listed session own_q → KeepsBody session listed first body
-    → GoesOn session q frame matched first listed false body.flags (begin_reply session own_q body)
-replies session q own_q frame matched first listed body is kept =
+replies : (on : Frame) (first : TagValue) (listed : Bool) (own_q : ℕ) (body : BodyValue)
+    → IsUnlisted on.session on.q (is_matched first.state) listed on.session own_q → KeepsBody on.session listed first.body body
+    → GoesOn on first listed false body.flags (begin_reply on.session own_q body)
+replies on first listed own_q body is kept =
     record { state = is; body = record { flags = kept.flags; memory = kept.memory; locks = kept.locks }; answer = refl; flags = refl }
 
 -- it draws a slot of a frame that begins
 pub slot_drawn : (q : ℕ) (body : BodyValue) → slot_of_draw q body ≢ 0 → IsToCome q [] (slot_of_draw q body)
 slot_drawn q body some = let drawn = mod_below (draw_of body) (2 ^ q) (pow_pos q) in record { least = omega arith; most = omega arith }
 
-enters : (session q : ℕ) (matched : Bool) (first : BodyValue) (listed : Bool) (body : BodyValue)
-    → IsUnlisted session q matched listed session q → KeepsBody session listed first body
-    → GoesOn session q [] matched first listed false body.flags (enter session q body)
-enters session q matched first listed body is kept =
+abbrev begun : ℕ → ℕ → Frame
+begun session q = record { session = session; q = q; slots = [] }
+
+enters : (session q : ℕ) (first : TagValue) (listed : Bool) (body : BodyValue)
+    → IsUnlisted session q (is_matched first.state) listed session q → KeepsBody session listed first.body body
+    → GoesOn (begun session q) first listed false body.flags (enter session q body)
+enters session q first listed body is kept =
     let after = body_after_draw body in
-    let kept_after : KeepsBody session listed first after = record { flags = kept.flags; memory = kept.memory; locks = kept.locks } in
-    choose (λ outcome. GoesOn session q [] matched first listed false body.flags outcome) (slot_of_draw q body == 0)
+    let kept_after : KeepsBody session listed first.body after = record { flags = kept.flags; memory = kept.memory; locks = kept.locks } in
+    choose (λ outcome. GoesOn (begun session q) first listed false body.flags outcome) (slot_of_draw q body == 0)
     (begin_reply session q after) (silent (ArbitrateState session q (slot_of_draw q body)) after)
-    (λ now. replies session q q [] matched first listed after is kept_after)
-    (λ later. stays session q [] matched first listed (ArbitrateState session q (slot_of_draw q body)) after refl
+    (λ now. replies (begun session q) first listed q after is kept_after)
+    (λ later. stays (begun session q) first listed (ArbitrateState session q (slot_of_draw q body)) after refl
     (record { unlisted = is; counter = inl (slot_drawn q body (λ e. let is = eq-eqb (slot_of_draw q body) 0 e in cc)) }) kept_after)
 
 -- it was listed in the slot before, and does CLOSE
-closes : (session q : ℕ) (frame : List SlotOutcome) (matched : Bool) (first : BodyValue) (listed : Bool) (body : BodyValue)
-    → matched ≡ true → listed ≡ false → KeepsBody session listed first body
-    → GoesOn session q frame matched first true true body.flags (close session body)
-closes session q frame matched first listed body takes_part new kept = record {
+closes : (on : Frame) (first : TagValue) (listed : Bool) (body : BodyValue) → is_matched first.state ≡ true → listed ≡ false → KeepsBody on.session listed first.body body
+    → GoesOn on first true true body.flags (close on.session body)
+closes on first listed body takes_part new kept = record {
   state = sym takes_part;
   body = record {
-    flags = ap (λ (flags : Flags). flags_in_round session true flags) (kept.flags ∙ ap (λ (b : Bool). flags_in_round session b first.flags) new);
+    flags = ap (λ (flags : Flags). flags_in_round on.session true flags) (kept.flags ∙ ap (λ (b : Bool). flags_in_round on.session b first.body.flags) new);
     memory = kept.memory;
     locks = kept.locks;
   };
@@ -131,75 +153,80 @@ closes session q frame matched first listed body takes_part new kept = record {
 }
 
 -- a tag that wasn't listed in this slot
-not_listed_now : (session q : ℕ) (frame : List SlotOutcome) (matched : Bool) (first : BodyValue) (listed listed_now : Bool) (before : Flags) (outcome : Outcome)
-    → listed_now ≡ false → GoesOn session q frame matched first listed false before outcome
-    → GoesOn session q frame matched first (listed || listed_now) listed_now before outcome
-not_listed_now session q frame matched first listed listed_now before outcome none known =
-    subst (λ (b : Bool). GoesOn session q frame matched first (listed || b) b before outcome) (sym none)
-    (subst (λ (b : Bool). GoesOn session q frame matched first b false before outcome) (sym (or_not listed false refl)) known)
+not_listed_now : (on : Frame) (of : Member) (before : Flags) (outcome : Outcome) → of.listed_now ≡ false → GoesOn on of.first of.listed false before outcome
+    → GoesOn on of.first (of.listed || of.listed_now) of.listed_now before outcome
+not_listed_now on of before outcome none known =
+    subst (λ (b : Bool). GoesOn on of.first (of.listed || b) b before outcome) (sym none)
+    (subst (λ (b : Bool). GoesOn on of.first b false before outcome) (sym (or_not of.listed false refl)) known)
 
 -- ... and one that was
-listed_then : (session q : ℕ) (frame : List SlotOutcome) (matched : Bool) (first : BodyValue) (listed listed_now : Bool) (before : Flags) (outcome : Outcome)
-    → listed_now ≡ true → GoesOn session q frame matched first true true before outcome
-    → GoesOn session q frame matched first (listed || listed_now) listed_now before outcome
-listed_then session q frame matched first listed listed_now before outcome now known =
-    subst (λ (b : Bool). GoesOn session q frame matched first (listed || b) b before outcome) (sym now)
-    (subst (λ (b : Bool). GoesOn session q frame matched first b true before outcome) (sym (or_now listed true refl)) known)
+listed_then : (on : Frame) (of : Member) (before : Flags) (outcome : Outcome) → of.listed_now ≡ true → GoesOn on of.first true true before outcome
+    → GoesOn on of.first (of.listed || of.listed_now) of.listed_now before outcome
+listed_then on of before outcome now known =
+    subst (λ (b : Bool). GoesOn on of.first (of.listed || b) b before outcome) (sym now)
+    (subst (λ (b : Bool). GoesOn on of.first b true before outcome) (sym (or_now of.listed true refl)) known)
 
 -- a command of the session finds the session in the tag
 of_round : (session q : ℕ) (matched listed : Bool) (own own_q : ℕ) → IsUnlisted session q matched listed own own_q → IsUnlisted session q matched listed session own_q
 of_round session q matched listed own own_q is = record { session_is = refl; q_is = is.q_is; takes_part = is.takes_part; not_listed = is.not_listed }
 
--- 6.3.2.11.2.3 QueryRep
-counts_down : (session q own_q slot : ℕ) (outcome : SlotOutcome) (frame : List SlotOutcome) (matched : Bool) (first : BodyValue) (listed : Bool) (body : BodyValue)
-    → q ≤ 15 → length (outcome ∷ frame) < 2 ^ q → IsUnlisted session q matched listed session own_q → IsCounterBefore q outcome frame slot → KeepsBody session listed first body
-    → GoesOn session q (outcome ∷ frame) matched first listed false body.flags (count_down session own_q slot body)
-counts_down session q own_q slot outcome frame matched first listed body small room is counter kept =
-    choose (λ after. GoesOn session q (outcome ∷ frame) matched first listed false body.flags after) (slot_below slot == 0)
-    (begin_reply session own_q body) (silent (ArbitrateState session own_q (slot_below slot)) body)
-    (λ now. replies session q own_q (outcome ∷ frame) matched first listed body is kept)
-    (λ later. stays session q (outcome ∷ frame) matched first listed (ArbitrateState session own_q (slot_below slot)) body refl
-    (record { unlisted = is; counter = counter-next q outcome frame slot small room counter (λ e. let is = eq-eqb (slot_below slot) 0 e in cc) }) kept)
+-- the frame with the slot that ends
+abbrev frame_with : Frame → SlotOutcome → Frame
+frame_with on outcome = record { session = on.session; q = on.q; slots = outcome ∷ on.slots }
 
-rep-goes : (session q : ℕ) (outcome : SlotOutcome) (frame : List SlotOutcome) (matched : Bool) (first : BodyValue) (listed listed_now : Bool) (state : StateValue) (body : BodyValue)
-    → q ≤ 15 → length (outcome ∷ frame) < 2 ^ q → IsBeforeSlot session q outcome frame matched listed listed_now state → KeepsBody session listed first body
-    → GoesOn session q (outcome ∷ frame) matched first (listed || listed_now) listed_now body.flags (query_rep session state body)
-rep-goes session q outcome frame matched first listed listed_now ReadyState body small room is kept =
-    let next = outcome ∷ frame in
-    not_listed_now session q next matched first listed listed_now body.flags (silent ReadyState body) is.not_now
-    (stays session q next matched first listed ReadyState body refl is.earlier kept)
-rep-goes session q outcome frame matched first listed listed_now (ArbitrateState own own_q slot) body small room is kept =
-    let next = outcome ∷ frame in
-    same_session (λ after. GoesOn session q next matched first (listed || listed_now) listed_now body.flags after) own session
-    (count_down session own_q slot body) (silent (ArbitrateState own own_q slot) body) is.unlisted.session_is
-    (not_listed_now session q next matched first listed listed_now body.flags (count_down session own_q slot body) is.not_now
-    (counts_down session q own_q slot outcome frame matched first listed body small room (of_round session q matched listed own own_q is.unlisted) is.counter kept))
-rep-goes session q outcome frame matched first listed listed_now (ReplyState own own_q rn) body small room is kept =
-    let next = outcome ∷ frame in
-    let state = ArbitrateState session own_q 0x7FFF in
-    same_session (λ after. GoesOn session q next matched first (listed || listed_now) listed_now body.flags after) own session
+-- where a tag may stand just before the slot command behind this outcome
+abbrev MayStand : Frame → SlotOutcome → Member → StateValue → Type 0
+MayStand on outcome of state = IsBeforeSlot on.session on.q outcome on.slots (is_matched of.first.state) of.listed of.listed_now state
+
+-- 6.3.2.11.2.3 QueryRep
+counts_down : (on : Frame) (by : Turn on) (of : Member) (own own_q slot : ℕ) (body : BodyValue) → length (by.outcome ∷ on.slots) < 2 ^ on.q
+    → MayStand on by.outcome of (ArbitrateState own own_q slot) → KeepsBody on.session of.listed of.first.body body
+    → GoesOn (frame_with on by.outcome) of.first of.listed false body.flags (count_down on.session own_q slot body)
+counts_down on by of own own_q slot body room is kept =
+    let next = frame_with on by.outcome in
+    let its : IsUnlisted on.session on.q (is_matched of.first.state) of.listed on.session own_q =
+    of_round on.session on.q (is_matched of.first.state) of.listed own own_q is.unlisted in
+    choose (λ after. GoesOn next of.first of.listed false body.flags after) (slot_below slot == 0)
+    (begin_reply on.session own_q body) (silent (ArbitrateState on.session own_q (slot_below slot)) body)
+    (λ now. replies next of.first of.listed own_q body its kept)
+    (λ later. stays next of.first of.listed (ArbitrateState on.session own_q (slot_below slot)) body refl
+    (record { unlisted = its; counter = counter-next on.q by.outcome on.slots slot by.small room is.counter (λ e. let is = eq-eqb (slot_below slot) 0 e in cc) }) kept)
+
+rep-goes : (on : Frame) (by : Turn on) (of : Member) (state : StateValue) (body : BodyValue) → length (by.outcome ∷ on.slots) < 2 ^ on.q
+    → MayStand on by.outcome of state → KeepsBody on.session of.listed of.first.body body
+    → GoesOn (frame_with on by.outcome) of.first (of.listed || of.listed_now) of.listed_now body.flags (query_rep on.session state body)
+rep-goes on by of ReadyState body room is kept =
+    let next = frame_with on by.outcome in
+    not_listed_now next of body.flags (silent ReadyState body) is.not_now (stays next of.first of.listed ReadyState body refl is.earlier kept)
+rep-goes on by of (ArbitrateState own own_q slot) body room is kept =
+    let next = frame_with on by.outcome in
+    same_session (λ after. GoesOn next of.first (of.listed || of.listed_now) of.listed_now body.flags after) own on.session
+    (count_down on.session own_q slot body) (silent (ArbitrateState own own_q slot) body) is.unlisted.session_is
+    (not_listed_now next of body.flags (count_down on.session own_q slot body) is.not_now (counts_down on by of own own_q slot body room is kept))
+rep-goes on by of (ReplyState own own_q rn) body room is kept =
+    let next = frame_with on by.outcome in
+    let state = ArbitrateState on.session own_q 0x7FFF in
+    same_session (λ after. GoesOn next of.first (of.listed || of.listed_now) of.listed_now body.flags after) own on.session
     (silent state body) (silent (ReplyState own own_q rn) body) is.unlisted.session_is
-    (not_listed_now session q next matched first listed listed_now body.flags (silent state body) is.not_now
-    (stays session q next matched first listed state body refl (record {
-      unlisted = of_round session q matched listed own own_q is.unlisted;
-      counter = inr (record { later = []; outcome = outcome; earlier = frame; in_frame = refl; heard = is.heard; counter = refl });
+    (not_listed_now next of body.flags (silent state body) is.not_now
+    (stays next of.first of.listed state body refl (record {
+      unlisted = of_round on.session on.q (is_matched of.first.state) of.listed own own_q is.unlisted;
+      counter = inr (record { later = []; outcome = by.outcome; earlier = on.slots; in_frame = refl; heard = is.heard; counter = refl });
     }) kept))
-rep-goes session q outcome frame matched first listed listed_now (AcknowledgedState own own_q rn) body small room is kept =
-    let next = outcome ∷ frame in
-    same_session (λ after. GoesOn session q next matched first (listed || listed_now) listed_now body.flags after) own session
-    (close session body) (silent (AcknowledgedState own own_q rn) body) is.unlisted.session_is
-    (listed_then session q next matched first listed listed_now body.flags (close session body) is.now
-    (closes session q next matched first listed body is.unlisted.takes_part is.unlisted.not_listed kept))
-rep-goes session q outcome frame matched first listed listed_now (OpenState held) body small room is kept = absurd is
-rep-goes session q outcome frame matched first listed listed_now (SecuredState held) body small room is kept = absurd is
-rep-goes session q outcome frame matched first listed listed_now KilledState body small room is kept =
-    let next = outcome ∷ frame in
-    not_listed_now session q next matched first listed listed_now body.flags (silent KilledState body) is.1
-    (stays session q next matched first listed KilledState body refl is.0 kept)
-rep-goes session q outcome frame matched first listed listed_now UnpoweredState body small room is kept =
-    let next = outcome ∷ frame in
-    not_listed_now session q next matched first listed listed_now body.flags (silent UnpoweredState body) is.1
-    (stays session q next matched first listed UnpoweredState body refl is.0 kept)
+rep-goes on by of (AcknowledgedState own own_q rn) body room is kept =
+    let next = frame_with on by.outcome in
+    same_session (λ after. GoesOn next of.first (of.listed || of.listed_now) of.listed_now body.flags after) own on.session
+    (close on.session body) (silent (AcknowledgedState own own_q rn) body) is.unlisted.session_is
+    (listed_then next of body.flags (close on.session body) is.now
+    (closes next of.first of.listed body is.unlisted.takes_part is.unlisted.not_listed kept))
+rep-goes on by of (OpenState held) body room is kept = absurd is
+rep-goes on by of (SecuredState held) body room is kept = absurd is
+rep-goes on by of KilledState body room is kept =
+    let next = frame_with on by.outcome in
+    not_listed_now next of body.flags (silent KilledState body) is.1 (stays next of.first of.listed KilledState body refl is.0 kept)
+rep-goes on by of UnpoweredState body room is kept =
+    let next = frame_with on by.outcome in
+    not_listed_now next of body.flags (silent UnpoweredState body) is.1 (stays next of.first of.listed UnpoweredState body refl is.0 kept)
 
 -- 6.3.2.11.2.2 QueryAdjust: the tag moves its Q as the interrogator does
 moved : (updn : UpDn) (q next_q : ℕ) → q ≤ 15 → next_q ≤ 15 → IsMoved updn q next_q → q_after_adjust updn q ≡ next_q
@@ -207,74 +234,80 @@ moved Up q next_q small next_small is = rw (ne_eqb q 15 (λ e. absurd (omega ari
 moved Same q next_q small next_small is = sym is
 moved Down q next_q small next_small is = rw (ne_eqb q 0 (λ e. absurd (omega arith))) (omega arith)
 
-adjust-enters : (session q next_q own_q : ℕ) (updn : UpDn) (matched : Bool) (first : BodyValue) (listed : Bool) (body : BodyValue) (own : ℕ)
-    → q ≤ 15 → next_q ≤ 15 → IsMoved updn q next_q → IsUnlisted session q matched listed own own_q → KeepsBody session listed first body
-    → GoesOn session next_q [] matched first listed false body.flags (enter session (q_after_adjust updn own_q) body)
-adjust-enters session q next_q own_q updn matched first listed body own small next_small moves is kept =
-    let q_is = ap (λ (n : ℕ). q_after_adjust updn n) is.q_is ∙ moved updn q next_q small next_small moves in
-    subst (λ (n : ℕ). GoesOn session next_q [] matched first listed false body.flags (enter session n body)) (sym q_is)
-    (enters session next_q matched first listed body (record { session_is = refl; q_is = refl; takes_part = is.takes_part; not_listed = is.not_listed }) kept)
+adjust-enters : (on : Frame) (by : Turn on) (of : Member) (updn : UpDn) (own own_q : ℕ) (body : BodyValue) → IsMoved updn on.q by.next_q
+    → IsUnlisted on.session on.q (is_matched of.first.state) of.listed own own_q → KeepsBody on.session of.listed of.first.body body
+    → GoesOn (begun on.session by.next_q) of.first of.listed false body.flags (enter on.session (q_after_adjust updn own_q) body)
+adjust-enters on by of updn own own_q body moves is kept =
+    let q_is = ap (λ (n : ℕ). q_after_adjust updn n) is.q_is ∙ moved updn on.q by.next_q by.small by.next_small moves in
+    subst (λ (n : ℕ). GoesOn (begun on.session by.next_q) of.first of.listed false body.flags (enter on.session n body)) (sym q_is)
+    (enters on.session by.next_q of.first of.listed body (record { session_is = refl; q_is = refl; takes_part = is.takes_part; not_listed = is.not_listed }) kept)
 
-adjust-goes : (session q next_q : ℕ) (updn : UpDn) (outcome : SlotOutcome) (frame : List SlotOutcome) (matched : Bool) (first : BodyValue) (listed listed_now : Bool) (state : StateValue) (body : BodyValue)
-    → q ≤ 15 → next_q ≤ 15 → IsMoved updn q next_q → IsBeforeSlot session q outcome frame matched listed listed_now state → KeepsBody session listed first body
-    → GoesOn session next_q [] matched first (listed || listed_now) listed_now body.flags (query_adjust session updn state body)
-adjust-goes session q next_q updn outcome frame matched first listed listed_now ReadyState body small next_small moves is kept =
-    not_listed_now session next_q [] matched first listed listed_now body.flags (silent ReadyState body) is.not_now
-    (stays session next_q [] matched first listed ReadyState body refl is.earlier kept)
-adjust-goes session q next_q updn outcome frame matched first listed listed_now (ArbitrateState own own_q slot) body small next_small moves is kept =
-    let entered = enter session (q_after_adjust updn own_q) body in
-    same_session (λ after. GoesOn session next_q [] matched first (listed || listed_now) listed_now body.flags after) own session
+adjust-goes : (on : Frame) (by : Turn on) (of : Member) (updn : UpDn) (state : StateValue) (body : BodyValue) → IsMoved updn on.q by.next_q
+    → MayStand on by.outcome of state → KeepsBody on.session of.listed of.first.body body
+    → GoesOn (begun on.session by.next_q) of.first (of.listed || of.listed_now) of.listed_now body.flags (query_adjust on.session updn state body)
+adjust-goes on by of updn ReadyState body moves is kept =
+    let next = begun on.session by.next_q in
+    not_listed_now next of body.flags (silent ReadyState body) is.not_now (stays next of.first of.listed ReadyState body refl is.earlier kept)
+adjust-goes on by of updn (ArbitrateState own own_q slot) body moves is kept =
+    let next = begun on.session by.next_q in
+    let entered = enter on.session (q_after_adjust updn own_q) body in
+    same_session (λ after. GoesOn next of.first (of.listed || of.listed_now) of.listed_now body.flags after) own on.session
     entered (silent (ArbitrateState own own_q slot) body) is.unlisted.session_is
-    (not_listed_now session next_q [] matched first listed listed_now body.flags entered is.not_now
-    (adjust-enters session q next_q own_q updn matched first listed body own small next_small moves is.unlisted kept))
-adjust-goes session q next_q updn outcome frame matched first listed listed_now (ReplyState own own_q rn) body small next_small moves is kept =
-    let entered = enter session (q_after_adjust updn own_q) body in
-    same_session (λ after. GoesOn session next_q [] matched first (listed || listed_now) listed_now body.flags after) own session
+    (not_listed_now next of body.flags entered is.not_now (adjust-enters on by of updn own own_q body moves is.unlisted kept))
+adjust-goes on by of updn (ReplyState own own_q rn) body moves is kept =
+    let next = begun on.session by.next_q in
+    let entered = enter on.session (q_after_adjust updn own_q) body in
+    same_session (λ after. GoesOn next of.first (of.listed || of.listed_now) of.listed_now body.flags after) own on.session
     entered (silent (ReplyState own own_q rn) body) is.unlisted.session_is
-    (not_listed_now session next_q [] matched first listed listed_now body.flags entered is.not_now
-    (adjust-enters session q next_q own_q updn matched first listed body own small next_small moves is.unlisted kept))
-adjust-goes session q next_q updn outcome frame matched first listed listed_now (AcknowledgedState own own_q rn) body small next_small moves is kept =
-    same_session (λ after. GoesOn session next_q [] matched first (listed || listed_now) listed_now body.flags after) own session
-    (close session body) (silent (AcknowledgedState own own_q rn) body) is.unlisted.session_is
-    (listed_then session next_q [] matched first listed listed_now body.flags (close session body) is.now
-    (closes session next_q [] matched first listed body is.unlisted.takes_part is.unlisted.not_listed kept))
-adjust-goes session q next_q updn outcome frame matched first listed listed_now (OpenState held) body small next_small moves is kept = absurd is
-adjust-goes session q next_q updn outcome frame matched first listed listed_now (SecuredState held) body small next_small moves is kept = absurd is
-adjust-goes session q next_q updn outcome frame matched first listed listed_now KilledState body small next_small moves is kept =
-    not_listed_now session next_q [] matched first listed listed_now body.flags (silent KilledState body) is.1
-    (stays session next_q [] matched first listed KilledState body refl is.0 kept)
-adjust-goes session q next_q updn outcome frame matched first listed listed_now UnpoweredState body small next_small moves is kept =
-    not_listed_now session next_q [] matched first listed listed_now body.flags (silent UnpoweredState body) is.1
-    (stays session next_q [] matched first listed UnpoweredState body refl is.0 kept)
+    (not_listed_now next of body.flags entered is.not_now (adjust-enters on by of updn own own_q body moves is.unlisted kept))
+adjust-goes on by of updn (AcknowledgedState own own_q rn) body moves is kept =
+    let next = begun on.session by.next_q in
+    same_session (λ after. GoesOn next of.first (of.listed || of.listed_now) of.listed_now body.flags after) own on.session
+    (close on.session body) (silent (AcknowledgedState own own_q rn) body) is.unlisted.session_is
+    (listed_then next of body.flags (close on.session body) is.now
+    (closes next of.first of.listed body is.unlisted.takes_part is.unlisted.not_listed kept))
+adjust-goes on by of updn (OpenState held) body moves is kept = absurd is
+adjust-goes on by of updn (SecuredState held) body moves is kept = absurd is
+adjust-goes on by of updn KilledState body moves is kept =
+    let next = begun on.session by.next_q in
+    not_listed_now next of body.flags (silent KilledState body) is.1 (stays next of.first of.listed KilledState body refl is.0 kept)
+adjust-goes on by of updn UnpoweredState body moves is kept =
+    let next = begun on.session by.next_q in
+    not_listed_now next of body.flags (silent UnpoweredState body) is.1 (stays next of.first of.listed UnpoweredState body refl is.0 kept)
+
+-- the frame that goes on behind the slot
+abbrev pub next_frame : (on : Frame) → Turn on → Frame
+next_frame on by = record { session = on.session; q = by.next_q; slots = by.next_slots }
+
+-- the command goes on with the round behind the slot
+abbrev pub GoesBy : (on : Frame) → Turn on → Command → Type 0
+GoesBy on by command = IsNextSlot command on.session on.q (by.outcome ∷ on.slots) by.next_q by.next_slots
+
+-- the tag stands in the round just before that command
+abbrev pub Stands : (on : Frame) → Turn on → Member → TagValue → Type 0
+Stands on by of tag = StandsBeforeSlot on.session on.q by.outcome on.slots of.first of.listed of.listed_now tag
 
 -- the slot command behind an outcome
-slot-goes : (session q next_q : ℕ) (outcome : SlotOutcome) (frame next_frame : List SlotOutcome) (command : Command) (matched : Bool) (first : BodyValue) (listed listed_now : Bool) (state : StateValue) (body : BodyValue)
-    → q ≤ 15 → next_q ≤ 15 → IsNextSlot command session q (outcome ∷ frame) next_q next_frame → IsBeforeSlot session q outcome frame matched listed listed_now state → KeepsBody session listed first body
-    → GoesOn session next_q next_frame matched first (listed || listed_now) listed_now body.flags (step command state body)
-slot-goes session q next_q outcome frame next_frame (commands.QueryRep own) matched first listed listed_now state body small next_small next is kept =
-    rw (next.session_is, next.q_is, next.frame_is) (rep-goes session q outcome frame matched first listed listed_now state body small next.room is kept)
-slot-goes session q next_q outcome frame next_frame (commands.QueryAdjust own updn) matched first listed listed_now state body small next_small next is kept =
-    rw (next.session_is, next.frame_is) (adjust-goes session q next_q updn outcome frame matched first listed listed_now state body small next_small next.q_moves is kept)
-slot-goes session q next_q outcome frame next_frame command matched first listed listed_now state body small next_small next is kept = absurd next
+slot-goes : (on : Frame) (by : Turn on) (of : Member) (command : Command) (tag : TagValue) → GoesBy on by command → Stands on by of tag
+    → GoesOn (next_frame on by) of.first (of.listed || of.listed_now) of.listed_now tag.body.flags (step command tag.state tag.body)
+slot-goes on by of (commands.QueryRep own) tag next stands =
+    rw (next.session_is, next.q_is, next.frame_is) (rep-goes on by of tag.state tag.body next.room stands.state stands.body)
+slot-goes on by of (commands.QueryAdjust own updn) tag next stands =
+    rw (next.session_is, next.frame_is) (adjust-goes on by of updn tag.state tag.body next.q_moves stands.state stands.body)
+slot-goes on by of command tag next stands = absurd next
 
 -- A tag that stands just before a slot command stands in the next slot after it.
-pub slot-stands : (session q next_q : ℕ) (outcome : SlotOutcome) (frame next_frame : List SlotOutcome) (command : Command) (first : TagValue) (listed listed_now : Bool) (tag : TagValue)
-    → q ≤ 15 → next_q ≤ 15 → IsNextSlot command session q (outcome ∷ frame) next_q next_frame → StandsBeforeSlot session q outcome frame first listed listed_now tag
-    → StandsAfterSlot session next_q next_frame first (listed || listed_now) (step command tag.state tag.body).tag
-slot-stands session q next_q outcome frame next_frame command first listed listed_now tag small next_small next stands =
-    let known = slot-goes session q next_q outcome frame next_frame command (is_matched first.state) first.body listed listed_now tag.state tag.body small next_small next stands.state stands.body in
-    record { state = known.state; body = known.body }
+pub slot-stands : (on : Frame) (by : Turn on) (of : Member) (command : Command) (tag : TagValue) → GoesBy on by command → Stands on by of tag
+    → StandsAfterSlot on.session by.next_q by.next_slots of.first (of.listed || of.listed_now) (step command tag.state tag.body).tag
+slot-stands on by of command tag next stands =
+    let known = slot-goes on by of command tag next stands in record { state = known.state; body = known.body }
 
 -- It answers exactly where it is in reply after it, with the RN16 that it then holds.
-pub slot-answer : (session q next_q : ℕ) (outcome : SlotOutcome) (frame next_frame : List SlotOutcome) (command : Command) (first : TagValue) (listed listed_now : Bool) (tag : TagValue)
-    → q ≤ 15 → next_q ≤ 15 → IsNextSlot command session q (outcome ∷ frame) next_q next_frame → StandsBeforeSlot session q outcome frame first listed listed_now tag
+pub slot-answer : (on : Frame) (by : Turn on) (of : Member) (command : Command) (tag : TagValue) → GoesBy on by command → Stands on by of tag
     → (step command tag.state tag.body).answer ≡ slot_answer_of (step command tag.state tag.body).tag.state
-slot-answer session q next_q outcome frame next_frame command first listed listed_now tag small next_small next stands =
-    (slot-goes session q next_q outcome frame next_frame command (is_matched first.state) first.body listed listed_now tag.state tag.body small next_small next stands.state stands.body).answer
+slot-answer on by of command tag next stands = (slot-goes on by of command tag next stands).answer
 
 -- Its flag of the session is inverted exactly where it was listed in the slot before, and no other flag changes.
-pub slot-flags : (session q next_q : ℕ) (outcome : SlotOutcome) (frame next_frame : List SlotOutcome) (command : Command) (first : TagValue) (listed listed_now : Bool) (tag : TagValue)
-    → q ≤ 15 → next_q ≤ 15 → IsNextSlot command session q (outcome ∷ frame) next_q next_frame → StandsBeforeSlot session q outcome frame first listed listed_now tag
-    → (step command tag.state tag.body).tag.body.flags ≡ flags_in_round session listed_now tag.body.flags
-slot-flags session q next_q outcome frame next_frame command first listed listed_now tag small next_small next stands =
-    (slot-goes session q next_q outcome frame next_frame command (is_matched first.state) first.body listed listed_now tag.state tag.body small next_small next stands.state stands.body).flags
+pub slot-flags : (on : Frame) (by : Turn on) (of : Member) (command : Command) (tag : TagValue) → GoesBy on by command → Stands on by of tag
+    → (step command tag.state tag.body).tag.body.flags ≡ flags_in_round on.session of.listed_now tag.body.flags
+slot-flags on by of command tag next stands = (slot-goes on by of command tag next stands).flags

@@ -19,7 +19,7 @@ use Rattle.runs.proofs.Others.{AllRecords, and-false}
 use Rattle.runs.proofs.Population.{answer_behind, tag_stepped, tag-steps, reply_by, replies_behind, one-replies}
 use Rattle.runs.proofs.TagBetween.{unacknowledged-stands, ack-stands, ack-answer, ack-body}
 use Rattle.runs.proofs.TagEnds.{listed-once}
-use Rattle.runs.proofs.TagSteps.{slot-stands, slot-answer, slot-flags}
+use Rattle.runs.proofs.TagSteps.{Frame, Turn, Member, slot-stands, slot-answer, slot-flags}
 use Rattle.runs.proofs.Times.{bit, times-append, times-one, bit-either, bit-test, lists-none, lists-elsewhere, lists-one}
 use Rattle.q_round.specs.laws.RoundFacts.{IsNextSlot}
 use Rattle.q_round.specs.Rounds.{q_of, frame_of}
@@ -304,6 +304,15 @@ stands-sent start spec round query outcome before past command small next_small 
     let none : sender_listed_by sent ≡ [] = slot-no-sender sent (later-begins command later) in
     let listed = λ (number : ℕ). stands.listed number || stands.listed_now number in
     let first = λ (number : ℕ) (tag : TagValue). tag_behind number tag query in
+    let on : Frame = record { session = spec.session; q = q_of spec before; slots = frame_of spec before } in
+    let by : Turn on = record {
+      outcome = outcome;
+      next_q = q_of spec (outcome ∷ before);
+      next_slots = frame_of spec (outcome ∷ before);
+      small = small;
+      next_small = next_small;
+    } in
+    let member : ℕ → TagValue → Member = λ number tag. record { first = first number tag; listed = stands.listed number; listed_now = stands.listed_now number } in
     let once : (number : ℕ) → stands.listed number ≡ true → stands.listed_now number ≡ false =
     λ number is. known-once start spec round query outcome before past stands number (slice_get start.tags number) refl is in
     record {
@@ -319,8 +328,7 @@ stands-sent start spec round query outcome before past command small next_small 
           λ same_round number tag numbered.
               slot-steps-flags start round slot spec.session command past number tag (stands.listed_now number) unsaid later
               (subst (λ n. times number (tags_listed_in_slot round n past) ≡ bit (stands.listed_now number)) same (stands.counts.count_now number))
-              (slot-flags spec.session (q_of spec before) (q_of spec (outcome ∷ before)) outcome (frame_of spec before) (frame_of spec (outcome ∷ before)) command
-              (first number tag) (stands.listed number) (stands.listed_now number) (tag_behind number tag past) small next_small next (stands.tags number tag numbered)),
+              (slot-flags on by (member number tag) command (tag_behind number tag past) next (stands.tags number tag numbered)),
           stands.tells.flags,
         );
         epcs = (lists-nobody start round query sent past none, stands.tells.epcs);
@@ -336,10 +344,8 @@ stands-sent start spec round query outcome before past command small next_small 
       tags = λ number tag numbered.
           subst (λ (t : TagValue). StandsAfterSlot spec.session (q_of spec (outcome ∷ before)) (frame_of spec (outcome ∷ before)) (first number tag) (listed number) t)
           (sym (tag-steps start round (slot + 1) command past number tag unsaid))
-          (slot-stands spec.session (q_of spec before) (q_of spec (outcome ∷ before)) outcome (frame_of spec before) (frame_of spec (outcome ∷ before)) command
-          (first number tag) (stands.listed number) (stands.listed_now number) (tag_behind number tag past) small next_small next (stands.tags number tag numbered));
+          (slot-stands on by (member number tag) command (tag_behind number tag past) next (stands.tags number tag numbered));
       answers = λ number tag numbered.
-          slot-answer spec.session (q_of spec before) (q_of spec (outcome ∷ before)) outcome (frame_of spec before) (frame_of spec (outcome ∷ before)) command
-          (first number tag) (stands.listed number) (stands.listed_now number) (tag_behind number tag past) small next_small next (stands.tags number tag numbered)
+          slot-answer on by (member number tag) command (tag_behind number tag past) next (stands.tags number tag numbered)
           ∙ ap (λ (t : TagValue). slot_answer_of t.state) (sym (tag-steps start round (slot + 1) command past number tag unsaid));
     }

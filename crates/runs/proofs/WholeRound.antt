@@ -2,7 +2,7 @@
 use Rattle.std.proofs.Common.{◌≡◌, ℕ, ◌+◌, ◌==◌, ◌&&◌, Bool, true, false, List, [], ◌∷◌, length, if◌then◌else◌, refl, ap, sym, ◌∙◌, subst, append-nil, eq-eqb}
 use Rattle.std.proofs.lemmas.Bool.{eqb-true}
 use Rattle.access_ops.specs.declared.OpList.{OpList}
-use Rattle.air_model.specs.Exchange.{replies_in}
+use Rattle.tag_machine.specs.Exchange.{replies_in}
 use Rattle.air_model.specs.Past.{Start, Record, Item, exchanged, ended, tag_behind, tags_behind, next_entry, next_record, past_behind_command, rounds_in}
 use Rattle.reply_grammar.specs.Reception.{whole_reply}
 use Rattle.air_events.specs.Entries.{no_entry}

@@ -5,7 +5,7 @@ use Rattle.std.specs.List.{AllByRecursion}
 use Rattle.access_ops.specs.declared.OpList.{OpList}
 use Rattle.air_events.specs.declared.Entry.{Entry}
 use Rattle.air_model.specs.Channel.{Given, whole, heard_levels, GoesByReplies}
-use Rattle.air_model.specs.Exchange.{Replied, tag_after_events}
+use Rattle.tag_machine.specs.Exchange.{Replied, tag_after_events}
 use Rattle.air_model.specs.Past.{Start, Record, Item, befell, exchanged, operated, ended, tag_behind}
 use Rattle.command_grammar.specs.declared.commands.Command.{Command}
 use Rattle.command_grammar.specs.declared.commands.Command.TheVariants as commands
@@ -188,10 +188,14 @@ pub record Headline (start : Start) (taken : List Step) (history : List Item) (l
   pub slot_limit : (before after : List Step) (spec : SpecValue) (operations : OpList) → taken ≡ before ++ steps.Round spec operations ∷ after
       → KeepsLimit history lines (rounds_of before + 1) spec.limit
 
--- Each EPC listed is what was heard in that round and slot, also where raw levels come back that no tag sent.
-abbrev pub AreHeardAsListed : Start → List Item → List ReportLine → Type 0
-AreHeardAsListed start history lines =
-    (round slot pc : ℕ) (epc : List ℕ) → Contains lines (ListLine round slot pc epc) → IsHeardAsListed start history round slot pc epc
+-- What is listed is what was heard, also where raw levels come back that no tag sent.
+pub record AreHeardAsListed (start : Start) (history : List Item) (lines : List ReportLine) : Type 0 where
+  -- each EPC listed is what was heard in that round and slot
+  pub listed_is_heard : (round slot pc : ℕ) (epc : List ℕ) → Contains lines (ListLine round slot pc epc) → IsHeardAsListed start history round slot pc epc
+  -- each EPC that was heard whole in reply to an ACK is listed once: its round and slot have this one line
+  pub heard_is_listed : (sent : Record) (earlier : List Item) (rn pc : ℕ) (epc : List ℕ) → IsRecordOf history sent earlier → Acknowledges sent rn
+      → IsWhole (table_of start.link.code) start.link.trext expects.Epc (heard_levels start.link sent.given) (Epc pc epc)
+      → filter (is_list_line sent.round sent.slot) lines ≡ ListLine sent.round sent.slot pc epc ∷ []
 
 -- how many exchanges the operations of a round have at most with one tag: one for the handle and four for each
 abbrev pub most_operating : OpList → ℕ

@@ -1,4 +1,4 @@
--- Profile: which tags a run lists.
+-- Profile: what a run lists: each EPC that comes whole in reply to an ACK, whether a tag sent it or a raw stream brings it.
 use Rattle.std.specs.Prelude.{ℕ, List, [], ◌∷◌, ◌++◌}
 use Rattle.air_model.specs.Past.{Record, Item, befell, exchanged, operated, ended}
 use Rattle.air_model.specs.Reception.{reception_of}
@@ -8,7 +8,7 @@ use Rattle.command_grammar.specs.declared.commands.Command.TheVariants as comman
 use Rattle.reply_grammar.specs.declared.expected.Expect.TheVariants as expects
 use Rattle.reply_grammar.specs.declared.expected.Reply.TheVariants as replies
 
--- the PC and the EPC that a tag sent, with the round and the slot in which they came
+-- a PC and an EPC, with the round and the slot in which they came
 pub record Listed : Type 0 where
   pub round : ℕ
   pub slot : ℕ

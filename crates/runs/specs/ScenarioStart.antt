@@ -1,8 +1,8 @@
 -- Profile: what the run of a scenario begins with.
 use Rattle.std.specs.Prelude.{List, map}
 use Rattle.air_model.specs.Past.{Start, Item}
-use Rattle.air_events.specs.declared.Several.TheVariants as severals
 use Rattle.scenario.specs.declared.values.Scenario.{Scenario}
+use Rattle.scenario.specs.Groups.{tags_of}
 use Rattle.scenario_lines.specs.declared.tag.TagSpec.{TagSpec}
 use Rattle.tag_machine.specs.TagValue.{TagValue}
 use Rattle.tag_machine.specs.Events.{tag_of_image}
@@ -12,13 +12,14 @@ use Rattle.runs.specs.History.{history_of}
 abbrev pub tag_of : TagSpec → TagValue
 tag_of tag = tag_of_image tag.image tag.locks tag.words
 
--- version 1 of scenarios: where several tags reply and nothing is chosen, no reply is received
+-- The tags are those of the groups, spelled out in order; where several tags reply and nothing is chosen, the channel gives what the
+-- scenario says. The version has no part in it.
 abbrev pub start_of : Scenario → Start
 start_of scenario = record {
   link = scenario.link;
-  tags = map tag_of scenario.tags;
+  tags = map tag_of (tags_of scenario.groups);
   entries = scenario.entries;
-  several = severals.Break;
+  several = scenario.several;
 }
 
 -- the one history of a scenario

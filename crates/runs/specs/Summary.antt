@@ -34,7 +34,7 @@ all_quiet (ended round end slots ∷ past) = all_quiet past && is_quiet end
 abbrev pub pairs_in : List Item → List (ℕ × List ℕ)
 pairs_in past = map (λ listed. (listed.pc, listed.epc)) (listing_of past)
 
--- what a past counts: the tags, how often one was listed, how many different pairs of PC and EPC there are among these, the slot
+-- what a past counts: the tags, how often an EPC was listed, how many different pairs of PC and EPC there are among these, the slot
 -- commands of all rounds, and whether each round ended quiet
 abbrev pub summary_of_past : Start → List Item → Summary
 summary_of_past start past = record {

@@ -33,6 +33,11 @@ use q_round::{round_facts, round_laws};
 /// listed in the slot before, and no other flag of any tag changes; where the round ends quiet, exactly
 /// the matched tags are listed; and where it ends by its limit, each matched tag that isn't listed has
 /// its flags unchanged. Tags are told apart by their numbers, and not by their EPCs.
+///
+/// It holds for each rule for Q that an interrogator may have: of the rule it takes no more than what
+/// `round_facts` says, and that a round has an end within its limit (`limit` of `round_laws`). Where the
+/// channel gives one of several replies whole, the round is to be apart: two tags with one RN16 would both
+/// answer its ACK.
 pub fn complete_inventory()
     ensures run { (start : Start) (taken before after : List Step) (spec : SpecValue) (operations : OpList) → AreLegalSteps taken →
         taken ≡ before ++ steps.Round spec operations ∷ after → IsHonest (history_of start taken) (rounds_of before + 1) operations →

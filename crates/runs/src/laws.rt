@@ -1,7 +1,7 @@
 //! What the history and the report of every run say.
 ghost use Rattle.std.specs.Prelude.{◌≡◌, ◌*◌, ◌≤◌, ◌⊎◌, Bool, ◌||◌, List, ◌∷◌, ◌++◌, length, filter, Some, None};
 ghost use Rattle.access_ops.specs.laws.OperationLaws.{Expects};
-ghost use Rattle.air_model.specs.Exchange.{AreLegalTags};
+ghost use Rattle.tag_machine.specs.Exchange.{AreLegalTags};
 ghost use Rattle.air_model.specs.Channel.{got_of, heard_levels};
 ghost use Rattle.air_model.specs.Past.{Start, Record, Item, exchanges_in, next_record, tags_behind};
 ghost use Rattle.reply_wire.specs.Received.{IsReceived};
@@ -11,7 +11,7 @@ ghost use Rattle.runs.specs.EventsAndRecords.{events_and_records_of, IsConcluded
 ghost use Rattle.runs.specs.Headline.{AreHeardAsListed, AreLegalSteps, Headline, IsRecordOf, is_op_line, op_lines, most_exchanges};
 ghost use Rattle.runs.specs.History.{history_of};
 ghost use Rattle.runs.specs.NextItem.{GrowsByNext, next_item, expectation_of};
-ghost use Rattle.runs.specs.Report.{report_of};
+ghost use Rattle.runs.specs.Report.{report_of, report_text_of};
 ghost use Rattle.runs.specs.ScenarioStart.{history, start_of};
 ghost use Rattle.report_lines.specs.declared.mode.Mode.{Mode};
 ghost use Rattle.line_codes.specs.Codes.{table_of};
@@ -19,18 +19,21 @@ ghost use Rattle.reply_grammar.specs.Reception.{reception_from};
 ghost use Rattle.reply_grammar.specs.declared.expected.Expect.{Expect};
 ghost use Rattle.reply_grammar.specs.declared.expected.Received.{Received};
 ghost use Rattle.scenario.specs.Limits.{IsScenario};
+ghost use Rattle.scenario.specs.Upgraded.{upgraded};
 ghost use Rattle.scenario.specs.declared.values.Scenario.{Scenario};
 ghost use Rattle.scenario.specs.declared.values.Step.{Step};
 
 use access_ops::operation_commands;
 use air_model::reception_law;
 use q_round::round_laws;
+use scenario::copies_are_tags;
 use tag_machine::{answers_are_replies, steps_keep_tags_legal};
 
-/// The headline. Each EPC listed is what was heard in that round and slot, and where no raw levels are
-/// given, it is one that a present tag sent; each EPC that the channel gave whole is listed once; each tag
+/// The headline. Each EPC listed is one that a present tag sent in that round and slot, where no raw levels
+/// are given; each EPC that the channel gave whole is listed once; each tag
 /// stands in the end as the commands that it heard and the events that name it leave it; and no round has
-/// more slot commands than its limit.
+/// more slot commands than its limit. What is listed is what was heard in reply to an ACK, and each EPC that
+/// was heard whole is listed once, also where raw levels come back that no tag sent.
 pub fn headline()
     ensures run { (mode : Mode) (start : Start) (steps : List Step) → AreLegalSteps steps →
         Headline start steps (history_of start steps) (report_of mode start steps) }
@@ -45,6 +48,12 @@ pub fn headline()
     steps_keep_tags_legal();
     histories_keep_tags_legal();
 }
+
+/// Written in version 2 of scenarios, a scenario has the same run and the same report, byte for byte.
+pub fn upgraded_scenarios_run_the_same()
+    ensures run { (scenario : Scenario) → history (upgraded scenario) ≡ history scenario }
+    ensures report { (mode : Mode) (scenario : Scenario) → report_text_of mode (upgraded scenario) ≡ report_text_of mode scenario }
+{}
 
 /// The limits of a scenario give what the laws of a run want of its steps.
 pub fn scenario_steps_are_legal()
@@ -100,6 +109,7 @@ pub fn histories_keep_tags_legal()
     steps_keep_tags_legal();
     round_laws();
     operation_commands();
+    copies_are_tags();
 }
 
 /// What a history makes of a record is what is received of the levels that come, where a reply to an

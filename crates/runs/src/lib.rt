@@ -16,5 +16,6 @@ pub use laws::{
     events_and_records_determine_a_past, exchanges_are_few, headline,
     histories_grow_by_the_next_item, histories_hear_what_is_received, histories_keep_tags_legal,
     operations_are_told, records_follow_from_the_past, scenario_steps_are_legal,
+    upgraded_scenarios_run_the_same,
 };
 pub use summary::Summary;

@@ -5,7 +5,7 @@
 pub struct Summary {
     /// How many tags there are.
     pub tags: u32,
-    /// How often an EPC was listed.
+    /// How often an EPC was listed, whether a tag sent it or a raw stream brought it.
     pub listed: u64,
     /// How many different pairs of PC and EPC were listed.
     pub distinct: u64,

@@ -1,32 +1,16 @@
-//! Scenarios as text: what a run is made of, how it is read from its text, and how it is written.
-//! All of it is profile.
-//!
-//! A scenario has one spelling. The reader goes over the lines once, and refuses the first line that no
-//! scenario can have there, with the first reason that applies.
+//! What a run is made of, and the text that describes it. All of it is profile.
 #![tactic(auto)]
 
-mod draft;
-mod fault;
 mod laws;
 mod printing;
-mod progress;
-mod reading;
-mod report;
-mod round_trip;
+mod upgrading;
 mod values;
 
 pub use access_ops::{Op, OpList};
-pub use air_events::{Choice, Entry, Event};
-pub use fault::{Fault, ScenarioFault};
-pub use laws::{
-    faulty_lines_begin_no_text, lines_begin_a_scenario, lines_say_a_scenario,
-    reasons_tell_of_lines_before, scenario_texts_are_not_faulty, scenarios_are_said,
-    scenarios_are_told_apart, texts_are_scenarios_or_faulty, texts_have_one_fault,
-};
+pub use air_events::{Choice, Entry, Event, Several};
+pub use laws::{copies_are_tags, upgraded_scenarios_are_legal};
 pub use printing::print_scenario;
 pub use q_round::RoundSpec;
-pub use reading::read_scenario;
-pub use report::fault_text;
-pub use round_trip::{print_and_read, read_and_print};
-pub use scenario_lines::{LineFault, TagSpec};
-pub use values::{Scenario, Step};
+pub use scenario_lines::{TagSpec, Version};
+pub use upgrading::upgrade;
+pub use values::{Scenario, Step, TagGroup};

@@ -1,5 +1,5 @@
 -- The fields of an air line.
-use Rattle.std.proofs.Common.{◌≡◌, ◌≢◌, ◌<◌, ◌^◌, ℕ, List, [], ◌∷◌, Some, None, arith, sym, ◌∙◌}
+use Rattle.std.proofs.Common.{◌≡◌, ◌≢◌, ◌<◌, ◌^◌, ℕ, List, [], ◌∷◌, arith}
 use Rattle.std.specs.Fmt.{decimal}
 use Rattle.air_events.specs.declared.Event.{Event}
 use Rattle.air_events.specs.declared.Event.TheVariants as events
@@ -11,7 +11,7 @@ use Rattle.scenario_lines.specs.declared.first_fields.AirKind.{AirKind}
 use Rattle.scenario_lines.specs.declared.line.Happening.{Happening}
 use Rattle.scenario_lines.specs.declared.line.Happening.TheVariants as happenings
 use Rattle.scenario_lines.specs.Names.{air_field_count, air_kind, air_word, event_field_count, event_kind}
-use Rattle.scenario_lines.specs.LineForm.{IsEvent, IsExchange, IsHappening}
+use Rattle.scenario_lines.specs.LineForm.{IsEvent, IsHappening}
 use Rattle.scenario_lines.specs.Spelling.{event_fields, happening_fields}
 use Rattle.scenario_lines.specs.LineFaults.{HasShape}
 use Rattle.text_fields.specs.NamedFields.{AreFilled}
@@ -39,23 +39,9 @@ happening_filled (happenings.Choice choices.Silent) is = none_filled
 happening_filled (happenings.Choice (choices.Break place)) is = one_number_filled place (omega (arith, is))
 happening_filled (happenings.Choice (choices.Raw levels)) is = one_more 0 (binary levels) [] (bits_are levels).filled none_filled
 
--- the number of an exchange is the first field
-pub no_exchange : (others : List (List ℕ)) (field : List ℕ) (rest rest' : List (List ℕ)) (exchange : ℕ) → others ≡ field ∷ rest
-    → others ≡ decimal exchange ∷ rest' → field ≡ decimal exchange
-no_exchange others field rest rest' exchange first spells = let same = sym first ∙ spells in cc
-
--- ... and not empty
-pub empty_exchange : (others : List (List ℕ)) (field : List ℕ) (rest rest' : List (List ℕ)) (exchange : ℕ) → others ≡ field ∷ rest → field ≡ []
-    → IsExchange exchange → others ≡ decimal exchange ∷ rest' → ⊥
-empty_exchange others field rest rest' exchange first empty is spells =
-    (number_text exchange (omega (arith, is.1))).filled (sym (no_exchange others field rest rest' exchange first spells) ∙ empty)
-
 -- an air line whose fields are read behind its kind has its shape
 pub air_shape : (field kind : List ℕ) (rest : List (List ℕ)) (known : AirKind) (happening : Happening) → field ≢ [] → kind ≡ air_word known
     → IsHappeningText known rest happening → HasShape keywords.Air (field ∷ kind ∷ rest)
 air_shape field kind rest known happening filled is text =
     let count = rw (← text.spelling, text.same_kind) at (happening_filled happening text.is) in
     (filled, known, is, count)
-
-pub not_found : {A : Type 0} {x : A} → None ≡ Some x → ⊥
-not_found found = cc

@@ -1,6 +1,6 @@
 -- Each field of a line is of its form and range, or it isn't.
 use Rattle.std.proofs.Common.{◌≡◌, ◌≢◌, ◌<◌, ◌≤◌, ◌^◌, ◌⊎◌, ℕ, suc, Bool, true, false, List, [], ◌∷◌, ◌++◌, length, map, take, drop, refl, sym, ◌∙◌, ap, ap₂, subst, inl, inr, arith}
-use Rattle.std.specs.Prelude.{All}
+use Rattle.std.specs.Prelude.{All, codes}
 use Rattle.std.specs.Fmt.{decimal}
 use Rattle.std.specs.List.{flat_map}
 use Rattle.std.proofs.lemmas.List.Elements.{All-cons, All-head, All-nil, All-tail}
@@ -9,7 +9,7 @@ use Rattle.bit_strings.specs.declared.code.Code.TheVariants as line_codes
 use Rattle.text_fields.specs.Binary.{binary, binary_digit, hyphen, or_hyphen}
 use Rattle.text_fields.specs.CodeNames.{code_word}
 use Rattle.text_fields.specs.Hexadecimal.{hex_word, hex_words}
-use Rattle.text_fields.specs.ToldApart.{binary_told, hex_words_told}
+use Rattle.text_fields.specs.laws.ToldApart.{binary_told, hex_words_told}
 use Rattle.command_text.specs.CommandText.{bank_word, flag_word, mask_bank_word, payload_digits, side_word}
 use Rattle.command_fields.specs.declared.choices.Bank.{Bank}
 use Rattle.command_fields.specs.declared.choices.Bank.TheVariants as all_banks
@@ -22,7 +22,14 @@ use Rattle.command_fields.specs.declared.choices.Sel.TheVariants as sels
 use Rattle.command_fields.specs.declared.choices.Side.{Side}
 use Rattle.command_fields.specs.declared.choices.Side.TheVariants as sides
 use Rattle.lock_rules.specs.declared.locks.Pair.{Pair}
-use Rattle.scenario_lines.specs.Names.{sel_text}
+use Rattle.air_events.specs.declared.Several.{Several}
+use Rattle.air_events.specs.declared.Several.TheVariants as severals
+use Rattle.q_round.specs.SpecValue.{IsLegalRule}
+use Rattle.q_round.specs.declared.rule.Rule.{Rule}
+use Rattle.q_round.specs.declared.rule.Rule.TheVariants as rules
+use Rattle.scenario_lines.specs.declared.version.Version.{Version}
+use Rattle.scenario_lines.specs.declared.version.Version.TheVariants.{One, Two}
+use Rattle.scenario_lines.specs.Names.{HasRuleText, rule_text, sel_text, several_text, version_text}
 use Rattle.text_fields.specs.WordLists.{IsWordList}
 use Rattle.value_text.specs.ValueText.{locks_text, password_text}
 use Rattle.scenario_lines.specs.Spelling.{flag_text}
@@ -36,12 +43,15 @@ IsWithin least most n = (least ≤ n) × (n ≤ most)
 spelled_below : (spelling : ℕ → List ℕ) (bound : ℕ) (field : List ℕ) → Decided (Spelled spelling (λ n. n < bound) field)
 spelled_below spelling bound field = below_decided (λ n. field ≡ spelling n) (λ n. text_decided field (spelling n)) bound
 
-pub decimal_decided : (least most : ℕ) (field : List ℕ) → Decided (Spelled decimal (IsWithin least most) field)
-decimal_decided least most field =
-    same_answer {A = (n : ℕ) × (n < suc most) × ((least ≤ n) × (field ≡ decimal n))}
+spelled_within : (spelling : ℕ → List ℕ) (least most : ℕ) (field : List ℕ) → Decided (Spelled spelling (IsWithin least most) field)
+spelled_within spelling least most field =
+    same_answer {A = (n : ℕ) × (n < suc most) × ((least ≤ n) × (field ≡ spelling n))}
     (λ found. (found.0, (found.2.0, omega (arith, found.1)), found.2.1))
     (λ found. (found.0, omega (arith, found.1.1), (found.1.0, found.2)))
-    (below_decided (λ n. (least ≤ n) × (field ≡ decimal n)) (λ n. both (le_decided least n) (text_decided field (decimal n))) (suc most))
+    (below_decided (λ n. (least ≤ n) × (field ≡ spelling n)) (λ n. both (le_decided least n) (text_decided field (spelling n))) (suc most))
+
+pub decimal_decided : (least most : ℕ) (field : List ℕ) → Decided (Spelled decimal (IsWithin least most) field)
+decimal_decided least most field = spelled_within decimal least most field
 
 pub payload_decided : (field : List ℕ) → Decided (Spelled payload_digits (λ payload. payload < 1048576) field)
 payload_decided field = spelled_below payload_digits 1048576 field
@@ -139,6 +149,59 @@ pub sel_decided : (field : List ℕ) → Decided (Spelled sel_text (λ sel. sel 
 sel_decided field =
     tried sels.All00 (λ same. cc) (λ all. tried sels.NotSl (λ same. cc) (λ nsl. tried sels.Sl (λ same. cc) (λ sl.
     inr (λ found. no_sel field all nsl sl found.0 found.1 found.2))))
+
+no_version : (field : List ℕ) → field ≢ version_text One → field ≢ version_text Two → (version : Version) → field ≡ version_text version → ⊥
+no_version field first second One is = first is
+no_version field first second Two is = second is
+
+pub version_decided : (field : List ℕ) → Decided (Spelled version_text Any field)
+version_decided field = tried One tt (λ first. tried Two tt (λ second. inr (λ found. no_version field first second found.0 found.2)))
+
+no_several : (field : List ℕ) → field ≢ several_text severals.Break → field ≢ several_text severals.Capture → (several : Several)
+    → field ≡ several_text several → ⊥
+no_several field break capture severals.Break is = break is
+no_several field break capture severals.Capture is = capture is
+
+pub several_decided : (field : List ℕ) → Decided (Spelled several_text Any field)
+several_decided field =
+    tried severals.Break tt (λ break. tried severals.Capture tt (λ capture. inr (λ found. no_several field break capture found.0 found.2)))
+
+-- the rule for Q, as a version spells it
+abbrev pub spelled_rule : Version × Rule → List ℕ
+spelled_rule rule = rule_text rule.0 rule.1
+
+abbrev pub IsSpelledRule : Version × Rule → Type 0
+IsSpelledRule rule = IsLegalRule rule.1 × HasRuleText rule.0 rule.1
+
+-- the name of the rule that moves Qfp
+abbrev float_text : ℕ → List ℕ
+float_text c = codes "float-" ++ decimal c
+
+record IsNoRule (field : List ℕ) : Type 0 where
+  number : ¬ Spelled decimal (IsWithin 100 500) field
+  float : ¬ Spelled float_text (IsWithin 100 500) field
+  fixed : field ≢ rule_text Two rules.Fixed
+  frame : field ≢ rule_text Two rules.Frame
+
+no_rule : (field : List ℕ) → IsNoRule field → (version : Version) (rule : Rule) → IsLegalRule rule → HasRuleText version rule
+    → field ≡ rule_text version rule → ⊥
+no_rule field none One (rules.Float c) legal has is = none.number (c, legal, is)
+no_rule field none One rules.Fixed legal has is = has
+no_rule field none One rules.Frame legal has is = has
+no_rule field none Two (rules.Float c) legal has is = none.float (c, legal, is)
+no_rule field none Two rules.Fixed legal has is = none.fixed is
+no_rule field none Two rules.Frame legal has is = none.frame is
+
+pub rule_decided : (field : List ℕ) → Decided (Spelled spelled_rule IsSpelledRule field)
+rule_decided field = elim (decimal_decided 100 500 field) [
+  | inl found ↦ inl ((One, rules.Float found.0), (found.1, tt), found.2)
+  | inr number ↦ elim (spelled_within float_text 100 500 field) [
+    | inl found ↦ inl ((Two, rules.Float found.0), (found.1, tt), found.2)
+    | inr float ↦ tried (Two, rules.Fixed) (tt, tt) (λ fixed. tried (Two, rules.Frame) (tt, tt) (λ frame.
+        let none : IsNoRule field = record { number = number; float = float; fixed = fixed; frame = frame } in
+        inr (λ found. no_rule field none found.0.0 found.0.1 found.1.0 found.1.1 found.2)))
+  ]
+]
 
 -- a digit of a bit
 no_digit : (digit : ℕ) → digit ≢ 48 → digit ≢ 49 → (bit : Bool) → digit ≡ binary_digit bit → ⊥

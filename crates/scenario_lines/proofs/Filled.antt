@@ -1,13 +1,21 @@
 -- The pieces of a line are not empty, and may stand as fields.
 use Rattle.std.proofs.Common.{◌≢◌, ◌<◌, ◌^◌, ◌/◌, ◌%◌, ℕ, Bool, true, false, List, [], ◌∷◌, ◌++◌, arith, refl}
+use Rattle.std.specs.Prelude.{codes}
 use Rattle.std.specs.Fmt.{decimal}
 use Rattle.text_fields.specs.Lines.{IsFieldText, space}
 use Rattle.text_fields.specs.Binary.{binary, binary_digit}
 use Rattle.text_fields.specs.Hexadecimal.{hex_word, hex_words}
-use Rattle.text_fields.specs.FieldTextLaws.{IsFieldText-append as joined, IsFieldText-binary, IsFieldText-cons as before, IsFieldText-decimal, IsFieldText-hex_word, IsFieldText-hex_words, IsFieldText-one}
+use Rattle.text_fields.specs.laws.FieldTextLaws.{IsFieldText-append as joined, IsFieldText-binary, IsFieldText-cons as before, IsFieldText-decimal, IsFieldText-hex_word, IsFieldText-hex_words, IsFieldText-one}
 use Rattle.command_fields.specs.declared.choices.Sel.{Sel}
 use Rattle.command_fields.specs.declared.choices.Sel.TheVariants as sels
 use Rattle.lock_rules.specs.declared.locks.Locks.{Locks}
+use Rattle.air_events.specs.declared.Several.{Several}
+use Rattle.air_events.specs.declared.Several.TheVariants as severals
+use Rattle.q_round.specs.SpecValue.{IsLegalRule}
+use Rattle.q_round.specs.declared.rule.Rule.{Rule}
+use Rattle.q_round.specs.declared.rule.Rule.TheVariants as rules
+use Rattle.scenario_lines.specs.declared.version.Version.{Version}
+use Rattle.scenario_lines.specs.declared.version.Version.TheVariants.{One, Two}
 use Rattle.scenario_lines.specs.declared.first_fields.Keyword.{Keyword}
 use Rattle.scenario_lines.specs.declared.first_fields.Keyword.TheVariants as keywords
 use Rattle.scenario_lines.specs.declared.first_fields.EventKind.{EventKind}
@@ -16,7 +24,7 @@ use Rattle.scenario_lines.specs.declared.first_fields.OpKind.{OpKind}
 use Rattle.scenario_lines.specs.declared.first_fields.OpKind.TheVariants as op_kinds
 use Rattle.scenario_lines.specs.declared.first_fields.AirKind.{AirKind}
 use Rattle.scenario_lines.specs.declared.first_fields.AirKind.TheVariants as airs
-use Rattle.scenario_lines.specs.Names.{air_word, event_word, op_word, sel_text, keyword_text}
+use Rattle.scenario_lines.specs.Names.{HasRuleText, air_word, event_word, keyword_text, op_word, rule_text, sel_text, several_text, version_text}
 use Rattle.value_text.specs.ValueText.{locks_text, pair_text, password_text}
 
 pub number_text : (n : ℕ) → n < 2 ^ 32 → IsFieldText (decimal n)
@@ -31,7 +39,9 @@ sel_text_is sels.Sl named = search (arith, before, IsFieldText-one) depth 12
 pub keyword_text_is : (keyword : Keyword) → IsFieldText (keyword_text keyword)
 keyword_text_is keywords.Version = search (arith, before, IsFieldText-one) depth 12
 keyword_text_is keywords.Link = search (arith, before, IsFieldText-one) depth 12
+keyword_text_is keywords.Default = search (arith, before, IsFieldText-one) depth 16
 keyword_text_is keywords.Tag = search (arith, before, IsFieldText-one) depth 12
+keyword_text_is keywords.Copies = search (arith, before, IsFieldText-one) depth 16
 keyword_text_is keywords.Air = search (arith, before, IsFieldText-one) depth 12
 keyword_text_is keywords.Select = search (arith, before, IsFieldText-one) depth 12
 keyword_text_is keywords.Nak = search (arith, before, IsFieldText-one) depth 12
@@ -40,6 +50,25 @@ keyword_text_is keywords.Round = search (arith, before, IsFieldText-one) depth 1
 keyword_text_is keywords.Only = search (arith, before, IsFieldText-one) depth 12
 keyword_text_is keywords.Op = search (arith, before, IsFieldText-one) depth 12
 keyword_text_is keywords.End = search (arith, before, IsFieldText-one) depth 12
+
+pub version_text_is : (version : Version) → IsFieldText (version_text version)
+version_text_is One = search (arith, before, IsFieldText-one) depth 12
+version_text_is Two = search (arith, before, IsFieldText-one) depth 12
+
+pub several_text_is : (several : Several) → IsFieldText (several_text several)
+several_text_is severals.Break = search (arith, before, IsFieldText-one) depth 12
+several_text_is severals.Capture = search (arith, before, IsFieldText-one) depth 16
+
+float_is : IsFieldText (codes "float-")
+float_is = search (arith, before, IsFieldText-one) depth 16
+
+pub rule_text_is : (version : Version) (rule : Rule) → IsLegalRule rule → HasRuleText version rule → IsFieldText (rule_text version rule)
+rule_text_is One (rules.Float c) legal has = number_text c (omega (arith, legal.1))
+rule_text_is One rules.Fixed legal has = absurd has
+rule_text_is One rules.Frame legal has = absurd has
+rule_text_is Two rules.Fixed legal has = search (arith, before, IsFieldText-one) depth 12
+rule_text_is Two (rules.Float c) legal has = joined (codes "float-") (decimal c) float_is (number_text c (omega (arith, legal.1)))
+rule_text_is Two rules.Frame legal has = search (arith, before, IsFieldText-one) depth 12
 
 pub event_word_is : (kind : EventKind) → IsFieldText (event_word kind)
 event_word_is events.Timeout = search (arith, before, IsFieldText-one) depth 12

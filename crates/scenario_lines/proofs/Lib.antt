@@ -9,6 +9,8 @@ pub mod LineTexts
 pub mod ToldNames
 pub mod ToldFields
 pub mod ToldLines
+pub mod FirstNumbers
+pub mod CopiesFields
 pub mod OneOp
 pub mod LineShapes
 pub mod LineReasons

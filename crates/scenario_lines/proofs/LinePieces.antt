@@ -3,7 +3,12 @@ use Rattle.std.proofs.Common.{◌≡◌, ℕ, List, [], ◌∷◌, ◌++◌}
 use Rattle.std.proofs.lemmas.List.{append_assoc}
 use Rattle.text_fields.specs.Lines.{line_with, space}
 
--- after a word and three fields, the last of them in two pieces
-pub three_fields : {t s r q : List ℕ} (start word a b c : List ℕ) → t ≡ start ++ word → s ≡ t ++ space ∷ a → r ≡ s ++ space ∷ b → q ≡ r ++ space ∷ [] →
-    q ++ c ≡ start ++ line_with (word ∷ a ∷ b ∷ c ∷ [])
-three_fields start word a b c f g h i = rw (i, h, g, f) (simp append_assoc)
+-- after three fields, the last of them in two pieces
+pub three_fields : {s r q : List ℕ} (start a b c : List ℕ) → s ≡ start ++ space ∷ a → r ≡ s ++ space ∷ b → q ≡ r ++ space ∷ [] →
+    q ++ c ≡ start ++ space ∷ line_with (a ∷ b ∷ c ∷ [])
+three_fields start a b c f g h = rw (h, g, f) (simp append_assoc)
+
+-- after the front of a line and the fields behind it, with the end of the line
+pub whole_line : {s : List ℕ} (start front fields end : List ℕ) → s ≡ start ++ front
+    → s ++ space ∷ (fields ++ end) ≡ start ++ ((front ++ space ∷ fields) ++ end)
+whole_line start front fields end f = rw f (simp append_assoc)

@@ -42,6 +42,7 @@ abbrev Disagrees : Line → LineFault → Type 0
 Disagrees (lines.Link link) fault =
     (refusal : LinkRefusal) × (fault ≡ link_fault refusal) × IsFirstBroken refusal link.tari link.rtcal link.trcal link.pw
 Disagrees (lines.Tag tag) fault = (fault ≡ Pc) × (pc_fits tag.image ≡ false)
+Disagrees (lines.Copies count tag) fault = (fault ≡ Pc) × (pc_fits tag.image ≡ false)
 Disagrees line fault = ⊥
 
 -- how far the fields go, and where they stop
@@ -79,6 +80,7 @@ disagrees_once : (line : Line) (one other : LineFault) → Disagrees line one �
 disagrees_once (lines.Link link) one other broken broken' =
     broken.1 ∙ ap link_fault (broken_once broken.0 broken'.0 link.tari link.rtcal link.trcal link.pw broken.2 broken'.2) ∙ sym broken'.1
 disagrees_once (lines.Tag tag) one other broken broken' = broken.0 ∙ sym broken'.0
+disagrees_once (lines.Copies count tag) one other broken broken' = broken.0 ∙ sym broken'.0
 disagrees_once line one other broken broken' = absurd broken
 
 -- a link that is refused is not legal
@@ -92,6 +94,7 @@ broken_illegal refusals.Pw link broken legal = broken.3 legal.pw_range
 disagrees_incoherent : (line : Line) (fault : LineFault) → Disagrees line fault → IsCoherent line → ⊥
 disagrees_incoherent (lines.Link link) fault broken coherent = broken_illegal broken.0 link broken.2 coherent
 disagrees_incoherent (lines.Tag tag) fault broken coherent = let e : false ≡ true = sym broken.1 ∙ coherent in cc
+disagrees_incoherent (lines.Copies count tag) fault broken coherent = let e : false ≡ true = sym broken.1 ∙ coherent in cc
 disagrees_incoherent line fault broken coherent = broken
 
 formed_same : (fields : List (List ℕ)) (one other : Formed fields) → one.line ≡ other.line
@@ -144,6 +147,10 @@ tag_stop fields keywords.Tag others first breaks =
     let line = lines.Tag breaks.tag in
     apart (record { line = line; spelling = first ∙ ap (λ (list : List (List ℕ)). keyword_text keywords.Tag ∷ list) breaks.spelling; form = breaks.form })
     (refl, breaks.broken)
+tag_stop fields keywords.Copies others first breaks =
+    let line = lines.Copies breaks.count breaks.tag in
+    let spelling = first ∙ ap (λ (list : List (List ℕ)). keyword_text keywords.Copies ∷ list) breaks.spelling in
+    apart (record { line = line; spelling = spelling; form = (breaks.number, breaks.form) }) (refl, breaks.broken)
 tag_stop fields keyword others first breaks = absurd breaks
 
 stop_of : (fields : List (List ℕ)) (fault : LineFault) → IsFaultyLine fields fault → Stops fields fault

@@ -39,16 +39,9 @@ filled line form = All-weaker IsFieldText Filled (λ field is. is.filled) (other
 
 -- a line whose fields are of their forms has the shape of its keyword
 pub line_shape : (line : Line) → HasForm line → HasShape (keyword_of line) (other_fields line)
-line_shape lines.Version form = record { number = refl; filled = filled lines.Version form }
-line_shape (lines.Link link) form = record { number = refl; filled = filled (lines.Link link) form }
-line_shape (lines.Tag tag) form = record { number = refl; filled = filled (lines.Tag tag) form }
 line_shape (lines.Air exchange happening) form =
     let first = All-head Filled (decimal exchange) (air_word (air_kind happening) ∷ happening_fields happening) (filled (lines.Air exchange happening) form) in
     (first, air_kind happening, refl, happening_filled happening form.1)
-line_shape (lines.Select selection) form = record { number = refl; filled = filled (lines.Select selection) form }
-line_shape lines.Nak form = record { number = refl; filled = filled lines.Nak form }
 line_shape (lines.Event event tag) form = (event_kind event, refl, event_filled event tag form)
-line_shape (lines.Round spec) form = record { number = refl; filled = filled (lines.Round spec) form }
-line_shape (lines.Only epc) form = record { number = refl; filled = filled (lines.Only epc) form }
 line_shape (lines.Op op) form = (op_kind op, refl, op_filled op form)
-line_shape lines.End form = record { number = refl; filled = filled lines.End form }
+line_shape line form = record { number = refl; filled = filled line form }

@@ -1,6 +1,6 @@
 -- Each field of a line may stand as a field.
-use Rattle.std.proofs.Common.{ℕ, true, List, [], ◌∷◌, arith}
-use Rattle.std.specs.Prelude.{All, codes}
+use Rattle.std.proofs.Common.{ℕ, List, [], ◌∷◌, arith}
+use Rattle.std.specs.Prelude.{All}
 use Rattle.std.proofs.lemmas.List.Elements.{All-cons, All-nil}
 use Rattle.access_ops.specs.declared.Op.{Op}
 use Rattle.access_ops.specs.declared.Op.TheVariants as ops
@@ -11,6 +11,7 @@ use Rattle.air_events.specs.declared.Choice.TheVariants as choices
 use Rattle.text_fields.specs.Lines.{IsFieldText}
 use Rattle.pie_line.specs.Link.{LinkValue}
 use Rattle.q_round.specs.SpecValue.{SpecValue}
+use Rattle.scenario_lines.specs.declared.version.Version.{Version}
 use Rattle.scenario_lines.specs.declared.tag.TagSpec.{TagSpec}
 use Rattle.scenario_lines.specs.declared.line.Selection.{Selection}
 use Rattle.scenario_lines.specs.declared.line.Happening.{Happening}
@@ -20,7 +21,7 @@ use Rattle.scenario_lines.specs.declared.line.Line.TheVariants as lines
 use Rattle.scenario_lines.specs.Names.{air_kind, event_kind, op_kind}
 use Rattle.scenario_lines.specs.LineForm.{HasForm, IsEvent, IsHappening, IsLine, IsLinkForm, IsRound, IsSelection}
 use Rattle.scenario_lines.specs.Spelling.{event_fields, happening_fields, line_fields, link_fields, op_fields, other_fields, round_fields, select_fields, tag_fields, keyword_of}
-use Rattle.scenario_lines.proofs.Filled.{air_word_is, event_word_is, locks_is, bits_are, number_text, one_word_is, op_word_is, password_is, sel_text_is, keyword_text_is, words_is}
+use Rattle.scenario_lines.proofs.Filled.{air_word_is, event_word_is, locks_is, bits_are, number_text, one_word_is, op_word_is, password_is, rule_text_is, sel_text_is, several_text_is, keyword_text_is, version_text_is, words_is}
 use Rattle.command_text.specs.laws.FieldTexts.{bank_is, bit_is, code_is, flag_is, mask_bank_is, payload_is, side_is}
 
 pub record Texts (fields : List (List ℕ)) : Type 0 where
@@ -64,10 +65,10 @@ select_texts selection is =
     with _ _ (flag_is selection.target) (with _ _ (number_text selection.action (omega (arith, is.action))) (with _ _ (mask_bank_is selection.bank)
     (with _ _ (number_text selection.pointer (omega (arith, is.pointer))) (only _ (bits_are selection.mask)))))
 
-round_texts : (spec : SpecValue) → IsRound spec → Texts (round_fields spec)
-round_texts spec is =
+round_texts : (version : Version) (spec : SpecValue) → IsRound version spec → Texts (round_fields version spec)
+round_texts version spec is =
     with _ _ (sel_text_is spec.sel is.named) (with _ _ (number_text spec.session (omega (arith, is.legal.session))) (with _ _ (side_is spec.target)
-    (with _ _ (number_text spec.q (omega (arith, is.legal.q))) (with _ _ (number_text spec.c (omega (arith, is.legal.step)))
+    (with _ _ (number_text spec.q (omega (arith, is.legal.q))) (with _ _ (rule_text_is version spec.rule is.legal.rule is.spelled)
     (only _ (number_text spec.limit (omega (arith, is.legal.limit))))))))
 
 op_texts : (op : Op) → IsLegalOp op → Texts (op_fields op)
@@ -84,15 +85,17 @@ op_texts (ops.Access password) is = only _ (password_is password)
 op_texts (ops.Kill password) is = only _ (password_is password)
 
 pub other_texts : (line : Line) → HasForm line → Texts (other_fields line)
-other_texts lines.Version form = only (codes "1") (bit_is true)
+other_texts (lines.Version version) form = only _ (version_text_is version)
 other_texts (lines.Link link) form = link_texts link form
+other_texts (lines.Default several) form = only _ (several_text_is several)
 other_texts (lines.Tag tag) form = tag_texts tag
+other_texts (lines.Copies count tag) form = with _ _ (number_text count (omega (arith, form.0.1))) (tag_texts tag)
 other_texts (lines.Air exchange happening) form =
     with _ _ (number_text exchange (omega (arith, form.0.1))) (with _ _ (air_word_is (air_kind happening)) (happening_texts happening form.1))
 other_texts (lines.Select selection) form = select_texts selection form
 other_texts lines.Nak form = no_more
 other_texts (lines.Event event tag) form = with _ _ (event_word_is (event_kind event)) (event_texts event tag form)
-other_texts (lines.Round spec) form = round_texts spec form
+other_texts (lines.Round version spec) form = round_texts version spec form
 other_texts (lines.Only epc) form = only _ (words_is epc)
 other_texts (lines.Op op) form = with _ _ (op_word_is (op_kind op)) (op_texts op form)
 other_texts lines.End form = no_more

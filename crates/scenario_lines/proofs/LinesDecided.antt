@@ -1,6 +1,5 @@
 -- The fields of a line are each of their form and range, or they are of no line's.
 use Rattle.std.proofs.Common.{◌≡◌, ◌≢◌, ◌<◌, ◌≤◌, ◌^◌, ℕ, Bool, List, [], ◌∷◌, refl, sym, ◌∙◌, ap, ap₂, inl, inr, arith}
-use Rattle.std.specs.Prelude.{codes}
 use Rattle.std.specs.Fmt.{decimal}
 use Rattle.text_fields.specs.Binary.{binary}
 use Rattle.text_fields.specs.Hexadecimal.{hex_word, hex_words}
@@ -23,19 +22,22 @@ use Rattle.scenario_lines.specs.declared.first_fields.AirKind.{AirKind}
 use Rattle.scenario_lines.specs.declared.first_fields.AirKind.TheVariants as airs
 use Rattle.scenario_lines.specs.declared.first_fields.Keyword.{Keyword}
 use Rattle.scenario_lines.specs.declared.first_fields.Keyword.TheVariants as keywords
+use Rattle.air_events.specs.TagNumbers.{most_tags}
+use Rattle.q_round.specs.SpecValue.{SpecValue}
+use Rattle.scenario_lines.specs.declared.version.Version.{Version}
 use Rattle.scenario_lines.specs.declared.line.Happening.{Happening}
 use Rattle.scenario_lines.specs.declared.line.Happening.TheVariants as happenings
 use Rattle.scenario_lines.specs.declared.line.Line.{Line}
 use Rattle.scenario_lines.specs.declared.line.Line.TheVariants as lines
-use Rattle.scenario_lines.specs.Names.{air_kind, air_word, event_kind, event_word, op_kind, op_word}
+use Rattle.scenario_lines.specs.Names.{air_kind, air_word, event_kind, event_word, op_kind, op_word, several_text, version_text}
 use Rattle.text_fields.specs.WordLists.{IsWordList}
 use Rattle.value_text.specs.ValueText.{password_text}
 use Rattle.scenario_lines.specs.TagForm.{IsTagForm, tag_of}
 use Rattle.scenario_lines.specs.LineForm.{HasForm, IsEvent, IsHappening, IsLinkForm, IsPlace, IsRound, IsSelection, most_level, most_nanoseconds}
 use Rattle.scenario_lines.specs.Spelling.{event_fields, happening_fields, link_fields, op_fields, other_fields, round_fields, select_fields, tag_fields, keyword_of}
 use Rattle.scenario_lines.specs.Reading.{IsEventText, IsHappeningText, IsOpText}
-use Rattle.scenario_lines.proofs.Decisions.{Any, Decided, Only, Spelled, behind_decided, list_decided, nothing_decided, only_decided, same_answer, text_decided}
-use Rattle.scenario_lines.proofs.FieldsDecided.{IsLasting, IsWithin, any_bank_decided, bank_decided, bit_decided, bits_decided, code_decided, decimal_decided, flag_decided, lasting_decided, locks_decided, password_decided, payload_decided, sel_decided, side_decided, tried, word_decided, words_decided}
+use Rattle.scenario_lines.proofs.Decisions.{Any, Decided, Spelled, behind_decided, nothing_decided, only_decided, same_answer, text_decided}
+use Rattle.scenario_lines.proofs.FieldsDecided.{IsLasting, IsWithin, any_bank_decided, bank_decided, bit_decided, bits_decided, code_decided, decimal_decided, flag_decided, lasting_decided, locks_decided, password_decided, payload_decided, rule_decided, sel_decided, several_decided, side_decided, tried, version_decided, word_decided, words_decided}
 use Rattle.scenario_lines.proofs.ToldLines.{same_fields}
 use Rattle.scenario_lines.proofs.ToldNames.{air_word_told, event_word_told, op_word_told}
 use Rattle.command_text.specs.laws.ToldApart.{block_of_list, list_of_block}
@@ -138,20 +140,33 @@ select_decided =
     (λ selection form. ((tt, ((omega arith, form.action), (tt, ((omega arith, form.pointer), ((omega arith, form.mask), tt))))), refl))
     (then flag_decided (then (number 0 7) (then bank_decided (then (number 0 268435455) (then (bits_decided 0 255) end)))))
 
-round_decided : FieldsDecided round_fields IsRound
+-- how many tags, and the tag of which they are copies
+copies_decided : FieldsDecided (with decimal tag_fields) (Both (IsWithin 2 most_tags) IsTagForm)
+copies_decided = then (number 2 most_tags) tag_decided
+
+-- the parameters of a round, and the version that spells its rule so
+abbrev round_text : Version × SpecValue → List (List ℕ)
+round_text round = round_fields round.0 round.1
+
+round_decided : FieldsDecided round_text (λ round. IsRound round.0 round.1)
 round_decided =
-    named (λ v. record { sel = v.0; session = v.1.0; target = v.1.1.0; q = v.1.1.1.0; c = v.1.1.1.1.0; limit = v.1.1.1.1.1.0 })
+    named (λ v. (
+      v.1.1.1.1.0.0,
+      record { sel = v.0; session = v.1.0; target = v.1.1.0; q = v.1.1.1.0; rule = v.1.1.1.1.0.1; limit = v.1.1.1.1.1.0 },
+    ))
     (λ v may. (
       record {
-        legal = record { session = may.1.0.1; q = may.1.1.1.0.1; step = may.1.1.1.1.0; limit = may.1.1.1.1.1.0 };
+        legal = record { session = may.1.0.1; q = may.1.1.1.0.1; rule = may.1.1.1.1.0.0; limit = may.1.1.1.1.1.0 };
         named = may.0;
+        spelled = may.1.1.1.1.0.1;
       },
       refl,
     ))
-    (λ spec. (spec.sel, (spec.session, (spec.target, (spec.q, (spec.c, (spec.limit, tt)))))))
-    (λ spec is.
-    ((is.named, ((omega arith, is.legal.session), (tt, ((omega arith, is.legal.q), (is.legal.step, (is.legal.limit, tt)))))), refl))
-    (then sel_decided (then (number 0 3) (then side_decided (then (number 0 15) (then (number 100 500) (then (number 1 70000) end))))))
+    (λ round. let spec = round.1 in (spec.sel, (spec.session, (spec.target, (spec.q, ((round.0, spec.rule), (spec.limit, tt)))))))
+    (λ round is.
+    let legal = is.legal in
+    ((is.named, ((omega arith, legal.session), (tt, ((omega arith, legal.q), ((legal.rule, is.spelled), (legal.limit, tt)))))), refl))
+    (then sel_decided (then (number 0 3) (then side_decided (then (number 0 15) (then rule_decided (then (number 1 70000) end))))))
 
 -- the kind of an event
 no_event_kind : (field : List ℕ) → field ≢ event_word event_kinds.Timeout → field ≢ event_word event_kinds.Off → field ≢ event_word event_kinds.On
@@ -478,13 +493,22 @@ air_decided = then (number 1 1000000) happening_decided
 abbrev pub FormedBehind : Keyword → List (List ℕ) → Type 0
 FormedBehind first others = (line : Line) × HasForm line × (keyword_of line ≡ first) × (others ≡ other_fields line)
 
-version_there : (others : List (List ℕ)) → FormedBehind keywords.Version others → Only (codes "1" ∷ []) others
-version_there others (lines.Version, form, same, is) = (tt, tt, is)
+version_there : (others : List (List ℕ)) → FormedBehind keywords.Version others → Spelled (with version_text nothing) (Both Any Any) others
+version_there others (lines.Version version, form, same, is) = ((version, tt), (tt, tt), is)
 version_there others (line, form, same, is) = cc
 
 link_there : (others : List (List ℕ)) → FormedBehind keywords.Link others → Spelled link_fields IsLinkForm others
 link_there others (lines.Link link, form, same, is) = (link, form, is)
 link_there others (line, form, same, is) = cc
+
+default_there : (others : List (List ℕ)) → FormedBehind keywords.Default others → Spelled (with several_text nothing) (Both Any Any) others
+default_there others (lines.Default several, form, same, is) = ((several, tt), (tt, tt), is)
+default_there others (line, form, same, is) = cc
+
+copies_there : (others : List (List ℕ)) → FormedBehind keywords.Copies others
+    → Spelled (with decimal tag_fields) (Both (IsWithin 2 most_tags) IsTagForm) others
+copies_there others (lines.Copies count tag, form, same, is) = ((count, tag), form, is)
+copies_there others (line, form, same, is) = cc
 
 tag_there : (others : List (List ℕ)) → FormedBehind keywords.Tag others → Spelled tag_fields IsTagForm others
 tag_there others (lines.Tag tag, form, same, is) = (tag, form, is)
@@ -506,8 +530,8 @@ event_line_there : (others : List (List ℕ)) → FormedBehind keywords.Event ot
 event_line_there others (lines.Event event tag, form, same, is) = ((event, tag), form, is)
 event_line_there others (line, form, same, is) = cc
 
-round_there : (others : List (List ℕ)) → FormedBehind keywords.Round others → Spelled round_fields IsRound others
-round_there others (lines.Round spec, form, same, is) = (spec, form, is)
+round_there : (others : List (List ℕ)) → FormedBehind keywords.Round others → Spelled round_text (λ round. IsRound round.0 round.1) others
+round_there others (lines.Round version spec, form, same, is) = ((version, spec), form, is)
 round_there others (line, form, same, is) = cc
 
 only_there : (others : List (List ℕ)) → FormedBehind keywords.Only others → Spelled (with hex_words nothing) (Both (IsWordList 0 31) Any) others
@@ -525,8 +549,12 @@ end_there others (line, form, same, is) = cc
 -- fields behind a first field are of the forms of some line, or of none
 pub formed_behind : (first : Keyword) (others : List (List ℕ)) → Decided (FormedBehind first others)
 formed_behind keywords.Version others =
-    same_answer (λ found. (lines.Version, tt, refl, found.2)) (version_there others) (only_decided (list_decided text_decided) (codes "1" ∷ []) others)
+    same_answer (λ found. (lines.Version found.0.0, tt, refl, found.2)) (version_there others) (then version_decided end others)
 formed_behind keywords.Link others = same_answer (λ found. (lines.Link found.0, found.1, refl, found.2)) (link_there others) (link_decided others)
+formed_behind keywords.Default others =
+    same_answer (λ found. (lines.Default found.0.0, tt, refl, found.2)) (default_there others) (then several_decided end others)
+formed_behind keywords.Copies others =
+    same_answer (λ found. (lines.Copies found.0.0 found.0.1, found.1, refl, found.2)) (copies_there others) (copies_decided others)
 formed_behind keywords.Tag others = same_answer (λ found. (lines.Tag found.0, found.1, refl, found.2)) (tag_there others) (tag_decided others)
 formed_behind keywords.Air others =
     same_answer (λ found. (lines.Air found.0.0 found.0.1, found.1, refl, found.2)) (air_there others) (air_decided others)
@@ -534,7 +562,8 @@ formed_behind keywords.Select others = same_answer (λ found. (lines.Select foun
 formed_behind keywords.Nak others = same_answer (λ found. (lines.Nak, tt, refl, found.2)) (nak_there others) (end others)
 formed_behind keywords.Event others =
     same_answer (λ found. (lines.Event found.0.0 found.0.1, found.1, refl, found.2)) (event_line_there others) (event_decided others)
-formed_behind keywords.Round others = same_answer (λ found. (lines.Round found.0, found.1, refl, found.2)) (round_there others) (round_decided others)
+formed_behind keywords.Round others =
+    same_answer (λ found. (lines.Round found.0.0 found.0.1, found.1, refl, found.2)) (round_there others) (round_decided others)
 formed_behind keywords.Only others =
     same_answer (λ found. (lines.Only found.0.0, found.1.0, refl, found.2)) (only_there others) (then (words_decided 0 31) end others)
 formed_behind keywords.Op others = same_answer (λ found. (lines.Op found.0, found.1, refl, found.2)) (op_there others) (op_decided others)

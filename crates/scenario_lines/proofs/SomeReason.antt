@@ -16,13 +16,13 @@ use Rattle.scenario_lines.specs.declared.line.Line.TheVariants as lines
 use Rattle.scenario_lines.specs.declared.fault.LineFault.{LineFault}
 use Rattle.scenario_lines.specs.declared.fault.LineFault.TheVariants.{Word as WordFault, Shape, Number, Pc}
 use Rattle.scenario_lines.specs.Names.{air_field_count, air_word, event_field_count, op_field_count, keyword_text}
-use Rattle.scenario_lines.specs.LineForm.{HasForm, IsLinkForm}
+use Rattle.scenario_lines.specs.LineForm.{HasForm, IsCoherent, IsLinkForm}
 use Rattle.scenario_lines.specs.TagForm.{IsTagForm}
-use Rattle.scenario_lines.specs.LineFaults.{BeginsWith, HasKnownKind, HasShape, IsFaultyLine, SpellsLine}
+use Rattle.scenario_lines.specs.LineFaults.{BeginsWith, BreaksPc, BreaksPcOfCopies, HasKnownKind, HasShape, IsFaultyLine, SpellsLine}
 use Rattle.text_fields.specs.NamedFields.{AreFilled}
 use Rattle.text_fields.specs.laws.FilledFields.{Filled}
 use Rattle.scenario_lines.specs.Reading.{link_fault}
-use Rattle.scenario_lines.specs.Spelling.{line_fields, link_fields, tag_fields, keyword_of}
+use Rattle.scenario_lines.specs.Spelling.{copies_fields, line_fields, link_fields, tag_fields, keyword_of}
 use Rattle.scenario_lines.proofs.Decisions.{Any, Decided, Spelled, both, le_decided, number_decided, same_answer}
 use Rattle.scenario_lines.proofs.FieldsDecided.{tried}
 use Rattle.scenario_lines.proofs.LinesDecided.{air_kind_decided, event_kind_decided, formed_behind, op_kind_decided}
@@ -33,7 +33,9 @@ use Rattle.scenario_lines.proofs.ToldNames.{air_word_told, event_word_told, op_w
 record IsNoKeyword (field : List ℕ) : Type 0 where
   version : field ≢ keyword_text keywords.Version
   link : field ≢ keyword_text keywords.Link
+  default : field ≢ keyword_text keywords.Default
   tag : field ≢ keyword_text keywords.Tag
+  copies : field ≢ keyword_text keywords.Copies
   air : field ≢ keyword_text keywords.Air
   select : field ≢ keyword_text keywords.Select
   nak : field ≢ keyword_text keywords.Nak
@@ -46,7 +48,9 @@ record IsNoKeyword (field : List ℕ) : Type 0 where
 no_keyword : (field : List ℕ) → IsNoKeyword field → (keyword : Keyword) → field ≡ keyword_text keyword → ⊥
 no_keyword field none keywords.Version is = none.version is
 no_keyword field none keywords.Link is = none.link is
+no_keyword field none keywords.Default is = none.default is
 no_keyword field none keywords.Tag is = none.tag is
+no_keyword field none keywords.Copies is = none.copies is
 no_keyword field none keywords.Air is = none.air is
 no_keyword field none keywords.Select is = none.select is
 no_keyword field none keywords.Nak is = none.nak is
@@ -58,13 +62,16 @@ no_keyword field none keywords.End is = none.end is
 
 keyword_decided : (field : List ℕ) → Decided (Spelled keyword_text Any field)
 keyword_decided field =
-    tried keywords.Version tt (λ version. tried keywords.Link tt (λ link. tried keywords.Tag tt (λ tag. tried keywords.Air tt (λ air.
+    tried keywords.Version tt (λ version. tried keywords.Link tt (λ link. tried keywords.Default tt (λ default. tried keywords.Tag tt (λ tag.
+    tried keywords.Copies tt (λ copies. tried keywords.Air tt (λ air.
     tried keywords.Select tt (λ select. tried keywords.Nak tt (λ nak. tried keywords.Event tt (λ event. tried keywords.Round tt (λ round.
     tried keywords.Only tt (λ epc. tried keywords.Op tt (λ op. tried keywords.End tt (λ end.
     let none : IsNoKeyword field = record {
       version = version;
       link = link;
+      default = default;
       tag = tag;
+      copies = copies;
       air = air;
       select = select;
       nak = nak;
@@ -74,7 +81,7 @@ keyword_decided field =
       op = op;
       end = end;
     } in
-    inr (λ found. no_keyword field none found.0 found.2))))))))))))
+    inr (λ found. no_keyword field none found.0 found.2))))))))))))))
 
 -- the kind, where one is there
 kind_decided : (first : Keyword) (others : List (List ℕ)) → Decided (HasKnownKind first others)
@@ -134,7 +141,9 @@ op_shape_decided kind others = elim (op_kind_decided kind) [
 shape_decided : (first : Keyword) (others : List (List ℕ)) → Decided (HasShape first others)
 shape_decided keywords.Version others = count_decided 1 others
 shape_decided keywords.Link others = count_decided 7 others
+shape_decided keywords.Default others = count_decided 1 others
 shape_decided keywords.Tag others = count_decided 7 others
+shape_decided keywords.Copies others = count_decided 8 others
 shape_decided keywords.Air [] = inr (λ shape. shape)
 shape_decided keywords.Air (exchange ∷ []) = inr (λ shape. shape)
 shape_decided keywords.Air (exchange ∷ kind ∷ others) = air_shape_decided exchange kind others
@@ -198,35 +207,33 @@ link_breaks fields refusals.TrCal link is form broken =
 link_breaks fields refusals.Pw link is form broken =
     record { keyword = keywords.Link; others = link_fields link; first = is; faulty = record { link = link; spelling = refl; form = form; broken = broken } }
 
+-- fields that agree with one another
+says : (fields : List (List ℕ)) (line : Line) → fields ≡ line_fields line → HasForm line → IsCoherent line → SaysOrIsFaulty fields
+says fields line is form coherent = inl (line, record { spelling = is; is = record { form = form; coherent = coherent } })
+
+-- a tag, whose PC fits its EPC bank or does not
 pc_reason : (fields : List (List ℕ)) (tag : TagSpec) (fits : Bool) → pc_fits tag.image ≡ fits → fields ≡ line_fields (lines.Tag tag) → IsTagForm tag → SaysOrIsFaulty fields
-pc_reason fields tag true fits is form = inl (lines.Tag tag, record { spelling = is; is = record { form = form; coherent = fits } })
-pc_reason fields tag false fits is form = inr (
-  Pc,
-  record {
-    keyword = keywords.Tag;
-    others = tag_fields tag;
-    first = is;
-    faulty = record { tag = tag; spelling = refl; form = form; broken = fits };
-  },
-)
+pc_reason fields tag true fits is form = says fields (lines.Tag tag) is form fits
+pc_reason fields tag false fits is form =
+    let faulty : BreaksPc (tag_fields tag) = record { tag = tag; spelling = refl; form = form; broken = fits } in
+    inr (Pc, record { keyword = keywords.Tag; others = tag_fields tag; first = is; faulty = faulty })
+
+copies_reason : (fields : List (List ℕ)) (count : ℕ) (tag : TagSpec) (fits : Bool) → pc_fits tag.image ≡ fits
+    → fields ≡ line_fields (lines.Copies count tag) → HasForm (lines.Copies count tag) → SaysOrIsFaulty fields
+copies_reason fields count tag true fits is form = says fields (lines.Copies count tag) is form fits
+copies_reason fields count tag false fits is form =
+    let faulty : BreaksPcOfCopies (copies_fields count tag) = record { count = count; tag = tag; spelling = refl; number = form.0; form = form.1; broken = fits } in
+    inr (Pc, record { keyword = keywords.Copies; others = copies_fields count tag; first = is; faulty = faulty })
 
 -- fields that are each of their form and range agree with one another, or don't
 coherent_or_not : (fields : List (List ℕ)) (line : Line) → HasForm line → fields ≡ line_fields line → SaysOrIsFaulty fields
 coherent_or_not fields (lines.Link link) form is = elim (refusal_of link) [
-  | inl legal ↦ inl (lines.Link link, record { spelling = is; is = record { form = form; coherent = legal } })
+  | inl legal ↦ says fields (lines.Link link) is form legal
   | inr broken ↦ inr (link_fault broken.0, link_breaks fields broken.0 link is form broken.1)
 ]
 coherent_or_not fields (lines.Tag tag) form is = pc_reason fields tag (pc_fits tag.image) refl is form
-coherent_or_not fields lines.Version form is = inl (lines.Version, record { spelling = is; is = record { form = form; coherent = tt } })
-coherent_or_not fields (lines.Air exchange happening) form is =
-    inl (lines.Air exchange happening, record { spelling = is; is = record { form = form; coherent = tt } })
-coherent_or_not fields (lines.Select selection) form is = inl (lines.Select selection, record { spelling = is; is = record { form = form; coherent = tt } })
-coherent_or_not fields lines.Nak form is = inl (lines.Nak, record { spelling = is; is = record { form = form; coherent = tt } })
-coherent_or_not fields (lines.Event event tag) form is = inl (lines.Event event tag, record { spelling = is; is = record { form = form; coherent = tt } })
-coherent_or_not fields (lines.Round spec) form is = inl (lines.Round spec, record { spelling = is; is = record { form = form; coherent = tt } })
-coherent_or_not fields (lines.Only epc) form is = inl (lines.Only epc, record { spelling = is; is = record { form = form; coherent = tt } })
-coherent_or_not fields (lines.Op op) form is = inl (lines.Op op, record { spelling = is; is = record { form = form; coherent = tt } })
-coherent_or_not fields lines.End form is = inl (lines.End, record { spelling = is; is = record { form = form; coherent = tt } })
+coherent_or_not fields (lines.Copies count tag) form is = copies_reason fields count tag (pc_fits tag.image) refl is form
+coherent_or_not fields line form is = says fields line is form tt
 
 behind_or_not : (fields : List (List ℕ)) (keyword : Keyword) (others : List (List ℕ)) → fields ≡ keyword_text keyword ∷ others → HasKnownKind keyword others → SaysOrIsFaulty fields
 behind_or_not fields keyword others first known = elim (shape_decided keyword others) [

@@ -1,6 +1,6 @@
 -- Two fields are not spelled alike.
 use Rattle.std.proofs.Common.{◌≡◌, ◌<◌, ◌^◌, ◌/◌, ◌%◌, ℕ, List, [], ◌++◌, take, drop, ap, arith, refl}
-use Rattle.text_fields.specs.ToldApart.{hex_word_told}
+use Rattle.text_fields.specs.laws.ToldApart.{hex_word_told}
 use Rattle.text_fields.specs.Binary.{binary_digit}
 use Rattle.lock_rules.specs.declared.locks.Pair.{Pair}
 use Rattle.lock_rules.specs.declared.locks.Locks.{Locks}

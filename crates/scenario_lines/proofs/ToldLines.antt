@@ -1,7 +1,7 @@
 -- A list of fields spells at most one line.
 use Rattle.std.proofs.Common.{◌≡◌, ◌≤◌, ℕ, List, [], ◌∷◌, ap, arith, refl, sym, ◌∙◌}
 use Rattle.std.specs.Fmt.{decimal}
-use Rattle.text_fields.specs.ToldApart.{binary_told, decimal_told, hex_word_told, hex_words_told}
+use Rattle.text_fields.specs.laws.ToldApart.{binary_told, decimal_told, hex_word_told, hex_words_told}
 use Rattle.text_fields.specs.Binary.{binary}
 use Rattle.text_fields.specs.Hexadecimal.{hex_words}
 use Rattle.command_text.specs.CommandText.{flag_word, payload_digits}
@@ -13,13 +13,14 @@ use Rattle.air_events.specs.declared.Event.TheVariants as events
 use Rattle.air_events.specs.declared.Choice.TheVariants as choices
 use Rattle.pie_line.specs.Link.{LinkValue}
 use Rattle.q_round.specs.SpecValue.{SpecValue}
+use Rattle.scenario_lines.specs.declared.version.Version.{Version}
 use Rattle.scenario_lines.specs.declared.tag.TagSpec.{TagSpec}
 use Rattle.scenario_lines.specs.declared.line.Selection.{Selection}
 use Rattle.scenario_lines.specs.declared.line.Happening.{Happening}
 use Rattle.scenario_lines.specs.declared.line.Happening.TheVariants as happenings
 use Rattle.scenario_lines.specs.declared.line.Line.{Line}
 use Rattle.scenario_lines.specs.declared.line.Line.TheVariants as lines
-use Rattle.scenario_lines.specs.Names.{air_kind, air_word, event_kind, event_word, op_kind, op_word, keyword_text}
+use Rattle.scenario_lines.specs.Names.{air_kind, air_word, event_kind, event_word, op_kind, op_word, keyword_text, several_text, version_text}
 use Rattle.scenario_lines.specs.TagForm.{IsTagForm}
 use Rattle.scenario_lines.specs.LineForm.{HasForm, IsEvent, IsHappening, IsLinkForm, IsRound, IsSelection}
 use Rattle.scenario_lines.specs.LineFaults.{SpellsLine}
@@ -27,7 +28,7 @@ use Rattle.value_text.specs.ValueText.{password_text}
 use Rattle.scenario_lines.specs.Spelling.{event_fields, happening_fields, line_fields, link_fields, op_fields, other_fields, round_fields, select_fields, tag_fields, keyword_of}
 use Rattle.scenario_lines.proofs.Counted.{field_at}
 use Rattle.scenario_lines.proofs.TagFields.{same_tag, tag_fields_are}
-use Rattle.scenario_lines.proofs.ToldNames.{air_word_told, event_word_told, op_word_told, sel_told, keyword_told}
+use Rattle.scenario_lines.proofs.ToldNames.{air_word_told, event_word_told, op_word_told, rule_told, sel_told, several_told, keyword_told, version_told}
 use Rattle.command_text.specs.laws.ToldApart.{bank_told, bit_told, code_told, flag_told, list_of_block, mask_bank_told, payload_told, side_told}
 use Rattle.scenario_lines.proofs.ToldFields.{locks_told, password_told}
 
@@ -122,23 +123,28 @@ selection_told one other is is' same =
     }) other = rw (target, action, bank, pointer, mask) refl in
     whole
 
-round_told : (one other : SpecValue) → IsRound one → IsRound other → round_fields one ≡ round_fields other → one ≡ other
-round_told one other is is' same =
-    let sel = sel_told one.sel other.sel (field_at 0 (round_fields one) (round_fields other) same) in
-    let session = decimal_told one.session other.session (omega arith) (omega arith) (field_at 1 (round_fields one) (round_fields other) same) in
-    let target = side_told one.target other.target (field_at 2 (round_fields one) (round_fields other) same) in
-    let q = decimal_told one.q other.q (omega arith) (omega arith) (field_at 3 (round_fields one) (round_fields other) same) in
-    let c = decimal_told one.c other.c (omega arith) (omega arith) (field_at 4 (round_fields one) (round_fields other) same) in
-    let limit = decimal_told one.limit other.limit (omega arith) (omega arith) (field_at 5 (round_fields one) (round_fields other) same) in
+round_told : (version version' : Version) (one other : SpecValue) → IsRound version one → IsRound version' other
+    → round_fields version one ≡ round_fields version' other → (version ≡ version') × (one ≡ other)
+round_told version version' one other is is' same =
+    let sel = sel_told one.sel other.sel (field_at 0 (round_fields version one) (round_fields version' other) same) in
+    let session = decimal_told one.session other.session (omega (arith, is.legal.session)) (omega (arith, is'.legal.session))
+    (field_at 1 (round_fields version one) (round_fields version' other) same) in
+    let target = side_told one.target other.target (field_at 2 (round_fields version one) (round_fields version' other) same) in
+    let q = decimal_told one.q other.q (omega (arith, is.legal.q)) (omega (arith, is'.legal.q))
+    (field_at 3 (round_fields version one) (round_fields version' other) same) in
+    let rule = rule_told version version' one.rule other.rule is.legal.rule is'.legal.rule is.spelled is'.spelled
+    (field_at 4 (round_fields version one) (round_fields version' other) same) in
+    let limit = decimal_told one.limit other.limit (omega (arith, is.legal.limit)) (omega (arith, is'.legal.limit))
+    (field_at 5 (round_fields version one) (round_fields version' other) same) in
     let whole : ◌≡◌ {A = SpecValue} (record {
       sel = one.sel;
       session = one.session;
       target = one.target;
       q = one.q;
-      c = one.c;
+      rule = one.rule;
       limit = one.limit;
-    }) other = rw (sel, session, target, q, c, limit) refl in
-    whole
+    }) other = rw (sel, session, target, q, rule.1, limit) refl in
+    (rule.0, whole)
 
 pub op_told : (one other : Op) → IsLegalOp one → IsLegalOp other → op_kind one ≡ op_kind other → op_fields one ≡ op_fields other → one ≡ other
 op_told (ops.Read bank pointer count) (ops.Read bank' pointer' count') is is' kind same =
@@ -171,9 +177,17 @@ op_told one other is is' kind same = cc
 
 -- the fields behind one keyword spell at most one line
 behind_told : (one other : Line) → HasForm one → HasForm other → keyword_of one ≡ keyword_of other → other_fields one ≡ other_fields other → one ≡ other
-behind_told lines.Version lines.Version form form' keyword same = refl
+behind_told (lines.Version version) (lines.Version version') form form' keyword same =
+    ap lines.Version (version_told version version' (same_fields (version_text version) (version_text version') [] [] same).0)
 behind_told (lines.Link link) (lines.Link link') form form' keyword same = ap lines.Link (link_told link link' form form' same)
+behind_told (lines.Default several) (lines.Default several') form form' keyword same =
+    ap lines.Default (several_told several several' (same_fields (several_text several) (several_text several') [] [] same).0)
 behind_told (lines.Tag tag) (lines.Tag tag') form form' keyword same = ap lines.Tag (tag_told tag tag' form form' same)
+behind_told (lines.Copies count tag) (lines.Copies count' tag') form form' keyword same =
+    let fields = same_fields (decimal count) (decimal count') (tag_fields tag) (tag_fields tag') same in
+    let counts = decimal_told count count' (omega (arith, form.0.1)) (omega (arith, form'.0.1)) fields.0 in
+    let tags = tag_told tag tag' form.1 form'.1 fields.1 in
+    cc
 behind_told (lines.Air exchange happening) (lines.Air exchange' happening') form form' keyword same =
     let first = same_fields (decimal exchange) (decimal exchange') (air_word (air_kind happening) ∷ happening_fields happening)
     (air_word (air_kind happening') ∷ happening_fields happening') same in
@@ -190,7 +204,11 @@ behind_told (lines.Event event tag) (lines.Event event' tag') form form' keyword
     let events_same = both.0 in
     let tags_same = both.1 in
     cc
-behind_told (lines.Round spec) (lines.Round spec') form form' keyword same = ap lines.Round (round_told spec spec' form form' same)
+behind_told (lines.Round version spec) (lines.Round version' spec') form form' keyword same =
+    let both = round_told version version' spec spec' form form' same in
+    let versions = both.0 in
+    let specs = both.1 in
+    cc
 behind_told (lines.Only epc) (lines.Only epc') form form' keyword same =
     ap lines.Only (hex_words_told epc epc' form.small form'.small (same_fields (hex_words epc) (hex_words epc') [] [] same).0)
 behind_told (lines.Op op) (lines.Op op') form form' keyword same =

@@ -8,17 +8,10 @@ use Rattle.scenario_lines.specs.Spelling.{line_fields, other_fields, keyword_of}
 
 -- the kind of a line is one of its word's kinds
 known_kind : (line : Line) → HasKnownKind (keyword_of line) (other_fields line)
-known_kind lines.Version = tt
-known_kind (lines.Link link) = tt
-known_kind (lines.Tag tag) = tt
 known_kind (lines.Air exchange happening) = (air_kind happening, refl)
-known_kind (lines.Select selection) = tt
-known_kind lines.Nak = tt
 known_kind (lines.Event event tag) = (event_kind event, refl)
-known_kind (lines.Round spec) = tt
-known_kind (lines.Only epc) = tt
 known_kind (lines.Op op) = (op_kind op, refl)
-known_kind lines.End = tt
+known_kind line = tt
 
 pub begins : (line : Line) → BeginsWith (line_fields line) (keyword_of line)
 begins line = record { others = other_fields line; first = refl; kind = known_kind line }

@@ -17,8 +17,8 @@ use Rattle.scenario_lines.specs.declared.fault.LineFault.{LineFault}
 use Rattle.scenario_lines.specs.declared.fault.LineFault.TheVariants.{Word as WordFault, Shape, Number, Tari, RtCal, TrCal, Pw, Pc}
 use Rattle.scenario_lines.specs.Names.{keyword_text, event_word, event_field_count, op_word, op_field_count, air_word, air_field_count}
 use Rattle.scenario_lines.specs.TagForm.{IsTagForm}
-use Rattle.scenario_lines.specs.LineForm.{IsLinkForm, HasForm, IsLine}
-use Rattle.scenario_lines.specs.Spelling.{link_fields, tag_fields, keyword_of, other_fields, line_fields}
+use Rattle.scenario_lines.specs.LineForm.{IsLinkForm, IsCopyCount, HasForm, IsLine}
+use Rattle.scenario_lines.specs.Spelling.{link_fields, tag_fields, copies_fields, keyword_of, other_fields, line_fields}
 
 -- where a kind stands behind the first field, it is one of its kinds
 abbrev pub HasKnownKind : Keyword → List (List ℕ) → Type 0
@@ -37,7 +37,9 @@ pub record BeginsWith (fields : List (List ℕ)) (keyword : Keyword) : Type 0 wh
 abbrev pub HasShape : Keyword → List (List ℕ) → Type 0
 HasShape keywords.Version others = AreFilled 1 others
 HasShape keywords.Link others = AreFilled 7 others
+HasShape keywords.Default others = AreFilled 1 others
 HasShape keywords.Tag others = AreFilled 7 others
+HasShape keywords.Copies others = AreFilled 8 others
 HasShape keywords.Air (exchange ∷ kind ∷ others) =
     (exchange ≢ []) × (known : AirKind) × (kind ≡ air_word known) × AreFilled (air_field_count known) others
 HasShape keywords.Air others = ⊥
@@ -65,6 +67,15 @@ pub record BreaksPc (others : List (List ℕ)) : Type 0 where
   pub form : IsTagForm tag
   pub broken : pc_fits tag.image ≡ false
 
+-- the fields spell copies of such a tag
+pub record BreaksPcOfCopies (others : List (List ℕ)) : Type 0 where
+  pub count : ℕ
+  pub tag : TagSpec
+  pub spelling : others ≡ copies_fields count tag
+  pub number : IsCopyCount count
+  pub form : IsTagForm tag
+  pub broken : pc_fits tag.image ≡ false
+
 -- the first reason for which the fields behind a first field say nothing
 abbrev pub IsFaultyBehind : Keyword → List (List ℕ) → LineFault → Type 0
 -- a kind is there, and is none of the kinds
@@ -80,6 +91,7 @@ IsFaultyBehind keywords.Link others RtCal = BreaksLink refusals.RtCal others
 IsFaultyBehind keywords.Link others TrCal = BreaksLink refusals.TrCal others
 IsFaultyBehind keywords.Link others Pw = BreaksLink refusals.Pw others
 IsFaultyBehind keywords.Tag others Pc = BreaksPc others
+IsFaultyBehind keywords.Copies others Pc = BreaksPcOfCopies others
 IsFaultyBehind keyword others fault = ⊥
 
 -- a line with this keyword is spelled wrongly

@@ -8,11 +8,14 @@ use Rattle.air_events.specs.declared.Event.TheVariants.{Expire}
 use Rattle.air_events.specs.declared.Choice.{Choice}
 use Rattle.air_events.specs.declared.Choice.TheVariants.{Pick, Silent, Break, Raw}
 use Rattle.air_events.specs.Streams.{HasStreamLength}
+use Rattle.air_events.specs.TagNumbers.{most_tags}
 use Rattle.tag_memory.specs.Image.{pc_fits}
 use Rattle.pie_line.specs.Link.{LinkValue, IsLegalLink}
 use Rattle.q_round.specs.SpecValue.{SpecValue, IsLegalSpec}
 use Rattle.text_fields.specs.WordLists.{IsWordList}
 use Rattle.scenario_lines.specs.TagForm.{IsTagForm}
+use Rattle.scenario_lines.specs.declared.version.Version.{Version}
+use Rattle.scenario_lines.specs.Names.{HasRuleText}
 use Rattle.scenario_lines.specs.declared.line.Happening.{Happening}
 use Rattle.scenario_lines.specs.declared.line.Happening.TheVariants as happenings
 use Rattle.scenario_lines.specs.declared.line.Selection.{Selection}
@@ -58,10 +61,11 @@ IsHappening (happenings.Choice choice) = IsChoice choice
 abbrev pub IsExchange : ℕ → Type 0
 IsExchange exchange = (1 ≤ exchange) × (exchange ≤ 1000000)
 
--- a round's parameters are in their ranges, and its Sel has a word
-pub record IsRound (spec : SpecValue) : Type 0 where
+-- a round's parameters are in their ranges, and its Sel and its rule have a spelling in this version
+pub record IsRound (version : Version) (spec : SpecValue) : Type 0 where
   pub legal : IsLegalSpec spec
   pub named : spec.sel ≢ All01
+  pub spelled : HasRuleText version spec.rule
 
 -- the numbers that the Select of a step carries are in their ranges
 pub record IsSelection (selection : Selection) : Type 0 where
@@ -73,16 +77,22 @@ pub record IsSelection (selection : Selection) : Type 0 where
 abbrev pub IsEpc : List ℕ → Type 0
 IsEpc words = IsWordList 0 31 words
 
+-- for how many tags one line may stand that says copies
+abbrev pub IsCopyCount : ℕ → Type 0
+IsCopyCount count = (2 ≤ count) × (count ≤ most_tags)
+
 -- each field of the line is of its form and in its range
 abbrev pub HasForm : Line → Type 0
-HasForm lines.Version = Unit {0}
+HasForm (lines.Version version) = Unit {0}
 HasForm (lines.Link link) = IsLinkForm link
+HasForm (lines.Default several) = Unit {0}
 HasForm (lines.Tag tag) = IsTagForm tag
+HasForm (lines.Copies count tag) = IsCopyCount count × IsTagForm tag
 HasForm (lines.Air exchange happening) = IsExchange exchange × IsHappening happening
 HasForm (lines.Select selection) = IsSelection selection
 HasForm lines.Nak = Unit {0}
 HasForm (lines.Event event tag) = IsEvent event tag
-HasForm (lines.Round spec) = IsRound spec
+HasForm (lines.Round version spec) = IsRound version spec
 HasForm (lines.Only words) = IsEpc words
 HasForm (lines.Op op) = IsLegalOp op
 HasForm lines.End = Unit {0}
@@ -91,6 +101,7 @@ HasForm lines.End = Unit {0}
 abbrev pub IsCoherent : Line → Type 0
 IsCoherent (lines.Link link) = IsLegalLink link
 IsCoherent (lines.Tag tag) = pc_fits tag.image ≡ true
+IsCoherent (lines.Copies count tag) = pc_fits tag.image ≡ true
 IsCoherent line = Unit {0}
 
 -- the line may stand in a scenario

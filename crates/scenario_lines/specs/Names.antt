@@ -1,5 +1,6 @@
 -- Profile: the words of a scenario. Those for flags, banks and sides are the ones that commands have in a text.
-use Rattle.std.specs.Prelude.{ℕ, List, [], codes}
+use Rattle.std.specs.Prelude.{ℕ, List, [], ◌++◌, codes}
+use Rattle.std.specs.Fmt.{decimal}
 use Rattle.command_fields.specs.declared.choices.Sel.{Sel}
 use Rattle.command_fields.specs.declared.choices.Sel.TheVariants as sels
 use Rattle.access_ops.specs.declared.Op.{Op}
@@ -7,8 +8,14 @@ use Rattle.access_ops.specs.declared.Op.TheVariants as ops
 use Rattle.air_events.specs.declared.Event.{Event}
 use Rattle.air_events.specs.declared.Event.TheVariants as events
 use Rattle.air_events.specs.declared.Choice.TheVariants as choices
+use Rattle.air_events.specs.declared.Several.{Several}
+use Rattle.air_events.specs.declared.Several.TheVariants as severals
+use Rattle.q_round.specs.declared.rule.Rule.{Rule}
+use Rattle.q_round.specs.declared.rule.Rule.TheVariants as rules
 use Rattle.scenario_lines.specs.declared.first_fields.Keyword.{Keyword}
 use Rattle.scenario_lines.specs.declared.first_fields.Keyword.TheVariants as keywords
+use Rattle.scenario_lines.specs.declared.version.Version.{Version}
+use Rattle.scenario_lines.specs.declared.version.Version.TheVariants.{One, Two}
 use Rattle.scenario_lines.specs.declared.first_fields.EventKind.{EventKind}
 use Rattle.scenario_lines.specs.declared.first_fields.EventKind.TheVariants.{Timeout, Off, On, Expire}
 use Rattle.scenario_lines.specs.declared.first_fields.OpKind.{OpKind}
@@ -22,7 +29,9 @@ use Rattle.scenario_lines.specs.declared.line.Happening.TheVariants as happening
 abbrev pub keyword_text : Keyword → List ℕ
 keyword_text keywords.Version = codes "gen2"
 keyword_text keywords.Link = codes "link"
+keyword_text keywords.Default = codes "default"
 keyword_text keywords.Tag = codes "tag"
+keyword_text keywords.Copies = codes "copies"
 keyword_text keywords.Air = codes "air"
 keyword_text keywords.Select = codes "select"
 keyword_text keywords.Nak = codes "nak"
@@ -31,6 +40,30 @@ keyword_text keywords.Round = codes "round"
 keyword_text keywords.Only = codes "only"
 keyword_text keywords.Op = codes "op"
 keyword_text keywords.End = codes "end"
+
+-- the version of the text
+abbrev pub version_text : Version → List ℕ
+version_text One = codes "1"
+version_text Two = codes "2"
+
+-- what the channel gives where several tags reply and nothing is chosen
+abbrev pub several_text : Several → List ℕ
+several_text severals.Break = codes "break"
+several_text severals.Capture = codes "capture"
+
+-- the rule for Q of a round. Version 1 has the one that moves Qfp, and names it by its number alone.
+abbrev pub rule_text : Version → Rule → List ℕ
+rule_text One (rules.Float c) = decimal c
+rule_text One rule = []
+rule_text Two rules.Fixed = codes "fixed"
+rule_text Two (rules.Float c) = codes "float-" ++ decimal c
+rule_text Two rules.Frame = codes "frame"
+
+-- the version has a spelling for the rule
+abbrev pub HasRuleText : Version → Rule → Type 0
+HasRuleText One (rules.Float c) = Unit {0}
+HasRuleText One rule = ⊥
+HasRuleText Two rule = Unit {0}
 
 -- the kind of an event
 abbrev pub event_word : EventKind → List ℕ

@@ -7,16 +7,18 @@ use Rattle.air_events.specs.declared.Event.{Event}
 use Rattle.pie_line.specs.Link.{LinkValue}
 use Rattle.pie_line.specs.declared.link.LinkRefusal.{LinkRefusal}
 use Rattle.pie_line.specs.declared.link.LinkRefusal.TheVariants as refusals
+use Rattle.q_round.specs.SpecValue.{SpecValue}
+use Rattle.scenario_lines.specs.declared.version.Version.{Version}
 use Rattle.scenario_lines.specs.declared.reading.link.Parameters.{Parameters}
 use Rattle.scenario_lines.specs.declared.reading.tag.Parts.{Parts}
 use Rattle.scenario_lines.specs.declared.fault.LineFault.{LineFault}
 use Rattle.scenario_lines.specs.declared.fault.LineFault.TheVariants.{Word as WordFault, Shape, Number, Tari, RtCal, TrCal, Pw, Pc}
 use Rattle.scenario_lines.specs.declared.tag.TagSpec.{TagSpec}
 use Rattle.scenario_lines.specs.TagForm.{IsTagForm, tag_of}
-use Rattle.scenario_lines.specs.LineForm.{IsLinkForm, IsEvent, IsHappening, IsExchange}
-use Rattle.scenario_lines.specs.Spelling.{link_fields, tag_fields, event_fields, happening_fields, op_fields}
+use Rattle.scenario_lines.specs.LineForm.{IsLinkForm, IsCopyCount, IsEvent, IsHappening, IsExchange, IsRound}
+use Rattle.scenario_lines.specs.Spelling.{link_fields, tag_fields, copies_fields, round_fields, event_fields, happening_fields, op_fields}
 use Rattle.scenario_lines.specs.Names.{event_kind, event_word, event_field_count, op_kind, op_word, op_field_count, air_kind, air_word, air_field_count}
-use Rattle.scenario_lines.specs.LineFaults.{HasKnownKind, HasShape, BreaksLink, BreaksPc}
+use Rattle.scenario_lines.specs.LineFaults.{HasKnownKind, HasShape, BreaksLink, BreaksPc, BreaksPcOfCopies}
 use Rattle.text_fields.specs.NamedFields.{AreFilled}
 use Rattle.scenario_lines.specs.declared.first_fields.Keyword.TheVariants as keywords
 use Rattle.scenario_lines.specs.declared.first_fields.EventKind.{EventKind}
@@ -65,6 +67,21 @@ MisreadsLink others fault = Misreads (AreFilled 7) link_fields IsLinkForm others
 abbrev pub MisreadsTag : List (List ℕ) → LineFault → Type 0
 MisreadsTag others Pc = BreaksPc others
 MisreadsTag others fault = Misreads (AreFilled 7) tag_fields IsTagForm others fault
+
+-- the first reason for which fields are no copies of a tag
+abbrev pub MisreadsCopies : List (List ℕ) → LineFault → Type 0
+MisreadsCopies others Shape = ¬ AreFilled 8 others
+MisreadsCopies others Number =
+    AreFilled 8 others × ((count : ℕ) (tag : TagSpec) → IsCopyCount count → IsTagForm tag → others ≢ copies_fields count tag)
+MisreadsCopies others Pc = BreaksPcOfCopies others
+MisreadsCopies others fault = ⊥
+
+-- the first reason for which fields are the parameters of no round
+abbrev pub MisreadsRound : List (List ℕ) → LineFault → Type 0
+MisreadsRound others Shape = ¬ AreFilled 6 others
+MisreadsRound others Number =
+    AreFilled 6 others × ((version : Version) (spec : SpecValue) → IsRound version spec → others ≢ round_fields version spec)
+MisreadsRound others fault = ⊥
 
 -- the first reason for which fields are not one number up to most
 abbrev pub MisreadsNumber : ℕ → List (List ℕ) → LineFault → Type 0

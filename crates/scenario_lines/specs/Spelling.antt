@@ -1,5 +1,5 @@
 -- Profile: the one spelling of each line of a scenario, as the list of its fields.
-use Rattle.std.specs.Prelude.{ℕ, Bool, List, [], ◌∷◌, codes}
+use Rattle.std.specs.Prelude.{ℕ, Bool, List, [], ◌∷◌}
 use Rattle.std.specs.Fmt.{decimal}
 use Rattle.text_fields.specs.Lines.{line_with}
 use Rattle.text_fields.specs.Binary.{binary, binary_digit}
@@ -15,6 +15,7 @@ use Rattle.air_events.specs.declared.Choice.TheVariants as choices
 use Rattle.pie_line.specs.Link.{LinkValue}
 use Rattle.q_round.specs.SpecValue.{SpecValue}
 use Rattle.scenario_lines.specs.declared.tag.TagSpec.{TagSpec}
+use Rattle.scenario_lines.specs.declared.version.Version.{Version}
 use Rattle.scenario_lines.specs.declared.first_fields.Keyword.{Keyword}
 use Rattle.scenario_lines.specs.declared.first_fields.Keyword.TheVariants as keywords
 use Rattle.scenario_lines.specs.declared.line.Happening.{Happening}
@@ -22,7 +23,7 @@ use Rattle.scenario_lines.specs.declared.line.Happening.TheVariants as happening
 use Rattle.scenario_lines.specs.declared.line.Selection.{Selection}
 use Rattle.scenario_lines.specs.declared.line.Line.{Line}
 use Rattle.scenario_lines.specs.declared.line.Line.TheVariants as lines
-use Rattle.scenario_lines.specs.Names.{keyword_text, event_word, event_kind, air_word, air_kind, op_word, op_kind, sel_text}
+use Rattle.scenario_lines.specs.Names.{keyword_text, several_text, version_text, event_word, event_kind, air_word, air_kind, op_word, op_kind, rule_text, sel_text}
 
 -- a flag, as one binary digit
 abbrev pub flag_text : Bool → List ℕ
@@ -37,6 +38,10 @@ abbrev pub tag_fields : TagSpec → List (List ℕ)
 tag_fields tag =
     password_text tag.image.kill ∷ password_text tag.image.access ∷ locks_text tag.locks ∷ hex_words tag.image.epc
     ∷ hex_words tag.image.tid ∷ hex_words tag.image.user ∷ hex_words tag.words ∷ []
+
+-- how many tags, and the tag of which they are copies
+abbrev pub copies_fields : ℕ → TagSpec → List (List ℕ)
+copies_fields count tag = decimal count ∷ tag_fields tag
 
 -- the fields behind the kind of an event
 abbrev pub event_fields : Event → ℕ → List (List ℕ)
@@ -57,9 +62,9 @@ select_fields selection =
     flag_word selection.target ∷ decimal selection.action ∷ mask_bank_word selection.bank ∷ decimal selection.pointer
     ∷ binary selection.mask ∷ []
 
-abbrev pub round_fields : SpecValue → List (List ℕ)
-round_fields spec =
-    sel_text spec.sel ∷ decimal spec.session ∷ side_word spec.target ∷ decimal spec.q ∷ decimal spec.c ∷ decimal spec.limit ∷ []
+abbrev pub round_fields : Version → SpecValue → List (List ℕ)
+round_fields version spec =
+    sel_text spec.sel ∷ decimal spec.session ∷ side_word spec.target ∷ decimal spec.q ∷ rule_text version spec.rule ∷ decimal spec.limit ∷ []
 
 -- the fields behind the kind of an operation: bank, place and words as the command has them, and a password as its two words
 abbrev pub op_fields : Op → List (List ℕ)
@@ -73,28 +78,32 @@ op_fields (ops.Kill password) = password_text password ∷ []
 
 -- the first field of a line
 abbrev pub keyword_of : Line → Keyword
-keyword_of lines.Version = keywords.Version
+keyword_of (lines.Version version) = keywords.Version
 keyword_of (lines.Link link) = keywords.Link
+keyword_of (lines.Default several) = keywords.Default
 keyword_of (lines.Tag tag) = keywords.Tag
+keyword_of (lines.Copies count tag) = keywords.Copies
 keyword_of (lines.Air exchange happening) = keywords.Air
 keyword_of (lines.Select selection) = keywords.Select
 keyword_of lines.Nak = keywords.Nak
 keyword_of (lines.Event event tag) = keywords.Event
-keyword_of (lines.Round spec) = keywords.Round
+keyword_of (lines.Round version spec) = keywords.Round
 keyword_of (lines.Only epc) = keywords.Only
 keyword_of (lines.Op op) = keywords.Op
 keyword_of lines.End = keywords.End
 
 -- the fields behind the first
 abbrev pub other_fields : Line → List (List ℕ)
-other_fields lines.Version = codes "1" ∷ []
+other_fields (lines.Version version) = version_text version ∷ []
 other_fields (lines.Link link) = link_fields link
+other_fields (lines.Default several) = several_text several ∷ []
 other_fields (lines.Tag tag) = tag_fields tag
+other_fields (lines.Copies count tag) = copies_fields count tag
 other_fields (lines.Air exchange happening) = decimal exchange ∷ air_word (air_kind happening) ∷ happening_fields happening
 other_fields (lines.Select selection) = select_fields selection
 other_fields lines.Nak = []
 other_fields (lines.Event event tag) = event_word (event_kind event) ∷ event_fields event tag
-other_fields (lines.Round spec) = round_fields spec
+other_fields (lines.Round version spec) = round_fields version spec
 other_fields (lines.Only epc) = hex_words epc ∷ []
 other_fields (lines.Op op) = op_word (op_kind op) ∷ op_fields op
 other_fields lines.End = []

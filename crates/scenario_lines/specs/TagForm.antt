@@ -1,7 +1,8 @@
 -- Profile: what the line of a tag may say.
-use Rattle.std.specs.Prelude.{◌≡◌, ℕ, ◌<◌, ◌^◌, true, List}
+use Rattle.std.specs.Prelude.{◌≡◌, ℕ, ◌<◌, ◌^◌, true, List, slice_index}
 use Rattle.lock_rules.specs.declared.locks.Locks.{Locks}
 use Rattle.tag_memory.specs.Image.{pc_fits}
+use Rattle.tag_memory.specs.Memory.{length_in}
 use Rattle.text_fields.specs.WordLists.{IsWordList}
 use Rattle.scenario_lines.specs.declared.tag.TagSpec.{TagSpec}
 
@@ -12,6 +13,11 @@ tag_of kill access locks epc tid user words = record {
   locks = locks;
   words = words;
 }
+
+-- L: how many words the EPC has that PC announces (6.3.2.1.2.2). In the field EPC, whose place 0 is PC, they stand from place
+-- 1 to place L. Where L is 0 the EPC has no word.
+abbrev pub epc_length : TagSpec → ℕ
+epc_length tag = length_in (slice_index tag.image.epc 0)
 
 -- each field of a tag is in its range: the passwords have 32 bits, the EPC bank from PC on 1 to 32 words, TID 2 to 16,
 -- User at most 512, and there are 1 to 256 draw words

@@ -2,14 +2,18 @@
 //! lines.
 
 /// The first field of a line, which says what the line is about.
-#[derive(Clone, Copy, Debug, PartialEq, Eq)]
+#[derive(Clone, Copy)]
 pub enum Keyword {
     /// `gen2`: the version of the text.
     Version,
     /// `link`: the parameters of the link.
     Link,
+    /// `default`: what the channel gives where several tags reply and nothing is chosen.
+    Default,
     /// `tag`: one tag.
     Tag,
+    /// `copies`: several tags, which are copies of one.
+    Copies,
     /// `air`: what befalls the tags or the channel in one exchange.
     Air,
     /// `select`: a step in which a Select is sent.
@@ -29,7 +33,7 @@ pub enum Keyword {
 }
 
 /// The kind of an event of a tag.
-#[derive(Clone, Copy, Debug, PartialEq, Eq)]
+#[derive(Clone, Copy)]
 pub enum EventKind {
     /// `timeout`: the time T2 passes in which the tag waits for its interrogator.
     Timeout,
@@ -42,7 +46,7 @@ pub enum EventKind {
 }
 
 /// The kind of an operation.
-#[derive(Clone, Copy, Debug, PartialEq, Eq)]
+#[derive(Clone, Copy)]
 pub enum OpKind {
     /// `read`: words of a bank are read.
     Read,
@@ -61,7 +65,7 @@ pub enum OpKind {
 }
 
 /// The kind of an air line.
-#[derive(Clone, Copy, Debug, PartialEq, Eq)]
+#[derive(Clone, Copy)]
 pub enum AirKind {
     /// An event of a tag before the command.
     Event(EventKind),

@@ -11,6 +11,7 @@ mod names;
 mod printing;
 mod reading;
 mod tag;
+mod version;
 
 pub use choice::ChoiceText;
 pub use fault::LineFault;
@@ -23,8 +24,9 @@ pub use laws::{
 pub use line::{Happening, Line, Selection};
 pub use names::{event_kind_named, expiring_flag_named};
 pub use printing::{
-    push_air_choice, push_air_event, push_air_miss, push_end, push_event, push_link, push_nak,
-    push_only, push_op, push_round, push_tag, push_version,
+    push_air_choice, push_air_event, push_air_miss, push_copies, push_default, push_end,
+    push_event, push_link, push_nak, push_only, push_op, push_round, push_tag, push_version,
 };
 pub use reading::{BegunLine, read_line, read_tag};
 pub use tag::{TagSpec, TagText};
+pub use version::Version;

@@ -1,10 +1,11 @@
 //! What a line of a scenario says.
 ghost use Rattle.std.specs.Prelude.{◌≡◌};
 
+use crate::Version;
 use crate::choice::ChoiceText;
 use crate::tag::TagText;
 use access_ops::Op;
-use air_events::Event;
+use air_events::{Event, Several};
 use bit_strings::{Action, Pointer};
 use command_grammar::{Command, FlagName, Mask, MaskBank};
 use pie_line::Link;
@@ -67,12 +68,16 @@ impl Selection {
 /// What one line of a scenario says.
 #[derive(Drop)]
 pub enum Line<'a> {
-    /// `gen2 1`: the text is a scenario of version 1.
-    Version,
+    /// `gen2 1` or `gen2 2`: the text is a scenario of this version.
+    Version(Version),
     /// `link TARI RTCAL TRCAL PW DR CODE TREXT`
     Link(Link),
+    /// `default break` or `default capture`
+    Default(Several),
     /// `tag KILL ACCESS LOCKS EPC TID USER WORDS`
     Tag(TagText<'a>),
+    /// `copies N KILL ACCESS LOCKS EPC TID USER WORDS`: how many tags, and the tag of which they are copies.
+    Copies(u32, TagText<'a>),
     /// `air E KIND FIELDS`
     Air {
         /// The number of the exchange, counted from 1 over the whole run.
@@ -91,8 +96,9 @@ pub enum Line<'a> {
         /// The number of the tag.
         tag: u32,
     },
-    /// `round SEL SESSION TARGET Q C LIMIT`
-    Round(RoundSpec),
+    /// `round SEL SESSION TARGET Q RULE LIMIT`, where the version says how the rule is spelled: version 1 has the number
+    /// alone by which a slot moves Qfp, version 2 names the rule.
+    Round(Version, RoundSpec),
     /// `only EPC`
     Only(EpcWords),
     /// `op KIND FIELDS`

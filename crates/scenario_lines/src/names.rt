@@ -1,10 +1,10 @@
 //! The names in a line, read; and written where one stands for a value of several.
 ghost use Rattle.std.specs.Prelude.{◌≡◌, ◌≢◌, IfSome};
 ghost use Rattle.command_text.specs.CommandText.{flag_word};
-ghost use Rattle.scenario_lines.specs.Names.{air_word, event_kind, event_word, op_word, sel_text, keyword_text};
+ghost use Rattle.scenario_lines.specs.Names.{air_word, event_kind, event_word, keyword_text, op_word, sel_text, several_text, version_text};
 
-use crate::{AirKind, EventKind, Keyword, OpKind};
-use air_events::Event;
+use crate::{AirKind, EventKind, Keyword, OpKind, Version};
+use air_events::{Event, Several};
 use command_grammar::{FlagName, Sel};
 use command_text::flag_named;
 
@@ -16,7 +16,9 @@ pub(crate) fn keyword_named(field: &[u8]) -> Option<Keyword>
     match field {
         b"gen2" => Some(Keyword::Version),
         b"link" => Some(Keyword::Link),
+        b"default" => Some(Keyword::Default),
         b"tag" => Some(Keyword::Tag),
+        b"copies" => Some(Keyword::Copies),
         b"air" => Some(Keyword::Air),
         b"select" => Some(Keyword::Select),
         b"nak" => Some(Keyword::Nak),
@@ -26,6 +28,38 @@ pub(crate) fn keyword_named(field: &[u8]) -> Option<Keyword>
         b"op" => Some(Keyword::Op),
         b"end" => Some(Keyword::End),
         _ => None,
+    }
+}
+
+/// The name of a version.
+pub(crate) fn version_name(version: Version) -> &'static str
+    ensures { result.now ≡ version_text version }
+{
+    match version {
+        Version::One => "1",
+        Version::Two => "2",
+    }
+}
+
+/// What the channel gives by this name where several tags reply.
+pub(crate) fn several_named(field: &[u8]) -> Option<Several>
+    ensures value { IfSome result (λ several. field.now ≡ several_text several) }
+    ensures only { (several : Several) → field.now ≡ several_text several → result ≡ Some several }
+{
+    match field {
+        b"break" => Some(Several::Break),
+        b"capture" => Some(Several::Capture),
+        _ => None,
+    }
+}
+
+/// The name of what the channel gives where several tags reply.
+pub(crate) fn several_name(several: Several) -> &'static str
+    ensures { result.now ≡ several_text several }
+{
+    match several {
+        Several::Break => "break",
+        Several::Capture => "capture",
     }
 }
 

@@ -11,18 +11,33 @@ mod op;
 mod round;
 mod tag;
 
+use crate::Version;
+use crate::names::{several_name, version_name};
 pub use air::{push_air_choice, push_air_event, push_air_miss, push_event};
+use air_events::Several;
 use bit_strings::OutOfMemory;
 pub use link::push_link;
 pub use op::{push_only, push_op};
 pub use round::push_round;
-pub use tag::push_tag;
+pub use tag::{push_copies, push_tag};
+use text_fields::push_next_name;
 
-/// Writes `gen2 1`, the first line of a scenario.
-pub fn push_version(text: &mut String) -> Result<(), OutOfMemory>
-    ensures { OnOk result (string_bytes text.new ≡ string_bytes text.old ++ (line_text lines.Version ++ line_feed ∷ [])) }
+/// Writes `gen2 1` or `gen2 2`, the first line of a scenario.
+pub fn push_version(text: &mut String, version: Version) -> Result<(), OutOfMemory>
+    ensures { OnOk result (string_bytes text.new ≡ string_bytes text.old ++ (line_text (lines.Version version) ++ line_feed ∷ [])) }
 {
-    text.push_str("gen2 1\n")
+    text.push_str("gen2")?;
+    push_next_name(text, version_name(version))?;
+    text.push('\n')
+}
+
+/// Writes `default break` or `default capture`: what the channel gives where several tags reply and nothing is chosen.
+pub fn push_default(text: &mut String, several: Several) -> Result<(), OutOfMemory>
+    ensures { OnOk result (string_bytes text.new ≡ string_bytes text.old ++ (line_text (lines.Default several) ++ line_feed ∷ [])) }
+{
+    text.push_str("default")?;
+    push_next_name(text, several_name(several))?;
+    text.push('\n')
 }
 
 /// Writes `nak`.

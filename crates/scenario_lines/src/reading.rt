@@ -1,15 +1,13 @@
 //! Lines, read. Nothing here takes memory: what a line says borrows from its text.
-ghost use Rattle.std.specs.Prelude.{◌≡◌, ◌↔◌, [], IfOk, IfErr, IfSome, IfNone, IsOk, IsOkAnd, IsTrue, OnOk};
+ghost use Rattle.std.specs.Prelude.{◌≡◌, ◌↔◌, [], IfOk, IfErr, IfSome, IfNone, IsOk, IsOkAnd, IsTrue};
 ghost use Rattle.text_fields.specs.Lines.{fields_of};
-ghost use Rattle.scenario_lines.specs.Spelling.{line_fields, other_fields};
 ghost use Rattle.scenario_lines.specs.declared.line.Line.{Line};
 ghost use Rattle.scenario_lines.specs.declared.first_fields.Keyword.{Keyword};
-ghost use Rattle.scenario_lines.specs.Reading.{Misreads};
 ghost use Rattle.scenario_lines.specs.LineFaults.{BeginsWith, HasKnownKind, IsFaultyLine, IsFaultyBehind, SpellsLine, SpellsBehind};
-ghost use Rattle.text_fields.specs.NamedFields.{AreFilled};
 
 mod air;
 mod event;
+mod head;
 mod link;
 mod op;
 mod round;
@@ -20,13 +18,15 @@ use crate::names::{air_kind_named, event_kind_named, keyword_named, op_kind_name
 use crate::{Keyword, Line, LineFault};
 use air::read_air;
 use event::read_event;
+use head::{read_default, read_version};
 use link::read_link;
 use op::{read_only, read_op};
 use round::read_round;
 use select::read_select;
 use std::marker::Model;
+use tag::read_copies;
 pub use tag::read_tag;
-use text_fields::{Fields, is_at_end, one_field};
+use text_fields::{Fields, is_at_end};
 
 /// Whether the kind of an air line, where it is there, is one of its kinds.
 fn has_air_kind(mut others: Fields) -> bool
@@ -73,19 +73,6 @@ fn has_known_kind(keyword: Keyword, others: Fields) -> bool
     }
 }
 
-/// Whether the fields behind `gen2` spell the version 1.
-fn read_version(others: Fields) -> Result<(), LineFault>
-    ensures ok { OnOk result (others.entry ≡ other_fields Line.Version) }
-    ensures only { others.entry ≡ other_fields Line.Version → IsOk result }
-    ensures refused { IfErr result (Misreads (AreFilled 1) (λ _. other_fields Line.Version) (λ (_ : Unit {0}). Unit {0}) others.entry) }
-{
-    match one_field(others) {
-        Some(b"1") => Ok(()),
-        Some(_) => Err(LineFault::Number),
-        None => Err(LineFault::Shape),
-    }
-}
-
 /// Whether no field stands behind the first.
 fn read_bare(others: Fields) -> Result<(), LineFault>
     ensures ok { IsOk result ↔ (others.entry ≡ []) }
@@ -105,12 +92,14 @@ fn read_behind<'a>(keyword: Keyword, others: Fields<'a>) -> Result<Line<'a>, Lin
     ensures refused { IfErr result (IsFaultyBehind keyword others.entry) }
 {
     match keyword {
-        Keyword::Version => {
-            read_version(others)?;
-            Ok(Line::Version)
-        }
+        Keyword::Version => Ok(Line::Version(read_version(others)?)),
         Keyword::Link => Ok(Line::Link(read_link(others)?)),
+        Keyword::Default => Ok(Line::Default(read_default(others)?)),
         Keyword::Tag => Ok(Line::Tag(read_tag(others)?)),
+        Keyword::Copies => {
+            let (count, tag) = read_copies(others)?;
+            Ok(Line::Copies(count, tag))
+        }
         Keyword::Air => {
             let (exchange, happening) = read_air(others)?;
             Ok(Line::Air {
@@ -127,7 +116,10 @@ fn read_behind<'a>(keyword: Keyword, others: Fields<'a>) -> Result<Line<'a>, Lin
             let (event, tag) = read_event(others)?;
             Ok(Line::Event { event, tag })
         }
-        Keyword::Round => Ok(Line::Round(read_round(others)?)),
+        Keyword::Round => {
+            let (version, spec) = read_round(others)?;
+            Ok(Line::Round(version, spec))
+        }
         Keyword::Only => Ok(Line::Only(read_only(others)?)),
         Keyword::Op => Ok(Line::Op(read_op(others)?)),
         Keyword::End => {

@@ -46,7 +46,7 @@ impl<'a> Model for TagText<'a> {
 }
 
 impl<'a> TagText<'a> {
-    ghost use Rattle.scenario_lines.specs.TagForm.{IsTag, IsTagForm, tag_of};
+    ghost use Rattle.scenario_lines.specs.TagForm.{IsTag, IsTagForm, epc_length, tag_of};
     ghost use Rattle.tag_memory.specs.Image.{pc_fits};
 
     /// The tag of these fields, each of which is in its range. None exactly where the EPC that PC
@@ -78,6 +78,17 @@ impl<'a> TagText<'a> {
             user,
             words,
         })
+    }
+
+    /// How many words the EPC has that PC announces: L, the five upper bits of PC (6.3.2.1.2.2).
+    pub fn epc_length(&self) -> u32
+        ensures { result ≡ epc_length self.now }
+    {
+        match self.epc.first() {
+            Some(pc) => u32::from(pc >> 11),
+            // There is a PC.
+            None => 0,
+        }
     }
 
     /// The tag, in memory of its own.

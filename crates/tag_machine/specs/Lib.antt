@@ -4,6 +4,7 @@ pub mod Draws
 pub mod Inventory
 pub mod Access
 pub mod Step
+pub mod Exchange
 pub mod Events
 pub mod States
 pub mod Names

@@ -4,10 +4,5 @@ pub mod Binary
 pub mod Hexadecimal
 pub mod WordLists
 pub mod CodeNames
-pub mod FieldTextLaws
-pub mod ToldApart
-pub mod LineLaws
-pub mod ListLaws
-pub mod BinaryLaws
 pub mod NamedFields
 pub mod laws

@@ -19,7 +19,7 @@ fn first_place(text: &[u8], byte: u8) -> Option<usize>
 
 /// What stands before the first place of the byte, and what stands behind it; none exactly where the
 /// byte stands nowhere.
-#[tactic(auto, using(crate::specs::LineLaws::whole_piece))]
+#[tactic(auto, using(crate::specs::laws::LineLaws::whole_piece))]
 pub(crate) fn split_at_first(text: &[u8], byte: u8) -> Option<(&[u8], &[u8])>
     ensures cut { IfSome result (λ parts. text.now ≡ parts.0.now ++ byte ∷ parts.1.now) }
     ensures first { IfSome result (λ parts. Lacks byte parts.0.now) }

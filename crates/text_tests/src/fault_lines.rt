@@ -1,6 +1,6 @@
 //! The lines that report faults, against lines written out by hand.
 
-use scenario::{Fault, LineFault, fault_text};
+use scenario_text::{Fault, LineFault, fault_text};
 
 /// The number of a line, its fault, and the line that reports it.
 const FAULTS: &[(u32, Fault, &str)] = &[

@@ -1,7 +1,7 @@
 //! Scenarios, written: each text has one scenario, whose one text it is.
 
 use air_events::LONGEST_STREAM;
-use scenario::{
+use scenario_text::{
     Fault, LineFault, ScenarioFault, print_and_read, print_scenario, read_and_print, read_scenario,
 };
 use std::alloc::Global;
@@ -55,6 +55,30 @@ op lock 00000
 end
 ";
 
+/// Each kind of line that version 2 adds, or spells in its own way, and as many tags as it may have.
+const VERSION_2: &[u8] = b"gen2 2
+link 12500 31250 50000 6250 1 m4 0
+default capture
+tag 00000000 00000000 0000000000 08001234 E2000001 - A1B2
+copies 2 AABBCCDD 12345678 1001001101 0800FFFF E2000000FFFF 000AB000 0000FFFF
+copies 4093 00000000 00000000 0000000000 30003074257BF7194E4000000000 E2000000 - 0000
+air 1 off 4095
+round all 0 a 12 fixed 10000
+round nsl 3 b 15 float-100 70000
+only 3074257BF7194E4000001A85
+op read epc 2 0
+round sl 1 a 6 float-500 1
+round all 2 b 0 frame 20
+end
+";
+
+/// What the channel gives by default in version 2.
+const DEFAULT_BREAK: &[u8] = b"gen2 2
+link 12500 31250 50000 6250 1 fm0 0
+default break
+end
+";
+
 /// Lines of later tags, and others of each kind.
 const MANY_TAGS: &[u8] = b"gen2 1
 link 12500 31250 50000 6250 1 fm0 0
@@ -92,7 +116,7 @@ fn comes_back(alloc: Global, text: &[u8]) -> Result<bool, ScenarioFault> {
     Ok(once.as_slice() == text && twice.as_slice() == text && same.as_slice() == text)
 }
 
-const TEXTS: &[&[u8]] = &[ONE_TAG, EACH_LINE, MANY_TAGS];
+const TEXTS: &[&[u8]] = &[ONE_TAG, EACH_LINE, MANY_TAGS, VERSION_2, DEFAULT_BREAK];
 
 #[test]
 fn texts_come_back(rt: HostRuntime) -> Result<(), Fail> {

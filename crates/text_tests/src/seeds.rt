@@ -1,6 +1,6 @@
 //! The scenario of a seed against its text, whose words were computed by a generator written apart.
 use made_scenario::made_scenario;
-use scenario::print_scenario;
+use scenario_text::print_scenario;
 use std::alloc::Global;
 
 /// The scenario of the seed 7 with two tags: of each of the first 128 words of the generator the low 16 bits.

@@ -1,16 +1,12 @@
 -- How a run ends: what a failed write left, and which status an input that the grammar allows has.
-use Rattle.std.proofs.Common.{◌≡◌, ◌⊎◌, ℕ, ◌+◌, ◌≤◌, ◌<◌, Bool, List, ◌++◌, length, take, drop, Option, Some, None, Result, Ok, Err, true, false, [], refl, sym, ◌∙◌, ap, subst, arith, inl, inr, length-append}
+use Rattle.std.proofs.Common.{◌≡◌, ◌⊎◌, ℕ, ◌+◌, ◌≤◌, ◌<◌, Bool, List, ◌++◌, length, take, drop, Option, Some, None, Result, Err, true, false, [], refl, sym, ◌∙◌, ap, subst, arith, inl, inr, length-append}
 use Rattle.std.proofs.lemmas.List.{take-append-drop, append-nil}
 use Rattle.air_io.specs.Flow.{Reads, Adds, AtEnd, FaultsRose}
-use Rattle.air_io.specs.ReadEnds.{most_read}
-use Rattle.air_io.specs.declared.transfer.ReadEnd.{ReadEnd}
-use Rattle.air_io.specs.declared.transfer.ReadEnd.TheVariants as read_ends
 use Rattle.top_call.specs.Job.{Job, Defines, IsLawful}
-use Rattle.top_call.specs.Outcome.{input_limit, status_of, unread_status, ReadsWithin, TakesInput, AddsFront, EndsSo, SpeaksOfNoInput, Tells, WritesWhole}
+use Rattle.top_call.specs.Outcome.{input_limit, ReadsWithin, TakesInput, AddsFront, EndsSo, Tells, WritesWhole}
 use Rattle.top_call.specs.declared.ending.Wrote.{Wrote}
-use Rattle.top_call.specs.declared.ending.Wrote.TheVariants.{Text, FaultLine}
 use Rattle.top_call.specs.declared.ending.WriteEnd.{WriteEnd}
-use Rattle.top_call.specs.declared.ending.WriteEnd.TheVariants.{Fault, OutOfMemory as NoMemory}
+use Rattle.top_call.specs.declared.ending.WriteEnd.TheVariants.{Fault}
 use Rattle.top_call.specs.declared.status.Status.{Status}
 use Rattle.top_call.specs.declared.status.Status.TheVariants.{Done, BadWords, BadInput, ReadFault, WriteFault, TooLong, OutOfMemory}
 
@@ -126,40 +122,7 @@ keeps job T part lawful left left' written written' whole = record {
   };
 }
 
--- a source was not read to its end, and nothing was written
-pub tells_unread : (job : Job) (left left' written written' : Option (List ℕ)) (reads reads' writes writes' : ℕ) (untouched : Type 0) (end : ReadEnd)
-    → (end ≡ read_ends.TooLong → (bytes : List ℕ) × Reads left left' bytes × (length bytes ≡ input_limit + 1)) → (end ≡ read_ends.Fault → FaultsRose reads reads')
-    → (bytes : List ℕ) × Reads left left' bytes × (length bytes ≤ most_read end input_limit) → written' ≡ written → untouched
-    → Tells job left left' written written' reads reads' writes writes' untouched (unread_status end)
-tells_unread job left left' written written' reads reads' writes writes' untouched read_ends.Fault too_long fault part same still =
-    (fault refl, record { bytes = part.0; reads = part.1; within = part.2 }, still)
-tells_unread job left left' written written' reads reads' writes writes' untouched read_ends.TooLong too_long fault part same still =
-    let more = too_long refl in
-    (record { bytes = more.0; reads = more.1; over = more.2 }, still)
-tells_unread job left left' written written' reads reads' writes writes' untouched read_ends.OutOfMemory too_long fault part same still =
-    inl (record { bytes = part.0; reads = part.1; within = part.2 }, same)
-
 -- nothing is a front of what is left
 pub reads_none : (left : Option (List ℕ)) → ReadsWithin left left
 reads_none None = record { bytes = []; reads = refl; within = omega arith }
 reads_none (Some rest) = record { bytes = []; reads = refl; within = omega arith }
-
--- what the end of the writing says, its status says
-pub tells_end : (job : Job) (left left' written written' : Option (List ℕ)) (reads reads' writes writes' : ℕ) (untouched : Type 0) (bytes : List ℕ)
-    (end : Result Wrote WriteEnd) → TakesInput job.input left left' bytes → ReadsWithin left left' → EndsSo job bytes written written' writes writes' end
-    → Tells job left left' written written' reads reads' writes writes' untouched (status_of end)
-tells_end job left left' written written' reads reads' writes writes' untouched bytes (Ok Text) taken within ends = record { bytes = bytes; taken = taken; adds = ends }
-tells_end job left left' written written' reads reads' writes writes' untouched bytes (Ok FaultLine) taken within ends = record { bytes = bytes; taken = taken; adds = ends }
-tells_end job left left' written written' reads reads' writes writes' untouched bytes (Err Fault) taken within ends =
-    (ends.0, record { bytes = bytes; taken = taken; adds = ends.1 })
-tells_end job left left' written written' reads reads' writes writes' untouched bytes (Err NoMemory) taken within (inl same) = inl (within, same)
-tells_end job left left' written written' reads reads' writes writes' untouched bytes (Err NoMemory) taken within (inr front) =
-    inr (record { bytes = bytes; taken = taken; adds = front })
-
--- and where nothing has a fault line it speaks of no input
-pub speaks_of_none : (job : Job) (bytes : List ℕ) (written written' : Option (List ℕ)) (writes writes' : ℕ) (end : Result Wrote WriteEnd)
-    → ((text : List ℕ) → job.refuses bytes text → ⊥) → EndsSo job bytes written written' writes writes' end → SpeaksOfNoInput (status_of end)
-speaks_of_none job bytes written written' writes writes' (Ok Text) none ends = tt
-speaks_of_none job bytes written written' writes writes' (Err Fault) none ends = tt
-speaks_of_none job bytes written written' writes writes' (Err NoMemory) none ends = tt
-speaks_of_none job bytes written written' writes writes' (Ok FaultLine) none ends = absurd (none ends.text ends.named)

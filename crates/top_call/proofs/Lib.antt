@@ -1,5 +1,6 @@
 pub mod Ends
 pub mod RunEnds
+pub mod UpgradeEnds
 pub mod ProbeEnds
 pub mod NamedLines
 pub mod EncodedLines

@@ -17,8 +17,8 @@ use Rattle.text_fields.specs.FaultLine.{fault_line}
 use Rattle.checked_lines.specs.LineRules.{reason_word}
 use Rattle.top_call.specs.words.Named.{IsOfLines, AddsNames, IsCutAt, RefusesCutLine, names_job}
 use Rattle.checked_lines.specs.declared.fault.FaultReason.TheVariants.{End}
-use Rattle.text_fields.specs.LineLaws.{some_line}
-use Rattle.text_fields.specs.ListLaws.{flat_map_push, zip_push}
+use Rattle.text_fields.specs.laws.LineLaws.{some_line}
+use Rattle.text_fields.specs.laws.ListLaws.{flat_map_push, zip_push}
 use Rattle.top_call.proofs.Waits.{sends_whole, loses_later, loses_last}
 
 -- two ways to cut a last line off agree
@@ -69,9 +69,6 @@ pub record NamesTo (input rest text : List ℕ) : Type 0 where
   pub names : AreWithNames before text
   pub others : IsOfLines rest
 
-pub counts_none : (input : List ℕ) → CountsTo input input 1
-counts_none input = record { before = []; cut = refl; number = refl; room = omega arith }
-
 pub counts_more : (input rest line behind : List ℕ) (count : ℕ) → CountsTo input rest count → lines_of rest ≡ line ∷ lines_of behind → rest ≡ line ++ line_feed ∷ behind → CountsTo input behind (count + 1)
 counts_more input rest line behind count so_far lines split = record {
   before = so_far.before ++ line ∷ [];
@@ -79,23 +76,6 @@ counts_more input rest line behind count so_far lines split = record {
   number = omega (arith, so_far.number, length-append so_far.before (line ∷ []));
   room = omega (arith, so_far.room, length-append so_far.before (line ∷ []), ap length split, length-append line (line_feed ∷ behind));
 }
-
--- nothing is left behind the last line feed
-pub all_lines : (input rest : List ℕ) (count : ℕ) → CountsTo input rest count → lines_of rest ≡ rest ∷ [] → rest ≡ [] → IsOfLines input
-all_lines input rest count so_far lines none = (so_far.before, so_far.cut ∙ ap (λ tail. so_far.before ++ tail) (lines ∙ ap (λ (r : List ℕ). r ∷ []) none))
-
--- something is
-pub last_line : (input rest : List ℕ) (count : ℕ) → CountsTo input rest count → lines_of rest ≡ rest ∷ [] → rest ≢ [] → IsCutAt input count
-last_line input rest count so_far lines some = record {
-  before = so_far.before;
-  last = rest;
-  cut = so_far.cut ∙ ap (λ tail. so_far.before ++ tail) lines;
-  filled = some;
-  count = so_far.number;
-}
-
-pub names_none : (input : List ℕ) → IsOfLines input → NamesTo input input []
-names_none input whole = record { before = []; cut = refl; names = record { pieces = []; each = tt; text_is = refl }; others = whole }
 
 -- what stands behind a line of an input of whole lines is of whole lines
 others_whole : (lines : List (List ℕ)) (line : List ℕ) (tail : List (List ℕ)) → 1 ≤ length tail → lines ++ [] ∷ [] ≡ line ∷ tail → (others : List (List ℕ)) × (tail ≡ others ++ [] ∷ [])

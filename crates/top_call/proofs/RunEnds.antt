@@ -3,11 +3,11 @@ use Rattle.std.proofs.Common.{◌≡◌, ℕ, List, ◌++◌, Option, Result, Er
 use Rattle.std.specs.Prelude.{IsErrOf}
 use Rattle.air_io.specs.Flow.{Adds, FaultsRose}
 use Rattle.scenario.specs.declared.values.Scenario.{Scenario}
-use Rattle.scenario.specs.declared.fault.Fault.{Fault}
-use Rattle.scenario.specs.Limits.{IsScenario, IsText}
-use Rattle.scenario.specs.ScenarioText.{scenario_text}
-use Rattle.scenario.specs.Faults.{IsFirstFault}
-use Rattle.scenario.specs.FaultWords.{fault_word}
+use Rattle.scenario_text.specs.declared.fault.Fault.{Fault}
+use Rattle.scenario.specs.Limits.{IsScenario}
+use Rattle.scenario.specs.ScenarioText.{IsText, scenario_text}
+use Rattle.scenario_text.specs.Faults.{IsFirstFault}
+use Rattle.scenario_text.specs.FaultWords.{fault_word}
 use Rattle.text_fields.specs.FaultLine.{fault_line}
 use Rattle.report_lines.specs.declared.mode.Mode.{Mode}
 use Rattle.report_lines.specs.declared.mode.PlayFault.{PlayFault}

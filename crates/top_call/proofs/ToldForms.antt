@@ -5,21 +5,25 @@ use Rattle.std.specs.Str.{bytes_eq}
 use Rattle.std.specs.Fmt.{decimal}
 use Rattle.std.specs.Str.Parse.{digits_value}
 use Rattle.std.proofs.lemmas.Str.Parse.{numerals_by_value, tells_digits}
-use Rattle.report_lines.specs.declared.mode.Mode.TheVariants.{Plain, Trace}
+use Rattle.report_lines.specs.declared.mode.Mode.TheVariants.{Plain, Trace, Json, Exchanges, Vcd}
 use Rattle.top_call.specs.Form.{words_of, IsForm, AskFor}
 use Rattle.top_call.specs.declared.forms.Form.{Form}
-use Rattle.top_call.specs.declared.forms.Form.TheVariants.{Decode, Encode, Run, Names, Probe, Gen}
+use Rattle.top_call.specs.declared.forms.Form.TheVariants.{Decode, Encode, Run, Upgrade, Names, Probe, Gen}
 
 -- the form that words spell, where they spell one
 form_spelled : List (List ℕ) → Form
 form_spelled words =
     if bytes_eq (get_or words 0 []) (codes "decode") then Decode
     else if bytes_eq (get_or words 0 []) (codes "encode") then Encode
+    else if bytes_eq (get_or words 0 []) (codes "upgrade") then Upgrade
     else if bytes_eq (get_or words 0 []) (codes "names") then Names
     else if bytes_eq (get_or words 0 []) (codes "probe") then Probe
     else if bytes_eq (get_or words 0 []) (codes "gen") then Gen (digits_value 10 (get_or words 1 [])) (digits_value 10 (get_or words 2 []))
     else if length words == 1 then Run Plain
-    else Run Trace
+    else if bytes_eq (get_or words 1 []) (codes "trace") then Run Trace
+    else if bytes_eq (get_or words 1 []) (codes "json") then Run Json
+    else if bytes_eq (get_or words 1 []) (codes "exchanges") then Run Exchanges
+    else Run Vcd
 
 value_of : (n : ℕ) → n < 2 ^ 64 → digits_value 10 (decimal n) ≡ n
 value_of n small = digits_value-decimal (numerals_by_value _ tells_digits) n small
@@ -33,6 +37,10 @@ spelled_back Decode fits = refl
 spelled_back Encode fits = refl
 spelled_back (Run Plain) fits = refl
 spelled_back (Run Trace) fits = refl
+spelled_back (Run Json) fits = refl
+spelled_back (Run Exchanges) fits = refl
+spelled_back (Run Vcd) fits = refl
+spelled_back Upgrade fits = refl
 spelled_back Names fits = refl
 spelled_back Probe fits = refl
 spelled_back (Gen seed tags) fits = same_made _ _ seed tags (value_of seed fits.0) (value_of tags (omega (arith, fits.1)))

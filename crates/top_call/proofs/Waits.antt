@@ -2,7 +2,7 @@
 use Rattle.std.proofs.Common.{◌≡◌, ℕ, ◌≤◌, List, [], ◌++◌, length, take, drop, Option, refl, sym, ◌∙◌, ap, subst, arith, append_assoc}
 use Rattle.std.specs.Prelude.{Result, Ok, Err, OnErr}
 use Rattle.std.proofs.lemmas.List.{take-append-drop, append-nil}
-use Rattle.air_io.specs.Flow.{Adds, FaultsRose}
+use Rattle.air_io.specs.Flow.{Adds}
 use Rattle.air_io.specs.laws.Flow.{Adds-nothing, Adds-more}
 use Rattle.top_call.specs.UnwrittenBytes.{Sends, Loses}
 
@@ -45,12 +45,6 @@ loses_later waited between more written written' written'' first second = record
   lost = second.lost;
   all = ap (λ (bytes : List ℕ). bytes ++ more) first.all ∙ append_assoc first.sent between more ∙ ap (λ (bytes : List ℕ). first.sent ++ bytes) second.all ∙ sym (append_assoc first.sent second.sent second.lost);
   added = Adds-more written written' written'' first.sent second.sent first.added second.added;
-}
-
-pub rose_later : (old between new : ℕ) → old ≤ between → FaultsRose between new → FaultsRose old new
-rose_later old between new before rose = record {
-  no_less = omega (arith, rose.no_less);
-  larger_or_last = λ same. let stands : between ≡ new = omega (arith, rose.no_less) in rose.larger_or_last stands;
 }
 
 -- what holds whichever way a call ended holds where it failed

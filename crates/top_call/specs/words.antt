@@ -5,3 +5,4 @@ pub mod Reported
 pub mod Named
 pub mod Probed
 pub mod Generated
+pub mod Upgraded

@@ -17,8 +17,10 @@ pub enum Form {
     Decode,
     /// The word `encode`: write for each line of the input the one that `decode` reads.
     Encode,
-    /// The word `run`, and `trace` behind it for a trace: run the scenario of the input, and report.
+    /// The word `run`, and `trace` or `json` behind it for another report: run the scenario of the input, and report.
     Run(Mode),
+    /// The word `upgrade`: write the scenario of the input as the text of version 2.
+    Upgrade,
     /// The word `probe`: do to the tag of the input what it says, line by line, and tell what the tag answers and what it is.
     Probe,
     /// The word `names`: copy lines, and add its name behind each line that has one.
@@ -77,10 +79,14 @@ pub fn form_of(words: &[String]) -> Option<Form>
         [word] if is_word(word.as_str(), "decode") => Some(Form::Decode),
         [word] if is_word(word.as_str(), "encode") => Some(Form::Encode),
         [word] if is_word(word.as_str(), "run") => Some(Form::Run(Mode::Plain)),
+        [word] if is_word(word.as_str(), "upgrade") => Some(Form::Upgrade),
         [word] if is_word(word.as_str(), "names") => Some(Form::Names),
         [word] if is_word(word.as_str(), "probe") => Some(Form::Probe),
         [word, mode] if is_word(word.as_str(), "run") && is_word(mode.as_str(), "trace") => {
             Some(Form::Run(Mode::Trace))
+        }
+        [word, mode] if is_word(word.as_str(), "run") && is_word(mode.as_str(), "json") => {
+            Some(Form::Run(Mode::Json))
         }
         [word, seed, tags] if is_word(word.as_str(), "gen") => {
             made_form(seed.as_str(), tags.as_str())

@@ -12,6 +12,7 @@ use crate::words::generate::gen_is_lawful;
 use crate::words::names::names_are_lawful;
 use crate::words::probe::probe_is_lawful;
 use crate::words::run::run_is_lawful;
+use crate::words::upgrade::upgrade_is_lawful;
 
 /// A list of words asks for one form at most.
 pub fn forms_are_told_apart()
@@ -25,6 +26,7 @@ pub fn jobs_are_lawful()
     decode_is_lawful();
     encode_is_lawful();
     run_is_lawful();
+    upgrade_is_lawful();
     names_are_lawful();
     probe_is_lawful();
     gen_is_lawful();

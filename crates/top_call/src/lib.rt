@@ -20,3 +20,4 @@ pub use words::generate::gen_is_lawful;
 pub use words::names::{names_are_lawful, names_inputs_have_a_text};
 pub use words::probe::probe_is_lawful;
 pub use words::run::{run_inputs_have_a_text, run_is_lawful};
+pub use words::upgrade::{upgrade_inputs_have_a_text, upgrade_is_lawful};

@@ -12,7 +12,7 @@ ghost use Rattle.report_lines.specs.declared.mode.Mode.{Mode};
 use crate::forms::{Form, form_of};
 use crate::laws::jobs_are_lawful;
 use crate::status::Status;
-use crate::words::{decode, encode, generate, names, probe, run};
+use crate::words::{decode, encode, generate, names, probe, run, upgrade};
 use air_io::{Sink, Source, SureSink, SureSource};
 use std::alloc::Global;
 
@@ -122,6 +122,7 @@ fn answer<I: Source, O: Sink>(alloc: Global, form: Form, input: &mut I, output: 
         Form::Decode => decode::answer(alloc, input, output),
         Form::Encode => encode::answer(alloc, input, output),
         Form::Run(mode) => run::answer(alloc, mode, input, output),
+        Form::Upgrade => upgrade::answer(alloc, input, output),
         Form::Names => names::answer(alloc, input, output),
         Form::Probe => probe::answer(alloc, input, output),
         Form::Gen { seed, tags } => generate::answer(alloc, seed, tags, input, output),

@@ -7,3 +7,4 @@ pub mod names;
 mod page;
 pub mod probe;
 pub mod run;
+pub mod upgrade;

@@ -2,7 +2,8 @@
 ghost use Rattle.std.specs.Prelude.{IfSome};
 ghost use Rattle.scenario.specs.Limits.{IsScenario};
 
-use scenario::{Scenario, read_scenario};
+use scenario::Scenario;
+use scenario_text::read_scenario;
 use std::alloc::{AllocError, Global};
 use std::fmt::Write;
 

@@ -17,7 +17,7 @@ use Rattle.reply_grammar.specs.declared.expected.Received.{Received}
 use Rattle.reply_grammar.specs.declared.expected.Received.TheVariants.{Whole, Refused}
 use Rattle.tag_machine.specs.Answers.{Sent}
 use Rattle.air_model.specs.Channel.{Given, silence, whole, broken, raw, levels_of, heard_levels, got_of, IsReadBy}
-use Rattle.air_model.specs.Exchange.{Replied}
+use Rattle.tag_machine.specs.Exchange.{Replied}
 use Rattle.reply_wire.specs.Received.{IsReceived}
 use Rattle.reply_wire.specs.Receiving.{received_of}
 use Rattle.reply_wire.specs.laws.ReceivedLaws.{same_bits, same_received, received_is}

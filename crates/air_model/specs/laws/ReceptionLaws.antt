@@ -23,7 +23,7 @@ use Rattle.reply_grammar.specs.declared.expected.Received.TheVariants.{Whole, Re
 use Rattle.tag_machine.specs.Answers.{Sent, IsSent, HasFewWords}
 use Rattle.air_model.specs.Channel.{Given, silence, whole, broken, raw, levels_of, heard_levels, got_of, IsOfStreamLength, IsReadBy}
 use Rattle.air_model.specs.declared.got.Got.TheVariants as gots
-use Rattle.air_model.specs.Exchange.{Replied}
+use Rattle.tag_machine.specs.Exchange.{Replied}
 use Rattle.reply_wire.specs.Received.{IsReceived}
 use Rattle.reply_wire.specs.Receiving.{received_of}
 use Rattle.reply_wire.specs.laws.ReceivedLaws.{same_received, received_there, received_is}

@@ -4,7 +4,8 @@ ghost use Rattle.access_ops.specs.Operations.{IsAnswerFor, dialogue_of, receptio
 ghost use Rattle.access_ops.specs.laws.OperationLaws.{Expects};
 ghost use Rattle.air_model.specs.Past.{Item, Start, next_record, past_behind_command};
 ghost use Rattle.air_world.specs.Playing.{PlaysAt, IsAt, StandsAt, IsUnderway};
-ghost use Rattle.air_world.specs.Telling.{Passes, exchange_lines, lines_behind};
+ghost use Rattle.air_world.specs.Telling.{Passes, lines_behind};
+ghost use Rattle.runs.specs.Report.{exchange_lines};
 ghost use Rattle.report_lines.specs.ReportLine.{ReportLine, OpLine};
 ghost use Rattle.runs.specs.History.{operation_reception, past_behind_dialogue};
 
@@ -73,7 +74,7 @@ impl<'a, L: Ledger> Run<'a, L> {
         ensures heard { (start : Start) (past : List Item) (round slot : ℕ) → PlaysAt start past air.old self.old
             → reception_in result ≡ operation_reception start round slot command.now expect.now extended past }
         ensures told { (start : Start) (past : List Item) (round slot : ℕ) (before : List ReportLine) → PlaysAt start past air.old self.old
-            → Passes R.hears before report.old report.new (before ++ exchange_lines start (next_record start round slot command.now past)) }
+            → Passes R.hears before report.old report.new (before ++ exchange_lines start.link (next_record start round slot command.now past)) }
     {
         answers_are_replies();
         steps_keep_tags_legal();

@@ -3,7 +3,6 @@ ghost use Rattle.std.specs.Prelude.{◌≡◌, ◌<◌, ◌++◌, List, [], ◌�
 ghost use Rattle.air_world.specs.Telling.{Passes};
 ghost use Rattle.report_lines.specs.ReportLine.{ReportLine, DoneLine, TagLine};
 ghost use Rattle.report_lines.specs.SeenCounts.{Seen, seen_line};
-ghost use Rattle.report_lines.specs.declared.mode.Mode.TheVariants.{Trace};
 ghost use Rattle.runs.specs.Report.{first_lines, tag_lines};
 ghost use Rattle.tag_machine.specs.TagValue.{TagValue};
 
@@ -14,7 +13,7 @@ use std::sync::ledger::Ledger;
 
 /// Tells of the backscatter link frequency.
 pub(crate) fn tell_link<R: Listener>(air: &Air, report: &mut R)
-    ensures { (before : List ReportLine) → Passes R.hears before report.old report.new (before ++ first_lines Trace air.now.link) }
+    ensures { (before : List ReportLine) → Passes R.hears before report.old report.new (before ++ first_lines air.now.link) }
 {
     let (numerator, denominator) = air.link().blf();
     report.tell(&Line::Blf {

@@ -1,11 +1,10 @@
 //! The steps of a run.
 ghost use Rattle.std.specs.Prelude.{◌≡◌, List, None, false, OnOk, All, length};
 ghost use Rattle.air_model.specs.Past.{Item, Start, past_behind_command};
-ghost use Rattle.air_world.specs.Playing.{IsAt, StandsAt, IsBetweenSteps};
+ghost use Rattle.air_world.specs.Playing.{IsAt, IsPlayable, StandsAt, IsBetweenSteps};
 ghost use Rattle.air_world.specs.Telling.{Ends, IsCutOff, Passes, lines_behind};
 ghost use Rattle.runs.specs.History.{past_behind, past_behind_step};
 ghost use Rattle.runs.specs.NextItem.{expectation_of};
-ghost use Rattle.scenario.specs.Limits.{IsStep};
 
 use crate::run::Run;
 use air_channel::Air;
@@ -25,7 +24,7 @@ impl<'a, L: Ledger> Run<'a, L> {
     ) -> Result<(), PlayFault>
         requires between { IsBetweenSteps (length steps.now) air.old self.old }
         requires enough { self.old.out_of_memory ≡ false }
-        requires steps { All (IsStep (length air.old.tags)) steps.now }
+        requires steps { All (IsPlayable (length air.old.tags)) steps.now }
         ensures ends { (start : Start) (past : List Item) → IsAt start past air.old self.old
             → Ends result (StandsAt (Passes R.hears (lines_behind start past) report.old report.new) start (past_behind start steps.now past) air.new self.new)
             (IsCutOff R.hears R.failed (lines_behind start past) report.old report.new (lines_behind start (past_behind start steps.now past))) }
@@ -47,7 +46,7 @@ impl<'a, L: Ledger> Run<'a, L> {
     ) -> Result<(), PlayFault>
         requires between { IsBetweenSteps 1 air.old self.old }
         requires enough { self.old.out_of_memory ≡ false }
-        requires step { IsStep (length air.old.tags) step.now }
+        requires step { IsPlayable (length air.old.tags) step.now }
         ensures ends { (start : Start) (past : List Item) → IsAt start past air.old self.old
             → Ends result (StandsAt (Passes R.hears (lines_behind start past) report.old report.new) start (past_behind_step start step.now past) air.new self.new)
             (IsCutOff R.hears R.failed (lines_behind start past) report.old report.new (lines_behind start (past_behind_step start step.now past))) }

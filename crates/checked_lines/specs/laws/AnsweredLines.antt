@@ -4,8 +4,8 @@ use Rattle.std.specs.List.{AllZip, flat_map}
 use Rattle.std.proofs.lemmas.List.Elements.{All-nil, All-push}
 use Rattle.std.proofs.lemmas.Grind.{flat_map-append}
 use Rattle.text_fields.specs.Lines.{Lacks, lines_of, fields_of, line_feed, text_with}
-use Rattle.text_fields.specs.LineLaws.{pieces_between-cut, some_line, whole_piece}
-use Rattle.text_fields.specs.ListLaws.{flat_map_push, zip_push}
+use Rattle.text_fields.specs.laws.LineLaws.{pieces_between-cut, some_line, whole_piece}
+use Rattle.text_fields.specs.laws.ListLaws.{flat_map_push, zip_push}
 use Rattle.checked_lines.specs.LineRules.{LineRules, AskFor, AskForSome, Answers, IsFirstFault}
 use Rattle.checked_lines.specs.Answered.{AddsLineFor, AsksTo, AnswersTo}
 use Rattle.checked_lines.specs.declared.fault.FaultReason.{FaultReason}

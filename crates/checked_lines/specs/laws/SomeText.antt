@@ -2,7 +2,7 @@
 use Rattle.std.proofs.Common.{◌≡◌, ◌⊎◌, ℕ, ◌+◌, List, [], ◌∷◌, ◌++◌, refl, ◌∙◌, ap, arith, inl, inr}
 use Rattle.text_fields.specs.Lines.{lines_of}
 use Rattle.text_fields.specs.FaultLine.{fault_line}
-use Rattle.text_fields.specs.LineLaws.{some_line}
+use Rattle.text_fields.specs.laws.LineLaws.{some_line}
 use Rattle.checked_lines.specs.LineRules.{LineRules, Answers, IsFaultText, reason_word}
 use Rattle.checked_lines.specs.declared.fault.FaultyLine.{FaultyLine}
 use Rattle.checked_lines.specs.declared.fault.FaultReason.TheVariants.{End}

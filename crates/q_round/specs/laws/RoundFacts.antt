@@ -1,5 +1,6 @@
 -- What an inventory goes by of the rule for Q (6.3.2.8 Inventorying Tag populations, 6.3.2.11.2 Inventory commands; which rule
--- an interrogator has is left free by the standard). Nothing else of a rule matters to which tags a round counts.
+-- an interrogator has is left free by the standard). Nothing else of a rule matters to which tags a round counts, besides only
+-- that a round gives no more slot commands than its limit.
 use Rattle.std.specs.Prelude.{◌≡◌, ℕ, ◌^◌, ◌<◌, ◌≤◌, List, [], ◌∷◌, length}
 use Rattle.command_fields.specs.declared.choices.UpDn.{UpDn}
 use Rattle.command_grammar.specs.declared.commands.Command.{Command}

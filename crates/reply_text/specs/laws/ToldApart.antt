@@ -4,7 +4,7 @@ use Rattle.std.specs.Prelude.{codes}
 use Rattle.std.specs.Fmt.{decimal}
 use Rattle.std.proofs.lemmas.List.{append_cancel_left}
 use Rattle.text_fields.specs.Hexadecimal.{hex_word}
-use Rattle.text_fields.specs.ToldApart.{decimal_told, hex_word_told}
+use Rattle.text_fields.specs.laws.ToldApart.{decimal_told, hex_word_told}
 use Rattle.reply_grammar.specs.declared.expected.Expect.{Expect}
 use Rattle.reply_grammar.specs.declared.expected.Expect.TheVariants.{Rn16, Epc, Handle, Same, Words, AnyWords, Header}
 use Rattle.reply_text.specs.ReplyText.{IsExpect, expect_word}

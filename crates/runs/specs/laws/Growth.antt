@@ -12,7 +12,6 @@ use Rattle.reply_grammar.specs.Reception.{Reception, no_stream, whole_reply, no_
 use Rattle.runs.specs.History.{outcome_of, operation_reception, past_behind_dialogue, dialogue_begun, past_behind_listing, ack_reception, past_behind_ack, past_behind_answer, slot_reception, past_behind_slot, past_behind_turn, past_behind_turns, past_behind_round, past_behind_step, past_behind}
 use Rattle.runs.specs.NextItem.{rn_of}
 use Rattle.runs.specs.Report.{item_lines, past_lines}
-use Rattle.report_lines.specs.declared.mode.Mode.{Mode}
 use Rattle.command_grammar.specs.declared.commands.Command.{Command}
 use Rattle.command_grammar.specs.declared.commands.Command.TheVariants as commands
 use Rattle.pie_line.specs.Link.{LinkValue}
@@ -219,17 +218,17 @@ steps-grow start (step ∷ steps) past =
     grows-on past behind (past_behind start steps behind) (step-grows start step past) (steps-grow start steps behind)
 
 -- the lines of what was added
-abbrev pub added_lines : Mode → LinkValue → List Item → List ReportLine
-added_lines mode link [] = []
-added_lines mode link (item ∷ own) = added_lines mode link own ++ item_lines mode link item
+abbrev pub added_lines : LinkValue → List Item → List ReportLine
+added_lines link [] = []
+added_lines link (item ∷ own) = added_lines link own ++ item_lines link item
 
 -- they follow the lines of the past
-pub past_lines-more : (mode : Mode) (link : LinkValue) (own past : List Item)
-    → past_lines mode link (own ++ past) ≡ past_lines mode link past ++ added_lines mode link own
-past_lines-more mode link [] past = sym (append-nil (past_lines mode link past))
-past_lines-more mode link (item ∷ own) past =
-    ap (λ lines. lines ++ item_lines mode link item) (past_lines-more mode link own past)
-    ∙ append_assoc (past_lines mode link past) (added_lines mode link own) (item_lines mode link item)
+pub past_lines-more : (link : LinkValue) (own past : List Item)
+    → past_lines link (own ++ past) ≡ past_lines link past ++ added_lines link own
+past_lines-more link [] past = sym (append-nil (past_lines link past))
+past_lines-more link (item ∷ own) past =
+    ap (λ lines. lines ++ item_lines link item) (past_lines-more link own past)
+    ∙ append_assoc (past_lines link past) (added_lines link own) (item_lines link item)
 
 -- what a round does next where it ends so
 abbrev pub next_at_end : RoundEnd → Next

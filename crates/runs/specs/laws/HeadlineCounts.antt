@@ -1,11 +1,11 @@
 -- How many exchanges a run has: one for a Select or NAK, and for each slot of a round at most the slot command, an ACK, one command
 -- for the handle and four for each operation.
-use Rattle.std.proofs.Common.{◌≡◌, ℕ, ◌+◌, ◌-◌, ◌*◌, ◌≤◌, List, [], ◌∷◌, ◌++◌, length, arith}
+use Rattle.std.proofs.Common.{◌≡◌, ℕ, ◌+◌, ◌-◌, ◌*◌, ◌≤◌, List, [], ◌∷◌, length, arith}
 use Rattle.std.proofs.Math.Nat.{mul-add, mul-one, mul-le-mul, mul-le-mul_left}
 use Rattle.access_ops.specs.laws.DialogueLaws.{SendsAtMost, dialogues-are-few}
 use Rattle.access_ops.specs.Operations.{Dialogue, dialogue_of}
 use Rattle.access_ops.specs.declared.OpList.{OpList}
-use Rattle.air_model.specs.Past.{Start, Item, befell, exchanged, operated, ended, past_behind_command, exchanges_in, rounds_in}
+use Rattle.air_model.specs.Past.{Start, Item, past_behind_command, exchanges_in, rounds_in}
 use Rattle.runs.specs.Headline.{AreLegalSteps, most_operating, most_exchanges}
 use Rattle.runs.specs.History.{past_behind_dialogue, ack_reception, past_behind_ack, slot_reception, past_behind_slot, past_behind_round, past_behind_step, past_behind}
 use Rattle.runs.specs.laws.Growth.{RoundsKeepLimit, dialogue-holds, listing-holds, answer-holds, round-holds, few-outcomes}
@@ -108,11 +108,3 @@ few-exchanges (steps.Round spec operations ∷ later) legal =
     let round : (2 + most_operating operations) * spec.limit ≤ 131 * 70000 = mul-le-mul each legal.0.legal.limit.1 in
     let few = few-exchanges later legal.1 in
     omega (arith, round, few)
-
--- what is added to a past takes no exchange away
-pub exchanges-grow : (own past : List Item) → exchanges_in past ≤ exchanges_in (own ++ past)
-exchanges-grow [] past = omega arith
-exchanges-grow (befell event number ∷ own) past = exchanges-grow own past
-exchanges-grow (exchanged sent ∷ own) past = let more = exchanges-grow own past in omega arith
-exchanges-grow (operated round slot index result ∷ own) past = exchanges-grow own past
-exchanges-grow (ended round end slots ∷ own) past = exchanges-grow own past

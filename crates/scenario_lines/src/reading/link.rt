@@ -15,7 +15,7 @@ use text_fields::{Fields, code_named, number, one_bit, seven_fields};
 const MOST_NANOSECONDS: u32 = 999_999;
 
 /// The parameters of a link, each in the range of its field.
-#[derive(Clone, Copy, Debug, PartialEq, Eq)]
+#[derive(Clone, Copy)]
 pub(crate) struct Parameters {
     tari: u32,
     rtcal: u32,

@@ -1,24 +1,68 @@
 //! Round lines, read.
-ghost use Rattle.std.specs.Prelude.{◌≡◌, IfOk, IfErr, IsOkAnd};
-ghost use Rattle.q_round.specs.SpecValue.{SpecValue};
+ghost use Rattle.std.specs.Prelude.{◌≡◌, ◌++◌, ℕ, codes, IfOk, IfErr, IfSome, IsOkAnd, Some};
+ghost use Rattle.std.specs.Fmt.{decimal};
+ghost use Rattle.q_round.specs.SpecValue.{IsLegalRule, IsStep, SpecValue};
+ghost use Rattle.q_round.specs.declared.rule.Rule.{Rule};
+ghost use Rattle.scenario_lines.specs.declared.version.Version.{Version};
 ghost use Rattle.scenario_lines.specs.LineForm.{IsRound};
+ghost use Rattle.scenario_lines.specs.Names.{HasRuleText, rule_text};
 ghost use Rattle.scenario_lines.specs.Spelling.{round_fields};
-ghost use Rattle.text_fields.specs.NamedFields.{AreFilled};
-ghost use Rattle.scenario_lines.specs.Reading.{Misreads};
+ghost use Rattle.scenario_lines.specs.Reading.{MisreadsRound};
 
-use crate::LineFault;
 use crate::names::sel_named;
+use crate::{LineFault, Version};
 use command_text::side_named;
-use q_round::RoundSpec;
-use text_fields::{Fields, number, q_of, session_of, six_fields};
+use q_round::{RoundSpec, Rule};
+use text_fields::{Fields, number, number_from, q_of, session_of, six_fields};
 
-/// The parameters of a round that the fields behind `round` spell.
-pub(crate) fn read_round(others: Fields) -> Result<RoundSpec, LineFault>
-    ensures ok { IfOk result (λ it. (others.entry ≡ round_fields it) × IsRound it) }
-    ensures only { (spec : SpecValue) → IsRound spec → others.entry ≡ round_fields spec → IsOkAnd result (λ it. it ≡ spec) }
-    ensures refused { IfErr result (Misreads (AreFilled 6) round_fields IsRound others.entry) }
+/// By how much a slot moves Qfp, in thousandths, which a field spells.
+fn step_of(field: &[u8]) -> Option<u32>
+    ensures value { IfSome result (λ step. (field.now ≡ decimal step) × IsStep step) }
+    ensures only { (step : ℕ) → IsStep step → field.now ≡ decimal step → result ≡ Some step }
 {
-    let Some((sel, session, target, q, c, limit)) = six_fields(others) else {
+    number_from(field, 100, 500)
+}
+
+/// By how much a slot moves Qfp, in thousandths, which version 2 spells behind the name of the rule.
+fn float_of(field: &[u8]) -> Option<u32>
+    ensures value { IfSome result (λ step. (field.now ≡ codes "float-" ++ decimal step) × IsStep step) }
+    ensures only { (step : ℕ) → IsStep step → field.now ≡ codes "float-" ++ decimal step → result ≡ Some step }
+{
+    step_of(field.strip_prefix(b"float-")?)
+}
+
+/// The rule for Q that version 2 spells so.
+fn rule_named(field: &[u8]) -> Option<Rule>
+    ensures value { IfSome result (λ rule. (field.now ≡ rule_text Version.Two rule) × IsLegalRule rule) }
+    ensures only { (rule : Rule) → IsLegalRule rule → field.now ≡ rule_text Version.Two rule → result ≡ Some rule }
+{
+    match field {
+        b"fixed" => Some(Rule::Fixed),
+        b"frame" => Some(Rule::Frame),
+        _ => Some(Rule::Float(float_of(field)?)),
+    }
+}
+
+/// The rule for Q that a field spells, and the version that spells it so.
+fn rule_of(field: &[u8]) -> Option<(Version, Rule)>
+    ensures value { IfSome result (λ it. (field.now ≡ rule_text it.0 it.1) × IsLegalRule it.1 × HasRuleText it.0 it.1) }
+    ensures only { (version : Version) → (rule : Rule) → IsLegalRule rule → HasRuleText version rule → field.now ≡ rule_text version rule
+        → result ≡ Some (version, rule) }
+{
+    match step_of(field) {
+        Some(step) => Some((Version::One, Rule::Float(step))),
+        None => Some((Version::Two, rule_named(field)?)),
+    }
+}
+
+/// The parameters of a round that the fields behind `round` spell, and the version that spells its rule so.
+pub(crate) fn read_round(others: Fields) -> Result<(Version, RoundSpec), LineFault>
+    ensures ok { IfOk result (λ it. (others.entry ≡ round_fields it.0 it.1) × IsRound it.0 it.1) }
+    ensures only { (version : Version) → (spec : SpecValue) → IsRound version spec → others.entry ≡ round_fields version spec
+        → IsOkAnd result (λ it. (it.0 ≡ version) × (it.1 ≡ spec)) }
+    ensures refused { IfErr result (MisreadsRound others.entry) }
+{
+    let Some((sel, session, target, q, rule, limit)) = six_fields(others) else {
         return Err(LineFault::Shape);
     };
     let Some(sel) = sel_named(sel) else {
@@ -33,14 +77,14 @@ pub(crate) fn read_round(others: Fields) -> Result<RoundSpec, LineFault>
     let Some(q) = q_of(q) else {
         return Err(LineFault::Number);
     };
-    let Some(c) = number(c, u32::MAX) else {
+    let Some((version, rule)) = rule_of(rule) else {
         return Err(LineFault::Number);
     };
     let Some(limit) = number(limit, u32::MAX) else {
         return Err(LineFault::Number);
     };
-    match RoundSpec::new(sel, session, target, q, c, limit) {
-        Some(spec) => Ok(spec),
+    match RoundSpec::new(sel, session, target, q, rule, limit) {
+        Some(spec) => Ok((version, spec)),
         None => Err(LineFault::Number),
     }
 }

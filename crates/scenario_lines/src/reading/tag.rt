@@ -1,17 +1,22 @@
 //! Tag lines, read.
-ghost use Rattle.std.specs.Prelude.{◌≡◌, ℕ, List, IfOk, IfErr, IfSome, IsOkAnd, IsSomeAnd};
+ghost use Rattle.std.specs.Prelude.{◌≡◌, ℕ, List, false, IfOk, IfErr, IfSome, IsOkAnd, IsSomeAnd};
 ghost use Rattle.text_fields.specs.Hexadecimal.{hex_words};
 ghost use Rattle.scenario_lines.specs.declared.tag.TagSpec.{TagSpec};
+ghost use Rattle.tag_memory.specs.Image.{pc_fits};
 ghost use Rattle.text_fields.specs.WordLists.{IsWordList};
 ghost use Rattle.scenario_lines.specs.TagForm.{IsTag, IsTagForm};
-ghost use Rattle.scenario_lines.specs.Spelling.{tag_fields};
+ghost use Rattle.scenario_lines.specs.LineForm.{IsCopyCount};
+ghost use Rattle.scenario_lines.specs.Spelling.{copies_fields, tag_fields};
 ghost use Rattle.text_fields.specs.NamedFields.{AreFilled};
-ghost use Rattle.scenario_lines.specs.Reading.{Misreads, MisreadsTag, tag_value};
+ghost use Rattle.scenario_lines.specs.Reading.{Misreads, MisreadsCopies, MisreadsTag, tag_value};
 
 use crate::{LineFault, TagText};
 use lock_rules::Locks;
-use text_fields::{Fields, Words, seven_fields, words_from};
+use text_fields::{Fields, Words, number_from, seven_fields, words_from};
 use value_text::{locks_of, password_of};
+
+/// The greatest number of copies in a line, which are as many as there may be tags.
+const MOST_COPIES: u32 = 4_096;
 
 /// The lists of words of a tag.
 #[derive(Drop)]
@@ -80,18 +85,18 @@ fn read_parts<'a>(others: Fields<'a>) -> Result<Parts<'a>, LineFault>
     })
 }
 
-/// The tag that the fields behind `tag` spell.
-pub fn read_tag<'a>(others: Fields<'a>) -> Result<TagText<'a>, LineFault>
-    ensures ok { IfOk result (λ tag. (others.entry ≡ tag_fields tag) × IsTag tag) }
-    ensures only { (tag : TagSpec) → IsTag tag → others.entry ≡ tag_fields tag → IsOkAnd result (λ it. it ≡ tag) }
-    ensures refused { IfErr result (MisreadsTag others.entry) }
+/// The tag of these parts, each of which is in the range of its field.
+fn whole_tag<'a>(parts: Parts<'a>) -> Result<TagText<'a>, LineFault>
+    requires { IsTagForm (tag_value parts) }
+    ensures ok { IfOk result (λ tag. (tag ≡ tag_value parts.entry) × IsTag tag) }
+    ensures refused { IfErr result (λ fault. (fault ≡ LineFault.Pc) × (pc_fits (tag_value parts.entry).image ≡ false)) }
 {
     let Parts {
         kill,
         access,
         locks,
         lists,
-    } = read_parts(others)?;
+    } = parts;
     let Lists {
         epc,
         tid,
@@ -102,4 +107,33 @@ pub fn read_tag<'a>(others: Fields<'a>) -> Result<TagText<'a>, LineFault>
         Some(tag) => Ok(tag),
         None => Err(LineFault::Pc),
     }
+}
+
+/// The tag that the fields behind `tag` spell.
+pub fn read_tag<'a>(others: Fields<'a>) -> Result<TagText<'a>, LineFault>
+    ensures ok { IfOk result (λ tag. (others.entry ≡ tag_fields tag) × IsTag tag) }
+    ensures only { (tag : TagSpec) → IsTag tag → others.entry ≡ tag_fields tag → IsOkAnd result (λ it. it ≡ tag) }
+    ensures refused { IfErr result (MisreadsTag others.entry) }
+{
+    whole_tag(read_parts(others)?)
+}
+
+/// How many tags the fields behind `copies` stand for, and the tag that they spell.
+pub(crate) fn read_copies<'a>(mut others: Fields<'a>) -> Result<(u32, TagText<'a>), LineFault>
+    ensures ok { IfOk result (λ it. (others.entry ≡ copies_fields it.0 it.1) × IsCopyCount it.0 × IsTag it.1) }
+    ensures only { (count : ℕ) → (tag : TagSpec) → IsCopyCount count → IsTag tag → others.entry ≡ copies_fields count tag
+        → IsOkAnd result (λ it. (it.0 ≡ count) × (it.1 ≡ tag)) }
+    ensures refused { IfErr result (MisreadsCopies others.entry) }
+{
+    let Some(count) = others.next() else {
+        return Err(LineFault::Shape);
+    };
+    if count.is_empty() {
+        return Err(LineFault::Shape);
+    }
+    let parts = read_parts(others)?;
+    let Some(count) = number_from(count, 2, MOST_COPIES) else {
+        return Err(LineFault::Number);
+    };
+    Ok((count, whole_tag(parts)?))
 }

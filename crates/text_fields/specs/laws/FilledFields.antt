@@ -78,10 +78,3 @@ have_7 (field ∷ fields) are wanting =
     let parts = one_less 6 field fields are in
     have_6 fields parts.1 (λ b c d e f g are_these hb hc hd he hf hg.
     wanting field b c d e f g (ap (λ (rest : List (List ℕ)). field ∷ rest) are_these) parts.0 hb hc hd he hf hg)
-
-pub are_7 : (a b c d e f g : List ℕ) → Filled a → Filled b → Filled c → Filled d → Filled e → Filled f → Filled g → AreFilled 7 (a ∷ b ∷ c ∷ d ∷ e ∷ f ∷ g ∷ [])
-are_7 a b c d e f g ha hb hc hd he hf hg =
-    one_more 6 a (b ∷ c ∷ d ∷ e ∷ f ∷ g ∷ []) ha
-    (one_more 5 b (c ∷ d ∷ e ∷ f ∷ g ∷ []) hb
-    (one_more 4 c (d ∷ e ∷ f ∷ g ∷ []) hc
-    (one_more 3 d (e ∷ f ∷ g ∷ []) hd (one_more 2 e (f ∷ g ∷ []) he (one_more 1 f (g ∷ []) hf (one_more 0 g [] hg none_filled))))))

@@ -3,8 +3,8 @@ use Rattle.std.proofs.Common.{◌≡◌, ◌≢◌, ℕ, List, [], ◌∷◌, le
 use Rattle.std.specs.Prelude.{All}
 use Rattle.std.proofs.lemmas.List.Elements.{All-weaker}
 use Rattle.text_fields.specs.Lines.{IsFieldText, Lacks, fields_of, line_with, space}
-use Rattle.text_fields.specs.LineLaws.{fields_come_back}
-use Rattle.text_fields.specs.NamedFields.{AreFaulty, AreFilled, AreSpelling, HaveShape, NameNothing, SpellBehind, Vocabulary, spelled_fields}
+use Rattle.text_fields.specs.laws.LineLaws.{fields_come_back}
+use Rattle.text_fields.specs.NamedFields.{AreFaulty, AreFilled, AreSpelling, HaveShape, NameNothing, SpellBehind, Vocabulary}
 use Rattle.text_fields.specs.declared.fields_fault.FieldsFault.{FieldsFault}
 use Rattle.text_fields.specs.declared.fields_fault.FieldsFault.TheVariants.{Word, Shape, Number}
 
@@ -66,14 +66,6 @@ spelled_behind words IsInRange kind fields behind value first spells = record {
       ∙ ap (λ (others : List (List ℕ)). words.name (words.kind value) ∷ others) spells.spelling;
 }
 
--- ... and the other way round
-pub behind_spelled : {K V : Type 0} (words : Vocabulary K V) (IsInRange : V → Type 0) → IsVocabulary words IsInRange
-    → (kind : K) (fields behind : List (List ℕ)) (value : V) → fields ≡ words.name kind ∷ behind → AreSpelling words IsInRange fields value
-    → SpellBehind words IsInRange kind behind value
-behind_spelled words IsInRange is kind fields behind value first spells =
-    let same = same_behind (words.name kind) (words.name (words.kind value)) behind (words.others value) (sym first ∙ spells.spelling) in
-    record { same_kind = sym (is.told kind (words.kind value) same.0); in_range = spells.in_range; spelling = same.1 }
-
 -- fields whose first is the name of this kind have its shape, or none
 pub wrong_shape : {K V : Type 0} (words : Vocabulary K V) (IsInRange : V → Type 0) → IsVocabulary words IsInRange
     → (kind : K) (fields behind : List (List ℕ)) → fields ≡ words.name kind ∷ behind → (¬ AreFilled (words.count kind) behind)
@@ -84,21 +76,6 @@ wrong_shape words IsInRange is kind fields behind first wrong = (
       let same = same_behind (words.name kind) (words.name has.named) behind has.behind (sym first ∙ has.first) in
       wrong (rw (is.told kind has.named same.0, same.1) has.filled),
 )
-
--- fields of the right shape that spell no value behind the name
-pub wrong_number : {K V : Type 0} (words : Vocabulary K V) (IsInRange : V → Type 0) → IsVocabulary words IsInRange
-    → (kind : K) (fields behind : List (List ℕ)) → fields ≡ words.name kind ∷ behind → AreFilled (words.count kind) behind
-    → ((value : V) → ¬ SpellBehind words IsInRange kind behind value) → AreFaulty words IsInRange fields Number
-wrong_number words IsInRange is kind fields behind first filled none = (
-  record { named = kind; behind = behind; first = first; filled = filled },
-  λ value spells. none value (behind_spelled words IsInRange is kind fields behind value first spells),
-)
-
--- no fields at all
-pub no_fields : {K V : Type 0} (words : Vocabulary K V) (IsInRange : V → Type 0) (fields : List (List ℕ)) → fields ≡ []
-    → AreFaulty words IsInRange fields Shape
-no_fields words IsInRange fields none =
-    rw none (λ (nothing : ⊥). nothing, λ (has : HaveShape words []). let first = has.first in cc)
 
 -- fields that may stand as such are not empty
 pub texts_filled : (fields : List (List ℕ)) (count : ℕ) → All IsFieldText fields → count ≡ length fields → AreFilled count fields

@@ -1,11 +1,11 @@
--- Profile: what `run` and `run trace` write for the bytes that they read. The whole input is read before a line is written.
+-- Profile: what `run`, `run trace` and `run json` write for the bytes that they read. The whole input is read before a line is written.
 use Rattle.std.specs.Prelude.{◌≡◌, ℕ, true, List}
 use Rattle.scenario.specs.declared.values.Scenario.{Scenario}
-use Rattle.scenario.specs.declared.fault.Fault.{Fault}
-use Rattle.scenario.specs.Limits.{IsScenario, IsText}
-use Rattle.scenario.specs.ScenarioText.{scenario_text}
-use Rattle.scenario.specs.Faults.{IsFirstFault}
-use Rattle.scenario.specs.FaultWords.{fault_word}
+use Rattle.scenario_text.specs.declared.fault.Fault.{Fault}
+use Rattle.scenario.specs.Limits.{IsScenario}
+use Rattle.scenario.specs.ScenarioText.{IsText, scenario_text}
+use Rattle.scenario_text.specs.Faults.{IsFirstFault}
+use Rattle.scenario_text.specs.FaultWords.{fault_word}
 use Rattle.text_fields.specs.FaultLine.{fault_line}
 use Rattle.report_lines.specs.declared.mode.Mode.{Mode}
 use Rattle.runs.specs.CompleteRounds.{RoundsAreComplete}

@@ -1,4 +1,4 @@
-//! The words `run` and `run trace`: the report of a scenario.
+//! The words `run`, `run trace` and `run json`: the report of a scenario, in the mode that they name.
 ghost use Rattle.std.specs.Prelude.{◌≡◌, ℕ, List};
 ghost use Rattle.report_lines.specs.declared.mode.Mode.{Mode};
 ghost use Rattle.top_call.specs.Job.{Defines, IsLawful};
@@ -10,7 +10,7 @@ use crate::status::Status;
 use air_io::{Sink, Source, read_to_end, write_all};
 use air_world::{Mode, play, set_up};
 use runs::{headline, rounds_are_complete};
-use scenario::{
+use scenario_text::{
     ScenarioFault, fault_text, read_scenario, scenario_texts_are_not_faulty,
     scenarios_are_told_apart, texts_are_scenarios_or_faulty, texts_have_one_fault,
 };
@@ -69,8 +69,8 @@ pub fn run_is_lawful()
     rounds_are_complete();
 }
 
-/// Each list of bytes has a defined text under `run`, and one under `run trace`: the report of the scenario
-/// that it spells, or its fault line.
+/// Each list of bytes has a defined text in each mode of `run`: the report of the scenario that it spells, or its
+/// fault line.
 pub fn run_inputs_have_a_text()
     ensures { (mode : Mode) (bytes : List ℕ) → (text : List ℕ) × Defines (run_job mode) bytes text }
 {

@@ -9,7 +9,7 @@ pub returns-clause-range : goal.returns-clause-range
 returns-clause-range c = q-in-range
 
 pub returns-clause-quiet : goal.returns-clause-quiet
-returns-clause-quiet c = λ spec link outcome before legal are. quiet-frame spec link outcome before are
+returns-clause-quiet c = quiet-frame
 
 pub returns-clause-rep : goal.returns-clause-rep
 returns-clause-rep c = rep-frame

@@ -8,4 +8,5 @@ returns c = past-legal (record {
   befallen = c.steps_keep_tags_legal.ensures.befallen;
   rounds = c.round_laws.ensures.legal;
   operations = c.operation_commands.ensures.legal;
+  copies = c.copies_are_tags.ensures;
 })

@@ -4,7 +4,7 @@ use Rattle.text_fields.specs.Lines.{text_with}
 use Rattle.scenario_lines.specs.declared.line.Happening.TheVariants as happenings
 use Rattle.scenario_lines.specs.declared.line.Line.TheVariants as lines
 use Rattle.scenario_lines.specs.Spelling.{line_text}
-use Rattle.scenario.specs.ScenarioText.{choice_lines}
+use Rattle.scenario.specs.EntryLines.{choice_lines}
 use Rattle.std.proofs.lemmas.Result.{IfOk-equal}
 use Rattle.scenario.proofs.PrintedLines.{three_lists}
 use Rattle.scenario.proofs.printing.push_entry.Goals as goal

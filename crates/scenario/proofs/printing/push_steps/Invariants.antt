@@ -9,4 +9,4 @@ use Rattle.scenario.proofs.printing.push_steps.Given as goal
 -- the text has gained the lines of the items so far
 abbrev pub invariant-loop-step : goal.invariant-loop-step
 invariant-loop-step l =
-    string_bytes l.text ≡ string_bytes l.initial.text ++ text_with (map line_text (flat_map step_lines (take l.step-index l.steps)))
+    string_bytes l.text ≡ string_bytes l.initial.text ++ text_with (map line_text (flat_map (step_lines l.version) (take l.step-index l.steps)))

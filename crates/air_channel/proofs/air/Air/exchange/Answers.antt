@@ -1,4 +1,4 @@
-use Rattle.std.proofs.Common.{◌≡◌, length, sym, subst, ◌<◌}
+use Rattle.std.proofs.Common.{length, sym, subst, ◌<◌}
 use Rattle.std.specs.List.{All}
 use Rattle.air_channel.specs.Air.{AirValue}
 use Rattle.air_channel.proofs.ExchangeFacts.{Exchanged, exchange_air, exchange_got, exchange_steps, exchange_bound, exchange_missed}
@@ -17,11 +17,11 @@ returns-clause-air g c =
       tags = c.hear.new.self;
       frame = c.transmit.new.frame.items;
       stream = c.give.new.stream.items;
-      kept = c.hear.new.replies;
+      kept = c.hear.new.answers;
       exchanges = c.saturating_add-self-inside.result;
       heard_all = c.hear.ensures.tags;
       wave = c.transmit.ensures.wave;
-      stands = c.hear.ensures.replies;
+      stands = c.hear.ensures.replies.stands;
       gives = c.give.ensures.stream;
       counts = c.saturating_add-self-inside.ensures;
     }))
@@ -31,7 +31,7 @@ returns-clause-got g c =
     let is : Exchanged c.self.inside.population c.args.command.now c.args.entry.now =
     record { heard = c.command-heard.result.now; events = c.as_slice.result.now; befallen = c.befall_all.new.self; same = cc; events_are = c.as_slice.ensures.value; befell = c.befall_all.ensures.tags } in
     rw (← c.self.view_is)
-    (exchange_got c.self.inside.link c.self.inside.several c.self.inside.population c.args.command.now c.args.entry.now is c.hear.new.replies c.give.result c.hear.ensures.replies c.give.ensures.got)
+    (exchange_got c.self.inside.link c.self.inside.several c.self.inside.population c.args.command.now c.args.entry.now is c.hear.new.answers c.give.result c.hear.ensures.replies.stands c.give.ensures.got)
 
 pub returns-clause-counted : goal.returns-clause-counted
 returns-clause-counted g c =

@@ -1,6 +1,6 @@
 use Rattle.std.proofs.Common.{◌≡◌, List, [], ◌∷◌, Some, ◌++◌, refl, sym, ◌∙◌, ap, map, subst}
 use Rattle.air_model.specs.Channel.{got_of}
-use Rattle.air_model.specs.Exchange.{AreLegalTags}
+use Rattle.tag_machine.specs.Exchange.{AreLegalTags}
 use Rattle.air_model.specs.Past.{Start, Item, Record, next_record, past_behind_command}
 use Rattle.air_model.specs.laws.ReceptionLaws.{silent_reception}
 use Rattle.air_model.specs.declared.got.Got.TheVariants.{Silence}
@@ -8,7 +8,8 @@ use Rattle.air_world.proofs.Passing.{passes-then}
 use Rattle.air_world.proofs.Slots.{asked-reception, plays-kept, seen-behind, room-behind, ack-with, ack-without, count-fits, some-room, stands-unlisted, stands-listed, stands-same, stands-then, whole-listed, other-unlisted, plays-listed}
 use Rattle.air_world.specs.Heard.{pair_received}
 use Rattle.air_world.specs.Playing.{RunValue, PlaysAt, IsAt, StandsAt, pair_of}
-use Rattle.air_world.specs.Telling.{Passes, exchange_lines, lines_behind}
+use Rattle.air_world.specs.Telling.{Passes, lines_behind}
+use Rattle.runs.specs.Report.{exchange_lines}
 use Rattle.command_grammar.specs.declared.commands.Command.TheVariants as commands
 use Rattle.reply_grammar.specs.declared.expected.Expect.TheVariants as expects
 use Rattle.report_lines.specs.ReportLine.{ReportLine, ListLine}
@@ -50,7 +51,7 @@ stands g c start past at pair =
     let same = c.hear_epc.ensures.same ∙ c.send.ensures.rest in
     let was = ap (λ (run : RunValue). run.out_of_memory) same ∙ c.requires.enough in
     let plays = plays-listed start _ _ _ c.list.new.self _ _ c.list.ensures.rest (plays-kept start _ _ _ _ c.hear_epc.ensures.same behind) in
-    let before : List ReportLine = lines_behind start past ++ exchange_lines start sent in
+    let before : List ReportLine = lines_behind start past ++ exchange_lines start.link sent in
     let told = passes-then g.R.Listener.hears (lines_behind start past) before (before ++ ListLine c.args.round c.args.slot c.in-Some.pc c.in-Some.epc ∷ []) _ _ _
     (c.send.ensures.told start past c.args.round c.args.slot (lines_behind start past) at.plays) (c.list.ensures.told before) in
     stands-listed (Passes g.R.Listener.hears (lines_behind start past) c.args.report.now c.list.new.report) start sent past listed _ _ plays

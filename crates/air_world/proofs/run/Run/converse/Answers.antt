@@ -1,7 +1,7 @@
 use Rattle.std.proofs.Common.{◌≡◌, sym, subst, ◌∙◌}
 use Rattle.air_model.specs.laws.AwaitedLaws.{silent_awaited}
 use Rattle.air_model.specs.Channel.{Given, IsReadBy, got_of}
-use Rattle.air_model.specs.Exchange.{AreLegalTags, replies_in}
+use Rattle.tag_machine.specs.Exchange.{AreLegalTags, replies_in}
 use Rattle.air_model.specs.laws.GivenLaws.{given_is_read}
 use Rattle.air_model.specs.Past.{next_record, past_behind_command, next_entry, tags_behind}
 use Rattle.air_model.specs.Reception.{HoldsOfSent, IsUnmistakable}

@@ -3,7 +3,8 @@ use Rattle.air_model.specs.Past.{Record, next_record}
 use Rattle.air_world.proofs.Operating.{operations-begin, operations-sent, operations-told, operations-end, operation-unlisted, sent-of, sent-expects, sent-one}
 use Rattle.air_world.proofs.Passing.{passes-nothing, passes-then}
 use Rattle.air_world.proofs.Slots.{stands-unlisted, seen-behind}
-use Rattle.air_world.specs.Telling.{Passes, exchange_lines, lines_behind}
+use Rattle.air_world.specs.Telling.{Passes, lines_behind}
+use Rattle.runs.specs.Report.{exchange_lines}
 use Rattle.report_lines.specs.ReportLine.{ReportLine, OpLine}
 use Rattle.air_world.proofs.run.Run.operate.Goals as goal
 
@@ -37,7 +38,7 @@ moves-preserved-in-Send g c = λ start past at.
     let expects = sent-expects c.args.operations.now c.args.epc.now c.args.rn u.moves c.in-Send.command c.in-Send.expect c.in-Send.extended sent u.awaits in
     let made : Record = next_record start c.args.round c.args.slot c.in-Send.command u.past in
     let lines : List ReportLine = lines_behind start u.past in
-    let told = passes-then g.R.Listener.hears (lines_behind start past) lines (lines ++ exchange_lines start made) _ _ _ u.stands.told (c.converse.ensures.told start u.past c.args.round c.args.slot lines u.stands.at.plays) in
+    let told = passes-then g.R.Listener.hears (lines_behind start past) lines (lines ++ exchange_lines start.link made) _ _ _ u.stands.told (c.converse.ensures.told start u.past c.args.round c.args.slot lines u.stands.at.plays) in
     let behind = stands-unlisted (Passes g.R.Listener.hears (lines_behind start past) c.args.report.now c.converse.new.report) start made u.past _ _
     (c.converse.ensures.plays start u.past c.args.round c.args.slot u.stands.at.plays) (seen-behind start u.past _ _ _ _ c.converse.ensures.rest u.stands.at) told
     (operation-unlisted made c.in-Send.expect c.in-Send.extended expects) in

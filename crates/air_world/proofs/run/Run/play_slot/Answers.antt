@@ -1,6 +1,6 @@
 use Rattle.std.proofs.Common.{◌≡◌, List, refl, sym, ◌∙◌, ap, subst}
 use Rattle.air_model.specs.Channel.{got_of}
-use Rattle.air_model.specs.Exchange.{AreLegalTags}
+use Rattle.tag_machine.specs.Exchange.{AreLegalTags}
 use Rattle.air_model.specs.Past.{Start, Item, Record, next_record, past_behind_command}
 use Rattle.air_model.specs.Reception.{reception_of}
 use Rattle.air_model.specs.laws.ReceptionLaws.{silent_reception}

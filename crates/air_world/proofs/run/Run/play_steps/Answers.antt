@@ -2,7 +2,7 @@ use Rattle.std.proofs.Common.{◌<◌, length, subst, sym, arith}
 use Rattle.air_world.proofs.Passing.{cut-then, ends-cut}
 use Rattle.air_world.proofs.Slots.{stands-then}
 use Rattle.air_world.proofs.Steps.{step-legal, same-count, steps-go-on, cut-steps}
-use Rattle.scenario.specs.Limits.{IsStep}
+use Rattle.air_world.specs.Playing.{IsPlayable}
 use Rattle.air_world.proofs.run.Run.play_steps.Goals as goal
 
 pub play_step-requires-clause-step : goal.play_step-requires-clause-step
@@ -10,7 +10,7 @@ play_step-requires-clause-step g c =
     let r = c.requires.between in
     let u = c.loop-step.invariant r.start r.past r.at in
     let inside : c.loop-step.step-index < length c.args.steps.now = omega arith in
-    subst (λ n. IsStep n c.step-item.result) (sym (same-count r.start r.past u.past _ _ _ _ r.at.plays u.stands.at.plays))
+    subst (λ n. IsPlayable n c.step-item.result) (sym (same-count r.start r.past u.past _ _ _ _ r.at.plays u.stands.at.plays))
     (step-legal (length c.args.air.now.tags) c.args.steps.now c.loop-step.step-index c.step-item.result inside c.step-item.is c.requires.steps)
 
 pub returns-in_err-play_step-clause-ends : goal.returns-in_err-play_step-clause-ends

@@ -4,7 +4,7 @@ use Rattle.air_model.specs.Past.{Start, Item, next_record}
 use Rattle.air_world.proofs.Passing.{passes-same}
 use Rattle.air_world.proofs.Sending.{Sends, cursor-stands, next-number, entry-names, entry-fits, sent-plays, sent-stream, sent-got, sent-lines, few-exchanges}
 use Rattle.air_world.specs.Playing.{RunValue, PlaysAt}
-use Rattle.air_world.specs.Telling.{exchange_lines}
+use Rattle.runs.specs.Report.{exchange_lines}
 use Rattle.report_lines.specs.ReportLine.{ReportLine}
 use Rattle.air_world.proofs.run.Run.send.Goals as goal
 
@@ -49,6 +49,6 @@ returns g c =
       stream = λ start past round slot plays. sent-stream start past round slot command (made start past plays);
       got = λ start past round slot plays. c.exchange-got.ensures.got ∙ sent-got start past round slot command (made start past plays);
       told = λ start past round slot before plays.
-          passes-same g.R.Listener.hears before _ (before ++ exchange_lines start (next_record start round slot command past)) _ _
+          passes-same g.R.Listener.hears before _ (before ++ exchange_lines start.link (next_record start round slot command past)) _ _
           (ap (λ (l : List ReportLine). before ++ l) (sent-lines start past round slot command (made start past plays))) (c.tell_exchange.ensures before);
     }

@@ -2,7 +2,7 @@ use Rattle.std.proofs.Common.{◌≡◌, ◌+◌, ◌-◌, ◌^◌, ◌&&◌, �
 use Rattle.std.specs.Prelude.{min}
 use Rattle.air_world.proofs.Counted.{other-line}
 use Rattle.air_world.specs.Counting.{Fits, counted_line}
-use Rattle.air_world.specs.CountingLaws.{counts-more}
+use Rattle.air_world.specs.laws.CountingLaws.{counts-more}
 use Rattle.report_lines.specs.Line.{line_of}
 use Rattle.report_lines.specs.ReportLine.{ListLine, RoundLine, SeenLine, TagLine}
 use Rattle.runs.specs.Summary.{is_quiet}

@@ -2,11 +2,11 @@
 use Rattle.std.proofs.Common.{◌⊎◌, ℕ, List, refl, inl, inr}
 use Rattle.report_lines.specs.declared.mode.Mode.{Mode}
 use Rattle.runs.specs.Report.{report_text_of}
-use Rattle.scenario.specs.declared.fault.Fault.{Fault}
-use Rattle.scenario.specs.FaultWords.{fault_word}
+use Rattle.scenario_text.specs.declared.fault.Fault.{Fault}
+use Rattle.scenario_text.specs.FaultWords.{fault_word}
 use Rattle.text_fields.specs.FaultLine.{fault_line}
-use Rattle.scenario.specs.Faults.{IsFirstFault}
-use Rattle.scenario.specs.Limits.{IsText}
+use Rattle.scenario_text.specs.Faults.{IsFirstFault}
+use Rattle.scenario.specs.ScenarioText.{IsText}
 use Rattle.top_call.specs.Job.{Defines}
 use Rattle.top_call.specs.words.Reported.{run_job}
 use Rattle.top_call.proofs.words.run.run_inputs_have_a_text.Goals as goal

@@ -1,5 +1,0 @@
-use Rattle.air_channel.proofs.SeatedTags.{due_smaller}
-use Rattle.air_channel.proofs.population.call_due.Goals as goal
-
-pub loop-number-smaller : goal.loop-number-smaller
-loop-number-smaller g c = due_smaller c.args.session c.in-Some.number c.loop-number.waiting c.call.new.waiting c.in-Some.ensures c.call.ensures.waiting

@@ -1,5 +1,0 @@
-use Rattle.air_channel.proofs.TagsAtRest.{settled_all}
-use Rattle.air_channel.proofs.population.settle.Goals as goal
-
-pub returns : goal.returns
-returns c = settled_all c.args.seats.now c.loop-at.at c.loop-at.waiting c.loop-at.invariant c.loop-at-test.false

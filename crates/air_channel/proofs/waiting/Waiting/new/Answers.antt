@@ -1,6 +1,0 @@
-use Rattle.std.proofs.Common.{refl}
-use Rattle.air_channel.proofs.SlotPlaces.{map-none}
-use Rattle.air_channel.proofs.waiting.Waiting.new.Goals as goal
-
-pub returns : goal.returns
-returns c = rw c.in_ok-wheel.ensures (map-none _ c.args.count refl)

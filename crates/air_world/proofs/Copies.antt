@@ -1,0 +1,85 @@
+-- The copies of a group, one after another, and the groups of a scenario.
+use Rattle.std.proofs.Common.{◌≡◌, ℕ, zero, suc, ◌+◌, ◌<◌, ◌≤◌, List, [], ◌∷◌, ◌++◌, length, map, take, get_or, sym, ◌∙◌, ap, append_assoc, arith}
+use Rattle.std.proofs.Math.Seq.{take-suc}
+use Rattle.std.proofs.lemmas.List.{length-map, map-append}
+use Rattle.std.proofs.lemmas.List.Elements.{All-weaker}
+use Rattle.std.specs.Prelude.{All}
+use Rattle.air_events.specs.TagNumbers.{most_tags}
+use Rattle.air_world.proofs.Beginning.{scenario-few}
+use Rattle.air_world.specs.NewAir.{IsGroupOfTags}
+use Rattle.runs.specs.ScenarioStart.{tag_of}
+use Rattle.scenario.proofs.Groups.{one_group_more}
+use Rattle.scenario.specs.Groups.{copies, copies_from, copies_of, copy_of, tags_of}
+use Rattle.scenario.specs.Limits.{IsCount, IsGroup, IsScenario}
+use Rattle.scenario.specs.declared.values.Scenario.{Scenario}
+use Rattle.scenario.specs.declared.values.TagGroup.{TagGroup}
+use Rattle.scenario_lines.specs.declared.tag.TagSpec.{TagSpec}
+use Rattle.scenario_lines.specs.declared.version.Version.{Version}
+use Rattle.scenario_lines.specs.declared.version.Version.TheVariants.{One, Two}
+use Rattle.tag_machine.specs.Hearing.{tag_value_of}
+use Rattle.tag_machine.specs.TagValue.{TagValue}
+use Rattle.tag_machine.specs.declared.any_tag.AnyTag.{AnyTag}
+
+-- one copy more
+copies_from-more : (number left : ℕ) (tag : TagSpec) → copies_from number (suc left) tag ≡ copies_from number left tag ++ copy_of (number + left) tag ∷ []
+copies_from-more number zero tag = let same : number ≡ number + 0 = omega arith in ap (λ n. copy_of n tag ∷ []) same
+copies_from-more number (suc left) tag =
+    let same : number + 1 + left ≡ number + suc left = omega arith in
+    ap (λ (tags : List TagSpec). copy_of number tag ∷ tags) (copies_from-more (number + 1) left tag)
+    ∙ ap (λ n. copy_of number tag ∷ (copies_from (number + 1) left tag ++ copy_of n tag ∷ [])) same
+
+pub copies-more : (number : ℕ) (tag : TagSpec) → 1 ≤ number → copies (number + 1) tag ≡ copies number tag ++ copy_of number tag ∷ []
+copies-more zero tag some = absurd (omega arith)
+copies-more (suc left) tag some =
+    let same : 1 + left ≡ suc left = omega arith in
+    let next : suc left + 1 ≡ suc (suc left) = omega arith in
+    ap (λ n. copies n tag) next
+    ∙ ap (λ (tags : List TagSpec). tag ∷ tags) (copies_from-more 1 left tag)
+    ∙ ap (λ n. tag ∷ (copies_from 1 left tag ++ copy_of n tag ∷ [])) same
+
+some-count : (version : Version) (count : ℕ) → IsCount version count → 1 ≤ count
+some-count One count is = omega (arith, is)
+some-count Two count is = is
+
+-- the groups of a scenario of either version
+pub groups-of-tags : (scenario : Scenario) → IsScenario scenario → All IsGroupOfTags scenario.groups
+groups-of-tags scenario is =
+    All-weaker (IsGroup scenario.version) IsGroupOfTags
+    (λ group legal. record { some = some-count scenario.version group.count legal.count; tag = legal.tag; differ = legal.differ })
+    scenario.groups is.groups
+
+-- one tag more was added
+pub one-pushed : (old new : List AnyTag) (tag : AnyTag) (value : TagValue) → new ≡ old ++ tag ∷ [] → tag_value_of tag ≡ value
+    → map tag_value_of new ≡ map tag_value_of old ++ value ∷ []
+one-pushed old new tag value is same =
+    ap (λ (tags : List AnyTag). map tag_value_of tags) is ∙ map-append tag_value_of old (tag ∷ []) ∙ ap (λ (v : TagValue). map tag_value_of old ++ v ∷ []) same
+
+-- ... the next copy, behind those before it
+pub next-copy : (number : ℕ) (spec : TagSpec) (first before after : List TagValue) → 1 ≤ number → before ≡ first ++ map tag_of (copies number spec)
+    → after ≡ before ++ tag_of (copy_of number spec) ∷ [] → after ≡ first ++ map tag_of (copies (number + 1) spec)
+next-copy number spec first before after some made more =
+    let joined : map tag_of (copies (number + 1) spec) ≡ map tag_of (copies number spec) ++ tag_of (copy_of number spec) ∷ [] =
+    ap (λ (tags : List TagSpec). map tag_of tags) (copies-more number spec some) ∙ map-append tag_of (copies number spec) (copy_of number spec ∷ []) in
+    more ∙ ap (λ (tags : List TagValue). tags ++ tag_of (copy_of number spec) ∷ []) made
+    ∙ append_assoc first (map tag_of (copies number spec)) (tag_of (copy_of number spec) ∷ [])
+    ∙ ap (λ (tags : List TagValue). first ++ tags) (sym joined)
+
+-- the tags of the next group, behind those before it
+pub next-group : (groups : List TagGroup) (index : ℕ) (group : TagGroup) (before after : List TagValue) → index < length groups → group ≡ get_or groups index group
+    → before ≡ map tag_of (tags_of (take index groups)) → after ≡ before ++ map tag_of (copies_of group) → after ≡ map tag_of (tags_of (take (index + 1) groups))
+next-group groups index group before after inside is made more =
+    let next : suc index ≡ index + 1 = omega arith in
+    let taken : take (index + 1) groups ≡ take index groups ++ group ∷ [] =
+    ap (λ n. take n groups) (sym next) ∙ take-suc groups index group inside ∙ ap (λ (g : TagGroup). take index groups ++ g ∷ []) (sym is) in
+    let joined : map tag_of (tags_of (take (index + 1) groups)) ≡ map tag_of (tags_of (take index groups)) ++ map tag_of (copies_of group) =
+    ap (λ (g : List TagGroup). map tag_of (tags_of g)) taken ∙ ap (λ (tags : List TagSpec). map tag_of tags) (one_group_more (take index groups) group)
+    ∙ map-append tag_of (tags_of (take index groups)) (copies_of group) in
+    more ∙ ap (λ (tags : List TagValue). tags ++ map tag_of (copies_of group)) made ∙ sym joined
+
+-- the tags that were made are few
+pub few-made : (scenario : Scenario) (groups : List TagGroup) (tags : List AnyTag) → IsScenario scenario → groups ≡ scenario.groups
+    → map tag_value_of tags ≡ map tag_of (tags_of groups) → length tags ≤ most_tags
+few-made scenario groups tags is same made =
+    let all = tags_of scenario.groups in
+    let count : length (map tag_value_of tags) ≡ length (map tag_of all) = ap length made ∙ ap (λ (g : List TagGroup). length (map tag_of (tags_of g))) same in
+    omega (arith, count, length-map tags tag_value_of, length-map all tag_of, scenario-few scenario is)

@@ -1,4 +1,0 @@
-use Rattle.air_world.proofs.playing.play.Given as goal
-
-abbrev pub ghosts-tell_run : goal.ghosts-tell_run
-ghosts-tell_run g a = record { name = a.blank.name; parts = a.blank.parts }

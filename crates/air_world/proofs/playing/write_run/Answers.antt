@@ -1,0 +1,23 @@
+use Rattle.std.proofs.Common.{refl, sym, subst, ◌∙◌}
+use Rattle.air_world.proofs.Written.{run-written, spelling_for, text-lent, told_text}
+use Rattle.report_lines.specs.Spelled.{line_of_mode, mode_behind}
+use Rattle.report_lines.specs.TextReport.{IsAdded}
+use Rattle.report_lines.specs.declared.mode_spelling.ModeSpelling.{ModeSpelling}
+use Rattle.report_lines.specs.laws.TextReportLaws.{hears-nothing}
+use Rattle.air_world.proofs.playing.write_run.Goals as goal
+
+pub returns : goal.returns
+returns g c = λ mode fresh.
+    let scenario = c.args.scenario.now in
+    let sink = g.O.Sink in
+    let old = c.new-report.result in
+    let later = c.tell_scenario.new.report in
+    let back = c.out-1.given in
+    run-written _ _ c.tell_scenario.result mode scenario old later (sink.written c.args.out.now) (sink.written back.0) (sink.faults c.args.out.now) (sink.faults back.0) _ c.tell_scenario.ensures
+    (λ lines passes.
+    let heard = passes.on old (refl, hears-nothing line_of_mode mode_behind old.spelling.now old.fault (sink.written old.out.now) (sink.faults old.out.now)) in
+    let spelled = c.new-report.ensures.spelling ∙ fresh in
+    let added = subst (λ (spelling : ModeSpelling). IsAdded (told_text spelling lines) (sink.written old.out.now) (sink.written later.out.now) (sink.faults old.out.now) (sink.faults later.out.now) later.fault)
+    spelled (heard.1.text c.new-report.ensures.fault) in
+    text-lent sink.written sink.faults (told_text (spelling_for mode scenario) lines) old.out.now c.args.out.now later.out.now back.0 later.fault c.new-report.ensures.written
+    (back.1 (sym (heard.0 ∙ c.new-report.ensures.out))) added)

@@ -1,0 +1,78 @@
+-- What the clauses of the program say over memory, where the input and what was written are lists.
+use Rattle.std.proofs.Common.{◌≡◌, ◌⊎◌, ℕ, ◌+◌, ◌≤◌, ◌<◌, Bool, List, ◌++◌, length, Option, Some, true, false, [], refl, sym, ◌∙◌, ap, subst, arith, inl, inr, length-append, if◌then◌else◌}
+use Rattle.std.proofs.lemmas.List.{append-nil}
+use Rattle.air_io.specs.Flow.{Reads, AtEnd, FaultsRose}
+use Rattle.gen2_library.specs.Called.{input_of, IsFront}
+use Rattle.top_call.specs.Job.{Job, Defines}
+use Rattle.top_call.specs.Outcome.{input_limit, TakesInput, ReadsAll, ReadsTooMuch, WritesWhole, WritesFront}
+use Rattle.top_call.specs.declared.status.Status.{Status}
+use Rattle.top_call.specs.declared.status.Status.TheVariants.{Done, BadWords, BadInput, ReadFault, WriteFault, TooLong, OutOfMemory}
+
+-- what was read to its end is all of the input
+all-read : (told left bytes : List ℕ) → Reads (Some told) (Some left) bytes → AtEnd (Some left) → bytes ≡ told
+all-read told left bytes reads end = let is : told ≡ bytes ++ left = cc in sym (is ∙ ap (λ rest. bytes ++ rest) end ∙ append-nil bytes)
+
+-- what a word took of its input is all of it, or nothing where it reads none
+taken-is : (reads : Bool) (told left bytes : List ℕ) → TakesInput reads (Some told) (Some left) bytes → bytes ≡ (if reads then told else [])
+taken-is true told left bytes taken = all-read told left bytes taken.reads taken.end
+taken-is false told left bytes taken = taken.none
+
+-- a text that was written whole is what was written
+whole-of : (job : Job) (T : List ℕ → List ℕ → Type 0) (told left written : List ℕ) → WritesWhole job T (Some told) (Some left) (Some []) (Some written)
+    → T (input_of job told) written
+whole-of job T told left written writes =
+    let bytes : writes.bytes ≡ input_of job told = taken-is job.input told left writes.bytes writes.taken in
+    let text : writes.adds.text ≡ written = let added = writes.adds.added in cc in
+    subst (λ b. T b written) bytes (subst (T writes.bytes) text writes.adds.named)
+
+pub whole : (job : Job) (T : List ℕ → List ℕ → Type 0) (input told left before written : List ℕ) → told ≡ input → before ≡ []
+    → WritesWhole job T (Some told) (Some left) (Some before) (Some written) → T (input_of job input) written
+whole job T input told left before written same empty writes =
+    subst (λ i. T (input_of job i) written) same
+    (whole-of job T told left written (subst (λ b. WritesWhole job T (Some told) (Some left) (Some b) (Some written)) empty writes))
+
+-- and of one that was cut off it is a front
+front-of : (job : Job) (told left written : List ℕ) → WritesFront job (Some told) (Some left) (Some []) (Some written)
+    → IsFront (Defines job (input_of job told)) written
+front-of job told left written writes =
+    let bytes : writes.bytes ≡ input_of job told = taken-is job.input told left writes.bytes writes.taken in
+    let text : writes.adds.front ≡ written = let added = writes.adds.added in cc in
+    record {
+      rest = writes.adds.rest;
+      named = subst (λ b. Defines job b (written ++ writes.adds.rest)) bytes (subst (λ f. Defines job writes.bytes (f ++ writes.adds.rest)) text writes.adds.named);
+    }
+
+pub front : (job : Job) (input told left before written : List ℕ) → told ≡ input → before ≡ []
+    → WritesFront job (Some told) (Some left) (Some before) (Some written) → IsFront (Defines job (input_of job input)) written
+front job input told left before written same empty writes =
+    subst (λ i. IsFront (Defines job (input_of job i)) written) same
+    (front-of job told left written (subst (λ b. WritesFront job (Some told) (Some left) (Some b) (Some written)) empty writes))
+
+-- an input of which too much was read is too long
+pub too-long : (input told left : List ℕ) → told ≡ input → ReadsTooMuch (Some told) (Some left) → input_limit < length input
+too-long input told left same many =
+    let is : told ≡ many.bytes ++ left = let reads = many.reads in cc in
+    omega (arith, many.over, ap length same, ap length is, length-append many.bytes left)
+
+-- nor is a front of its text written, where it is to be read
+pub not-taken : (job : Job) (input told left : List ℕ) (before written : Option (List ℕ)) → told ≡ input → job.input ≡ true → input_limit < length input
+    → WritesFront job (Some told) (Some left) before written → ⊥
+not-taken job input told left before written same reads many writes =
+    let taken : ReadsAll (Some told) (Some left) writes.bytes = subst (λ reads. TakesInput reads (Some told) (Some left) writes.bytes) reads writes.taken in
+    let all : writes.bytes ≡ told = all-read told left writes.bytes taken.reads taken.end in
+    omega (arith, many, ap length same, ap length all, taken.limit)
+
+-- a count that stands at 0 did not rise
+pub none-rose : FaultsRose 0 0 → ⊥
+none-rose rose = let last = rose.larger_or_last refl in absurd (omega (arith, last))
+
+-- where four of the statuses don't come, the others do
+pub completes : (status : Status) → (status ≡ BadWords → ⊥) → (status ≡ ReadFault → ⊥) → (status ≡ TooLong → ⊥) → (status ≡ BadInput → ⊥)
+    → (status ≡ Done) ⊎ (status ≡ WriteFault) ⊎ (status ≡ OutOfMemory)
+completes Done words read long bad = inl refl
+completes WriteFault words read long bad = inr (inl refl)
+completes OutOfMemory words read long bad = inr (inr refl)
+completes BadWords words read long bad = absurd (words refl)
+completes ReadFault words read long bad = absurd (read refl)
+completes TooLong words read long bad = absurd (long refl)
+completes BadInput words read long bad = absurd (bad refl)

@@ -1,0 +1,176 @@
+use Rattle.std.proofs.Common.{◌≡◌, ◌≢◌, ◌⊎◌, ◌≤◌, ◌<◌, ℕ, List, length, refl, sym, ◌∙◌, ap, subst, inl, inr, arith}
+use Rattle.gen2_library.proofs.InRoom.{Call, Leaves, Says, kept, whole, no-room, no-memory, no-count, empty-kept, ends-so, behind, status-is, number-below, number-not-1}
+use Rattle.gen2_library.proofs.Readable.{readable, read}
+use Rattle.gen2_library.specs.Called.{input_of}
+use Rattle.text_fields.specs.Lines.{fields_of}
+use Rattle.top_call.specs.Form.{AskFor, texts}
+use Rattle.top_call.specs.Job.{Job}
+use Rattle.top_call.specs.Jobs.{job_of}
+use Rattle.top_call.specs.Outcome.{input_limit, SpeaksOfNoInput}
+use Rattle.top_call.specs.StatusNumber.{status_number}
+use Rattle.top_call.specs.declared.forms.Form.{Form}
+use Rattle.top_call.specs.declared.forms.Form.TheVariants.{Run, Gen}
+use Rattle.top_call.specs.declared.status.Status.{Status}
+use Rattle.top_call.specs.declared.status.Status.TheVariants.{Done, BadWords, BadInput, ReadFault, WriteFault, TooLong, OutOfMemory}
+use Rattle.top_call.specs.words.Generated.{CountsEveryTag}
+use Rattle.top_call.specs.words.Reported.{SaysHeadline, SaysInventory}
+use Rattle.gen2_library.proofs.gen2run_over_memory.Goals as goal
+
+abbrev call_of : goal.After-drop-words-2 → Call
+call_of c = record {
+  written = c.run_over-status.new.sink.written;
+  status = c.run_over-status.result;
+  old = c.args.output.now;
+  new = c.copy_to.new.output;
+  count = c.copy_to.result;
+  result = c.status_behind.result;
+}
+
+leaves : (c : goal.After-drop-words-2) → Leaves (call_of c)
+leaves c = record {
+  count_is = c.copy_to.ensures.count;
+  bytes = c.copy_to.ensures.bytes;
+  longer = c.status_behind.ensures.longer;
+  no_memory = c.status_behind.ensures.no_memory;
+  same = c.status_behind.ensures.same;
+}
+
+-- the answer is the number of the status
+ends : (c : goal.After-drop-words-2) (status : Status) → c.from-2.result ≡ status_number status → c.status_behind.result ≡ status
+ends c status is = status-is c.status_behind.result status (sym c.number-2.ensures ∙ sym c.from-2.ensures ∙ is)
+
+numbered : (c : goal.After-drop-words-2) (status : Status) → c.status_behind.result ≡ status → c.from-2.result ≡ status_number status
+numbered c status is = c.from-2.ensures ∙ c.number-2.ensures ∙ ap status_number is
+
+-- the program has the words of the text, and the input
+same-words : (c : goal.After-drop-words-2) → texts c.deref.result.now ≡ fields_of c.args.words.now
+same-words c = let lent = c.deref.ensures.value in let read = c.in-Ok.ensures.ok in cc
+
+asked : (c : goal.After-drop-words-2) (form : Form) → AskFor (fields_of c.args.words.now) form → AskFor (texts c.deref.result.now) form
+asked c form asks = subst (λ words. AskFor words form) (sym (same-words c)) asks
+
+same-input : (c : goal.After-drop-words-2) → c.in-Ok-from_slice.bytes.items ≡ c.args.input.now
+same-input c = c.in-Ok-from_slice.ensures.items
+
+says : (c : goal.After-drop-words-2) (form : Form) → AskFor (fields_of c.args.words.now) form
+    → Says (job_of form) (input_of (job_of form) c.args.input.now) c.run_over-status.new.sink.written c.run_over-status.result
+says c form asks =
+    let over : Says (job_of form) (input_of (job_of form) c.in-Ok-from_slice.bytes.items) c.run_over-status.new.sink.written c.run_over-status.result = record {
+      done = c.run_over-status.ensures.done form (asked c form asks);
+      bad_input = c.run_over-status.ensures.bad_input form (asked c form asks);
+      bad_words = λ is. (c.run_over-status.ensures.bad_words is).1;
+      too_long = λ is. (c.run_over-status.ensures.too_long is).1;
+      write_fault = c.run_over-status.ensures.write_fault form (asked c form asks);
+      out_of_memory = c.run_over-status.ensures.out_of_memory form (asked c form asks);
+      no_read_fault = c.run_over-status.ensures.no_read_fault;
+    } in
+    subst (λ input. Says (job_of form) (input_of (job_of form) input) c.run_over-status.new.sink.written c.run_over-status.result) (same-input c) over
+
+pub returns-clause-done : goal.returns-clause-done
+returns-clause-done c form asks is =
+    whole ((job_of form).writes (input_of (job_of form) c.args.input.now)) (call_of c) (leaves c) Done (ends c Done is) (λ fault. cc) (λ memory. cc) (says c form asks).done
+
+pub returns-clause-promises : goal.returns-clause-promises
+returns-clause-promises c form asks is =
+    whole ((job_of form).promises (input_of (job_of form) c.args.input.now)) (call_of c) (leaves c) Done (ends c Done is) (λ fault. cc) (λ memory. cc)
+    (λ done. subst (λ input. (job_of form).promises (input_of (job_of form) input) c.run_over-status.new.sink.written) (same-input c)
+    (c.run_over-status.ensures.promises form (asked c form asks) done))
+
+pub returns-clause-headline : goal.returns-clause-headline
+returns-clause-headline c mode asks is =
+    whole (SaysHeadline mode c.args.input.now) (call_of c) (leaves c) Done (ends c Done is) (λ fault. cc) (λ memory. cc)
+    (λ done. subst (λ input. SaysHeadline mode input c.run_over-status.new.sink.written) (same-input c)
+    (c.run_over-status.ensures.headline mode (asked c (Run mode) asks) done))
+
+pub returns-clause-inventory : goal.returns-clause-inventory
+returns-clause-inventory c = (
+  λ mode asks is. whole (SaysInventory mode c.args.input.now) (call_of c) (leaves c) Done (ends c Done is) (λ fault. cc) (λ memory. cc)
+      (λ done. subst (λ input. SaysInventory mode input c.run_over-status.new.sink.written) (same-input c)
+      (c.run_over-status.ensures.inventory.0 mode (asked c (Run mode) asks) done)),
+  λ seed tags asks is. whole (CountsEveryTag seed tags) (call_of c) (leaves c) Done (ends c Done is) (λ fault. cc) (λ memory. cc)
+      (c.run_over-status.ensures.inventory.1 seed tags (asked c (Gen seed tags) asks)),
+)
+
+pub returns-clause-bad_words : goal.returns-clause-bad_words
+returns-clause-bad_words c is =
+    let says = c.run_over-status.ensures.bad_words (kept (call_of c) (leaves c) BadWords (ends c BadWords is) (λ fault. cc) (λ memory. cc)) in
+    (λ has. says.0 (has.0, asked c has.0 has.1), no-count (call_of c) (leaves c) says.1)
+
+pub returns-clause-formless : goal.returns-clause-formless
+returns-clause-formless c none =
+    let bad : c.run_over-status.result ≡ BadWords = c.run_over-status.ensures.formless (λ has. none (has.0, subst (λ words. AskFor words has.0) (same-words c) has.1)) in
+    inl (numbered c BadWords (empty-kept (call_of c) (leaves c) (c.run_over-status.ensures.bad_words bad).1 BadWords bad (λ is. cc)))
+
+pub returns-clause-unread : goal.returns-clause-unread
+returns-clause-unread c form asks none =
+    let silent : SpeaksOfNoInput c.run_over-status.result = c.run_over-status.ensures.unread form (asked c form asks) none in (
+      λ is. subst SpeaksOfNoInput (kept (call_of c) (leaves c) BadInput (ends c BadInput is) (λ fault. cc) (λ memory. cc)) silent,
+      λ is. subst SpeaksOfNoInput (kept (call_of c) (leaves c) TooLong (ends c TooLong is) (λ fault. cc) (λ memory. cc)) silent,
+    )
+
+pub returns-clause-bad_input : goal.returns-clause-bad_input
+returns-clause-bad_input c form asks is =
+    whole ((job_of form).refuses (input_of (job_of form) c.args.input.now)) (call_of c) (leaves c) BadInput (ends c BadInput is) (λ fault. cc) (λ memory. cc)
+    (says c form asks).bad_input
+
+pub returns-clause-no_room : goal.returns-clause-no_room
+returns-clause-no_room c form asks is =
+    no-room (job_of form) (input_of (job_of form) c.args.input.now) (call_of c) (leaves c) (ends c WriteFault is) (says c form asks)
+
+pub returns-clause-too_long : goal.returns-clause-too_long
+returns-clause-too_long c is =
+    let says = c.run_over-status.ensures.too_long (kept (call_of c) (leaves c) TooLong (ends c TooLong is) (λ fault. cc) (λ memory. cc)) in
+    (subst (λ input. input_limit < length input) (same-input c) says.0, no-count (call_of c) (leaves c) says.1)
+
+pub returns-clause-out_of_memory : goal.returns-clause-out_of_memory
+returns-clause-out_of_memory c form asks is =
+    no-memory (job_of form) (input_of (job_of form) c.args.input.now) (call_of c) (leaves c) (ends c OutOfMemory is) (says c form asks)
+
+-- no status has the number 8, and where the words were read each of them is readable
+pub returns-clause-unreadable : goal.returns-clause-unreadable
+returns-clause-unreadable c is =
+    absurd (omega (arith, is, c.from-2.ensures, c.number-2.ensures, number-below c.status_behind.result))
+
+pub returns-clause-unread_words : goal.returns-clause-unread_words
+returns-clause-unread_words c has = absurd (read c.in-Ok.words.items c.args.words.now c.in-Ok.ensures.ok has)
+
+pub returns-in-Err-Unreadable-clause-complete : goal.returns-in-Err-Unreadable-clause-complete
+returns-in-Err-Unreadable-clause-complete c form asks few allowed = absurd (readable form c.args.words.now asks (c.words_of.ensures.unreadable cc))
+
+pub returns-in-Err-Unreadable-clause-passes_limit : goal.returns-in-Err-Unreadable-clause-passes_limit
+returns-in-Err-Unreadable-clause-passes_limit c form asks reads many = absurd (readable form c.args.words.now asks (c.words_of.ensures.unreadable cc))
+
+pub returns-clause-statuses : goal.returns-clause-statuses
+returns-clause-statuses c = (
+  omega (arith, c.from-2.ensures, c.number-2.ensures, number-below c.status_behind.result),
+  λ is. number-not-1 c.status_behind.result (sym c.number-2.ensures ∙ sym c.from-2.ensures ∙ is),
+  λ is. c.run_over-status.ensures.no_read_fault (kept (call_of c) (leaves c) ReadFault (ends c ReadFault is) (λ fault. cc) (λ memory. cc)),
+)
+
+-- the answers of the statuses that a call may have where it can't be done
+answers : (c : goal.After-drop-words-2) (wanted : Status)
+    → (c.status_behind.result ≡ wanted) ⊎ (c.status_behind.result ≡ WriteFault) ⊎ (c.status_behind.result ≡ OutOfMemory)
+    → (c.from-2.result ≡ status_number wanted) ⊎ (c.from-2.result ≡ 5) ⊎ (c.from-2.result ≡ 7)
+answers c wanted ended = elim ended [
+  | inl is ↦ inl (numbered c wanted is)
+  | inr (inl is) ↦ inr (inl (numbered c WriteFault is))
+  | inr (inr is) ↦ inr (inr (numbered c OutOfMemory is))
+]
+
+pub returns-clause-complete : goal.returns-clause-complete
+returns-clause-complete c form asks few allowed =
+    answers c Done (ends-so (call_of c) (leaves c) Done
+    (c.run_over-status.ensures.complete form (asked c form asks)
+    (subst (λ input. length input ≤ input_limit) (sym (same-input c)) few)
+    (subst (λ input. (job_of form).allows (input_of (job_of form) input)) (sym (same-input c)) allowed)))
+
+pub returns-clause-passes_limit : goal.returns-clause-passes_limit
+returns-clause-passes_limit c form asks reads many =
+    let over = c.run_over-status.ensures.passes_limit form (asked c form asks) reads (subst (λ input. input_limit < length input) (sym (same-input c)) many) in
+    elim over.0 [
+      | inl long ↦ inl (numbered c TooLong (empty-kept (call_of c) (leaves c) over.1 TooLong long (λ is. cc)))
+      | inr memory ↦ inr (numbered c OutOfMemory (empty-kept (call_of c) (leaves c) over.1 OutOfMemory memory (λ is. cc)))
+    ]
+
+pub returns-clause-behind : goal.returns-clause-behind
+returns-clause-behind c = behind (call_of c) (leaves c)

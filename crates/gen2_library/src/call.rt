@@ -1,0 +1,58 @@
+//! The program over memory: an input that is there, and room for its output.
+ghost use Rattle.std.specs.Prelude.{◌≡◌, ◌≢◌, ◌⊎◌, ℕ, ◌≤◌, ◌<◌, true, false, [], length};
+ghost use Rattle.gen2_library.specs.Called.{input_of, IsFront};
+ghost use Rattle.report_lines.specs.declared.mode.Mode.{Mode};
+ghost use Rattle.top_call.specs.Form.{texts, AskFor, HasForm};
+ghost use Rattle.top_call.specs.Job.{Defines};
+ghost use Rattle.top_call.specs.Jobs.{job_of};
+ghost use Rattle.top_call.specs.Outcome.{input_limit, SpeaksOfNoInput};
+ghost use Rattle.top_call.specs.declared.forms.Form.{Form};
+ghost use Rattle.top_call.specs.declared.status.Status.{Status};
+ghost use Rattle.top_call.specs.words.Generated.{CountsEveryTag};
+ghost use Rattle.top_call.specs.words.Reported.{SaysHeadline, SaysInventory};
+
+use crate::room::Room;
+use air_io::SureSource;
+use std::alloc::Global;
+use top_call::{Status, gen2run, grammatical_inputs_are_not_refused};
+
+/// Does what the words ask for with this input, over a sink that has nothing yet.
+pub fn run_over(alloc: Global, words: &[String], input: Vec<u8>, sink: &mut Room) -> Status
+    requires { sink.old.written ≡ [] }
+    // Done and BadInput: what was written is the whole text.
+    ensures done { (form : Form) → AskFor (texts words.now) form → result ≡ Status.Done
+        → (job_of form).writes (input_of (job_of form) input.items) sink.new.written }
+    ensures promises { (form : Form) → AskFor (texts words.now) form → result ≡ Status.Done
+        → (job_of form).promises (input_of (job_of form) input.items) sink.new.written }
+    ensures headline { (mode : Mode) → AskFor (texts words.now) (Form.Run mode) → result ≡ Status.Done
+        → SaysHeadline mode input.items sink.new.written }
+    ensures inventory { ((mode : Mode) → AskFor (texts words.now) (Form.Run mode) → result ≡ Status.Done
+        → SaysInventory mode input.items sink.new.written)
+        × ((seed tags : ℕ) → AskFor (texts words.now) (Form.Gen seed tags) → result ≡ Status.Done
+        → CountsEveryTag seed tags sink.new.written) }
+    ensures bad_input { (form : Form) → AskFor (texts words.now) form → result ≡ Status.BadInput
+        → (job_of form).refuses (input_of (job_of form) input.items) sink.new.written }
+    // BadWords and TooLong: nothing was written.
+    ensures bad_words { result ≡ Status.BadWords → (HasForm (texts words.now) → ⊥) × (sink.new.written ≡ []) }
+    ensures too_long { result ≡ Status.TooLong → (input_limit < length input.items) × (sink.new.written ≡ []) }
+    // WriteFault and OutOfMemory: a front of the text was written, maybe none of it.
+    ensures write_fault { (form : Form) → AskFor (texts words.now) form → result ≡ Status.WriteFault
+        → IsFront (Defines (job_of form) (input_of (job_of form) input.items)) sink.new.written }
+    ensures out_of_memory { (form : Form) → AskFor (texts words.now) form → result ≡ Status.OutOfMemory
+        → (sink.new.written ≡ []) ⊎ IsFront (Defines (job_of form) (input_of (job_of form) input.items)) sink.new.written }
+    // Words without a form are told as such.
+    ensures formless { (HasForm (texts words.now) → ⊥) → result ≡ Status.BadWords }
+    // No read fails, and a form without an input has no status that speaks of one.
+    ensures no_read_fault { result ≢ Status.ReadFault }
+    ensures unread { (form : Form) → AskFor (texts words.now) form → (job_of form).input ≡ false → SpeaksOfNoInput result }
+    ensures complete { (form : Form) → AskFor (texts words.now) form → length input.items ≤ input_limit
+        → (job_of form).allows (input_of (job_of form) input.items)
+        → (result ≡ Status.Done) ⊎ (result ≡ Status.WriteFault) ⊎ (result ≡ Status.OutOfMemory) }
+    ensures passes_limit { (form : Form) → AskFor (texts words.now) form → (job_of form).input ≡ true
+        → input_limit < length input.items → ((result ≡ Status.TooLong) ⊎ (result ≡ Status.OutOfMemory)) × (sink.new.written ≡ []) }
+{
+    // By this law an input that the grammar allows has no fault line.
+    grammatical_inputs_are_not_refused();
+    let mut source = SureSource::new(input);
+    gen2run(alloc, words, &mut source, sink)
+}

@@ -1,0 +1,100 @@
+//! The program for C and other languages: one call over memory, whose clauses are those of the program.
+//!
+//! It is a static library. Its header stands in examples/c, with a program in C and one in Python that use it.
+#![tactic(auto)]
+
+ghost use Rattle.std.specs.Prelude.{◌≡◌, ◌≢◌, ◌⊎◌, ℕ, ◌≤◌, ◌<◌, true, false, length, drop};
+ghost use Rattle.gen2_library.specs.Called.{HasUnreadableWord, input_of, Gives, GivesFront, Overflows};
+ghost use Rattle.report_lines.specs.declared.mode.Mode.{Mode};
+ghost use Rattle.text_fields.specs.Lines.{fields_of};
+ghost use Rattle.top_call.specs.Form.{AskFor, HasForm};
+ghost use Rattle.top_call.specs.Job.{Defines};
+ghost use Rattle.top_call.specs.Jobs.{job_of};
+ghost use Rattle.top_call.specs.Outcome.{input_limit};
+ghost use Rattle.top_call.specs.declared.forms.Form.{Form};
+ghost use Rattle.top_call.specs.words.Generated.{CountsEveryTag};
+ghost use Rattle.top_call.specs.words.Reported.{SaysHeadline, SaysInventory};
+
+mod call;
+mod room;
+mod words;
+
+use call::run_over;
+use room::Room;
+use std::alloc::Global;
+use top_call::Status;
+use words::{WordsFault, words_of};
+
+/// The status where a word isn't UTF-8.
+const UNREADABLE_WORDS: u32 = 8;
+
+/// Does what the words ask for, as the program does: reads the input, and writes the defined text to the output, from its
+/// beginning on. `written` is then how many bytes it wrote. The words are one text, with a space between two of them. The answer
+/// is the exit status of the program; 5 says that the output has no room for the whole text.
+///
+/// No pointer may be null, also where a length is 0, and `words`, `input` and `output` have at least so many bytes as their lengths say.
+#[unsafe(no_mangle)]
+pub extern "C" fn gen2run_over_memory(
+    alloc: Global,
+    words: &[u8],
+    input: &[u8],
+    output: &mut [u8],
+    written: &mut usize,
+) -> u32
+    // 0: the text that the form of the words has to write for the input was written whole, and keeps its promises.
+    ensures done { (form : Form) → AskFor (fields_of words.now) form → result ≡ 0
+        → Gives ((job_of form).writes (input_of (job_of form) input.now)) output.new written.new }
+    ensures promises { (form : Form) → AskFor (fields_of words.now) form → result ≡ 0
+        → Gives ((job_of form).promises (input_of (job_of form) input.now)) output.new written.new }
+    ensures headline { (mode : Mode) → AskFor (fields_of words.now) (Form.Run mode) → result ≡ 0
+        → Gives (SaysHeadline mode input.now) output.new written.new }
+    ensures inventory { ((mode : Mode) → AskFor (fields_of words.now) (Form.Run mode) → result ≡ 0
+        → Gives (SaysInventory mode input.now) output.new written.new)
+        × ((seed tags : ℕ) → AskFor (fields_of words.now) (Form.Gen seed tags) → result ≡ 0
+        → Gives (CountsEveryTag seed tags) output.new written.new) }
+    // 2: the words have no form, and nothing was written.
+    ensures bad_words { result ≡ 2 → (HasForm (fields_of words.now) → ⊥) × (written.new ≡ 0) }
+    // Words without a form are told as such, unless one can't be read or memory runs out.
+    ensures formless { (HasForm (fields_of words.now) → ⊥) → (result ≡ 2) ⊎ (result ≡ 7) ⊎ (result ≡ 8) }
+    // Under a form without an input, as `gen` is, no status comes that speaks of an input.
+    ensures unread { (form : Form) → AskFor (fields_of words.now) form → (job_of form).input ≡ false → (result ≢ 3) × (result ≢ 6) }
+    // 3: the fault line of the input was written whole.
+    ensures bad_input { (form : Form) → AskFor (fields_of words.now) form → result ≡ 3
+        → Gives ((job_of form).refuses (input_of (job_of form) input.now)) output.new written.new }
+    // 5: the output is full, and the defined text goes on.
+    ensures no_room { (form : Form) → AskFor (fields_of words.now) form → result ≡ 5
+        → Overflows (Defines (job_of form) (input_of (job_of form) input.now)) output.new written.new }
+    // 6: the input is longer than the limit, and nothing was written.
+    ensures too_long { result ≡ 6 → (input_limit < length input.now) × (written.new ≡ 0) }
+    // 7: a front of the defined text was written, maybe none of it.
+    ensures out_of_memory { (form : Form) → AskFor (fields_of words.now) form → result ≡ 7
+        → (written.new ≡ 0) ⊎ GivesFront (Defines (job_of form) (input_of (job_of form) input.now)) output.new written.new }
+    // 8: a word isn't UTF-8, and nothing was written. Such words are told as such, unless memory runs out.
+    ensures unreadable { result ≡ 8 → HasUnreadableWord words.now × (written.new ≡ 0) }
+    ensures unread_words { HasUnreadableWord words.now → (result ≡ 8) ⊎ (result ≡ 7) }
+    // No other status comes, and no read fails.
+    ensures statuses { (result ≤ 8) × (result ≢ 1) × (result ≢ 4) }
+    // Input within the limit that the form's grammar allows gives the whole text, unless there is no room or no memory.
+    ensures complete { (form : Form) → AskFor (fields_of words.now) form → length input.now ≤ input_limit
+        → (job_of form).allows (input_of (job_of form) input.now) → (result ≡ 0) ⊎ (result ≡ 5) ⊎ (result ≡ 7) }
+    // Input over the limit is told as such, unless there is no memory.
+    ensures passes_limit { (form : Form) → AskFor (fields_of words.now) form → (job_of form).input ≡ true
+        → input_limit < length input.now → (result ≡ 6) ⊎ (result ≡ 7) }
+    // What stands behind that in the output stays.
+    ensures behind { drop written.new output.new ≡ drop written.new output.old }
+{
+    *written = 0;
+    let words = match words_of(alloc, words) {
+        Ok(words) => words,
+        Err(WordsFault::Unreadable) => return UNREADABLE_WORDS,
+        Err(WordsFault::OutOfMemory) => return u32::from(Status::OutOfMemory.number()),
+    };
+    let Ok(bytes) = Vec::from_slice(alloc, input) else {
+        return u32::from(Status::OutOfMemory.number());
+    };
+    let room = output.len();
+    let mut sink = Room::new(alloc, room);
+    let status = run_over(alloc, &words, bytes, &mut sink);
+    *written = sink.copy_to(output);
+    u32::from(sink.status_behind(room, status).number())
+}

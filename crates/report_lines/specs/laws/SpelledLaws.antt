@@ -1,0 +1,59 @@
+-- What is told to a report of a mode, line by line, comes to its one text.
+use Rattle.std.proofs.Common.{◌≡◌, ◌⊎◌, inl, inr, ℕ, Bool, true, false, List, [], ◌∷◌, ◌++◌, refl, ap, ◌∙◌}
+use Rattle.std.specs.Prelude.{filter}
+use Rattle.pie_line.specs.Link.{LinkValue}
+use Rattle.wave_dump.specs.Drawing.{DrawingValue}
+use Rattle.wave_dump.specs.Waves.{new_dump}
+use Rattle.report_lines.specs.Kept.{keeps, kept_line_text, kept_text, line_text_of}
+use Rattle.report_lines.specs.ReportLine.{ReportLine, text_by}
+use Rattle.report_lines.specs.Spelled.{drawing_after, drawn_line, drawn_text, line_of_mode, mode_behind, new_spelling, text_in}
+use Rattle.report_lines.specs.TextReport.{text_from}
+use Rattle.report_lines.specs.declared.mode.Mode.{Mode}
+use Rattle.report_lines.specs.declared.mode.Mode.TheVariants.{Plain, Trace, Json, Exchanges, Vcd}
+use Rattle.report_lines.specs.declared.mode_spelling.ModeSpelling.{ModeSpelling}
+
+abbrev spelling_of : Mode → DrawingValue → ModeSpelling
+spelling_of mode drawing = record { mode = mode; dump = drawing }
+
+split : (b : Bool) → (b ≡ true) ⊎ (b ≡ false)
+split true = inl refl
+split false = inr refl
+
+-- the text of the lines that a mode keeps
+kept : (mode : Mode) (lines : List ReportLine) → kept_text mode lines ≡ text_by (line_text_of mode) (filter (keeps mode) lines)
+kept mode [] = refl
+kept mode (line ∷ lines) = elim (split (keeps mode line)) [
+  | inl is ↦ rw is (ap (λ (text : List ℕ). line_text_of mode line ++ text) (kept mode lines))
+  | inr is ↦ rw is (kept mode lines)
+]
+
+-- a mode that is no dump spells each line in the one way
+plain-told : (drawing : DrawingValue) (lines : List ReportLine) → text_from line_of_mode mode_behind (spelling_of Plain drawing) lines ≡ kept_text Plain lines
+plain-told drawing [] = refl
+plain-told drawing (line ∷ lines) = ap (λ (text : List ℕ). kept_line_text Plain line ++ text) (plain-told drawing lines)
+
+trace-told : (drawing : DrawingValue) (lines : List ReportLine) → text_from line_of_mode mode_behind (spelling_of Trace drawing) lines ≡ kept_text Trace lines
+trace-told drawing [] = refl
+trace-told drawing (line ∷ lines) = ap (λ (text : List ℕ). kept_line_text Trace line ++ text) (trace-told drawing lines)
+
+json-told : (drawing : DrawingValue) (lines : List ReportLine) → text_from line_of_mode mode_behind (spelling_of Json drawing) lines ≡ kept_text Json lines
+json-told drawing [] = refl
+json-told drawing (line ∷ lines) = ap (λ (text : List ℕ). kept_line_text Json line ++ text) (json-told drawing lines)
+
+exchanges-told : (drawing : DrawingValue) (lines : List ReportLine) → text_from line_of_mode mode_behind (spelling_of Exchanges drawing) lines ≡ kept_text Exchanges lines
+exchanges-told drawing [] = refl
+exchanges-told drawing (line ∷ lines) = ap (λ (text : List ℕ). kept_line_text Exchanges line ++ text) (exchanges-told drawing lines)
+
+-- a dump is drawn of all lines
+drawn : (drawing : DrawingValue) (lines : List ReportLine) → text_from line_of_mode mode_behind (spelling_of Vcd drawing) lines ≡ drawn_text drawing (filter (keeps Vcd) lines)
+drawn drawing [] = refl
+drawn drawing (line ∷ lines) = ap (λ (text : List ℕ). drawn_line drawing line ++ text) (drawn (drawing_after drawing line) lines)
+
+-- what is written of lines that are told is the text of those that the mode keeps
+pub told-in-mode : (mode : Mode) (link : LinkValue) (lines : List ReportLine)
+    → text_from line_of_mode mode_behind (new_spelling mode link) lines ≡ text_in mode link (filter (keeps mode) lines)
+told-in-mode Plain link lines = plain-told (record { link = link; dump = new_dump link }) lines ∙ kept Plain lines
+told-in-mode Trace link lines = trace-told (record { link = link; dump = new_dump link }) lines ∙ kept Trace lines
+told-in-mode Json link lines = json-told (record { link = link; dump = new_dump link }) lines ∙ kept Json lines
+told-in-mode Exchanges link lines = exchanges-told (record { link = link; dump = new_dump link }) lines ∙ kept Exchanges lines
+told-in-mode Vcd link lines = drawn (record { link = link; dump = new_dump link }) lines

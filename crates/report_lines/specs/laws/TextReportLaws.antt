@@ -1,0 +1,49 @@
+-- What is told as text grows by the text of one line more.
+use Rattle.std.proofs.Common.{◌≡◌, ℕ, List, [], ◌∷◌, ◌++◌, Option, refl, sym, ◌∙◌, ap, append_assoc, arith}
+use Rattle.std.proofs.lemmas.List.{append-nil}
+use Rattle.std.proofs.lemmas.Grind.{flat_map-append}
+use Rattle.air_io.specs.laws.Flow.{Adds-nothing}
+use Rattle.report_lines.specs.ReportLine.{ReportLine, text_by}
+use Rattle.report_lines.specs.TextReport.{HearsText, spelling_behind, text_from}
+use Rattle.report_lines.specs.declared.mode.PlayFault.{PlayFault}
+
+-- no line adds nothing
+pub hears-nothing : {S : Type 0} (text_of : S → ReportLine → List ℕ) (behind : S → ReportLine → S) (spelling : S) (fault : Option PlayFault) (written : Option (List ℕ)) (faults : ℕ)
+    → HearsText text_of behind [] spelling spelling fault fault written written faults faults
+hears-nothing text_of behind spelling fault written faults = record {
+  spelled = λ none same. refl;
+  text = λ none. record {
+    front = [];
+    rest = [];
+    split = refl;
+    whole = λ same. refl;
+    added = Adds-nothing written;
+    rose = λ same. absurd (cc);
+    count = omega arith;
+  };
+}
+
+-- where a spelling stands behind one line more
+pub spelling_behind-more : {S : Type 0} (behind : S → ReportLine → S) (spelling : S) (lines : List ReportLine) (line : ReportLine)
+    → spelling_behind behind spelling (lines ++ line ∷ []) ≡ behind (spelling_behind behind spelling lines) line
+spelling_behind-more behind spelling [] line = refl
+spelling_behind-more behind spelling (first ∷ lines) line = spelling_behind-more behind (behind spelling first) lines line
+
+-- ... and the text, as it grows by the text of lines
+pub text_from-append : {S : Type 0} (text_of : S → ReportLine → List ℕ) (behind : S → ReportLine → S) (spelling : S) (lines more : List ReportLine)
+    → text_from text_of behind spelling (lines ++ more) ≡ text_from text_of behind spelling lines ++ text_from text_of behind (spelling_behind behind spelling lines) more
+text_from-append text_of behind spelling [] more = refl
+text_from-append text_of behind spelling (first ∷ lines) more =
+    ap (λ (text : List ℕ). text_of spelling first ++ text) (text_from-append text_of behind (behind spelling first) lines more)
+    ∙ sym (append_assoc (text_of spelling first) (text_from text_of behind (behind spelling first) lines)
+    (text_from text_of behind (spelling_behind behind (behind spelling first) lines) more))
+
+pub text_from-more : {S : Type 0} (text_of : S → ReportLine → List ℕ) (behind : S → ReportLine → S) (spelling : S) (lines : List ReportLine) (line : ReportLine)
+    → text_from text_of behind spelling (lines ++ line ∷ []) ≡ text_from text_of behind spelling lines ++ text_of (spelling_behind behind spelling lines) line
+text_from-more text_of behind spelling lines line =
+    text_from-append text_of behind spelling lines (line ∷ [])
+    ∙ ap (λ (text : List ℕ). text_from text_of behind spelling lines ++ text) (append-nil (text_of (spelling_behind behind spelling lines) line))
+
+-- the text of lines, and of lines behind them
+pub text_by-append : (text_of : ReportLine → List ℕ) (lines more : List ReportLine) → text_by text_of (lines ++ more) ≡ text_by text_of lines ++ text_by text_of more
+text_by-append text_of lines more = flat_map-append text_of lines more

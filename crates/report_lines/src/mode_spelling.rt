@@ -1,0 +1,62 @@
+//! The report of a mode, spelled as it is told.
+ghost use Rattle.std.specs.Prelude.{◌≡◌, ◌++◌, IfOk, OnOk};
+ghost use Rattle.std.specs.String.{string_bytes};
+ghost use Rattle.report_lines.specs.Line.{line_of};
+ghost use Rattle.report_lines.specs.Spelled.{drawing_after, drawn_line, new_spelling};
+
+use crate::line::Line;
+use crate::mode::Mode;
+use crate::spelling::Spelling;
+use bit_strings::OutOfMemory;
+use pie_line::Link;
+use std::alloc::Global;
+use wave_dump::{Dump, push_head};
+
+/// The report of a mode, and where its dump stands, if it is one.
+#[derive(Drop)]
+pub struct ModeSpelling {
+    mode: Mode,
+    dump: Dump,
+}
+
+impl ModeSpelling {
+    /// Nothing was told yet, of a run over this link.
+    pub fn new(alloc: Global, mode: Mode, link: Link) -> Result<ModeSpelling, OutOfMemory>
+        ensures { IfOk result (λ spelling. spelling ≡ new_spelling mode link) }
+    {
+        let dump = Dump::new(alloc, link)?;
+        Ok(ModeSpelling { mode, dump })
+    }
+}
+
+impl Spelling for ModeSpelling {
+    ghost use Rattle.report_lines.specs.Spelled.{line_of_mode, mode_behind};
+
+    ghost text_of = { line_of_mode };
+
+    ghost behind = { mode_behind };
+
+    fn spell(&mut self, line: &Line<'_>, text: &mut String) -> Result<(), OutOfMemory> {
+        match self.mode {
+            Mode::Vcd => draw(&mut self.dump, line, text),
+            mode => mode.push_kept(text, line),
+        }
+    }
+
+    fn wants_exchanges(&self) -> bool {
+        matches!(self.mode, Mode::Exchanges | Mode::Vcd)
+    }
+}
+
+/// Writes what a line brings to a dump.
+fn draw(dump: &mut Dump, line: &Line<'_>, text: &mut String) -> Result<(), OutOfMemory>
+    ensures text { OnOk result (string_bytes text.new ≡ string_bytes text.old ++ drawn_line dump.old (line_of line.now)) }
+    ensures behind { OnOk result (dump.new ≡ drawing_after dump.old (line_of line.now)) }
+{
+    match line {
+        Line::Blf { .. } => push_head(text),
+        Line::Given(exchanged) => dump.push_exchange(text, exchanged),
+        Line::Done => dump.push_end(text),
+        _ => Ok(()),
+    }
+}

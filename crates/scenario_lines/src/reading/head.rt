@@ -1,0 +1,42 @@
+//! The lines above the tags that have one word behind their first field, read: the version of the text, and what the channel
+//! gives by default.
+ghost use Rattle.std.specs.Prelude.{◌≡◌, IfOk, IfErr, [], ◌∷◌};
+ghost use Rattle.air_events.specs.declared.Several.{Several};
+ghost use Rattle.text_fields.specs.NamedFields.{AreFilled};
+ghost use Rattle.scenario_lines.specs.declared.version.Version.{Version};
+ghost use Rattle.scenario_lines.specs.Names.{several_text, version_text};
+ghost use Rattle.scenario_lines.specs.Reading.{Misreads};
+
+use crate::names::several_named;
+use crate::{LineFault, Version};
+use air_events::Several;
+use text_fields::{Fields, one_field};
+
+/// The version that the field behind `gen2` spells.
+pub(crate) fn read_version(others: Fields) -> Result<Version, LineFault>
+    ensures ok { IfOk result (λ version. others.entry ≡ version_text version ∷ []) }
+    ensures only { (version : Version) → others.entry ≡ version_text version ∷ [] → result ≡ Ok version }
+    ensures refused { IfErr result (Misreads (AreFilled 1) (λ version. version_text version ∷ []) (λ (_ : Version). Unit {0}) others.entry) }
+{
+    match one_field(others) {
+        Some(b"1") => Ok(Version::One),
+        Some(b"2") => Ok(Version::Two),
+        Some(_) => Err(LineFault::Number),
+        None => Err(LineFault::Shape),
+    }
+}
+
+/// What the channel gives by default where several tags reply, which the field behind `default` spells.
+pub(crate) fn read_default(others: Fields) -> Result<Several, LineFault>
+    ensures ok { IfOk result (λ several. others.entry ≡ several_text several ∷ []) }
+    ensures only { (several : Several) → others.entry ≡ several_text several ∷ [] → result ≡ Ok several }
+    ensures refused { IfErr result (Misreads (AreFilled 1) (λ several. several_text several ∷ []) (λ (_ : Several). Unit {0}) others.entry) }
+{
+    let Some(field) = one_field(others) else {
+        return Err(LineFault::Shape);
+    };
+    match several_named(field) {
+        Some(several) => Ok(several),
+        None => Err(LineFault::Number),
+    }
+}

@@ -1,0 +1,88 @@
+-- The first faulty line of a text is the first line up to which its lines begin no scenario's text.
+use Rattle.std.proofs.Common.{◌≡◌, ◌≢◌, ℕ, ◌+◌, ◌<◌, ◌≤◌, List, [], ◌∷◌, ◌++◌, length, map, take, drop, inl, inr, sym, ◌∙◌, ap, subst, arith, append_assoc}
+use Rattle.std.proofs.lemmas.List.{length-append, map-append, take_all, take-append-drop, take-append-le}
+use Rattle.text_fields.specs.Lines.{lines_of}
+use Rattle.scenario_lines.specs.declared.line.Line.{Line}
+use Rattle.scenario_lines.specs.Spelling.{line_text}
+use Rattle.scenario_text.specs.declared.fault.Fault.{Fault}
+use Rattle.scenario.specs.ScenarioText.{scenario_lines}
+use Rattle.scenario_text.specs.Standing.{Leads, Standing, ended, start}
+use Rattle.scenario_text.specs.Draft.{scenario_of}
+use Rattle.scenario_text.specs.Faults.{IsFirstFault, Settles}
+use Rattle.scenario_text.specs.LineLaws.{LineLaws}
+use Rattle.scenario_text.specs.Beginnings.{BeginsScenario, BeginsText, FirstLinesBegin}
+use Rattle.scenario_text.proofs.Endings.{can_end}
+use Rattle.scenario_text.proofs.Leading.{leads_on}
+use Rattle.scenario_text.proofs.Places.{compare, some_behind}
+use Rattle.scenario_text.proofs.Reasons.{not_faulty}
+use Rattle.scenario_text.proofs.Settled.{said_scenario}
+use Rattle.scenario_text.proofs.Spoken.{scenario_is_said}
+
+-- lines that follow one another from the start begin a scenario
+pub said_begins : (said : List Line) (standing : Standing) → Leads start said standing → BeginsScenario said
+said_begins said standing leads =
+    let end = can_end standing in
+    let whole = said_scenario end.draft (said ++ end.more) (leads_on start standing (ended end.draft) said end.more leads end.leads) in
+    record { scenario = scenario_of end.draft; is = whole.1; more = end.more; lines = sym whole.0 }
+
+-- ... and so do the texts of the first ones among them
+settled_begins : (before : List (List ℕ)) (standing : Standing) (number : ℕ) → Settles before standing → BeginsText (take number before)
+settled_begins before standing number settles =
+    let begins = said_begins settles.said standing settles.leads in
+    let behind = map line_text begins.more in
+    record {
+      scenario = begins.scenario;
+      is = begins.is;
+      more = drop number before ++ behind;
+      texts = ap (map line_text) begins.lines ∙ map-append line_text settles.said begins.more
+          ∙ ap (λ (texts : List (List ℕ)). texts ++ behind) (sym settles.spelling ∙ sym (take-append-drop number before))
+          ∙ append_assoc (take number before) (drop number before) behind;
+    }
+
+-- how many lines there are, with the faulty one
+lines_there : (bytes : List ℕ) (number : ℕ) (fault : Fault) (first : IsFirstFault bytes number fault)
+    → length (lines_of bytes) ≡ length first.before + 1 + length first.behind
+lines_there bytes number fault first = ap length first.cut ∙ length-append first.before (first.line ∷ first.behind) ∙ omega arith
+
+-- the lines before the faulty one begin a scenario's text
+pub lines_before : (bytes : List ℕ) (number : ℕ) (fault : Fault) (below : ℕ) → IsFirstFault bytes number fault → below < number → FirstLinesBegin bytes below
+lines_before bytes number fault below first less =
+    let few : below ≤ length first.before = omega (arith, first.place) in
+    let same : take below (lines_of bytes) ≡ take below first.before =
+    ap (take below) first.cut ∙ take-append-le below first.before (first.line ∷ first.behind) few in
+    record {
+      ended = omega (arith, few, lines_there bytes number fault first);
+      begins = subst BeginsText (sym same) (settled_begins first.before first.standing below first.settles);
+    }
+
+-- the lines up to a faulty one that has its line feed
+upto_fault : (bytes : List ℕ) (number : ℕ) (fault : Fault) (first : IsFirstFault bytes number fault)
+    → take number (lines_of bytes) ≡ first.before ++ first.line ∷ []
+upto_fault bytes number fault first =
+    let upto = first.before ++ first.line ∷ [] in
+    let count : length upto ≡ number = omega (arith, first.place, length-append first.before (first.line ∷ [])) in
+    ap (take number) (first.cut ∙ sym (append_assoc first.before (first.line ∷ []) first.behind))
+    ∙ take-append-le number upto first.behind (omega (arith, count)) ∙ take_all number upto (omega (arith, count))
+
+-- the lines up to the faulty one begin no scenario's text, or the faulty one has no line feed
+pub lines_upto : LineLaws → (bytes : List ℕ) (number : ℕ) (fault : Fault) → IsFirstFault bytes number fault → ¬ FirstLinesBegin bytes number
+lines_upto laws bytes number fault first = λ upto.
+    let some : first.behind ≢ [] = λ none. omega (arith, upto.ended, first.place, lines_there bytes number fault first, ap length none) in
+    let begins = upto.begins in
+    let said = first.settles.said in
+    let lines = scenario_lines begins.scenario in
+    let spoken = scenario_is_said begins.scenario begins.is in
+    let texts : map line_text lines ≡ map line_text said ++ first.line ∷ begins.more =
+    begins.texts ∙ ap (λ (front : List (List ℕ)). front ++ begins.more) (upto_fault bytes number fault first)
+    ∙ append_assoc first.before (first.line ∷ []) begins.more
+    ∙ ap (λ (before : List (List ℕ)). before ++ first.line ∷ begins.more) first.settles.spelling in
+    let same : map line_text said ++ first.line ∷ (begins.more ++ [] ∷ []) ≡ map line_text lines ++ [] ∷ [] =
+    sym (append_assoc (map line_text said) (first.line ∷ begins.more) ([] ∷ [])) ∙ ap (λ (front : List (List ℕ)). front ++ [] ∷ []) (sym texts) in
+    elim (compare laws start said lines
+    (record { line = first.line; behind = begins.more ++ [] ∷ []; to = first.standing; leads = first.settles.leads })
+    (record { line = []; behind = []; to = ended spoken.draft; leads = spoken.leads }) same) [
+      | inl place ↦ some_behind begins.more [] [] place.behind_is
+      | inr (inl goes) ↦ not_faulty laws first.behind first.standing first.line fault
+          (record { next = goes.next; text = goes.text; follows = goes.follows; more = some }) first.faulty
+      | inr (inr goes) ↦ goes.follows.stands
+    ]

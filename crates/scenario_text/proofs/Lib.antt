@@ -1,0 +1,16 @@
+pub mod Leading
+pub mod Counts
+pub mod Settled
+pub mod Spoken
+pub mod Taken
+pub mod Texts
+pub mod Reader
+pub mod Endings
+pub mod ToldApart
+pub mod Places
+pub mod Reasons
+pub mod OneFault
+pub mod FirstLines
+pub mod Decisions
+pub mod SomeFault
+pub mod LinesBefore

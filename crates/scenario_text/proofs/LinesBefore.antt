@@ -1,0 +1,572 @@
+-- What a scenario has settled behind some lines says the same of the next line as those lines do.
+use Rattle.std.proofs.Common.{◌≡◌, ◌≢◌, ℕ, zero, suc, ◌+◌, ◌<◌, ◌≤◌, ◌==◌, ◌↔◌, Bool, true, false, List, [], ◌∷◌, ◌++◌, length, filter, Option, Some, None, if◌then◌else◌, refl, sym, ◌∙◌, ap, subst, arith, append_assoc, append-nil}
+use Rattle.std.proofs.lemmas.Bool.{eqb-true, eqb-false}
+use Rattle.std.proofs.lemmas.List.{length-append}
+use Rattle.std.proofs.lemmas.List.Elements.{filter-append}
+use Rattle.std.specs.List.{AllByRecursion}
+use Rattle.access_ops.specs.declared.OpList.{OpList}
+use Rattle.air_events.specs.Entries.{no_entry}
+use Rattle.air_events.specs.declared.Entry.{Entry}
+use Rattle.air_events.specs.declared.Choice.{Choice}
+use Rattle.q_round.specs.SpecValue.{SpecValue}
+use Rattle.scenario_lines.specs.declared.fault.LineFault.TheVariants as line_faults
+use Rattle.scenario_lines.specs.declared.version.Version.{Version}
+use Rattle.scenario_lines.specs.declared.version.Version.TheVariants.{One, Two}
+use Rattle.scenario_lines.specs.declared.first_fields.Keyword.{Keyword}
+use Rattle.scenario_lines.specs.declared.first_fields.Keyword.TheVariants as keywords
+use Rattle.scenario_lines.specs.declared.line.Happening.{Happening}
+use Rattle.scenario_lines.specs.declared.line.Happening.TheVariants as happenings
+use Rattle.scenario_lines.specs.declared.line.Line.{Line}
+use Rattle.scenario_lines.specs.declared.line.Line.TheVariants as lines
+use Rattle.scenario_text.specs.declared.fault.Fault.{Fault}
+use Rattle.scenario_text.specs.declared.fault.Fault.TheVariants as faults
+use Rattle.scenario.specs.declared.values.Step.{Step}
+use Rattle.scenario.specs.Limits.{most_tags_of, most_air_lines, most_ops, most_steps}
+use Rattle.scenario_text.specs.Draft.{DraftValue, HeadValue, new_draft, draft_after, tag_count}
+use Rattle.scenario_text.specs.Standing.{Standing, start, begun, first_head, linked, second_head, within, ended, after, Follows, Leads, HasRoom, IsOfVersion, MayCopy, NamesTag}
+use Rattle.scenario_text.specs.AirLines.{at_exchange, with_said, with_happening, MayFollow, KeepsOrder, ChoosesOnce}
+use Rattle.scenario_text.specs.StepLines.{with_last, steps_of}
+use Rattle.scenario_text.specs.Faults.{DisagreesBy}
+use Rattle.scenario_text.proofs.Counts.{tags_more}
+use Rattle.scenario_text.specs.LinesBefore.{is_air, is_step, tags_by, tags_in, version_in, airs_in, steps_in, ops_behind, IsFullBefore, turn_of, ComesBefore, ChoosesOther, KeepsOrderBehind, ChoosesFirst, DisagreesWith}
+
+-- lists with one more
+
+all-push : {A : Type 0} (P : A → Type 0) (xs : List A) (x : A) → AllByRecursion P xs → P x → AllByRecursion P (xs ++ x ∷ [])
+all-push P [] x all last = (last, tt)
+all-push P (first ∷ xs) x all last = (all.0, all-push P xs x all.1 last)
+
+all-front : {A : Type 0} (P : A → Type 0) (xs : List A) (x : A) → AllByRecursion P (xs ++ x ∷ []) → AllByRecursion P xs
+all-front P [] x all = tt
+all-front P (first ∷ xs) x all = (all.0, all-front P xs x all.1)
+
+all-last : {A : Type 0} (P : A → Type 0) (xs : List A) (x : A) → AllByRecursion P (xs ++ x ∷ []) → P x
+all-last P [] x all = all.0
+all-last P (first ∷ xs) x all = all-last P xs x all.1
+
+-- how many lines of a kind one line is
+abbrev airs_one : Line → ℕ
+airs_one line = airs_in (line ∷ [])
+
+abbrev steps_one : Line → ℕ
+steps_one line = steps_in (line ∷ [])
+
+-- a line more is counted last
+count-push : (counts : Line → Bool) (before : List Line) (line : Line)
+    → length (filter counts (before ++ line ∷ [])) ≡ length (filter counts before) + length (filter counts (line ∷ []))
+count-push counts before line = ap length (filter-append counts before (line ∷ [])) ∙ length-append (filter counts before) (filter counts (line ∷ []))
+
+tags-push : (before : List Line) (line : Line) → tags_in (before ++ line ∷ []) ≡ tags_in before + tags_by line
+tags-push [] line = omega arith
+tags-push (first ∷ before) line = omega (arith, tags-push before line)
+
+airs-push : (before : List Line) (line : Line) → airs_in (before ++ line ∷ []) ≡ airs_in before + airs_one line
+airs-push = count-push is_air
+
+steps-push : (before : List Line) (line : Line) → steps_in (before ++ line ∷ []) ≡ steps_in before + steps_one line
+steps-push = count-push is_step
+
+ops-push : (count : ℕ) (before : List Line) (line : Line) → ops_behind count (before ++ line ∷ []) ≡ ops_behind (ops_behind count before) (line ∷ [])
+ops-push count [] line = refl
+ops-push count (lines.Version version ∷ before) line = ops-push count before line
+ops-push count (lines.Link link ∷ before) line = ops-push count before line
+ops-push count (lines.Default several ∷ before) line = ops-push count before line
+ops-push count (lines.Tag tag ∷ before) line = ops-push count before line
+ops-push count (lines.Copies copies tag ∷ before) line = ops-push count before line
+ops-push count (lines.Air exchange happening ∷ before) line = ops-push count before line
+ops-push count (lines.Select selection ∷ before) line = ops-push 0 before line
+ops-push count (lines.Nak ∷ before) line = ops-push 0 before line
+ops-push count (lines.Event event tag ∷ before) line = ops-push 0 before line
+ops-push count (lines.Round version spec ∷ before) line = ops-push 0 before line
+ops-push count (lines.Only epc ∷ before) line = ops-push count before line
+ops-push count (lines.Op op ∷ before) line = ops-push (count + 1) before line
+ops-push count (lines.End ∷ before) line = ops-push count before line
+
+-- what is said of one exchange
+
+-- one thing more leaves its turn to what comes no earlier
+may-still : (entry : Entry) (said happening : Happening) → MayFollow entry happening → turn_of said ≤ turn_of happening → MayFollow (with_happening entry said) happening
+may-still entry (happenings.Event event tag) (happenings.Event event' tag') may turn = may
+may-still entry (happenings.Event event tag) (happenings.Miss tag') may turn = may
+may-still entry (happenings.Event event tag) (happenings.Choice choice') may turn = tt
+may-still entry (happenings.Miss tag) (happenings.Event event' tag') may turn = absurd (omega (arith, turn))
+may-still entry (happenings.Miss tag) (happenings.Miss tag') may turn = may
+may-still entry (happenings.Miss tag) (happenings.Choice choice') may turn = tt
+may-still entry (happenings.Choice choice) (happenings.Event event' tag') may turn = absurd (omega (arith, turn))
+may-still entry (happenings.Choice choice) (happenings.Miss tag') may turn = absurd (omega (arith, turn))
+may-still entry (happenings.Choice choice) (happenings.Choice choice') may turn = tt
+
+-- not empty with one more
+not-none : {A : Type 0} (xs : List A) (x : A) → xs ++ x ∷ [] ≡ [] → ⊥
+not-none [] x none = cc
+not-none (first ∷ xs) x none = cc
+
+some-none : (choice : Choice) → Some choice ≡ None → ⊥
+some-none choice same = cc
+
+-- ... and what may follow it comes no earlier
+turn-kept : (entry : Entry) (said happening : Happening) → MayFollow (with_happening entry said) happening → turn_of said ≤ turn_of happening
+turn-kept entry (happenings.Event event tag) happening may = omega arith
+turn-kept entry (happenings.Miss tag) (happenings.Event event' tag') may = absurd (not-none entry.missed tag may.0)
+turn-kept entry (happenings.Miss tag) (happenings.Miss tag') may = omega arith
+turn-kept entry (happenings.Miss tag) (happenings.Choice choice') may = omega arith
+turn-kept entry (happenings.Choice choice) (happenings.Event event' tag') may = absurd (some-none choice may.1)
+turn-kept entry (happenings.Choice choice) (happenings.Miss tag') may = absurd (some-none choice may)
+turn-kept entry (happenings.Choice choice) (happenings.Choice choice') may = omega arith
+
+-- ... and could follow before
+may-before : (entry : Entry) (said happening : Happening) → MayFollow (with_happening entry said) happening → MayFollow entry happening
+may-before entry (happenings.Event event tag) (happenings.Event event' tag') may = may
+may-before entry (happenings.Event event tag) (happenings.Miss tag') may = may
+may-before entry (happenings.Event event tag) (happenings.Choice choice') may = tt
+may-before entry (happenings.Miss tag) (happenings.Event event' tag') may = absurd (not-none entry.missed tag may.0)
+may-before entry (happenings.Miss tag) (happenings.Miss tag') may = may
+may-before entry (happenings.Miss tag) (happenings.Choice choice') may = tt
+may-before entry (happenings.Choice choice) (happenings.Event event' tag') may = absurd (some-none choice may.1)
+may-before entry (happenings.Choice choice) (happenings.Miss tag') may = absurd (some-none choice may)
+may-before entry (happenings.Choice choice) (happenings.Choice choice') may = tt
+
+nothing-said : (happening : Happening) → MayFollow no_entry happening
+nothing-said (happenings.Event event tag) = (refl, refl)
+nothing-said (happenings.Miss tag) = refl
+nothing-said (happenings.Choice choice) = tt
+
+-- an exchange has no choice with one thing more where it had none, and that is none
+choice-of : (entry : Entry) (said : Happening) (exchange number : ℕ) → exchange ≡ number → entry.choice ≡ None → ChoosesOther number (lines.Air exchange said) → (with_happening entry said).choice ≡ None
+choice-of entry (happenings.Event event tag) exchange number same none other = none
+choice-of entry (happenings.Miss tag) exchange number same none other = none
+choice-of entry (happenings.Choice choice) exchange number same none other = absurd (other same)
+
+-- ... and where it has none, that was none
+no-choice : (entry : Entry) (said : Happening) (exchange number : ℕ) → (number ≡ exchange → (with_happening entry said).choice ≡ None) → ChoosesOther number (lines.Air exchange said)
+no-choice entry (happenings.Event event tag) exchange number none = tt
+no-choice entry (happenings.Miss tag) exchange number none = tt
+no-choice entry (happenings.Choice choice) exchange number none = λ same. some-none choice (none (sym same))
+
+choice-before : (entry : Entry) (said : Happening) → (with_happening entry said).choice ≡ None → entry.choice ≡ None
+choice-before entry (happenings.Event event tag) none = none
+choice-before entry (happenings.Miss tag) none = none
+choice-before entry (happenings.Choice choice) none = absurd (some-none choice none)
+
+-- What the number of the last exchange and what is said of it tell of the next air line, and what the lines before it do.
+record TellsAirs (before : List Line) (last : ℕ) (latest : Entry) : Type 0 where
+  order : (exchange : ℕ) (happening : Happening) → last ≤ exchange → (exchange ≡ last → MayFollow latest happening) → AllByRecursion (ComesBefore exchange happening) before
+  above : (exchange : ℕ) (happening : Happening) → AllByRecursion (ComesBefore exchange happening) before → last ≤ exchange
+  may : (exchange : ℕ) (happening : Happening) → AllByRecursion (ComesBefore exchange happening) before → exchange ≡ last → MayFollow latest happening
+  once : (exchange : ℕ) → last ≤ exchange → (exchange ≡ last → latest.choice ≡ None) → AllByRecursion (ChoosesOther exchange) before
+  chosen : (exchange : ℕ) → AllByRecursion (ChoosesOther exchange) before → exchange ≡ last → latest.choice ≡ None
+
+-- a line that is no air line changes nothing of that
+airs-kept : (before : List Line) (last : ℕ) (latest : Entry) (line : Line) → ((exchange : ℕ) (happening : Happening) → ComesBefore exchange happening line)
+    → ((exchange : ℕ) → ChoosesOther exchange line) → TellsAirs before last latest → TellsAirs (before ++ line ∷ []) last latest
+airs-kept before last latest line comes other told = record {
+  order = λ exchange happening above may. all-push (ComesBefore exchange happening) before line (told.order exchange happening above may) (comes exchange happening);
+  above = λ exchange happening all. told.above exchange happening (all-front (ComesBefore exchange happening) before line all);
+  may = λ exchange happening all same. told.may exchange happening (all-front (ComesBefore exchange happening) before line all) same;
+  once = λ exchange above none. all-push (ChoosesOther exchange) before line (told.once exchange above none) (other exchange);
+  chosen = λ exchange all same. told.chosen exchange (all-front (ChoosesOther exchange) before line all) same;
+}
+
+-- one thing more of the last exchange
+airs-same : (before : List Line) (last : ℕ) (latest : Entry) (said : Happening) → TellsAirs before last latest
+    → TellsAirs (before ++ lines.Air last said ∷ []) last (with_happening latest said)
+airs-same before last latest said told =
+    let line = lines.Air last said in
+    record {
+      order = λ exchange happening above may.
+          all-push (ComesBefore exchange happening) before line (told.order exchange happening above (λ same. may-before latest said happening (may same)))
+          (above, λ same. turn-kept latest said happening (may (sym same)));
+      above = λ exchange happening all. told.above exchange happening (all-front (ComesBefore exchange happening) before line all);
+      may = λ exchange happening all same.
+          may-still latest said happening (told.may exchange happening (all-front (ComesBefore exchange happening) before line all) same)
+          ((all-last (ComesBefore exchange happening) before line all).1 (sym same));
+      once = λ exchange above none.
+          all-push (ChoosesOther exchange) before line (told.once exchange above (λ same. choice-before latest said (none same))) (no-choice latest said last exchange none);
+      chosen = λ exchange all same.
+          choice-of latest said last exchange (sym same) (told.chosen exchange (all-front (ChoosesOther exchange) before line all) same)
+          (all-last (ChoosesOther exchange) before line all);
+    }
+
+-- the first of another exchange
+airs-next : (before : List Line) (last next : ℕ) (latest : Entry) (said : Happening) → last < next → TellsAirs before last latest
+    → TellsAirs (before ++ lines.Air next said ∷ []) next (with_happening no_entry said)
+airs-next before last next latest said later told =
+    let line = lines.Air next said in
+    record {
+      order = λ exchange happening above may.
+          all-push (ComesBefore exchange happening) before line (told.order exchange happening (omega (arith, later, above)) (λ same. absurd (omega (arith, later, above, same))))
+          (above, λ same. turn-kept no_entry said happening (may (sym same)));
+      above = λ exchange happening all. (all-last (ComesBefore exchange happening) before line all).0;
+      may = λ exchange happening all same. may-still no_entry said happening (nothing-said happening) ((all-last (ComesBefore exchange happening) before line all).1 (sym same));
+      once = λ exchange above none.
+          all-push (ChoosesOther exchange) before line (told.once exchange (omega (arith, later, above)) (λ same. absurd (omega (arith, later, above, same))))
+          (no-choice no_entry said next exchange none);
+      chosen = λ exchange all same. choice-of no_entry said next exchange (sym same) refl (all-last (ChoosesOther exchange) before line all);
+    }
+
+-- What a draft tells of the next line, and what the lines before it do.
+record Tells (before : List Line) (draft : DraftValue) : Type 0 where
+  behind : List Line
+  first : before ≡ lines.Version draft.head.version ∷ behind
+  tags : tag_count draft ≡ tags_in before
+  airs : draft.air.count ≡ airs_in before
+  steps : length (steps_of draft.steps) ≡ steps_in before
+  ops : length draft.steps.operations.ops ≡ ops_behind 0 before
+  exchanges : TellsAirs before draft.air.exchange draft.air.latest
+
+length-push : {A : Type 0} (xs : List A) (x : A) → length (xs ++ x ∷ []) ≡ length xs + 1
+length-push [] x = refl
+length-push (first ∷ xs) x = let rest = length-push xs x in omega (arith, rest)
+
+-- a last step has one place, whatever its operations are
+last-same : (before : List Step) (round : Option SpecValue) (operations operations' : OpList) → length (with_last before round operations) ≡ length (with_last before round operations')
+last-same before None operations operations' = refl
+last-same before (Some spec) operations operations' = length-push before _ ∙ sym (length-push before _)
+
+-- what a draft has more after one line
+record Adds (line : Line) (draft grows : DraftValue) : Type 0 where
+  head : grows.head ≡ draft.head
+  tags : tag_count grows ≡ tag_count draft + tags_by line
+  airs : grows.air.count ≡ draft.air.count + airs_one line
+  steps : length (steps_of grows.steps) ≡ length (steps_of draft.steps) + steps_one line
+  ops : length grows.steps.operations.ops ≡ ops_behind (length draft.steps.operations.ops) (line ∷ [])
+
+tells-more : (before : List Line) (draft : DraftValue) (line : Line) (grows : DraftValue) → Tells before draft → Adds line draft grows
+    → TellsAirs (before ++ line ∷ []) grows.air.exchange grows.air.latest → Tells (before ++ line ∷ []) grows
+tells-more before draft line grows told adds exchanges = record {
+  behind = told.behind ++ line ∷ [];
+  first = ap (λ (list : List Line). list ++ line ∷ []) told.first
+      ∙ ap (λ (head : HeadValue). lines.Version head.version ∷ told.behind ++ line ∷ []) (sym adds.head);
+  tags = omega (arith, adds.tags, told.tags, tags-push before line);
+  airs = omega (arith, adds.airs, told.airs, airs-push before line);
+  steps = omega (arith, adds.steps, told.steps, steps-push before line);
+  ops = adds.ops ∙ ap (λ count. ops_behind count (line ∷ [])) told.ops ∙ sym (ops-push 0 before line);
+  exchanges = exchanges;
+}
+
+-- an air line more
+adds-air : (draft : DraftValue) (exchange : ℕ) (said : Happening) (closed : List (ℕ × Entry)) (number : ℕ) (latest : Entry)
+    → Adds (lines.Air exchange said) draft (record draft { air = record { count = draft.air.count + 1; closed = closed; exchange = number; latest = latest } })
+adds-air draft exchange said closed number latest = record { head = refl; tags = omega arith; airs = refl; steps = omega arith; ops = refl }
+
+above-not : (last next : ℕ) → last ≤ next → next ≢ last → last < next
+above-not zero zero above differs = absurd (differs refl)
+above-not zero (suc next) above differs = omega arith
+above-not (suc last) zero above differs = absurd (omega (arith, above))
+above-not (suc last) (suc next) above differs =
+    let less = above-not last next (omega (arith, above)) (λ same. differs (ap suc same)) in omega (arith, less)
+
+air-draft_after : (before : List Line) (draft : DraftValue) (exchange : ℕ) (said : Happening) (same : Bool) → (exchange == draft.air.exchange) ≡ same → draft.air.exchange ≤ exchange → Tells before draft
+    → let counted = record draft.air { count = draft.air.count + 1 } in
+    Tells (before ++ lines.Air exchange said ∷ []) (record draft { air = if same then with_said counted said else with_said (at_exchange counted exchange) said })
+air-draft_after before draft exchange said true is above told =
+    let counted = record draft.air { count = draft.air.count + 1 } in
+    tells-more before draft (lines.Air exchange said) (record draft { air = with_said counted said }) told (adds-air draft exchange said _ _ _)
+    (subst (λ (n : ℕ). TellsAirs (before ++ lines.Air n said ∷ []) draft.air.exchange (with_happening draft.air.latest said)) (sym (eqb-true exchange draft.air.exchange is))
+    (airs-same before draft.air.exchange draft.air.latest said told.exchanges))
+air-draft_after before draft exchange said false is above told =
+    let counted = record draft.air { count = draft.air.count + 1 } in
+    let differs : exchange ≢ draft.air.exchange = eqb-false exchange draft.air.exchange is in
+    tells-more before draft (lines.Air exchange said) (record draft { air = with_said (at_exchange counted exchange) said }) told
+    (adds-air draft exchange said _ _ _)
+    (airs-next before draft.air.exchange exchange draft.air.latest said (above-not draft.air.exchange exchange above differs) told.exchanges)
+
+-- the same of any place in a scenario
+abbrev Stands : List Line → Standing → Type 0
+Stands before start = before ≡ []
+Stands before (begun version) = before ≡ lines.Version version ∷ []
+Stands before (linked link) = before ≡ lines.Version Two ∷ lines.Link link ∷ []
+Stands before (within draft) = Tells before draft
+Stands before (ended draft) = Unit {0}
+
+-- one line more
+tells-one : (before : List Line) (draft : DraftValue) (line : Line) → Follows (within draft) line → Tells before draft → Stands (before ++ line ∷ []) (after (within draft) line)
+tells-one before draft (lines.Version version) follows told = absurd follows.stands
+tells-one before draft (lines.Link link) follows told = absurd follows.stands
+tells-one before draft (lines.Default several) follows told = absurd follows.stands
+tells-one before draft (lines.Tag tag) follows told =
+    let line = lines.Tag tag in
+    tells-more before draft line (draft_after draft line) told
+    (record { head = refl; tags = tags_more draft.groups _ (record { count = 1; spec = tag }) refl; airs = omega arith; steps = omega arith; ops = refl })
+    (airs-kept before draft.air.exchange draft.air.latest line (λ exchange happening. tt) (λ exchange. tt) told.exchanges)
+tells-one before draft (lines.Copies count tag) follows told =
+    let line = lines.Copies count tag in
+    tells-more before draft line (draft_after draft line) told
+    (record { head = refl; tags = tags_more draft.groups _ (record { count = count; spec = tag }) refl; airs = omega arith; steps = omega arith; ops = refl })
+    (airs-kept before draft.air.exchange draft.air.latest line (λ exchange happening. tt) (λ exchange. tt) told.exchanges)
+tells-one before draft (lines.Air exchange said) follows told = air-draft_after before draft exchange said (exchange == draft.air.exchange) refl follows.agrees.order.0 told
+tells-one before draft (lines.Select selection) follows told =
+    let line = lines.Select selection in
+    tells-more before draft line (draft_after draft line) told
+    (record { head = refl; tags = omega arith; airs = omega arith; steps = length-push (steps_of draft.steps) _; ops = refl })
+    (airs-kept before draft.air.exchange draft.air.latest line (λ exchange happening. tt) (λ exchange. tt) told.exchanges)
+tells-one before draft lines.Nak follows told =
+    let line = lines.Nak in
+    tells-more before draft line (draft_after draft line) told
+    (record { head = refl; tags = omega arith; airs = omega arith; steps = length-push (steps_of draft.steps) _; ops = refl })
+    (airs-kept before draft.air.exchange draft.air.latest line (λ exchange happening. tt) (λ exchange. tt) told.exchanges)
+tells-one before draft (lines.Event event tag) follows told =
+    let line = lines.Event event tag in
+    tells-more before draft line (draft_after draft line) told
+    (record { head = refl; tags = omega arith; airs = omega arith; steps = length-push (steps_of draft.steps) _; ops = refl })
+    (airs-kept before draft.air.exchange draft.air.latest line (λ exchange happening. tt) (λ exchange. tt) told.exchanges)
+tells-one before draft (lines.Round version spec) follows told =
+    let line = lines.Round version spec in
+    tells-more before draft line (draft_after draft line) told
+    (record { head = refl; tags = omega arith; airs = omega arith; steps = length-push (steps_of draft.steps) _; ops = refl })
+    (airs-kept before draft.air.exchange draft.air.latest line (λ exchange happening. tt) (λ exchange. tt) told.exchanges)
+tells-one before draft (lines.Only epc) follows told =
+    let line = lines.Only epc in
+    let operations : OpList = record { only = Some epc; ops = draft.steps.operations.ops } in
+    tells-more before draft line (draft_after draft line) told
+    (record {
+      head = refl;
+      tags = omega arith;
+      airs = omega arith;
+      steps = omega (arith, last-same draft.steps.closed draft.steps.round operations draft.steps.operations);
+      ops = refl;
+    })
+    (airs-kept before draft.air.exchange draft.air.latest line (λ exchange happening. tt) (λ exchange. tt) told.exchanges)
+tells-one before draft (lines.Op op) follows told =
+    let line = lines.Op op in
+    let operations : OpList = record { only = draft.steps.operations.only; ops = draft.steps.operations.ops ++ op ∷ [] } in
+    tells-more before draft line (draft_after draft line) told
+    (record {
+      head = refl;
+      tags = omega arith;
+      airs = omega arith;
+      steps = omega (arith, last-same draft.steps.closed draft.steps.round operations draft.steps.operations);
+      ops = length-push draft.steps.operations.ops op;
+    })
+    (airs-kept before draft.air.exchange draft.air.latest line (λ exchange happening. tt) (λ exchange. tt) told.exchanges)
+tells-one before draft lines.End follows told = tt
+
+stands-first : (before : List Line) (line : Line) → Follows start line → before ≡ [] → Stands (before ++ line ∷ []) (after start line)
+stands-first before (lines.Version version) follows none = ap (λ (b : List Line). b ++ lines.Version version ∷ []) none
+stands-first before (lines.Link link) follows none = absurd follows.stands
+stands-first before (lines.Default several) follows none = absurd follows.stands
+stands-first before (lines.Tag tag) follows none = absurd follows.stands
+stands-first before (lines.Copies count tag) follows none = absurd follows.stands
+stands-first before (lines.Air exchange happening) follows none = absurd follows.stands
+stands-first before (lines.Select selection) follows none = absurd follows.stands
+stands-first before lines.Nak follows none = absurd follows.stands
+stands-first before (lines.Event event tag) follows none = absurd follows.stands
+stands-first before (lines.Round version spec) follows none = absurd follows.stands
+stands-first before (lines.Only epc) follows none = absurd follows.stands
+stands-first before (lines.Op op) follows none = absurd follows.stands
+stands-first before lines.End follows none = absurd follows.stands
+
+-- behind the head nothing is settled
+record IsHead (before : List Line) (version : Version) : Type 0 where
+  behind : List Line
+  first : before ≡ lines.Version version ∷ behind
+  tags : tags_in before ≡ 0
+  airs : airs_in before ≡ 0
+  steps : steps_in before ≡ 0
+  ops : ops_behind 0 before ≡ 0
+  order : (exchange : ℕ) (happening : Happening) → AllByRecursion (ComesBefore exchange happening) before
+  once : (exchange : ℕ) → AllByRecursion (ChoosesOther exchange) before
+
+tells-none : (before : List Line) (head : HeadValue) → IsHead before head.version → Tells before (new_draft head)
+tells-none before head is = record {
+  behind = is.behind;
+  first = is.first;
+  tags = sym is.tags;
+  airs = sym is.airs;
+  steps = sym is.steps;
+  ops = sym is.ops;
+  exchanges = record {
+    order = λ exchange happening above may. is.order exchange happening;
+    above = λ exchange happening all. omega arith;
+    may = λ exchange happening all same. nothing-said happening;
+    once = λ exchange above none. is.once exchange;
+    chosen = λ exchange all same. refl;
+  };
+}
+
+first-head-lines : (link : _) → IsHead (lines.Version One ∷ lines.Link link ∷ []) One
+first-head-lines link = record {
+  behind = lines.Link link ∷ [];
+  first = refl;
+  tags = refl;
+  airs = refl;
+  steps = refl;
+  ops = refl;
+  order = λ exchange happening. (tt, (tt, tt));
+  once = λ exchange. (tt, (tt, tt));
+}
+
+second-head-lines : (link : _) (several : _) → IsHead (lines.Version Two ∷ lines.Link link ∷ lines.Default several ∷ []) Two
+second-head-lines link several = record {
+  behind = lines.Link link ∷ lines.Default several ∷ [];
+  first = refl;
+  tags = refl;
+  airs = refl;
+  steps = refl;
+  ops = refl;
+  order = λ exchange happening. (tt, (tt, (tt, tt)));
+  once = λ exchange. (tt, (tt, (tt, tt)));
+}
+
+stands-second : (before : List Line) (version : Version) (line : Line) → Follows (begun version) line → before ≡ lines.Version version ∷ []
+    → Stands (before ++ line ∷ []) (after (begun version) line)
+stands-second before version (lines.Version other) follows is = absurd follows.stands
+stands-second before One (lines.Link link) follows is =
+    subst (λ (b : List Line). Tells (b ++ lines.Link link ∷ []) (new_draft (first_head link))) (sym is)
+    (tells-none _ (first_head link) (first-head-lines link))
+stands-second before Two (lines.Link link) follows is = ap (λ (b : List Line). b ++ lines.Link link ∷ []) is
+stands-second before version (lines.Default several) follows is = absurd follows.stands
+stands-second before version (lines.Tag tag) follows is = absurd follows.stands
+stands-second before version (lines.Copies count tag) follows is = absurd follows.stands
+stands-second before version (lines.Air exchange happening) follows is = absurd follows.stands
+stands-second before version (lines.Select selection) follows is = absurd follows.stands
+stands-second before version lines.Nak follows is = absurd follows.stands
+stands-second before version (lines.Event event tag) follows is = absurd follows.stands
+stands-second before version (lines.Round other spec) follows is = absurd follows.stands
+stands-second before version (lines.Only epc) follows is = absurd follows.stands
+stands-second before version (lines.Op op) follows is = absurd follows.stands
+stands-second before version lines.End follows is = absurd follows.stands
+
+stands-third : (before : List Line) (link : _) (line : Line) → Follows (linked link) line → before ≡ lines.Version Two ∷ lines.Link link ∷ []
+    → Stands (before ++ line ∷ []) (after (linked link) line)
+stands-third before link (lines.Version version) follows is = absurd follows.stands
+stands-third before link (lines.Link other) follows is = absurd follows.stands
+stands-third before link (lines.Default several) follows is =
+    subst (λ (b : List Line). Tells (b ++ lines.Default several ∷ []) (new_draft (second_head link several))) (sym is)
+    (tells-none _ (second_head link several) (second-head-lines link several))
+stands-third before link (lines.Tag tag) follows is = absurd follows.stands
+stands-third before link (lines.Copies count tag) follows is = absurd follows.stands
+stands-third before link (lines.Air exchange happening) follows is = absurd follows.stands
+stands-third before link (lines.Select selection) follows is = absurd follows.stands
+stands-third before link lines.Nak follows is = absurd follows.stands
+stands-third before link (lines.Event event tag) follows is = absurd follows.stands
+stands-third before link (lines.Round version spec) follows is = absurd follows.stands
+stands-third before link (lines.Only epc) follows is = absurd follows.stands
+stands-third before link (lines.Op op) follows is = absurd follows.stands
+stands-third before link lines.End follows is = absurd follows.stands
+
+stands-one : (before : List Line) (from : Standing) (line : Line) → Follows from line → Stands before from → Stands (before ++ line ∷ []) (after from line)
+stands-one before start line follows stands = stands-first before line follows stands
+stands-one before (begun version) line follows stands = stands-second before version line follows stands
+stands-one before (linked link) line follows stands = stands-third before link line follows stands
+stands-one before (within draft) line follows stands = tells-one before draft line follows stands
+stands-one before (ended draft) line follows stands = absurd follows.stands
+
+stands-behind : (before said : List Line) (from to : Standing) → Leads from said to → Stands before from → Stands (before ++ said) to
+stands-behind before [] from to leads stands = subst (λ (b : List Line). Stands b to) (sym (append-nil before)) (subst (Stands before) leads stands)
+stands-behind before (line ∷ said) from to leads stands =
+    subst (λ (b : List Line). Stands b to) (append_assoc before (line ∷ []) said)
+    (stands-behind (before ++ line ∷ []) said (after from line) to leads.1 (stands-one before from line leads.0 stands))
+
+tells : (said : List Line) (draft : DraftValue) → Leads start said (within draft) → Tells said draft
+tells said draft leads = stands-behind [] said start (within draft) leads refl
+
+-- there is room exactly where the lines before are not full
+less-or-not : (count most : ℕ) → (¬ (most ≤ count)) → count < most
+less-or-not zero zero few = absurd (few (omega arith))
+less-or-not zero (suc most) few = omega arith
+less-or-not (suc count) zero few = absurd (few (omega arith))
+less-or-not (suc count) (suc most) few = let less = less-or-not count most (λ full. few (omega (arith, full))) in omega (arith, less)
+
+room-or-full : (count counted most : ℕ) → count ≡ counted → (count < most) ↔ (¬ (most ≤ counted))
+room-or-full count counted most same =
+    (λ room full. absurd (omega (arith, same, room, full)), λ few. less-or-not count most (λ full. few (omega (arith, same, full))))
+
+always : {A : Type 0} → A → A ↔ (¬ ⊥)
+always value = (λ any none. none, λ any. value)
+
+-- the version is that of the first line
+version-told : (said : List Line) (draft : DraftValue) → Tells said draft → version_in said ≡ draft.head.version
+version-told said draft told = ap version_in told.first
+
+room-for-tags : (said : List Line) (draft : DraftValue) → Tells said draft
+    → (tag_count draft < most_tags_of draft.head.version) ↔ (¬ (most_tags_of (version_in said) ≤ tags_in said))
+room-for-tags said draft told =
+    rw (version-told said draft told) (room-or-full (tag_count draft) (tags_in said) (most_tags_of draft.head.version) told.tags)
+
+pub has-room : (said : List Line) (draft : DraftValue) (keyword : Keyword) → Leads start said (within draft) → HasRoom (within draft) keyword ↔ (¬ IsFullBefore said keyword)
+has-room said draft keywords.Version leads = always tt
+has-room said draft keywords.Link leads = always tt
+has-room said draft keywords.Default leads = always tt
+has-room said draft keywords.Tag leads = room-for-tags said draft (tells said draft leads)
+has-room said draft keywords.Copies leads = room-for-tags said draft (tells said draft leads)
+has-room said draft keywords.Air leads = room-or-full draft.air.count (airs_in said) most_air_lines (tells said draft leads).airs
+has-room said draft keywords.Select leads = room-or-full (length (steps_of draft.steps)) (steps_in said) most_steps (tells said draft leads).steps
+has-room said draft keywords.Nak leads = room-or-full (length (steps_of draft.steps)) (steps_in said) most_steps (tells said draft leads).steps
+has-room said draft keywords.Event leads = room-or-full (length (steps_of draft.steps)) (steps_in said) most_steps (tells said draft leads).steps
+has-room said draft keywords.Round leads = room-or-full (length (steps_of draft.steps)) (steps_in said) most_steps (tells said draft leads).steps
+has-room said draft keywords.Only leads = always tt
+has-room said draft keywords.Op leads = room-or-full (length draft.steps.operations.ops) (ops_behind 0 said) most_ops (tells said draft leads).ops
+has-room said draft keywords.End leads = always tt
+
+keeps-order : (said : List Line) (draft : DraftValue) (line : Line) → Tells said draft → KeepsOrder draft.air line ↔ KeepsOrderBehind said line
+keeps-order said draft (lines.Version version) told = (λ k. k, λ k. k)
+keeps-order said draft (lines.Link link) told = (λ k. k, λ k. k)
+keeps-order said draft (lines.Default several) told = (λ k. k, λ k. k)
+keeps-order said draft (lines.Tag tag) told = (λ k. k, λ k. k)
+keeps-order said draft (lines.Copies count tag) told = (λ k. k, λ k. k)
+keeps-order said draft (lines.Air exchange happening) told =
+    (λ keeps. told.exchanges.order exchange happening keeps.0 keeps.1, λ all. (told.exchanges.above exchange happening all, told.exchanges.may exchange happening all))
+keeps-order said draft (lines.Select selection) told = (λ k. k, λ k. k)
+keeps-order said draft lines.Nak told = (λ k. k, λ k. k)
+keeps-order said draft (lines.Event event tag) told = (λ k. k, λ k. k)
+keeps-order said draft (lines.Round version spec) told = (λ k. k, λ k. k)
+keeps-order said draft (lines.Only epc) told = (λ k. k, λ k. k)
+keeps-order said draft (lines.Op op) told = (λ k. k, λ k. k)
+keeps-order said draft lines.End told = (λ k. k, λ k. k)
+
+chooses-once : (said : List Line) (draft : DraftValue) (line : Line) → Tells said draft → KeepsOrder draft.air line → ChoosesOnce draft.air line ↔ ChoosesFirst said line
+chooses-once said draft (lines.Version version) told keeps = (λ k. k, λ k. k)
+chooses-once said draft (lines.Link link) told keeps = (λ k. k, λ k. k)
+chooses-once said draft (lines.Default several) told keeps = (λ k. k, λ k. k)
+chooses-once said draft (lines.Tag tag) told keeps = (λ k. k, λ k. k)
+chooses-once said draft (lines.Copies count tag) told keeps = (λ k. k, λ k. k)
+chooses-once said draft (lines.Air exchange (happenings.Event event tag)) told keeps = (λ k. k, λ k. k)
+chooses-once said draft (lines.Air exchange (happenings.Miss tag)) told keeps = (λ k. k, λ k. k)
+chooses-once said draft (lines.Air exchange (happenings.Choice choice)) told keeps = (told.exchanges.once exchange keeps.0, told.exchanges.chosen exchange)
+chooses-once said draft (lines.Select selection) told keeps = (λ k. k, λ k. k)
+chooses-once said draft lines.Nak told keeps = (λ k. k, λ k. k)
+chooses-once said draft (lines.Event event tag) told keeps = (λ k. k, λ k. k)
+chooses-once said draft (lines.Round version spec) told keeps = (λ k. k, λ k. k)
+chooses-once said draft (lines.Only epc) told keeps = (λ k. k, λ k. k)
+chooses-once said draft (lines.Op op) told keeps = (λ k. k, λ k. k)
+chooses-once said draft lines.End told keeps = (λ k. k, λ k. k)
+
+names-tag : (said : List Line) (draft : DraftValue) (line : Line) → Tells said draft → NamesTag (tag_count draft) line ↔ NamesTag (tags_in said) line
+names-tag said draft line told = (subst (λ n. NamesTag n line) told.tags, subst (λ n. NamesTag n line) (sym told.tags))
+
+of-version : (said : List Line) (draft : DraftValue) (line : Line) → Tells said draft
+    → IsOfVersion draft.head.version line ↔ IsOfVersion (version_in said) line
+of-version said draft line told =
+    let same = version-told said draft told in
+    (subst (λ (version : Version). IsOfVersion version line) (sym same), subst (λ (version : Version). IsOfVersion version line) same)
+
+may-copy : (said : List Line) (draft : DraftValue) (line : Line) → Tells said draft → MayCopy (tag_count draft) line ↔ MayCopy (tags_in said) line
+may-copy said draft line told = (subst (λ n. MayCopy n line) told.tags, subst (λ n. MayCopy n line) (sym told.tags))
+
+neither : {A B : Type 0} → A ↔ B → (¬ A) ↔ (¬ B)
+neither same = (λ none b. none (same.1 b), λ none a. none (same.0 a))
+
+by-order : (said : List Line) (draft : DraftValue) (line : Line) → Tells said draft → DisagreesBy draft line faults.Order ↔ DisagreesWith said line faults.Order
+by-order said draft line told =
+    let names = names-tag said draft line told in
+    let order = neither (keeps-order said draft line told) in
+    (λ by. (names.0 by.0, order.0 by.1), λ with_lines. (names.1 with_lines.0, order.1 with_lines.1))
+
+by-choice : (said : List Line) (draft : DraftValue) (line : Line) → Tells said draft → DisagreesBy draft line faults.Twice ↔ DisagreesWith said line faults.Twice
+by-choice said draft line told =
+    let names = names-tag said draft line told in
+    let order = keeps-order said draft line told in (
+      λ by. (names.0 by.0, order.0 by.1, (neither (chooses-once said draft line told by.1)).0 by.2),
+      λ with_lines.
+          let keeps : KeepsOrder draft.air line = order.1 with_lines.1 in
+          (names.1 with_lines.0, keeps, (neither (chooses-once said draft line told keeps)).1 with_lines.2),
+    )
+
+pub disagrees-with : (said : List Line) (draft : DraftValue) (line : Line) (fault : Fault) → Leads start said (within draft) → DisagreesBy draft line fault ↔ DisagreesWith said line fault
+disagrees-with said draft line (faults.Line line_faults.Number) leads = neither (of-version said draft line (tells said draft leads))
+disagrees-with said draft line faults.Copies leads = neither (may-copy said draft line (tells said draft leads))
+disagrees-with said draft line faults.Tag leads = neither (names-tag said draft line (tells said draft leads))
+disagrees-with said draft line faults.Order leads = by-order said draft line (tells said draft leads)
+disagrees-with said draft line faults.Twice leads = by-choice said draft line (tells said draft leads)
+disagrees-with said draft line fault leads = (λ none. none, λ none. none)

@@ -1,0 +1,70 @@
+-- Two places in one text, before which the lines follow one another.
+use Rattle.std.proofs.Common.{◌≡◌, ◌≢◌, ℕ, List, [], ◌∷◌, ◌++◌, map, ◌⊎◌, inl, inr, refl, sym, ◌∙◌, subst}
+use Rattle.scenario_lines.specs.declared.line.Line.{Line}
+use Rattle.scenario_lines.specs.Spelling.{line_text}
+use Rattle.scenario_text.specs.LineLaws.{LineLaws}
+use Rattle.scenario_text.specs.Standing.{Follows, Leads, Standing, after}
+use Rattle.scenario_text.proofs.ToldApart.{line_told}
+
+-- what stands here is a line that may follow, and something stands behind it
+pub record GoesOn (standing : Standing) (line : List ℕ) (behind : List (List ℕ)) : Type 0 where
+  pub next : Line
+  pub text : line ≡ line_text next
+  pub follows : Follows standing next
+  pub more : behind ≢ []
+
+-- the two places are one
+pub record IsOnePlace (said said' : List Line) (line line' : List ℕ) (behind behind' : List (List ℕ)) (to to' : Standing) : Type 0 where
+  pub lines : said ≡ said'
+  pub line_is : line ≡ line'
+  pub behind_is : behind ≡ behind'
+  pub standing : to ≡ to'
+
+pub some_behind : (front behind : List (List ℕ)) (line : List ℕ) → front ++ line ∷ behind ≢ []
+some_behind [] behind line none = cc
+some_behind (first ∷ front) behind line none = cc
+
+-- where one place comes before the other, the text goes on there
+goes_on : {from : Standing} (to : Standing) (next : Line) (line : List ℕ) (behind others : List (List ℕ)) → from ≡ to → Follows from next
+    → line ∷ behind ≡ line_text next ∷ others → others ≢ [] → GoesOn to line behind
+goes_on to next line behind others leads follows same some =
+    let text : line ≡ line_text next = cc in
+    let rest : behind ≡ others = cc in
+    record {
+      next = next;
+      text = text;
+      follows = subst (λ (s : Standing). Follows s next) leads follows;
+      more = λ none. some (sym rest ∙ none);
+    }
+
+-- a line of a text behind these lines, and what stands behind it
+pub record LineBehind (from : Standing) (said : List Line) : Type 0 where
+  pub line : List ℕ
+  pub behind : List (List ℕ)
+  pub to : Standing
+  pub leads : Leads from said to
+
+-- two places are one, or the text goes on at one of them
+pub compare : LineLaws → (from : Standing) (said said' : List Line) (one : LineBehind from said) (other : LineBehind from said')
+    → map line_text said ++ one.line ∷ one.behind ≡ map line_text said' ++ other.line ∷ other.behind
+    → IsOnePlace said said' one.line other.line one.behind other.behind one.to other.to ⊎ GoesOn one.to one.line one.behind
+    ⊎ GoesOn other.to other.line other.behind
+compare laws from [] [] one other same =
+    inl (record { lines = refl; line_is = cc; behind_is = cc; standing = sym one.leads ∙ other.leads })
+compare laws from [] (next ∷ said') one other same =
+    inr (inl (goes_on one.to next one.line one.behind (map line_text said' ++ other.line ∷ other.behind) one.leads other.leads.0 same
+    (some_behind (map line_text said') other.behind other.line)))
+compare laws from (next ∷ said) [] one other same =
+    inr (inr (goes_on other.to next other.line other.behind (map line_text said ++ one.line ∷ one.behind) other.leads one.leads.0 (sym same)
+    (some_behind (map line_text said) one.behind one.line)))
+compare laws from (next ∷ said) (next' ∷ said') one other same =
+    let text : line_text next ≡ line_text next' = cc in
+    let texts : map line_text said ++ one.line ∷ one.behind ≡ map line_text said' ++ other.line ∷ other.behind = cc in
+    let first = line_told laws next next' one.leads.0.is other.leads.0.is text in
+    let rest : Leads (after from next) said' other.to = subst (λ (l : Line). Leads (after from l) said' other.to) (sym first) other.leads.1 in
+    let one_rest : LineBehind (after from next) said = record { line = one.line; behind = one.behind; to = one.to; leads = one.leads.1 } in
+    let other_rest : LineBehind (after from next) said' = record { line = other.line; behind = other.behind; to = other.to; leads = rest } in
+    elim (compare laws (after from next) said said' one_rest other_rest texts) [
+      | inl place ↦ inl (record { lines = cc; line_is = place.line_is; behind_is = place.behind_is; standing = place.standing })
+      | inr goes ↦ inr goes
+    ]

@@ -1,0 +1,8 @@
+use Rattle.scenario_text.proofs.LinesBefore.{has-room, disagrees-with}
+use Rattle.scenario_text.proofs.laws.reasons_tell_of_lines_before.Goals as goal
+
+pub returns-clause-limit : goal.returns-clause-limit
+returns-clause-limit c = has-room
+
+pub returns-clause-disagrees : goal.returns-clause-disagrees
+returns-clause-disagrees c = disagrees-with

@@ -1,0 +1,224 @@
+//! What the lines of a scenario have said so far, from its head on.
+ghost use Rattle.std.specs.Prelude.{◌≡◌, ◌≤◌, ◌↔◌, IsTrue, IfOk, IfErr, OnOk};
+ghost use Rattle.scenario_text.specs.Draft.{draft_after, new_draft, scenario_of, tag_count};
+ghost use Rattle.scenario_text.specs.Faults.{DisagreesBy};
+ghost use Rattle.scenario_text.specs.Standing.{Agrees, Follows, HasRoom, IsOfVersion, MayStand, NamesTag, lines_before, within};
+
+mod air;
+mod latest;
+mod steps;
+mod tags;
+
+use crate::Fault;
+use air::AirLines;
+use air_events::Several;
+use bit_strings::OutOfMemory;
+use pie_line::Link;
+use scenario::{Scenario, Step};
+use scenario_lines::{Happening, Keyword, Line, LineFault, Version};
+use std::alloc::Global;
+use std::marker::Model;
+use steps::StepLines;
+use tags::TagLines;
+
+/// What the lines say that stand before all others.
+#[derive(Drop)]
+struct Head {
+    version: Version,
+    link: Link,
+    several: Several,
+}
+
+/// A scenario, line by line.
+#[derive(Drop)]
+pub(crate) struct Draft {
+    head: Head,
+    tags: TagLines,
+    air: AirLines,
+    steps: StepLines,
+}
+
+impl Model for Draft {
+    ghost use Rattle.scenario_text.specs.Draft.{DraftValue};
+
+    ghost Value = { DraftValue };
+
+    ghost view = { λ a. record {
+      head = record { version = a.head.version; link = a.head.link; several = a.head.several };
+      groups = a.tags;
+      air = a.air;
+      steps = a.steps;
+    } };
+}
+
+impl Draft {
+    /// What the first lines say, behind which nothing more is said yet.
+    pub(crate) fn new(alloc: Global, version: Version, link: Link, several: Several) -> Draft
+        ensures { result ≡ new_draft (record { version = version; link = link; several = several }) }
+    {
+        Draft {
+            head: Head {
+                version,
+                link,
+                several,
+            },
+            tags: TagLines::new(alloc),
+            air: AirLines::new(alloc),
+            steps: StepLines::new(alloc),
+        }
+    }
+
+    /// How many lines there are: two in the head, or three where it has a default; one for each group of tags,
+    /// air line, step and operation, and each EPC that operations are for.
+    pub(crate) fn line_count(&self) -> u32
+        ensures count { result ≡ lines_before (within self.now) }
+        ensures small { result ≤ 43045 }
+    {
+        let head = match self.head.version {
+            Version::One => 2,
+            Version::Two => 3,
+        };
+        head + self.tags.line_count() + self.air.count() + self.steps.line_count()
+    }
+
+    /// Whether no line stands behind those of the tags.
+    fn may_name_tags(&self) -> bool
+        ensures { IsTrue result ↔ MayStand (within self.now) Keyword.Tag }
+    {
+        self.air.count() == 0 && self.steps.count() == 0
+    }
+
+    /// Whether a line that begins with this keyword may follow.
+    pub(crate) fn may_stand(&self, keyword: Keyword) -> bool
+        ensures { IsTrue result ↔ MayStand (within self.now) keyword }
+    {
+        match keyword {
+            Keyword::Version | Keyword::Link | Keyword::Default => false,
+            Keyword::Tag => self.may_name_tags(),
+            Keyword::Copies => self.head.version == Version::Two && self.may_name_tags(),
+            Keyword::Air => self.steps.count() == 0,
+            Keyword::Only => self.steps.is_bare_round(),
+            Keyword::Op => self.steps.is_in_round(),
+            Keyword::Select | Keyword::Nak | Keyword::Event | Keyword::Round | Keyword::End => true,
+        }
+    }
+
+    /// Whether a line that begins with this keyword is not one too many.
+    pub(crate) fn has_room(&self, keyword: Keyword) -> bool
+        ensures { IsTrue result ↔ HasRoom (within self.now) keyword }
+    {
+        match keyword {
+            Keyword::Tag | Keyword::Copies => self.tags.has_room(self.head.version),
+            Keyword::Air => self.air.has_room(),
+            Keyword::Select | Keyword::Nak | Keyword::Event | Keyword::Round => self
+                .steps
+                .has_room(),
+            Keyword::Op => self.steps.has_room_for_op(),
+            Keyword::Version | Keyword::Link | Keyword::Default | Keyword::Only | Keyword::End => {
+                true
+            }
+        }
+    }
+
+    /// Whether a line, where it is a round, is spelled as the version of the text spells it.
+    fn is_of_version(&self, line: &Line) -> bool
+        ensures { IsTrue result ↔ IsOfVersion self.now.head.version line.now }
+    {
+        match line {
+            Line::Round(version, _) => *version == self.head.version,
+            _ => true,
+        }
+    }
+
+    /// Whether the tag that a line names, where it names one, is there.
+    fn names_tag(&self, line: &Line) -> bool
+        ensures { IsTrue result ↔ NamesTag (tag_count self.now) line.now }
+    {
+        match line {
+            Line::Air {
+                happening: Happening::Event { tag, .. } | Happening::Miss(tag),
+                ..
+            }
+            | Line::Event { tag, .. } => *tag < self.tags.count(),
+            _ => true,
+        }
+    }
+
+    /// Whether what a line says agrees with the lines before it.
+    ///
+    /// # Errors
+    ///
+    /// The first reason for which it doesn't: `Number`, `Copies`, `Tag`, `Order` or `Twice`.
+    pub(crate) fn agree(&self, line: &Line) -> Result<(), Fault>
+        ensures ok { OnOk result (Agrees self.now line.now) }
+        ensures disagrees { IfErr result (DisagreesBy self.now line.now) }
+    {
+        if !self.is_of_version(line) {
+            return Err(Fault::Line(LineFault::Number));
+        }
+        if !self.tags.may_copy(line) {
+            return Err(Fault::Copies);
+        }
+        if !self.names_tag(line) {
+            return Err(Fault::Tag);
+        }
+        if !self.air.keeps_order(line) {
+            return Err(Fault::Order);
+        }
+        if !self.air.chooses_once(line) {
+            return Err(Fault::Twice);
+        }
+        Ok(())
+    }
+
+    /// Adds what a line says that may follow. The end adds nothing.
+    pub(crate) fn add(&mut self, alloc: Global, line: Line) -> Result<(), OutOfMemory>
+        requires { Follows (within self.old) line }
+        ensures { OnOk result (self.new ≡ draft_after self.old line.entry) }
+    {
+        match line {
+            Line::Tag(tag) => self.tags.add(alloc, 1, &tag),
+            Line::Copies(count, tag) => self.tags.add(alloc, count, &tag),
+            Line::Air {
+                exchange,
+                happening,
+            } => self.air.add(alloc, exchange, happening),
+            Line::Select(selection) => self
+                .steps
+                .add_step(alloc, Step::Select(selection.into_command())),
+            Line::Nak => self.steps.add_step(alloc, Step::Nak),
+            Line::Event { event, tag } => self.steps.add_step(alloc, Step::Event(event, tag)),
+            Line::Round(_, spec) => self.steps.add_round(alloc, spec),
+            Line::Only(epc) => {
+                self.steps.name_epc(epc);
+                Ok(())
+            }
+            Line::Op(op) => self.steps.add_op(op),
+            Line::Version(_) | Line::Link(_) | Line::Default(_) | Line::End => Ok(()),
+        }
+    }
+
+    /// The scenario that the lines said.
+    pub(crate) fn finish(self) -> Result<Scenario, OutOfMemory>
+        ensures { IfOk result (λ scenario. scenario ≡ scenario_of self) }
+    {
+        let Draft {
+            head: Head {
+                version,
+                link,
+                several,
+            },
+            tags,
+            air,
+            steps,
+        } = self;
+        Ok(Scenario {
+            version,
+            link,
+            several,
+            groups: tags.into_list(),
+            entries: air.into_entries()?,
+            steps: steps.into_steps()?,
+        })
+    }
+}

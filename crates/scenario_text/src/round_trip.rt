@@ -1,0 +1,30 @@
+//! Scenarios written and read again, and texts read and written again.
+ghost use Rattle.std.specs.Prelude.{◌≡◌, IfOk, IfErr};
+ghost use Rattle.scenario.specs.Limits.{IsScenario};
+ghost use Rattle.scenario.specs.ScenarioText.{IsText};
+ghost use Rattle.scenario_text.specs.Faults.{IsRefused};
+
+use crate::{ScenarioFault, read_scenario};
+use air_io::Bytes;
+use scenario::{Scenario, print_scenario};
+use std::alloc::Global;
+
+/// The scenario that is read from the text of a scenario: it is the same, unless there is no memory.
+pub fn print_and_read(alloc: Global, scenario: &Scenario) -> Result<Scenario, ScenarioFault>
+    requires { IsScenario scenario.now }
+    ensures same { IfOk result (λ again. again ≡ scenario.now) }
+    ensures err { IfErr result (λ fault. fault ≡ ScenarioFault.OutOfMemory) }
+{
+    let text = print_scenario(alloc, scenario)?;
+    read_scenario(alloc, text.as_slice())
+}
+
+/// The text of the scenario that is read from a text: it is the same, byte by byte, where the text is
+/// that of a scenario and there is memory.
+pub fn read_and_print(alloc: Global, text: &[u8]) -> Result<Bytes, ScenarioFault>
+    ensures same { IfOk result (λ again. (again ≡ text.now) × IsText text.now) }
+    ensures refused { IfErr result (IsRefused text.now) }
+{
+    let scenario = read_scenario(alloc, text)?;
+    Ok(print_scenario(alloc, &scenario)?)
+}

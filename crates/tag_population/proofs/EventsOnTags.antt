@@ -1,0 +1,90 @@
+-- Tags with numbers: what one event and one command after another makes of them.
+use Rattle.std.proofs.Common.{◌≡◌, ◌≢◌, ℕ, zero, suc, ◌+◌, ◌<◌, ◌≤◌, List, [], ◌∷◌, ◌++◌, length, map, drop, get_or, refl, sym, ap, ◌∙◌, arith, append_assoc, add-one, drop-cons, length-append}
+use Rattle.std.specs.Prelude.{slice_set}
+use Rattle.std.proofs.lemmas.Bool.{eq-eqb, ne_eqb}
+use Rattle.std.proofs.lemmas.List.{drop_all, length-map}
+use Rattle.air_events.specs.declared.Entry.{Entry}
+use Rattle.air_events.specs.declared.Event.{Event}
+use Rattle.command_grammar.specs.declared.commands.Command.{Command}
+use Rattle.tag_machine.specs.Events.{tag_after_event}
+use Rattle.tag_machine.specs.Hearing.{tag_value_of}
+use Rattle.tag_machine.specs.TagValue.{TagValue, IsLegalTag}
+use Rattle.tag_machine.specs.declared.any_tag.AnyTag.{AnyTag}
+use Rattle.tag_machine.specs.Exchange.{AreLegalTags, tag_after_own_event, tags_after_event, tags_after}
+use Rattle.tag_population.specs.Hearing.{tags_after_events, hearing_from}
+
+-- an event befalls no tag of another number
+other_tag : (number befallen : ℕ) (event : Event) (tag : TagValue) → befallen ≢ number → tag_after_own_event number event befallen tag ≡ tag
+other_tag number befallen event tag other = rw (ne_eqb befallen number other) refl
+
+this_tag : (number befallen : ℕ) (event : Event) (tag : TagValue) → befallen ≡ number → tag_after_own_event number event befallen tag ≡ tag_after_event event tag.state tag.body
+this_tag number befallen event tag same = rw (eq-eqb befallen number same) refl
+
+other_tags : (number befallen : ℕ) (event : Event) (tags : List TagValue) → befallen < number → tags_after_event number event befallen tags ≡ tags
+other_tags number befallen event [] below = refl
+other_tags number befallen event (tag ∷ tags) below =
+    let first = other_tag number befallen event tag (omega arith) in
+    let rest = other_tags (number + 1) befallen event tags (omega arith) in
+    rw (first, rest) refl
+
+-- an event befalls the tag of its number
+befallen_tags : (number befallen at : ℕ) (event : Event) (tags : List TagValue) (d : TagValue) → at < length tags → befallen ≡ number + at
+    → slice_set tags at (tag_after_event event (get_or tags at d).state (get_or tags at d).body) ≡ tags_after_event number event befallen tags
+befallen_tags number befallen at event [] d below is = absurd (omega arith)
+befallen_tags number befallen zero event (tag ∷ tags) d below is =
+    let first = this_tag number befallen event tag (omega arith) in
+    let rest = other_tags (number + 1) befallen event tags (omega arith) in
+    rw (first, rest) refl
+befallen_tags number befallen (suc at) event (tag ∷ tags) d below is =
+    let first = other_tag number befallen event tag (omega arith) in
+    let rest = befallen_tags (number + 1) befallen at event tags d (omega arith) (omega arith) in
+    rw (first, ← rest) refl
+
+pub befallen_at : (befallen : ℕ) (event : Event) (seats tags : List TagValue) (old new d : TagValue) → befallen < length tags → seats ≡ tags
+    → old ≡ get_or seats befallen d → new ≡ tag_after_event event old.state old.body → slice_set seats befallen new ≡ tags_after_event 0 event befallen tags
+befallen_at befallen event seats tags old new d below same at is =
+    rw (same, is, at, same) (befallen_tags 0 befallen befallen event tags d below (omega arith))
+
+pub length-tags_after_event : (number befallen : ℕ) (event : Event) (tags : List TagValue) → length (tags_after_event number event befallen tags) ≡ length tags
+length-tags_after_event number befallen event [] = refl
+length-tags_after_event number befallen event (tag ∷ tags) = ap (λ n. suc n) (length-tags_after_event (number + 1) befallen event tags)
+
+-- one event more befell its tag
+pub befallen_next : (events : List (Event × ℕ)) (at : ℕ) (event d : Event × ℕ) (before after end : List TagValue) → at < length events
+    → event ≡ get_or events at d → tags_after_events 0 (drop at events) before ≡ end → after ≡ tags_after_event 0 event.0 event.1 before
+    → tags_after_events 0 (drop (at + 1) events) after ≡ end
+befallen_next events at event d before after end below is so_far step =
+    let rest : drop at events ≡ event ∷ drop (at + 1) events = rw (drop-cons events at d below, ← is, add-one at) refl in
+    rw step (sym (ap (λ (l : List (Event × ℕ)). tags_after_events 0 l before) rest) ∙ so_far)
+
+-- all events befell their tags
+pub befallen_all : (events : List (Event × ℕ)) (at : ℕ) (tags end : List TagValue) → length events ≤ at → tags_after_events 0 (drop at events) tags ≡ end → tags ≡ end
+befallen_all events at tags end past so_far = sym (ap (λ (l : List (Event × ℕ)). tags_after_events 0 l tags) (drop_all at events past)) ∙ so_far
+
+-- legal tags with one put in place of another
+pub legal-set : (tags : List TagValue) (at : ℕ) (tag : TagValue) → AreLegalTags tags → IsLegalTag tag → AreLegalTags (slice_set tags at tag)
+legal-set [] at tag legal here = tt
+legal-set (first ∷ tags) zero tag legal here = (here, legal.1)
+legal-set (first ∷ tags) (suc at) tag legal here = (legal.0, legal-set tags at tag legal.1 here)
+
+pub legal-append : (tags : List TagValue) (tag : TagValue) → AreLegalTags tags → IsLegalTag tag → AreLegalTags (tags ++ tag ∷ [])
+legal-append [] tag legal here = (here, tt)
+legal-append (first ∷ tags) tag legal here = (legal.0, legal-append tags tag legal.1 here)
+
+-- no tag is lost
+pub length-heard : (number : ℕ) (command : Command) (entry : Entry) (tags : List TagValue) → length (tags_after (hearing_from number command entry tags)) ≡ length tags
+length-heard number command entry [] = refl
+length-heard number command entry (tag ∷ tags) = ap (λ n. suc n) (length-heard (number + 1) command entry tags)
+
+pub length-seated : (seats : List TagValue) (tags more : List AnyTag) → seats ++ map tag_value_of more ≡ map tag_value_of tags → length seats + length more ≡ length tags
+length-seated seats tags more same =
+    omega (arith, ap (λ (l : List TagValue). length l) same, length-append seats (map tag_value_of more), length-map more tag_value_of, length-map tags tag_value_of)
+
+pub seated_next : (seats after : List TagValue) (tag : TagValue) (next : AnyTag) (more rest tags : List AnyTag) → seats ++ map tag_value_of more ≡ map tag_value_of tags
+    → more ≡ next ∷ rest → tag ≡ tag_value_of next → after ≡ seats ++ tag ∷ [] → after ++ map tag_value_of rest ≡ map tag_value_of tags
+seated_next seats after tag next more rest tags same is tag_is after_is =
+    ap (λ (l : List TagValue). l ++ map tag_value_of rest) after_is
+    ∙ append_assoc seats (tag ∷ []) (map tag_value_of rest)
+    ∙ ap (λ (t : TagValue). seats ++ (t ∷ map tag_value_of rest)) tag_is
+    ∙ ap (λ (l : List AnyTag). seats ++ map tag_value_of l) (sym is)
+    ∙ same

@@ -1,0 +1,9 @@
+pub mod EventsOnTags
+pub mod WheelLinks
+pub mod TagSetBits
+pub mod SlotPlaces
+pub mod SeatedTags
+pub mod HeardByCalled
+pub mod QueryRepCalls
+pub mod TagsAtRest
+pub mod HeardByEach

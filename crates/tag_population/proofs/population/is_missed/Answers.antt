@@ -1,0 +1,13 @@
+use Rattle.std.proofs.Common.{ℕ, ◌==◌, List, ap, sym}
+use Rattle.std.specs.List.{list_any}
+use Rattle.tag_population.proofs.TagSetBits.{same_true}
+use Rattle.tag_machine.specs.Exchange.{is_missed}
+use Rattle.tag_population.proofs.population.is_missed.Goals as goal
+
+pub returns-then-is_empty : goal.returns-then-is_empty
+returns-then-is_empty c = ap (λ (l : List ℕ). list_any (λ missed. missed == c.args.number) l) (sym (c.is_empty.ensures.0 c.if-is_empty.true))
+
+pub returns : goal.returns
+returns c =
+    same_true c.contains.result (is_missed c.args.number c.args.entry.now) (λ yes. (c.requires c.args.number).0 (c.contains.ensures.0 yes))
+    (λ any. c.contains.ensures.1 ((c.requires c.args.number).1 any))

@@ -1,0 +1,19 @@
+-- What becomes of tags in an exchange, step by step: first each event befalls its tag, and then one tag after another hears
+-- the command, or misses it.
+use Rattle.std.specs.Prelude.{ℕ, ◌+◌, List, [], ◌∷◌}
+use Rattle.air_events.specs.declared.Entry.{Entry}
+use Rattle.air_events.specs.declared.Event.{Event}
+use Rattle.command_grammar.specs.declared.commands.Command.{Command}
+use Rattle.tag_machine.specs.TagValue.{TagValue}
+use Rattle.tag_machine.specs.Answers.{Outcome}
+use Rattle.tag_machine.specs.Exchange.{tags_after_event, outcome_unless, is_missed}
+
+-- the tags that are numbered from a number on after these events, in order
+abbrev pub tags_after_events : ℕ → List (Event × ℕ) → List TagValue → List TagValue
+tags_after_events number [] tags = tags
+tags_after_events number (event ∷ events) tags = tags_after_events number events (tags_after_event number event.0 event.1 tags)
+
+-- what comes of the command alone for these tags
+abbrev pub hearing_from : ℕ → Command → Entry → List TagValue → List Outcome
+hearing_from number command entry [] = []
+hearing_from number command entry (tag ∷ tags) = outcome_unless (is_missed number entry) command tag ∷ hearing_from (number + 1) command entry tags

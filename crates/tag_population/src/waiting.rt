@@ -1,0 +1,177 @@
+//! Which tags wait for their slots, and which are called.
+ghost use Rattle.std.specs.Prelude.{◌≡◌, ◌↔◌, ℕ, ◌+◌, ◌<◌, ◌≤◌, false, Some, None, length, map, replicate, slice_set, IfOk};
+ghost use Rattle.air_events.specs.TagNumbers.{most_tags};
+ghost use Rattle.tag_population.specs.Waiting.{AreSlots, IsDue, IsLegalParticipation, IsNextCalled, counted_down, slot_in, slot_place, participation_at, waits_in};
+
+use crate::tag_set::TagSet;
+use crate::wheel::Wheel;
+use air_events::TagNumber;
+use bit_strings::{OutOfMemory, Session};
+use std::alloc::Global;
+use std::marker::Model;
+
+/// How many values a slot counter has: 15 bits (6.3.2.4.8 Slot counter).
+const SLOTS: usize = 32_768;
+
+/// The place of the tags that are called, behind those of the slots of the four sessions.
+const CALLED: usize = 131_072;
+
+/// How a tag takes part in a round.
+#[derive(Clone, Copy)]
+pub(crate) enum Participation {
+    /// It waits in a round of the session with this number, and has this slot counter.
+    Waits(u8, u16),
+    /// It is called: it has to hear the next command.
+    Called,
+}
+
+/// Tags, of which some wait for their slots and some are called. All waiting tags of a session are
+/// counted down at once: each stands at the place that its slot counter has behind the base of the session, and
+/// the base moves. Called tags stand at a place of their own, and are kept as a set too, since they hear in the order of
+/// their numbers.
+///
+/// A contract sees for each tag how it takes part.
+#[derive(Drop)]
+pub(crate) struct Waiting {
+    bases: [u16; 4],
+    wheel: Wheel,
+    called: TagSet,
+}
+
+impl Model for Waiting {
+    ghost use Rattle.std.specs.Prelude.{List, Option};
+    ghost use Rattle.tag_population.specs.declared.waiting.Participation.{Participation};
+    ghost use Rattle.tag_population.specs.Waiting.{AreBases, AreCalled, participations_on};
+
+    ghost Value = { List (Option Participation) };
+
+    ghost view = { λ a. participations_on a.bases a.wheel };
+
+    ghost invariant = { λ a. AreBases a.bases × AreCalled a.called a.wheel };
+}
+
+impl Waiting {
+    /// So many tags, none of which takes part.
+    pub(crate) fn new(alloc: Global, count: usize) -> Result<Waiting, OutOfMemory>
+        requires { count ≤ most_tags }
+        ensures { IfOk result (λ waiting. waiting ≡ replicate count None) }
+    {
+        let wheel = Wheel::new(alloc, count)?;
+        let called = TagSet::new(alloc)?;
+        Ok(Waiting {
+            bases: [0; 4],
+            wheel,
+            called,
+        })
+    }
+
+    /// The slot counter of a tag that waits.
+    pub(crate) fn slot(&self, number: TagNumber) -> Option<u16>
+        requires { number < length self.now }
+        ensures value { result ≡ slot_in (participation_at self.now number) }
+        ensures range { (slot : ℕ) → result ≡ Some slot → slot < 32768 }
+    {
+        let place = self.wheel.place(number)?;
+        if place == CALLED {
+            return None;
+        }
+        let base = usize::from(self.bases[place / SLOTS]);
+        Some(((place % SLOTS + SLOTS - base) % SLOTS) as u16)
+    }
+
+    /// Whether a tag waits in a round of this session.
+    pub(crate) fn waits_in(&self, number: TagNumber, session: Session) -> bool
+        requires { number < length self.now }
+        ensures { result ≡ waits_in session (participation_at self.now number) }
+    {
+        match self.wheel.place(number) {
+            Some(place) => place / SLOTS == usize::from(session.get()),
+            None => false,
+        }
+    }
+
+    /// Whether a tag takes part in a round.
+    pub(crate) fn takes_part(&self, number: TagNumber) -> bool
+        requires { number < length self.now }
+        ensures { (result ≡ false) ↔ (participation_at self.now number ≡ None) }
+    {
+        self.wheel.place(number).is_some()
+    }
+
+    /// Lets a tag take part as is said.
+    pub(crate) fn put(&mut self, number: TagNumber, participation: Option<Participation>)
+        requires number { number < length self.old }
+        requires legal { IsLegalParticipation participation }
+        ensures participations { self.new ≡ slice_set self.old number participation }
+        ensures slots { AreSlots self.new }
+    {
+        match participation {
+            Some(participation) => self.put_on_place(number, participation),
+            None => {
+                self.wheel.take(number);
+                self.called.remove(number);
+            }
+        }
+    }
+
+    /// Puts a tag on the place of its slot counter, or on that of called tags.
+    fn put_on_place(&mut self, number: TagNumber, participation: Participation)
+        requires number { number < length self.old }
+        requires legal { IsLegalParticipation (Some participation) }
+        ensures participations { self.new ≡ slice_set self.old number (Some participation) }
+        ensures slots { AreSlots self.new }
+    {
+        match participation {
+            Participation::Waits(session, slot) => {
+                let place = slot_place(self.bases[usize::from(session)], session, slot);
+                self.wheel.put(number, place);
+                self.called.remove(number);
+            }
+            Participation::Called => {
+                self.wheel.put(number, CALLED);
+                self.called.insert(number);
+            }
+        }
+    }
+
+    /// The first tag that is called, in the order of their numbers.
+    pub(crate) fn first_called(&self) -> Option<TagNumber>
+        ensures next { IsNextCalled self.now 0 result }
+        ensures slots { AreSlots self.now }
+    {
+        self.called.first()
+    }
+
+    /// The next tag behind this one that is called.
+    pub(crate) fn called_after(&self, number: TagNumber) -> Option<TagNumber>
+        requires { number < length self.now }
+        ensures { IsNextCalled self.now (number + 1) result }
+    {
+        self.called.next_after(number)
+    }
+
+    /// A tag whose slot comes next in a session; none exactly where there is no such tag.
+    pub(crate) fn due(&self, session: Session) -> Option<TagNumber>
+        ensures { IsDue self.now session result }
+    {
+        let session = session.get();
+        let base = self.bases[usize::from(session)];
+        self.wheel.tag_on(slot_place(base, session, 1))
+    }
+
+    /// Counts the slot counters of all tags down that wait in a session.
+    pub(crate) fn count_down(&mut self, session: Session)
+        ensures { self.new ≡ map (counted_down session) self.old }
+    {
+        let at = usize::from(session.get());
+        self.bases[at] = ((usize::from(self.bases[at]) + 1) % SLOTS) as u16;
+    }
+}
+
+/// The place of a slot counter in a session, behind the base of that session.
+fn slot_place(base: u16, session: u8, slot: u16) -> usize
+    requires session { session ≤ 3 }
+    ensures { result ≡ slot_place base session slot }
+{
+    usize::from(session) * SLOTS + (usize::from(base) + usize::from(slot)) % SLOTS
+}

@@ -1,0 +1,13 @@
+use Rattle.top_call.proofs.RunEnds.{same_refusal, text_not_refused}
+use Rattle.top_call.proofs.UpgradeEnds.{same_upgrade, proves}
+use Rattle.top_call.proofs.words.upgrade.upgrade_is_lawful.Goals as goal
+
+pub returns : goal.returns
+returns c = record {
+  one_text = same_upgrade c.scenarios_are_told_apart.ensures;
+  one_fault_line = same_refusal c.texts_have_one_fault.ensures;
+  allowed = λ bytes text writes. (writes.scenario, writes.legal, writes.spelled);
+  not_refused = text_not_refused c.scenario_texts_are_not_faulty.ensures;
+  unread = λ unread bytes text refused. absurd (cc);
+  kept = proves c.scenarios_are_told_apart.ensures c.upgraded_scenarios_are_legal.ensures c.upgraded_scenarios_run_the_same.ensures.report;
+}

@@ -1,0 +1,67 @@
+//! The word `upgrade`: a scenario of either version as the text of version 2.
+ghost use Rattle.std.specs.Prelude.{◌≡◌, ℕ, List};
+ghost use Rattle.top_call.specs.Job.{Defines, IsLawful};
+ghost use Rattle.top_call.specs.Outcome.{EndsSo, Tells};
+ghost use Rattle.top_call.specs.words.Upgraded.{upgrade_job};
+
+use crate::ending::{MOST_INPUT_BYTES, WriteEnd, Wrote, status_of, unread_status};
+use crate::status::Status;
+use air_io::{Sink, Source, read_to_end, write_all};
+use runs::upgraded_scenarios_run_the_same;
+use scenario::{upgrade, upgraded_scenarios_are_legal};
+use scenario_text::{
+    ScenarioFault, fault_text, print_scenario, read_scenario, scenario_texts_are_not_faulty,
+    scenarios_are_told_apart, texts_are_scenarios_or_faulty, texts_have_one_fault,
+};
+use std::alloc::Global;
+
+/// Reads the input to its end, and writes what is defined for it.
+pub fn answer<I: Source, O: Sink>(alloc: Global, input: &mut I, output: &mut O) -> Status
+    ensures { Tells upgrade_job (I.left input.old) (I.left input.new) (O.written output.old) (O.written output.new)
+        (I.faults input.old) (I.faults input.new) (O.faults output.old) (O.faults output.new) (output.new ≡ output.old) result }
+{
+    match read_to_end(alloc, input, MOST_INPUT_BYTES) {
+        Ok(bytes) => status_of(write_upgraded(alloc, bytes.as_slice(), output)),
+        Err(end) => unread_status(end),
+    }
+}
+
+/// Writes what is defined for the bytes of an input: the text of version 2 of the scenario that they spell, or the one
+/// line that reports the first faulty line.
+fn write_upgraded<O: Sink>(alloc: Global, input: &[u8], output: &mut O) -> Result<Wrote, WriteEnd>
+    ensures { EndsSo upgrade_job input.now (O.written output.old) (O.written output.new) (O.faults output.old) (O.faults output.new) result }
+{
+    match read_scenario(alloc, input) {
+        Ok(scenario) => {
+            let upgraded = upgrade(scenario);
+            let text = print_scenario(alloc, &upgraded)?;
+            write_all(output, text.as_slice())?;
+            Ok(Wrote::Text)
+        }
+        Err(ScenarioFault::Line(number, fault)) => {
+            let line = fault_text(number, fault);
+            write_all(output, line.as_slice())?;
+            Ok(Wrote::FaultLine)
+        }
+        Err(ScenarioFault::OutOfMemory) => Err(WriteEnd::OutOfMemory),
+    }
+}
+
+/// An input has one text of version 2 or one fault line at most, and never both; that text has the reports of the input,
+/// and is what is written for itself.
+pub fn upgrade_is_lawful()
+    ensures { IsLawful upgrade_job }
+{
+    scenarios_are_told_apart();
+    texts_have_one_fault();
+    scenario_texts_are_not_faulty();
+    upgraded_scenarios_are_legal();
+    upgraded_scenarios_run_the_same();
+}
+
+/// Each list of bytes has a defined text under `upgrade`.
+pub fn upgrade_inputs_have_a_text()
+    ensures { (bytes : List ℕ) → (text : List ℕ) × Defines upgrade_job bytes text }
+{
+    texts_are_scenarios_or_faulty();
+}

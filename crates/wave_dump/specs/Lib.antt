@@ -1,0 +1,4 @@
+pub mod Exchanged
+pub mod Waves
+pub mod Drawing
+pub mod Borrowed

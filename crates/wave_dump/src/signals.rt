@@ -1,0 +1,183 @@
+//! The signals of a dump, and how they change.
+ghost use Rattle.std.specs.Prelude.{◌≡◌, ◌++◌, ◌↔◌, ◌==◌, IsTrue, OnOk, [], ◌∷◌, codes};
+ghost use Rattle.std.specs.String.{string_bytes};
+ghost use Rattle.text_fields.specs.Lines.{text_with};
+ghost use Rattle.wave_dump.specs.Waves.{change_line, change_lines, command_value_line, exchange_line, level_digit, reader_line, replies_line, reply_value_line, same_bool, same_level, same_text, tag_line, text_at, time_line};
+ghost use Rattle.wave_dump.specs.Borrowed.{signals_of};
+
+use bit_strings::OutOfMemory;
+use text_fields::{push_long_number, push_number};
+
+/// The values of the signals.
+#[derive(Clone, Copy)]
+pub(crate) struct Signals<'a> {
+    /// The level of the reader.
+    pub(crate) reader: bool,
+    /// The level of the tags, where a stream comes.
+    pub(crate) tag: Option<bool>,
+    /// The number of the exchange.
+    pub(crate) exchange: u64,
+    /// How many tags reply.
+    pub(crate) replies: u32,
+    /// The command, with `_` in place of each space.
+    pub(crate) command: &'a str,
+    /// The reply, in the same form.
+    pub(crate) reply: &'a str,
+}
+
+/// Two levels, or none, are the same.
+fn same_level(one: Option<bool>, other: Option<bool>) -> bool
+    ensures { result ≡ same_level one other }
+{
+    match (one, other) {
+        (None, None) => true,
+        (Some(one), Some(other)) => one == other,
+        _ => false,
+    }
+}
+
+/// Two texts are the same.
+fn same_text(one: &str, other: &str) -> bool
+    ensures { result ≡ same_text one.now other.now }
+{
+    one == other
+}
+
+/// No signal changes.
+fn are_same(old: &Signals<'_>, new: &Signals<'_>) -> bool
+    ensures { IsTrue result ↔ (change_lines (signals_of old.now) (signals_of new.now) ≡ []) }
+{
+    old.reader == new.reader
+        && same_level(old.tag, new.tag)
+        && old.exchange == new.exchange
+        && old.replies == new.replies
+        && same_text(old.command, new.command)
+        && same_text(old.reply, new.reply)
+}
+
+/// A level as a digit.
+fn digit(level: bool) -> char
+    ensures { result ≡ level_digit (Some level) }
+{
+    if level { '1' } else { '0' }
+}
+
+/// A level of the tags as a digit, or `z` for none.
+fn tag_digit(level: Option<bool>) -> char
+    ensures { result ≡ level_digit level }
+{
+    level.map_or('z', digit)
+}
+
+/// Writes the level of the reader, where it changes.
+fn push_reader(text: &mut String, old: bool, new: bool) -> Result<(), OutOfMemory>
+    ensures { OnOk result (string_bytes text.new ≡ string_bytes text.old ++ text_with (change_line (same_bool old new) (reader_line new))) }
+{
+    if old == new {
+        return Ok(());
+    }
+    text.push(digit(new))?;
+    text.push_str("r\n")
+}
+
+/// Writes the level of the tags, where it changes.
+fn push_tag(text: &mut String, old: Option<bool>, new: Option<bool>) -> Result<(), OutOfMemory>
+    ensures { OnOk result (string_bytes text.new ≡ string_bytes text.old ++ text_with (change_line (same_level old new) (tag_line new))) }
+{
+    if same_level(old, new) {
+        return Ok(());
+    }
+    text.push(tag_digit(new))?;
+    text.push_str("t\n")
+}
+
+/// Writes the number of the exchange, where it changes.
+fn push_exchange(text: &mut String, old: u64, new: u64) -> Result<(), OutOfMemory>
+    ensures { OnOk result (string_bytes text.new ≡ string_bytes text.old ++ text_with (change_line (old == new) (exchange_line new))) }
+{
+    if old == new {
+        return Ok(());
+    }
+    text.push('r')?;
+    push_long_number(text, new)?;
+    text.push_str(" e\n")
+}
+
+/// Writes how many tags reply, where it changes.
+fn push_replies(text: &mut String, old: u32, new: u32) -> Result<(), OutOfMemory>
+    ensures { OnOk result (string_bytes text.new ≡ string_bytes text.old ++ text_with (change_line (old == new) (replies_line new))) }
+{
+    if old == new {
+        return Ok(());
+    }
+    text.push('r')?;
+    push_number(text, new)?;
+    text.push_str(" n\n")
+}
+
+/// Writes the command, where it changes.
+fn push_command_value(text: &mut String, old: &str, new: &str) -> Result<(), OutOfMemory>
+    ensures { OnOk result (string_bytes text.new ≡ string_bytes text.old
+        ++ text_with (change_line (same_text old.now new.now) (command_value_line new.now))) }
+{
+    if same_text(old, new) {
+        return Ok(());
+    }
+    text.push('s')?;
+    text.push_str(new)?;
+    text.push_str(" c\n")
+}
+
+/// Writes the reply, where it changes.
+fn push_reply_value(text: &mut String, old: &str, new: &str) -> Result<(), OutOfMemory>
+    ensures { OnOk result (string_bytes text.new ≡ string_bytes text.old
+        ++ text_with (change_line (same_text old.now new.now) (reply_value_line new.now))) }
+{
+    if same_text(old, new) {
+        return Ok(());
+    }
+    text.push('s')?;
+    text.push_str(new)?;
+    text.push_str(" g\n")
+}
+
+/// Writes each signal that changes.
+pub(crate) fn push_changes(
+    text: &mut String,
+    old: &Signals<'_>,
+    new: &Signals<'_>,
+) -> Result<(), OutOfMemory>
+    ensures { OnOk result (string_bytes text.new ≡ string_bytes text.old ++ text_with (change_lines (signals_of old.now) (signals_of new.now))) }
+{
+    push_reader(text, old.reader, new.reader)?;
+    push_tag(text, old.tag, new.tag)?;
+    push_exchange(text, old.exchange, new.exchange)?;
+    push_replies(text, old.replies, new.replies)?;
+    push_command_value(text, old.command, new.command)?;
+    push_reply_value(text, old.reply, new.reply)
+}
+
+/// Writes a time.
+pub(crate) fn push_time(text: &mut String, time: u64) -> Result<(), OutOfMemory>
+    ensures { OnOk result (string_bytes text.new ≡ string_bytes text.old ++ text_with (time_line time ∷ [])) }
+{
+    text.push('#')?;
+    push_long_number(text, time)?;
+    text.push('\n')
+}
+
+/// Writes a moment: the time and each signal that changes at it, where one changes.
+pub(crate) fn push_moment(
+    text: &mut String,
+    time: u64,
+    old: &Signals<'_>,
+    new: &Signals<'_>,
+) -> Result<(), OutOfMemory>
+    ensures { OnOk result (string_bytes text.new ≡ string_bytes text.old ++ text_at time (change_lines (signals_of old.now) (signals_of new.now))) }
+{
+    if are_same(old, new) {
+        return Ok(());
+    }
+    push_time(text, time)?;
+    push_changes(text, old, new)
+}
