@@ -1,6 +1,6 @@
 #!/usr/bin/env python3
 """Writes an input of one kind: inputs.py KIND SIZE > FILE. It has at most SIZE bytes; of the kinds `run` and `slots`, SIZE rounds; of the
-kind `operations`, SIZE operations; of `many` and `floating`, SIZE rounds of the most tags that version 2 has.
+kind `operations`, SIZE operations; of `many`, `floating` and `portals`, SIZE rounds of the most tags that version 2 has.
 
 Of decode lines each line is as long as a line may be (or a whole reply), and each stream, reply and sample group is a
 good one, so that the decoder goes over all of it. `scenario` is a scenario without steps, with as many tags of full banks as
@@ -202,6 +202,12 @@ def floating(rounds, rng):
     return HEAD_2 + tags + "round all 0 a 12 float-500 70000\n" * rounds + END
 
 
+def portals(rounds, rng):
+    """As many tags, and rounds of the sessions 2 and 3 in turn, in each of which every tag is listed."""
+    text = [f"round all {2 + number % 2} {'ab'[number // 2 % 2]} 12 fixed 10000\n" for number in range(rounds)]
+    return many(0, rng).removesuffix(END) + "".join(text) + END
+
+
 def slots(rounds, rng):
     """Rounds that begin with Q 15 and go on to their limit. Each tag has one draw word, so that it draws the same slot each time: of half
     the tags two and two draw one of the first slots, and collide there, which keeps Q between 14 and 15; the others wait far behind these."""
@@ -291,7 +297,7 @@ def raw(size, rng):
 def main():
     kind, size = sys.argv[1], int(sys.argv[2])
     rng = random.Random(7)
-    whole = {"scenario": scenario, "long": long, "run": run, "slots": slots, "many": many, "floating": floating, "operations": operations, "raw": raw, "names": names, "probe": probe}
+    whole = {"scenario": scenario, "long": long, "run": run, "slots": slots, "many": many, "floating": floating, "portals": portals, "operations": operations, "raw": raw, "names": names, "probe": probe}
     if kind in whole:
         sys.stdout.write(whole[kind](size, rng))
         return

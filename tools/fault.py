@@ -198,6 +198,7 @@ REASONS = {
     "trcal": "TRCAL is 1.1 to 3 RTCAL",
     "pw": "PW is at least 2,000, and 0.265 to 0.525 TARI",
     "extra": "nothing may stand behind the end line",
+    "portal": "two portals have rounds alone, in sessions 2 and 3 in turn: no other step, no air line, no operation, and no capture",
 }
 
 
@@ -246,7 +247,7 @@ def spelled(form):
 
 def forms_for(text, word):
     """Gives what the forms of a text are kept by: scenarios have two versions."""
-    if word not in ("run", "upgrade"):
+    if word not in ("run", "upgrade", "audit", "portals"):
         return word
     return "run 2" if text.startswith("gen2 2\n") else "run"
 
@@ -297,7 +298,7 @@ def explanation(text, word, fault):
             # (the version and the tag of a probe stand in its first two lines alone)
             said.append(f"a line begins with one of: {' '.join(begins[2:] if word == 'probe' else begins)}")
     elif reason == "version":
-        said.append("the first line is: " + ("gen2 1, or gen2 2" if word == "run" else FORMS[word][0]))
+        said.append("the first line is: " + ("gen2 1, or gen2 2" if word.startswith("run") else FORMS[word][0]))
     elif reason == "end":
         said.append("it has no line feed at its end")
     elif reason in REASONS:

@@ -1,5 +1,7 @@
 //! The access commands and their bits (6.3.2.11.3).
 
+use std::borrow::Cow;
+
 use crate::bits::{push_crc16, push_field, push_words, value_of, without_crc16, words_of};
 use crate::command::{push_ebv, take_ebv, Bank};
 
@@ -19,7 +21,7 @@ pub struct Place {
 
 /// What an access command asks for.
 #[derive(Clone)]
-pub enum Order {
+pub enum Order<'a> {
     ReqRn,
     Read {
         place: Place,
@@ -39,7 +41,7 @@ pub enum Order {
     },
     BlockWrite {
         place: Place,
-        words: Vec<u16>,
+        words: Cow<'a, [u16]>,
     },
     BlockErase {
         place: Place,
@@ -49,12 +51,12 @@ pub enum Order {
 
 /// An access command, with the RN16 or the handle of the tag that it is meant for.
 #[derive(Clone)]
-pub struct Access {
-    pub order: Order,
+pub struct Access<'a> {
+    pub order: Order<'a>,
     pub rn: u16,
 }
 
-impl Order {
+impl Order<'_> {
     fn code(&self) -> u32 {
         match self {
             Order::ReqRn => 0b1100_0001,
@@ -75,7 +77,7 @@ impl Order {
     }
 }
 
-impl Access {
+impl<'a> Access<'a> {
     pub fn encode(&self, bits: &mut Vec<bool>) {
         push_field(bits, self.order.code(), 8);
         match &self.order {
@@ -105,7 +107,7 @@ impl Access {
         push_crc16(bits);
     }
 
-    pub fn decode(bits: &[bool]) -> Option<Access> {
+    pub fn decode(bits: &'a [bool]) -> Option<Access<'a>> {
         let body = without_crc16(bits)?;
         let (fields, rn) = body.split_at(body.len().checked_sub(16)?);
         let rn = value_of(rn) as u16;
@@ -140,7 +142,7 @@ impl Access {
                 let (place, rest) = take_place(fields)?;
                 let (count, words) = (rest.get(..8)?, rest.get(8..)?);
                 let whole = !words.is_empty() && words.len() == 16 * value_of(count) as usize;
-                let words = whole.then(|| words_of(words))?;
+                let words = whole.then(|| words_of(words).collect())?;
                 Order::BlockWrite { place, words }
             }
             0b1100_1000 => {

@@ -1,5 +1,7 @@
 //! The commands and their bits (6.3.2.11).
 
+use std::borrow::Cow;
+
 use crate::access::Access;
 use crate::bits::{crc5, push_crc16, push_field, value_of, without_crc16};
 
@@ -35,6 +37,17 @@ pub enum Change {
     Up,
     Same,
     Down,
+}
+
+impl Change {
+    /// What it makes of Q.
+    pub fn apply(self, q: u8) -> u8 {
+        match self {
+            Change::Up => (q + 1).min(15),
+            Change::Same => q,
+            Change::Down => q.saturating_sub(1),
+        }
+    }
 }
 
 #[derive(Clone, Copy)]
@@ -81,26 +94,26 @@ pub struct Query {
 }
 
 #[derive(Clone)]
-pub struct Select {
+pub struct Select<'a> {
     pub target: Target,
     pub action: u32,
     pub bank: Bank,
     pub pointer: u32,
-    pub mask: Vec<bool>,
+    pub mask: Cow<'a, [bool]>,
 }
 
 #[derive(Clone)]
-pub enum Command {
+pub enum Command<'a> {
     QueryRep { session: u8 },
     Ack { rn: u16 },
     Query(Query),
     QueryAdjust { session: u8, change: Change },
-    Select(Select),
+    Select(Select<'a>),
     Nak,
-    Access(Access),
+    Access(Access<'a>),
 }
 
-impl Command {
+impl<'a> Command<'a> {
     /// Writes the command's bits.
     pub fn encode(&self, bits: &mut Vec<bool>) {
         bits.clear();
@@ -119,7 +132,7 @@ impl Command {
     }
 
     /// The command that the bits spell.
-    pub fn decode(bits: &[bool]) -> Option<Command> {
+    pub fn decode(bits: &'a [bool]) -> Option<Command<'a>> {
         match (bits.len(), value_of(&bits[..bits.len().min(4)])) {
             (4, head @ 0b0000..=0b0011) => Some(Command::QueryRep {
                 session: head as u8,
@@ -205,7 +218,7 @@ fn encode_select(select: &Select, bits: &mut Vec<bool>) {
     push_crc16(bits);
 }
 
-fn decode_select(bits: &[bool]) -> Option<Select> {
+fn decode_select(bits: &[bool]) -> Option<Select<'_>> {
     let body = without_crc16(bits)?;
     let target = match value_of(body.get(4..7)?) {
         session @ 0..=3 => Target::Session(session as u8),
@@ -218,7 +231,7 @@ fn decode_select(bits: &[bool]) -> Option<Select> {
     }
     let (pointer, rest) = take_ebv(&body[12..])?;
     let length = value_of(rest.get(..8)?) as usize;
-    let mask = rest.get(8..8 + length)?.to_vec();
+    let mask = Cow::Borrowed(rest.get(8..8 + length)?);
     let whole = rest.len() == 9 + length && !rest[8 + length];
     whole.then(|| Select {
         target,

@@ -8,7 +8,7 @@ mod samples;
 mod sgtin;
 
 use crate::line_code::{Code, LineCode, Refusal};
-use fields::{code_of, one_bit, push_bits, push_number, read_bits, Fields};
+use fields::{code_of, digits_of, one_bit, push_bits, push_number, read_bits, Fields};
 use reply::Expect;
 use std::io::{self, BufRead};
 
@@ -33,8 +33,7 @@ pub enum Explained {
 /// Buffers for the items of a line, kept from one line to the next.
 struct Explainer {
     codes: [LineCode; 4],
-    levels: Vec<bool>,
-    lead: Vec<bool>,
+    levels: Vec<u8>,
     bits: Vec<bool>,
     samples: Vec<u8>,
     intervals: Vec<u32>,
@@ -44,8 +43,7 @@ struct Explainer {
 pub fn explain(mut input: impl BufRead) -> io::Result<Explained> {
     let mut explainer = Explainer {
         codes: [Code::Fm0, Code::Miller(2), Code::Miller(4), Code::Miller(8)].map(LineCode::new),
-        levels: Vec::with_capacity(MOST_LEVELS),
-        lead: Vec::new(),
+        levels: Vec::new(),
         bits: Vec::with_capacity(MOST_LEVELS),
         samples: Vec::new(),
         intervals: Vec::new(),
@@ -98,8 +96,8 @@ impl Explainer {
     ) -> Result<(), Fault> {
         let [trext, levels] = fields.exactly()?;
         let trext = one_bit(trext)?;
-        read_bits(levels, MOST_LEVELS, &mut self.levels)?;
-        match self.decode_levels(code, trext) {
+        let levels = digits_of(levels, MOST_LEVELS)?;
+        match self.codes[code].decode(trext, levels, &mut self.bits) {
             Ok(()) => {
                 output.extend_from_slice(b"bits ");
                 push_bits(output, &self.bits);
@@ -116,19 +114,15 @@ impl Explainer {
         Ok(())
     }
 
-    fn decode_levels(&mut self, code: usize, trext: bool) -> Result<(), Refusal> {
-        self.codes[code].decode(trext, &self.levels, &mut self.lead, &mut self.bits)
-    }
-
     fn answer_heard(&mut self, fields: Fields, output: &mut Vec<u8>) -> Result<(), Fault> {
         let [code, trext, expect, levels] = fields.exactly()?;
         let code = code_of(code).ok_or(Fault::Number)?;
         let trext = one_bit(trext)?;
         let expect = Expect::read(expect).ok_or(Fault::Number)?;
-        read_bits(levels, MOST_LEVELS, &mut self.levels)?;
-        let place = match self.decode_levels(code, trext) {
+        let levels = digits_of(levels, MOST_LEVELS)?;
+        let place = match self.codes[code].decode(trext, levels, &mut self.bits) {
             Ok(()) if reply::answer(expect, &self.bits, output).is_ok() => return Ok(()),
-            Ok(()) => self.levels.len(),
+            Ok(()) => levels.len(),
             Err(Refusal::Invalid(place) | Refusal::Unfinished(place)) => place,
         };
         output.extend_from_slice(b"refused ");

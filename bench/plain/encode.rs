@@ -3,7 +3,7 @@
 pub mod command;
 mod reply;
 
-use crate::decode::fields::{code_of, number, one_bit, push_bits, push_number, read_bits, Fields};
+use crate::decode::fields::{code_of, number, one_bit, push_bits, push_digits, push_number, read_bits, Fields};
 use crate::decode::reply::Expect;
 use crate::decode::Fault;
 use crate::line_code::{Code, LineCode};
@@ -18,7 +18,7 @@ const MOST_FRAME_BITS: usize = 8_240;
 struct Encoder {
     codes: [LineCode; 4],
     bits: Vec<bool>,
-    levels: Vec<bool>,
+    levels: Vec<u8>,
     intervals: Vec<u32>,
 }
 
@@ -70,9 +70,8 @@ impl Encoder {
 
     /// Adds the levels of the bits.
     fn push_stream(&mut self, code: usize, trext: bool, output: &mut Vec<u8>) {
-        self.levels.clear();
         self.codes[code].encode(trext, &self.bits, &mut self.levels);
-        push_bits(output, &self.levels);
+        push_digits(output, &self.levels);
     }
 
     fn answer_pie(&mut self, fields: Fields, output: &mut Vec<u8>) -> Result<(), Fault> {

@@ -1,61 +1,85 @@
 //! The lines of a report as objects, one a line, with their keys in alphabetical order.
 
-use std::fmt::Write;
-
+use crate::decode::fields::{push_hex, push_hex_words, push_number, push_word};
 use crate::operation::Outcome;
 use crate::tag::Tag;
 use crate::world::{push_flags, state_name};
 
-/// Words as hexadecimal digits, none as the empty text.
-struct Words<'a>(&'a [u16]);
-
-impl std::fmt::Display for Words<'_> {
-    fn fmt(&self, f: &mut std::fmt::Formatter<'_>) -> std::fmt::Result {
-        self.0.iter().try_for_each(|word| write!(f, "{word:04X}"))
-    }
+/// Adds what stands in front of a value, and the value.
+fn push_count(report: &mut Vec<u8>, front: &str, number: u32) {
+    report.extend_from_slice(front.as_bytes());
+    push_number(report, number as usize);
 }
 
-pub fn push_list(report: &mut String, round: u32, slot: u32, pc_and_epc: &[u16]) {
-    let (pc, epc) = pc_and_epc.split_at(1);
-    writeln!(report, r#"{{"epc":"{}","kind":"list","pc":"{}","round":{round},"slot":{slot}}}"#, Words(epc), Words(pc)).unwrap();
+fn push_words(report: &mut Vec<u8>, front: &str, words: &[u16]) {
+    report.extend_from_slice(front.as_bytes());
+    push_hex_words(report, words);
 }
 
-pub fn push_op(report: &mut String, round: u32, slot: u32, index: u32, outcome: &Outcome) {
-    let (result, value) = match outcome {
-        Outcome::Ok(words) => ("ok", Words(words).to_string()),
-        Outcome::Error(code) => ("error", format!("{code:02X}")),
-        Outcome::Silent => ("silent", String::new()),
-        Outcome::Broken => ("broken", String::new()),
-        Outcome::Denied => ("denied", String::new()),
+fn push_text(report: &mut Vec<u8>, front: &str, text: &str) {
+    report.extend_from_slice(front.as_bytes());
+    report.extend_from_slice(text.as_bytes());
+}
+
+pub fn push_list(report: &mut Vec<u8>, round: u32, slot: u32, pc_and_epc: &[u16]) {
+    push_words(report, r#"{"epc":""#, &pc_and_epc[1..]);
+    push_words(report, r#"","kind":"list","pc":""#, &pc_and_epc[..1]);
+    push_count(report, r#"","round":"#, round);
+    push_count(report, r#","slot":"#, slot);
+    report.extend_from_slice(b"}\n");
+}
+
+pub fn push_op(report: &mut Vec<u8>, round: u32, slot: u32, index: u32, outcome: &Outcome) {
+    let result = match outcome {
+        Outcome::Ok(_) => "ok",
+        Outcome::Error(_) => "error",
+        Outcome::Silent => "silent",
+        Outcome::Broken => "broken",
+        Outcome::Denied => "denied",
     };
-    writeln!(report, r#"{{"index":{index},"kind":"op","result":"{result}","round":{round},"slot":{slot},"value":"{value}"}}"#).unwrap();
+    push_count(report, r#"{"index":"#, index);
+    push_text(report, r#","kind":"op","result":""#, result);
+    push_count(report, r#"","round":"#, round);
+    push_count(report, r#","slot":"#, slot);
+    report.extend_from_slice(br#","value":""#);
+    match outcome {
+        Outcome::Ok(words) => push_hex_words(report, words),
+        Outcome::Error(code) => push_hex(report, u32::from(*code), 2),
+        _ => {}
+    }
+    report.extend_from_slice(b"\"}\n");
 }
 
-pub fn push_round(report: &mut String, number: u32, end: &str, slots: u32) {
-    writeln!(report, r#"{{"end":"{end}","kind":"round","round":{number},"slots":{slots}}}"#).unwrap();
+pub fn push_round(report: &mut Vec<u8>, number: u32, end: &str, slots: u32) {
+    push_text(report, r#"{"end":""#, end);
+    push_count(report, r#"","kind":"round","round":"#, number);
+    push_count(report, r#","slots":"#, slots);
+    report.extend_from_slice(b"}\n");
 }
 
-pub fn push_seen(report: &mut String, count: u32, pc_and_epc: &[u16]) {
-    let (pc, epc) = pc_and_epc.split_at(1);
-    writeln!(report, r#"{{"count":{count},"epc":"{}","kind":"seen","pc":"{}"}}"#, Words(epc), Words(pc)).unwrap();
+pub fn push_seen(report: &mut Vec<u8>, count: u32, pc_and_epc: &[u16]) {
+    push_count(report, r#"{"count":"#, count);
+    push_words(report, r#","epc":""#, &pc_and_epc[1..]);
+    report.extend_from_slice(br#"","kind":"seen","pc":""#);
+    push_word(report, pc_and_epc[0]);
+    report.extend_from_slice(b"\"}\n");
 }
 
-pub fn push_tag(report: &mut String, number: usize, tag: &Tag) {
+pub fn push_tag(report: &mut Vec<u8>, number: usize, tag: &Tag) {
     let memory = &tag.memory;
-    write!(report, r#"{{"epc":"{}","flags":""#, Words(&memory.epc)).unwrap();
+    push_words(report, r#"{"epc":""#, &memory.epc);
+    report.extend_from_slice(br#"","flags":""#);
     push_flags(report, tag);
-    writeln!(
-        report,
-        r#"","kind":"tag","locks":"{}","number":{number},"res":"{}","state":"{}","tid":"{}","user":"{}"}}"#,
-        memory.locks,
-        Words(&memory.reserved),
-        state_name(tag.state),
-        Words(&memory.tid),
-        Words(&memory.user),
-    )
-    .unwrap();
+    report.extend_from_slice(br#"","kind":"tag","locks":""#);
+    report.extend_from_slice(&memory.locks.digits());
+    push_count(report, r#"","number":"#, number as u32);
+    push_words(report, r#","res":""#, &memory.reserved);
+    push_text(report, r#"","state":""#, state_name(tag.state));
+    push_words(report, r#"","tid":""#, &memory.tid);
+    push_words(report, r#"","user":""#, &memory.user);
+    report.extend_from_slice(b"\"}\n");
 }
 
-pub fn push_done(report: &mut String) {
-    report.push_str("{\"kind\":\"done\"}\n");
+pub fn push_done(report: &mut Vec<u8>) {
+    report.extend_from_slice(b"{\"kind\":\"done\"}\n");
 }

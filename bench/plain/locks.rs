@@ -1,7 +1,5 @@
 //! The locks of a tag's passwords and banks (6.3.2.11.3.5).
 
-use std::fmt;
-
 /// What a pair of lock bits is for, in their order.
 #[derive(Clone, Copy)]
 pub enum Field {
@@ -41,6 +39,15 @@ impl Locks {
         pairs.try_into().ok().map(Locks)
     }
 
+    /// Their ten binary digits.
+    pub fn digits(&self) -> [u8; 10] {
+        let mut digits = [0; 10];
+        for (digits, pair) in digits.as_chunks_mut().0.iter_mut().zip(&self.0) {
+            *digits = [pair.locked, pair.permalocked].map(|bit| b'0' + u8::from(bit));
+        }
+        digits
+    }
+
     /// Whether the field may be changed, or a password read.
     pub fn allow(&self, field: Field, secured: bool) -> bool {
         let pair = self.0[field as usize];
@@ -70,19 +77,5 @@ impl Locks {
             }
         }
         true
-    }
-}
-
-impl fmt::Display for Locks {
-    fn fmt(&self, formatter: &mut fmt::Formatter) -> fmt::Result {
-        for pair in &self.0 {
-            write!(
-                formatter,
-                "{}{}",
-                u8::from(pair.locked),
-                u8::from(pair.permalocked)
-            )?;
-        }
-        Ok(())
     }
 }

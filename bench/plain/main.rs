@@ -1,10 +1,12 @@
 //! Explains captures as `gen2run decode` does and makes them as `gen2run encode` does, probes a tag as `gen2run probe` does, plays
-//! scenarios as `gen2run run`, `gen2run run trace` and `gen2run run json` do, writes them in version 2 as `gen2run upgrade` does, names
-//! what was listed as `gen2run names` does, and summarises generated scenarios as `gen2run gen` does, in plain Rust and unproved, so that the time
-//! of the proved program can be compared with it. It does the same work: in a run each command is encoded as a frame and decoded,
-//! and each reply that the channel gives is encoded as a stream of levels and decoded.
+//! scenarios as `gen2run run`, `gen2run run trace` and `gen2run run json` do, writes them in version 2 as `gen2run upgrade` does, audits
+//! traces as `gen2run audit` does, compares portals as `gen2run portals` does, names what was listed as `gen2run names` does, and
+//! summarises generated scenarios as `gen2run gen` does, in plain Rust and unproved, so that the time of the proved program can be
+//! compared with it. It does the same work: in a run each command is encoded as a frame and decoded, and each reply that the channel
+//! gives is encoded as a stream of levels and decoded.
 
 mod access;
+mod audit;
 mod bits;
 mod command;
 mod decode;
@@ -17,9 +19,12 @@ mod memory;
 mod names;
 mod operation;
 mod pie;
+mod population;
+mod portals;
 mod probe;
 mod scenario;
 mod tag;
+mod trace;
 mod upgrade;
 mod world;
 
@@ -51,7 +56,7 @@ fn main() -> ExitCode {
             Err(_) => ExitCode::from(4),
         };
     }
-    if !matches!(words[..], ["run"] | ["run", "trace" | "json"] | ["upgrade" | "names" | "probe"]) {
+    if !matches!(words[..], ["run"] | ["run", "trace" | "json"] | ["upgrade" | "names" | "probe" | "audit" | "portals"]) {
         return ExitCode::from(2);
     }
     let mut text = String::new();
@@ -59,30 +64,40 @@ fn main() -> ExitCode {
         return ExitCode::from(4);
     }
     let result = if words == ["names"] {
-        names::add_names(&text).map_err(|line| format!("fault {line} end\n"))
+        names::add_names(&text).map(String::into_bytes).map_err(|line| format!("fault {line} end\n"))
     } else if words == ["probe"] {
         probe::answers(&text).map_err(|line| format!("fault {line}\n"))
+    } else if words == ["audit"] {
+        audit::verdict(&text).map_err(|line| format!("fault {line}\n"))
+    } else if words == ["portals"] {
+        portals::lines(&text).map_err(|line| format!("fault {line}\n"))
     } else {
-        let played = |scenario| match words[..] {
-            ["upgrade"] => upgrade::text(&text),
-            ["run", "trace"] => world::play(scenario, world::Form::Trace),
-            ["run", "json"] => world::play(scenario, world::Form::Json),
-            _ => world::play(scenario, world::Form::Plain),
+        let form = match words[..] {
+            ["run", "trace"] => world::Form::Trace,
+            ["run", "json"] => world::Form::Json,
+            _ => world::Form::Plain,
         };
-        scenario::read(&text)
-            .map(played)
-            .map_err(|line| format!("fault {line}\n"))
+        match scenario::read(&text) {
+            Ok(_) if words == ["upgrade"] => Ok(upgrade::text(&text).into_bytes()),
+            Ok(scenario) => return status(world::play(scenario, form, io::stdout()), ExitCode::SUCCESS),
+            Err(line) => Err(format!("fault {line}\n")),
+        }
     };
     match result {
-        Ok(output) => write(output.as_bytes(), ExitCode::SUCCESS),
+        Ok(output) => write(&output, ExitCode::SUCCESS),
         Err(fault) => write(fault.as_bytes(), ExitCode::from(3)),
     }
 }
 
 /// Writes the output; the status is this one, or that of a failed write.
-fn write(output: &[u8], status: ExitCode) -> ExitCode {
-    match io::stdout().write_all(output) {
-        Ok(()) => status,
+fn write(output: &[u8], code: ExitCode) -> ExitCode {
+    status(io::stdout().write_all(output), code)
+}
+
+/// The status behind a write: this one, or that of a failed write.
+fn status(written: io::Result<()>, code: ExitCode) -> ExitCode {
+    match written {
+        Ok(()) => code,
         Err(_) => ExitCode::from(5),
     }
 }

@@ -1,6 +1,8 @@
 //! A tag's four banks and their locks: what may be read and changed (6.3.2.1).
 
 use crate::access::{Password, Place};
+use std::ops::Range;
+
 use crate::bits::{crc16, push_words};
 use crate::command::Bank;
 use crate::locks::{Field, Locks};
@@ -66,8 +68,8 @@ impl Memory {
         u32::from(self.reserved[upper]) << 16 | u32::from(self.reserved[upper + 1])
     }
 
-    /// The words from the place on, with a count of 0 to the end of the bank or of the EPC.
-    pub fn read(&self, place: Place, count: u8, secured: bool) -> Result<&[u16], Refusal> {
+    /// Where the words from the place on stand in its bank, with a count of 0 to the end of the bank or of the EPC.
+    pub fn read(&self, place: Place, count: u8, secured: bool) -> Result<Range<usize>, Refusal> {
         let bank = self.bank(place.bank);
         let from = place.pointer as usize;
         let to = match (count, place.bank) {
@@ -75,16 +77,15 @@ impl Memory {
             (0, _) => bank.len(),
             _ => from + usize::from(count),
         };
-        let words = bank
-            .get(from..to)
-            .filter(|words| !words.is_empty())
-            .ok_or(Refusal::Overrun)?;
+        if from >= to || to > bank.len() {
+            return Err(Refusal::Overrun);
+        }
         let hidden = matches!(place.bank, Bank::Reserved)
             && (from..to).any(|at| !self.locks.allow(field_of(Bank::Reserved, at), secured));
         if hidden {
             return Err(Refusal::Locked);
         }
-        Ok(words)
+        Ok(from..to)
     }
 
     /// Changes all words from the place on, or none.

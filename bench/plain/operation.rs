@@ -1,5 +1,7 @@
 //! The access operations of a round, as the interrogator goes through them behind each tag that it lists.
 
+use std::borrow::Cow;
+
 use crate::access::{Access, Order, Password, Place};
 use crate::bits::{value_of, without_crc16, words_of};
 
@@ -74,7 +76,7 @@ pub fn read_reply(bits: &[bool], awaited: Await, handle: u16) -> Option<Answer> 
     };
     match (is_error, front.len()) {
         (true, 8) => Some(Answer::Error(value_of(front) as u8)),
-        (false, length) if length == 16 * words && fits => Some(Answer::Words(words_of(front))),
+        (false, length) if length == 16 * words && fits => Some(Answer::Words(words_of(front).collect())),
         _ => None,
     }
 }
@@ -110,7 +112,7 @@ pub fn operate(
             send(air, Order::Write { place, covered }, Await::Header)
         }
         Operation::BlockWrite { place, words } => {
-            let (place, words) = (*place, words.clone());
+            let (place, words) = (*place, Cow::Borrowed(&words[..]));
             send(air, Order::BlockWrite { place, words }, Await::Header)
         }
         Operation::BlockErase { place, count } => {

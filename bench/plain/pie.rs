@@ -11,6 +11,11 @@ pub struct Timing {
 }
 
 impl Timing {
+    /// The intervals of data-0 and of data-1.
+    pub fn symbols(&self) -> [[u32; 2]; 2] {
+        [self.tari, self.rtcal - self.tari].map(|length| [length - self.pw, self.pw])
+    }
+
     /// The name of the first length that is out of its range (6.3.1.2.3, 6.3.1.2.8).
     pub fn first_out_of_range(&self) -> Option<&'static str> {
         let Timing { tari, rtcal, trcal, pw } = *self;
@@ -32,50 +37,45 @@ const DELIMITER: u32 = 12_500;
 
 /// Writes the frame of the bits: delimiter, data-0, RTcal, TRcal where there is a preamble, and the bits.
 pub fn encode_frame(timing: &Timing, preamble: bool, bits: &[bool], intervals: &mut Vec<u32>) {
+    let pair = |length: u32| [length - timing.pw, timing.pw];
     intervals.clear();
     intervals.push(DELIMITER);
-    let mut pair = |length: u32| intervals.extend([length - timing.pw, timing.pw]);
-    pair(timing.tari);
-    pair(timing.rtcal);
+    intervals.extend(pair(timing.tari));
+    intervals.extend(pair(timing.rtcal));
     if preamble {
-        pair(timing.trcal);
+        intervals.extend(pair(timing.trcal));
     }
-    for &bit in bits {
-        pair(if bit {
-            timing.rtcal - timing.tari
-        } else {
-            timing.tari
-        });
+    let symbols = timing.symbols();
+    let start = intervals.len();
+    intervals.resize(start + 2 * bits.len(), 0);
+    for (pair, &bit) in intervals[start..].as_chunks_mut().0.iter_mut().zip(bits) {
+        *pair = symbols[usize::from(bit)];
     }
 }
 
 /// Reads the data bits of a frame back, as a tag does: from its own Tari, RTcal and TRcal. It answers whether it is a frame.
 pub fn decode_frame(intervals: &[u32], bits: &mut Vec<bool>) -> bool {
     bits.clear();
-    let Some((delimiter, pairs)) = intervals.split_first() else {
-        return false;
-    };
-    let mut symbols = pairs.chunks_exact(2).map(|pair| pair[0] + pair[1]);
-    let (Some(tari), Some(rtcal)) = (symbols.next(), symbols.next()) else {
-        return false;
-    };
+    let [delimiter, pairs @ ..] = intervals else { return false };
+    let ([tari, rtcal, symbols @ ..], []) = pairs.as_chunks::<2>() else { return false };
+    let sum = |&[high, low]: &[u32; 2]| high + low;
+    let (tari, rtcal, mut symbols) = (sum(tari), sum(rtcal), symbols);
     let is_header = (11_875..=13_125).contains(delimiter)
         && (6_250..=25_000).contains(&tari)
         && 2 * rtcal >= 5 * tari
         && rtcal <= 3 * tari;
-    if !is_header || pairs.len() % 2 != 0 {
+    if !is_header {
         return false;
     }
-    for (place, symbol) in symbols.enumerate() {
-        if place == 0 && symbol > rtcal {
-            if 10 * symbol < 11 * rtcal || symbol > 3 * rtcal {
+    if let [first, others @ ..] = symbols {
+        let first = sum(first);
+        if first > rtcal {
+            if 10 * first < 11 * rtcal || first > 3 * rtcal {
                 return false;
             }
-        } else if symbol > 4 * rtcal {
-            return false;
-        } else {
-            bits.push(2 * symbol >= rtcal);
+            symbols = others;
         }
     }
-    true
+    bits.extend(symbols.iter().map(|symbol| 2 * sum(symbol) >= rtcal));
+    symbols.iter().fold(true, |fits, symbol| fits & (sum(symbol) <= 4 * rtcal))
 }

@@ -3,13 +3,14 @@
 use std::collections::BTreeMap;
 
 use crate::access::{Password, Place};
-use crate::command::{Bank, Flag, Sel, Select, Target};
-use crate::decode::fields::read_bits;
+use crate::command::{Bank, Command, Flag, Sel, Select, Target};
+use crate::decode::fields::{digits_of, word};
 use crate::line_code::{Code, LineCode};
 use crate::locks::Locks;
 use crate::memory::Memory;
 use crate::operation::{Operation, Operations};
 use crate::pie::Timing;
+use crate::population::Population;
 use crate::tag::{Event, Expiry, Tag};
 
 pub struct Link {
@@ -28,7 +29,7 @@ pub enum Choice {
     Silent,
     Break(usize),
     /// These levels come, whether or not a tag replies.
-    Raw(Vec<bool>),
+    Raw(Vec<u8>),
 }
 
 /// What the scenario says of one exchange.
@@ -62,8 +63,7 @@ pub struct Round {
 }
 
 pub enum Step {
-    Select(Select),
-    Nak,
+    Send(Command<'static>),
     Event(usize, Event),
     Round(Round, Operations),
 }
@@ -80,7 +80,7 @@ pub enum Several {
 pub struct Scenario {
     pub link: Link,
     pub several: Several,
-    pub tags: Vec<Tag>,
+    pub tags: Population,
     /// By the number of the exchange, from 1.
     pub air: BTreeMap<u32, Entry>,
     pub steps: Vec<Step>,
@@ -110,14 +110,18 @@ pub fn read(text: &str) -> Result<Scenario, usize> {
     let mut scenario = Scenario {
         link,
         several,
-        tags: Vec::new(),
+        tags: Population::new(),
         air: BTreeMap::new(),
         steps: Vec::new(),
     };
     let mut last = number;
-    for (number, line) in lines {
+    while let Some((number, line)) = lines.next() {
         if line == "end" {
-            return Ok(scenario);
+            return match lines.next() {
+                Some((extra, _)) => Err(extra),
+                None if text.ends_with('\n') => Ok(scenario),
+                None => Err(number),
+            };
         }
         scenario.read_line(line, is_first_version).ok_or(number)?;
         last = number;
@@ -130,11 +134,14 @@ impl Scenario {
         let (word, rest) = line.split_once(' ').unwrap_or((line, ""));
         let fields: Vec<&str> = rest.split(' ').collect();
         match word {
-            "tag" => self.tags.push(read_tag(&fields)?),
-            "copies" if !is_first_version => self.tags.extend(read_copies(&fields)?),
+            "tag" => {
+                let (tag, draws) = read_tag(&fields)?;
+                self.tags.push(tag, &draws);
+            }
+            "copies" if !is_first_version => read_copies(&fields, &mut self.tags)?,
             "air" => self.read_air(&fields)?,
-            "select" => self.steps.push(Step::Select(read_select(&fields)?)),
-            "nak" if rest.is_empty() => self.steps.push(Step::Nak),
+            "select" => self.steps.push(Step::Send(Command::Select(read_select(&fields)?))),
+            "nak" if rest.is_empty() => self.steps.push(Step::Send(Command::Nak)),
             "event" => {
                 let (tag, event) = self.read_event(&fields)?;
                 self.steps.push(Step::Event(tag, event));
@@ -226,17 +233,12 @@ fn read_words(field: &str) -> Option<Vec<u16>> {
     if field == "-" {
         return Some(Vec::new());
     }
-    field
-        .as_bytes()
-        .chunks(4)
-        .map(|digits| u16::from_str_radix(std::str::from_utf8(digits).ok()?, 16).ok())
-        .collect()
+    field.as_bytes().chunks(4).map(word).collect()
 }
 
-fn read_levels(field: &str) -> Option<Vec<bool>> {
-    let mut levels = Vec::new();
-    read_bits(field.as_bytes(), MOST_LEVELS, &mut levels).ok()?;
-    (!levels.is_empty()).then_some(levels)
+fn read_levels(field: &str) -> Option<Vec<u8>> {
+    let levels = digits_of(field.as_bytes(), MOST_LEVELS).ok()?;
+    (!levels.is_empty()).then(|| levels.to_vec())
 }
 
 /// The memory of a tag as a line gives it, and its draw words.
@@ -260,27 +262,30 @@ fn read_image(fields: &[&str]) -> Option<(Memory, Vec<u16>)> {
     fits.then_some((memory, draws))
 }
 
-pub fn read_tag(fields: &[&str]) -> Option<Tag> {
+/// A tag, and its draw words.
+pub fn read_tag(fields: &[&str]) -> Option<(Tag, Vec<u16>)> {
     let (memory, draws) = read_image(fields)?;
-    Some(Tag::new(memory, draws))
+    Some((Tag::new(memory), draws))
 }
 
-/// The tags that a copies line stands for. From one to the next the last word of the EPC, that of the TID and each draw word rise by one.
-fn read_copies(fields: &[&str]) -> Option<Vec<Tag>> {
+/// Adds the tags that a copies line stands for. From one to the next the last word of the EPC, that of the TID and each draw word rise by one.
+fn read_copies(fields: &[&str], tags: &mut Population) -> Option<()> {
     let (count, fields) = fields.split_first()?;
     let count: u16 = count.parse().ok()?;
-    let (memory, draws) = read_image(fields)?;
+    let (mut memory, mut draws) = read_image(fields)?;
     // The EPC bank has StoredCRC and PC in front of the words that PC counts.
     let last = 1 + usize::from(memory.epc[1] >> 11);
-    let raise = |word: &mut u16, by: u16| *word = word.wrapping_add(by);
-    let copy = |by| {
-        let (mut memory, mut draws) = (memory.clone(), draws.clone());
-        raise(&mut memory.epc[last], by);
-        raise(memory.tid.last_mut()?, by);
-        draws.iter_mut().for_each(|word| raise(word, by));
-        Some(Tag::new(memory, draws))
-    };
-    (last > 1 && count > 1).then(|| (0..count).map(copy).collect())?
+    if last == 1 || count < 2 || memory.tid.is_empty() {
+        return None;
+    }
+    let raise = |word: &mut u16| *word = word.wrapping_add(1);
+    for _ in 0..count {
+        tags.push(Tag::new(memory.clone()), &draws);
+        raise(&mut memory.epc[last]);
+        raise(memory.tid.last_mut()?);
+        draws.iter_mut().for_each(raise);
+    }
+    Some(())
 }
 
 fn read_session(field: &str) -> Option<u8> {
@@ -297,7 +302,7 @@ fn read_bank(field: &str) -> Option<Bank> {
     }
 }
 
-fn read_select(fields: &[&str]) -> Option<Select> {
+fn read_select(fields: &[&str]) -> Option<Select<'static>> {
     let [target, action, bank, pointer, mask] = fields else {
         return None;
     };
@@ -313,7 +318,8 @@ fn read_select(fields: &[&str]) -> Option<Select> {
             .bytes()
             .filter(|&digit| digit != b'-')
             .map(|digit| digit == b'1')
-            .collect(),
+            .collect::<Vec<bool>>()
+            .into(),
     })
 }
 

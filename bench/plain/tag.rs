@@ -2,7 +2,7 @@
 
 use crate::access::{Access, Order, Password};
 use crate::bits::{push_crc16, push_field, push_words};
-use crate::command::{Change, Command, Flag, Query, Sel, Select, Target};
+use crate::command::{Bank, Change, Command, Flag, Query, Sel, Select, Target};
 use crate::memory::{Memory, Refusal};
 
 /// The session and Q of the round that a tag takes part in.
@@ -45,39 +45,94 @@ pub enum State {
     Held(Held),
 }
 
-/// The bits that a tag answers with.
-pub struct Reply {
-    pub bits: Vec<bool>,
-    /// Whether the reply has the extended preamble, whatever the Query asked for.
-    pub extended: bool,
+/// What a tag answers. PC, EPC and words that are read stand in the tag's memory.
+#[derive(Clone, Copy)]
+pub enum Reply {
+    /// An RN16.
+    Rn16(u16),
+    /// PC and EPC with their CRC-16.
+    PcAndEpc,
+    /// A handle or a cover with its CRC-16.
+    Number(u16),
+    /// A header bit of 0, words, the handle and the CRC-16.
+    Words { bank: Bank, from: usize, to: usize, handle: u16 },
+    /// A header bit of 0, the handle and the CRC-16.
+    Done { handle: u16 },
+    /// A header bit of 1, the error code, the handle and the CRC-16. It answers a Read or another command.
+    Error { refusal: Refusal, handle: u16, is_read: bool },
 }
 
 impl Reply {
-    fn plain(bits: Vec<bool>) -> Reply {
-        Reply {
-            bits,
-            extended: false,
-        }
-    }
-
-    /// An RN16 or a handle with its CRC-16.
-    fn handle(handle: u16) -> Reply {
-        let mut bits = Vec::new();
-        push_field(&mut bits, u32::from(handle), 16);
-        push_crc16(&mut bits);
-        Reply::plain(bits)
-    }
-
-    /// A header bit of 0 and the words, or a header bit of 1 and the error code; and the handle.
-    fn result(result: Result<&[u16], Refusal>, handle: u16, extended: bool) -> Reply {
-        let mut bits = vec![result.is_err()];
+    /// The reply to a command that changes something.
+    fn changed(result: Result<(), Refusal>, handle: u16) -> Reply {
         match result {
-            Ok(words) => push_words(&mut bits, words),
-            Err(refusal) => push_field(&mut bits, refusal as u32, 8),
+            Ok(()) => Reply::Done { handle },
+            Err(refusal) => Reply::Error { refusal, handle, is_read: false },
         }
-        push_field(&mut bits, u32::from(handle), 16);
-        push_crc16(&mut bits);
-        Reply { bits, extended }
+    }
+
+    /// Whether it has the extended preamble, whatever the Query asked for.
+    pub fn is_extended(&self) -> bool {
+        matches!(self, Reply::Done { .. } | Reply::Error { is_read: false, .. })
+    }
+
+    /// Writes its bits, from the memory of the tag.
+    pub fn spell(&self, memory: &Memory, bits: &mut Vec<bool>) {
+        bits.clear();
+        let number = match *self {
+            Reply::Rn16(rn) => return push_field(bits, u32::from(rn), 16),
+            Reply::PcAndEpc => {
+                push_words(bits, memory.pc_and_epc());
+                return push_crc16(bits);
+            }
+            Reply::Number(number) => number,
+            Reply::Words { bank, from, to, handle } => {
+                bits.push(false);
+                push_words(bits, &memory.bank(bank)[from..to]);
+                handle
+            }
+            Reply::Done { handle } => {
+                bits.push(false);
+                handle
+            }
+            Reply::Error { refusal, handle, .. } => {
+                bits.push(true);
+                push_field(bits, refusal as u32, 8);
+                handle
+            }
+        };
+        push_field(bits, u32::from(number), 16);
+        push_crc16(bits);
+    }
+}
+
+/// The words that a tag draws, one after another and from the first again: where they stand in a list, and the next.
+#[derive(Clone, Copy)]
+pub struct Draws {
+    from: u32,
+    to: u32,
+    next: u32,
+}
+
+impl Draws {
+    /// Those that are put behind the list.
+    pub fn push(words: &mut Vec<u16>, drawn: &[u16]) -> Draws {
+        let from = words.len() as u32;
+        words.extend_from_slice(drawn);
+        Draws { from, to: words.len() as u32, next: from }
+    }
+
+    pub fn draw(&mut self, words: &[u16]) -> u16 {
+        self.draw_where(true, words)
+    }
+
+    /// The next word, which stays the next one where it isn't drawn.
+    #[inline]
+    pub fn draw_where(&mut self, is_drawn: bool, words: &[u16]) -> u16 {
+        let word = words[self.next as usize];
+        let behind = self.next + u32::from(is_drawn);
+        self.next = if behind == self.to { self.from } else { behind };
+        word
     }
 }
 
@@ -103,51 +158,40 @@ pub struct Tag {
     pub flags: [Flag; 4],
     pub sl: bool,
     pub state: State,
-    draws: Vec<u16>,
-    next_draw: usize,
 }
 
 impl Tag {
     /// A tag in ready. StoredCRC is computed.
-    pub fn new(mut memory: Memory, draws: Vec<u16>) -> Tag {
+    pub fn new(mut memory: Memory) -> Tag {
         memory.store_crc();
         Tag {
             memory,
             flags: [Flag::A; 4],
             sl: false,
             state: State::Ready,
-            draws,
-            next_draw: 0,
         }
     }
 
-    fn draw(&mut self) -> u16 {
-        let word = self.draws[self.next_draw];
-        self.next_draw = (self.next_draw + 1) % self.draws.len();
-        word
-    }
-
-    /// Hears a command, and answers with the bits of a reply or not at all.
-    #[inline]
-    pub fn hear(&mut self, command: &Command) -> Option<Reply> {
+    /// Hears a command, and answers or not. `draw` gives the next word that it draws.
+    pub fn hear(&mut self, command: &Command, draw: impl FnMut() -> u16) -> Option<Reply> {
         if matches!(self.state, State::Off | State::Killed) {
             return None;
         }
         match command {
-            Command::QueryRep { session } => self.hear_query_rep(*session),
-            Command::QueryAdjust { session, change } => self.hear_query_adjust(*session, *change),
+            Command::QueryRep { session } => self.hear_query_rep(*session, draw),
+            Command::QueryAdjust { session, change } => self.hear_query_adjust(*session, *change, draw),
             Command::Ack { rn } => self.hear_ack(*rn),
-            Command::Query(query) => self.hear_query(query),
+            Command::Query(query) => self.hear_query(query, draw),
             Command::Select(select) => self.hear_select(select),
             Command::Nak => {
                 self.back();
                 None
             }
-            Command::Access(access) => self.hear_access(access),
+            Command::Access(access) => self.hear_access(access, draw),
         }
     }
 
-    fn hear_query(&mut self, query: &Query) -> Option<Reply> {
+    fn hear_query(&mut self, query: &Query, draw: impl FnMut() -> u16) -> Option<Reply> {
         match self.state {
             State::Acknowledged { round, .. } | State::Held(Held { round, .. })
                 if round.session == query.session =>
@@ -162,21 +206,21 @@ impl Tag {
             Sel::Sl => self.sl,
         };
         if selected && self.flags[usize::from(query.session)] == query.target {
-            self.enter(Round {
+            let round = Round {
                 session: query.session,
                 q: query.q,
-            })
+            };
+            self.enter(round, draw)
         } else {
             self.state = State::Ready;
             None
         }
     }
 
-    #[inline]
-    fn hear_query_rep(&mut self, session: u8) -> Option<Reply> {
+    fn hear_query_rep(&mut self, session: u8, draw: impl FnMut() -> u16) -> Option<Reply> {
         match self.state {
             State::Arbitrate { round, slot: 1 } if round.session == session => {
-                Some(self.reply(round))
+                Some(self.reply(round, draw))
             }
             State::Arbitrate { round, slot } if round.session == session => {
                 self.state = State::Arbitrate {
@@ -196,17 +240,13 @@ impl Tag {
         }
     }
 
-    fn hear_query_adjust(&mut self, session: u8, change: Change) -> Option<Reply> {
+    fn hear_query_adjust(&mut self, session: u8, change: Change, draw: impl FnMut() -> u16) -> Option<Reply> {
         match self.state {
             State::Arbitrate { round, .. } | State::Reply { round, .. }
                 if round.session == session =>
             {
-                let q = match change {
-                    Change::Up => (round.q + 1).min(15),
-                    Change::Same => round.q,
-                    Change::Down => round.q.saturating_sub(1),
-                };
-                self.enter(Round { session, q })
+                let q = change.apply(round.q);
+                self.enter(Round { session, q }, draw)
             }
             _ => self.hear_end_of_slot(session),
         }
@@ -231,7 +271,6 @@ impl Tag {
         None
     }
 
-    #[inline]
     fn hear_ack(&mut self, sent: u16) -> Option<Reply> {
         match self.state {
             State::Reply { round, rn } | State::Acknowledged { round, rn } if rn == sent => {
@@ -245,19 +284,16 @@ impl Tag {
                 return None;
             }
         }
-        let mut bits = Vec::new();
-        push_words(&mut bits, self.memory.pc_and_epc());
-        push_crc16(&mut bits);
-        Some(Reply::plain(bits))
+        Some(Reply::PcAndEpc)
     }
 
-    fn hear_access(&mut self, access: &Access) -> Option<Reply> {
+    fn hear_access(&mut self, access: &Access, mut draw: impl FnMut() -> u16) -> Option<Reply> {
         match (self.state, &access.order) {
             (State::Acknowledged { round, rn }, Order::ReqRn) => {
                 if rn != access.rn {
                     return None;
                 }
-                let handle = self.draw();
+                let handle = draw();
                 self.state = State::Held(Held {
                     round,
                     secured: self.memory.password(Password::Access) == 0,
@@ -265,19 +301,19 @@ impl Tag {
                     cover: None,
                     half: None,
                 });
-                Some(Reply::handle(handle))
+                Some(Reply::Number(handle))
             }
             (State::Reply { .. } | State::Acknowledged { .. }, _) => {
                 self.back();
                 None
             }
-            (State::Held(held), order) if held.handle == access.rn => self.obey(held, order),
+            (State::Held(held), order) if held.handle == access.rn => self.obey(held, order, draw),
             _ => None,
         }
     }
 
     /// An access command with the tag's handle, in open or secured.
-    fn obey(&mut self, held: Held, order: &Order) -> Option<Reply> {
+    fn obey(&mut self, held: Held, order: &Order, mut draw: impl FnMut() -> u16) -> Option<Reply> {
         let is_awaited = match (held.half, order) {
             (None, _) | (_, Order::ReqRn) => true,
             (Some((awaited, _)), Order::Half { password, .. }) => awaited == *password,
@@ -290,16 +326,19 @@ impl Tag {
         let (handle, secured) = (held.handle, held.secured);
         let changed = match order {
             Order::ReqRn => {
-                let cover = self.draw();
+                let cover = draw();
                 self.state = State::Held(Held {
                     cover: Some(cover),
                     ..held
                 });
-                return Some(Reply::handle(cover));
+                return Some(Reply::Number(cover));
             }
             Order::Read { place, count } => {
-                let words = self.memory.read(*place, *count, secured);
-                return Some(Reply::result(words, handle, false));
+                let reply = match self.memory.read(*place, *count, secured) {
+                    Ok(words) => Reply::Words { bank: place.bank, from: words.start, to: words.end, handle },
+                    Err(refusal) => Reply::Error { refusal, handle, is_read: true },
+                };
+                return Some(reply);
             }
             Order::Write { place, covered } => {
                 let word = self.uncover(held, *covered)?;
@@ -321,10 +360,10 @@ impl Tag {
             Order::BlockWrite { place, words } => self.memory.change(*place, words, secured),
             Order::BlockErase { place, count } => {
                 self.memory
-                    .change(*place, &vec![0; usize::from(*count)], secured)
+                    .change(*place, &[0; 255][..usize::from(*count)], secured)
             }
         };
-        Some(Reply::result(changed.map(|()| &[][..]), handle, true))
+        Some(Reply::changed(changed, handle))
     }
 
     /// The value below the tag's cover, which is used up.
@@ -344,18 +383,18 @@ impl Tag {
                 half: Some((password, value)),
                 ..held
             });
-            return Some(Reply::handle(held.handle));
+            return Some(Reply::Number(held.handle));
         };
         let own = self.memory.password(password);
         let is_right = own == u32::from(upper) << 16 | u32::from(value);
         match password {
             Password::Kill if own == 0 => {
                 self.state = State::Held(Held { half: None, ..held });
-                Some(Reply::result(Err(Refusal::Other), held.handle, true))
+                Some(Reply::changed(Err(Refusal::Other), held.handle))
             }
             Password::Kill if is_right => {
                 self.state = State::Killed;
-                Some(Reply::result(Ok(&[]), held.handle, true))
+                Some(Reply::changed(Ok(()), held.handle))
             }
             Password::Access if is_right => {
                 self.state = State::Held(Held {
@@ -363,7 +402,7 @@ impl Tag {
                     half: None,
                     ..held
                 });
-                Some(Reply::handle(held.handle))
+                Some(Reply::Number(held.handle))
             }
             _ => {
                 self.back();
@@ -373,22 +412,20 @@ impl Tag {
     }
 
     /// Draws a slot: slot 0 replies at once.
-    fn enter(&mut self, round: Round) -> Option<Reply> {
-        let slot = self.draw() & ((1 << round.q) - 1);
+    fn enter(&mut self, round: Round, mut draw: impl FnMut() -> u16) -> Option<Reply> {
+        let slot = draw() & ((1 << round.q) - 1);
         if slot == 0 {
-            return Some(self.reply(round));
+            return Some(self.reply(round, draw));
         }
         self.state = State::Arbitrate { round, slot };
         None
     }
 
     /// Draws an RN16 and replies with it.
-    fn reply(&mut self, round: Round) -> Reply {
-        let rn = self.draw();
+    pub fn reply(&mut self, round: Round, mut draw: impl FnMut() -> u16) -> Reply {
+        let rn = draw();
         self.state = State::Reply { round, rn };
-        let mut bits = Vec::new();
-        push_field(&mut bits, u32::from(rn), 16);
-        Reply::plain(bits)
+        Reply::Rn16(rn)
     }
 
     fn back(&mut self) {
@@ -409,7 +446,7 @@ impl Tag {
         let mut bits = Vec::new();
         push_words(&mut bits, self.memory.bank(select.bank));
         let from = select.pointer as usize;
-        bits.get(from..from + select.mask.len()) == Some(&select.mask)
+        bits.get(from..from + select.mask.len()) == Some(&select.mask[..])
     }
 
     fn hear_select(&mut self, select: &Select) -> Option<Reply> {

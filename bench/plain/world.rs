@@ -1,17 +1,21 @@
 //! Plays a scenario and writes its report.
 
 use std::collections::HashMap;
-use std::fmt::Write;
+use std::hash::{BuildHasherDefault, Hasher};
+use std::io::{self, Stdout, Write};
 
 use crate::access::Access;
 use crate::bits::{value_of, without_crc16, words_of};
 use crate::command::{Change, Command, Flag, Query};
+use crate::decode::fields::{push_hex, push_hex_words, push_number, push_word};
 use crate::operation::{ask_number, operate, read_reply};
 use crate::operation::{Answer, Await, Exchange, Failure, Operations, Outcome};
 use crate::pie;
 use crate::json;
+use crate::population::Replied;
 use crate::scenario::{Choice, Round, Rule, Scenario, Several, Step};
-use crate::tag::{Reply, State, Tag};
+use crate::tag::{State, Tag};
+use crate::trace::{push_received, SymbolTexts};
 
 /// What the interrogator makes of an exchange. The bits of a whole reply stand in `World::received`.
 #[derive(Clone, Copy, PartialEq)]
@@ -25,18 +29,43 @@ enum Heard {
 #[derive(Default)]
 struct Seen {
     counts: Vec<(Vec<u16>, u32)>,
-    places: HashMap<Vec<u16>, usize>,
+    places: HashMap<Vec<u16>, usize, BuildHasherDefault<WordsHasher>>,
 }
 
 impl Seen {
-    fn count(&mut self, pc_and_epc: Vec<u16>) {
-        let place = *self.places.entry(pc_and_epc).or_insert_with_key(|key| {
-            self.counts.push((key.clone(), 0));
-            self.counts.len() - 1
-        });
-        self.counts[place].1 += 1;
+    fn count(&mut self, pc_and_epc: &[u16]) {
+        match self.places.get(pc_and_epc) {
+            Some(&place) => self.counts[place].1 += 1,
+            None => {
+                self.places.insert(pc_and_epc.to_vec(), self.counts.len());
+                self.counts.push((pc_and_epc.to_vec(), 1));
+            }
+        }
     }
 }
+
+/// A quick sum over words, eight bytes at a time.
+#[derive(Default)]
+struct WordsHasher(u64);
+
+impl Hasher for WordsHasher {
+    fn write(&mut self, bytes: &[u8]) {
+        let (eights, rest) = bytes.as_chunks();
+        eights.iter().for_each(|&eight| self.write_u64(u64::from_le_bytes(eight)));
+        rest.iter().for_each(|&byte| self.write_u64(u64::from(byte)));
+    }
+
+    fn write_u64(&mut self, number: u64) {
+        self.0 = (self.0.rotate_left(5) ^ number).wrapping_mul(0x9E37_79B9_7F4A_7C15);
+    }
+
+    fn finish(&self) -> u64 {
+        self.0 ^ self.0 >> 32
+    }
+}
+
+/// So many bytes of a report are put out together.
+const PIECE: usize = 1 << 18;
 
 /// What is written of a run.
 #[derive(Clone, Copy, PartialEq)]
@@ -48,33 +77,42 @@ pub enum Form {
     Json,
 }
 
-struct World {
-    scenario: Scenario,
+pub struct World {
+    pub scenario: Scenario,
     form: Form,
-    report: String,
-    exchanges: u32,
+    symbols: SymbolTexts,
+    /// What is written of the report and not put out yet.
+    report: Vec<u8>,
+    /// Where it is put out, and whether that went well; nowhere where the report isn't asked for.
+    output: Option<Stdout>,
+    written: io::Result<()>,
+    pub exchanges: u32,
     seen: Seen,
-    replies: Vec<Reply>,
-    bits: Vec<bool>,
-    intervals: Vec<u32>,
-    levels: Vec<bool>,
-    lead: Vec<bool>,
-    received: Vec<bool>,
+    pub replies: Vec<Replied>,
+    pub bits: Vec<bool>,
+    pub intervals: Vec<u32>,
+    pub levels: Vec<u8>,
+    pub received: Vec<bool>,
+    /// The PC and EPC received last.
+    pub listed: Vec<u16>,
+    /// What each round listed, PC and EPC, and whether it ended quiet; kept for portals alone.
+    pub rounds: Option<Vec<(Vec<Vec<u16>>, bool)>>,
     /// The slots of all rounds, and whether each round ended quiet.
     slots: u32,
     quiet: bool,
 }
 
-/// The report of the scenario in this form.
-pub fn play(scenario: Scenario, form: Form) -> String {
-    let mut world = play_steps(scenario, form);
+/// Puts the report of the scenario out in this form.
+pub fn play(scenario: Scenario, form: Form, output: Stdout) -> io::Result<()> {
+    let mut world = play_steps(scenario, form, Some(output));
     world.write_end();
-    world.report
+    world.put_out();
+    world.written
 }
 
 /// What the run of the scenario counts.
 pub fn summary(scenario: Scenario) -> String {
-    let world = play_steps(scenario, Form::Plain);
+    let world = play_steps(scenario, Form::Plain, None);
     let tags = world.scenario.tags.len();
     let listed: u32 = world.seen.counts.iter().map(|(_, count)| count).sum();
     let distinct = world.seen.counts.len();
@@ -83,46 +121,65 @@ pub fn summary(scenario: Scenario) -> String {
 }
 
 /// The world behind the steps of the scenario.
-fn play_steps(mut scenario: Scenario, form: Form) -> World {
+fn play_steps(mut scenario: Scenario, form: Form, output: Option<Stdout>) -> World {
     let steps = std::mem::take(&mut scenario.steps);
-    let mut world = World {
-        scenario,
-        form,
-        report: String::new(),
-        exchanges: 0,
-        seen: Seen::default(),
-        replies: Vec::new(),
-        bits: Vec::new(),
-        intervals: Vec::new(),
-        levels: Vec::new(),
-        lead: Vec::new(),
-        received: Vec::new(),
-        slots: 0,
-        quiet: true,
-    };
+    let mut world = World::new(scenario, form);
+    world.output = output;
     if form == Form::Trace {
-        world.write_frequency();
+        world.report = world.frequency();
     }
-    let mut rounds = 0;
-    for step in steps {
-        match step {
-            Step::Select(select) => {
-                world.exchange(&Command::Select(select), false);
-            }
-            Step::Nak => {
-                world.exchange(&Command::Nak, false);
-            }
-            Step::Event(tag, event) => world.scenario.tags[tag].befall(event),
-            Step::Round(round, operations) => {
-                rounds += 1;
-                world.play_round(rounds, &round, &operations);
-            }
-        }
-    }
+    world.play(steps);
     world
 }
 
 impl World {
+    pub fn new(scenario: Scenario, form: Form) -> World {
+        World {
+            symbols: SymbolTexts::new(&scenario.link.timing),
+            scenario,
+            form,
+            report: Vec::new(),
+            output: None,
+            written: Ok(()),
+            exchanges: 0,
+            seen: Seen::default(),
+            replies: Vec::new(),
+            bits: Vec::new(),
+            intervals: Vec::new(),
+            levels: Vec::new(),
+            received: Vec::new(),
+            listed: Vec::new(),
+            rounds: None,
+            slots: 0,
+            quiet: true,
+        }
+    }
+
+    /// Plays the steps.
+    pub fn play(&mut self, steps: Vec<Step>) {
+        let mut rounds = 0;
+        for step in steps {
+            match step {
+                Step::Send(command) => {
+                    self.exchange(&command, false);
+                }
+                Step::Event(tag, event) => self.scenario.tags.befall(tag, event),
+                Step::Round(round, operations) => {
+                    rounds += 1;
+                    self.play_round(rounds, &round, &operations);
+                }
+            }
+        }
+    }
+
+    /// Puts out what is written of the report.
+    fn put_out(&mut self) {
+        if let (Some(output), Ok(())) = (&mut self.output, &self.written) {
+            self.written = output.write_all(&self.report).and_then(|()| output.flush());
+            self.report.clear();
+        }
+    }
+
     /// Sends a command over the link, lets each tag hear it that doesn't miss it, and receives what the channel gives, as a
     /// stream with the extended preamble where one is awaited.
     fn exchange(&mut self, command: &Command, extended: bool) -> Heard {
@@ -133,19 +190,24 @@ impl World {
             .remove(&self.exchanges)
             .unwrap_or_default();
         for &(tag, event) in &entry.events {
-            self.scenario.tags[tag].befall(event);
+            self.scenario.tags.befall(tag, event);
         }
         self.send(command, &entry.missed);
         let gave = self.propagate(entry.choice);
         if self.form == Form::Trace {
-            self.write_exchange(gave);
+            self.symbols.push_frame(&mut self.report, self.exchanges, &self.intervals);
+            let levels = if gave { &self.levels[..] } else { &[] };
+            push_received(&mut self.report, self.exchanges, self.replies.len(), levels);
+        }
+        if self.report.len() > PIECE {
+            self.put_out();
         }
         let link = &self.scenario.link;
         if !gave {
             Heard::Silence
         } else {
             let trext = link.trext || extended;
-            match link.code.decode(trext, &self.levels, &mut self.lead, &mut self.received) {
+            match link.code.decode(trext, &self.levels, &mut self.received) {
                 Ok(()) => Heard::Whole,
                 Err(_) => Heard::Refused,
             }
@@ -163,24 +225,15 @@ impl World {
             &mut self.intervals,
         );
         self.replies.clear();
-        if !pie::decode_frame(&self.intervals, &mut self.bits) {
-            return;
-        }
-        let Some(command) = Command::decode(&self.bits) else {
-            return;
-        };
-        for (number, tag) in self.scenario.tags.iter_mut().enumerate() {
-            if missed.contains(&number) {
-                continue;
-            }
-            if let Some(reply) = tag.hear(&command) {
-                self.replies.push(reply);
+        if pie::decode_frame(&self.intervals, &mut self.bits) {
+            if let Some(command) = Command::decode(&self.bits) {
+                self.scenario.tags.hear(&command, missed, &mut self.replies);
             }
         }
     }
 
     /// Writes the levels that the channel gives of the replies, and answers whether it gives any.
-    fn propagate(&mut self, choice: Option<Choice>) -> bool {
+    pub fn propagate(&mut self, choice: Option<Choice>) -> bool {
         let several = self.replies.len() > 1 && matches!(self.scenario.several, Several::Break);
         let (reply, broken) = match choice {
             Some(Choice::Raw(levels)) => {
@@ -194,17 +247,22 @@ impl World {
         };
         let Some(reply) = reply else { return false };
         let link = &self.scenario.link;
+        self.scenario.tags.spell(*reply, &mut self.bits);
         link.code
-            .encode(link.trext || reply.extended, &reply.bits, &mut self.levels);
+            .encode(link.trext || reply.1.is_extended(), &self.bits, &mut self.levels);
         if let Some(place) = broken {
             let place = place % self.levels.len();
-            self.levels[place] = !self.levels[place];
+            // From 0 to 1, or back.
+            self.levels[place] ^= 1;
         }
         true
     }
 
     /// Plays a round by its rule for Q.
     fn play_round(&mut self, number: u32, round: &Round, operations: &Operations) {
+        if let Some(rounds) = &mut self.rounds {
+            rounds.push((Vec::new(), false));
+        }
         let (mut q, mut q_fp) = (round.q, 1000 * u32::from(round.q));
         let (mut slots, mut frame, mut refused, mut all_silent) = (0, 0_u32, 0_u32, true);
         let mut command = self.query(round);
@@ -259,7 +317,7 @@ impl World {
         }
     }
 
-    fn query(&self, round: &Round) -> Command {
+    fn query(&self, round: &Round) -> Command<'static> {
         let link = &self.scenario.link;
         Command::Query(Query {
             divide_ratio: link.divide_ratio,
@@ -278,28 +336,33 @@ impl World {
         if self.exchange(&Command::Ack { rn }, false) != Heard::Whole {
             return;
         }
-        let Some(body) = without_crc16(&self.received) else {
+        if !self.take_listed() {
             return;
-        };
-        let words = words_of(body);
-        if words
-            .first()
-            .is_some_and(|&pc| body.len() == 16 * (1 + usize::from(pc >> 11)))
-        {
-            if self.form == Form::Json {
-                json::push_list(&mut self.report, round, slot, &words);
-            } else {
-                write!(self.report, "list {round} {slot} ").unwrap();
-                push_pc_and_epc(&mut self.report, &words);
-            }
-            self.operate(round, slot, operations, rn, &words[1..]);
-            self.seen.count(words);
         }
+        if self.form == Form::Json {
+            json::push_list(&mut self.report, round, slot, &self.listed);
+        } else {
+            push_list(&mut self.report, round, slot, &self.listed);
+        }
+        self.seen.count(&self.listed);
+        if let Some(listed) = &mut self.rounds {
+            listed[round as usize - 1].0.push(self.listed.clone());
+        }
+        self.operate(round, slot, operations, rn);
+    }
+
+    /// Takes PC and EPC from the bits received, and answers whether they are one with the other.
+    pub fn take_listed(&mut self) -> bool {
+        let Some(body) = without_crc16(&self.received) else { return false };
+        self.listed.clear();
+        self.listed.extend(words_of(body));
+        let wanted = |&pc: &u16| body.len() == 16 * (1 + usize::from(pc >> 11));
+        self.listed.first().is_some_and(wanted)
     }
 
     /// Goes through the operations with the tag that was acknowledged with this RN16.
-    fn operate(&mut self, round: u32, slot: u32, operations: &Operations, rn: u16, epc: &[u16]) {
-        let denied = operations.only.as_ref().is_some_and(|only| only != epc);
+    fn operate(&mut self, round: u32, slot: u32, operations: &Operations, rn: u16) {
+        let denied = operations.only.as_ref().is_some_and(|only| *only != self.listed[1..]);
         let mut handle = None;
         for (index, operation) in (1..).zip(&operations.list) {
             let outcome = if denied {
@@ -318,7 +381,8 @@ impl World {
             if self.form == Form::Json {
                 json::push_op(&mut self.report, round, slot, index, &outcome);
             } else {
-                write!(self.report, "op {round} {slot} {index} ").unwrap();
+                push_numbers(&mut self.report, b"op", &[round, slot, index]);
+                self.report.push(b' ');
                 write_outcome(&mut self.report, &outcome);
             }
             if let Outcome::Silent | Outcome::Broken = outcome {
@@ -327,7 +391,8 @@ impl World {
         }
     }
 
-    fn write_frequency(&mut self) {
+    /// The line of the link's frequency.
+    pub fn frequency(&self) -> Vec<u8> {
         let link = &self.scenario.link;
         let trcal = link.timing.trcal;
         let (above, below) = if link.divide_ratio == 1 {
@@ -335,41 +400,24 @@ impl World {
         } else {
             (8, trcal)
         };
-        writeln!(self.report, "blf {above}/{below}").unwrap();
-    }
-
-    fn write_exchange(&mut self, gave: bool) {
-        write!(self.report, "tx {}", self.exchanges).unwrap();
-        for interval in &self.intervals {
-            write!(self.report, " {interval}").unwrap();
-        }
-        write!(
-            self.report,
-            "\nrx {} {} ",
-            self.exchanges,
-            self.replies.len()
-        )
-        .unwrap();
-        if gave {
-            self.report.extend(
-                self.levels
-                    .iter()
-                    .map(|&level| if level { '1' } else { '0' }),
-            );
-        } else {
-            self.report.push('-');
-        }
-        self.report.push('\n');
+        format!("blf {above}/{below}\n").into_bytes()
     }
 
     fn write_round(&mut self, number: u32, end: &str, slots: u32) {
         if self.form == Form::Json {
             json::push_round(&mut self.report, number, end, slots);
         } else {
-            writeln!(self.report, "round {number} {end} {slots}").unwrap();
+            push_numbers(&mut self.report, b"round", &[number]);
+            self.report.push(b' ');
+            self.report.extend_from_slice(end.as_bytes());
+            push_numbers(&mut self.report, b"", &[slots]);
+            self.report.push(b'\n');
         }
         self.slots += slots;
         self.quiet &= end == "quiet";
+        if let Some((_, is_quiet)) = self.rounds.as_mut().and_then(|rounds| rounds.last_mut()) {
+            *is_quiet = end == "quiet";
+        }
     }
 
     fn write_end(&mut self) {
@@ -377,19 +425,21 @@ impl World {
             for (pc_and_epc, count) in &self.seen.counts {
                 json::push_seen(&mut self.report, *count, pc_and_epc);
             }
-            for (number, tag) in self.scenario.tags.iter().enumerate() {
+            for number in 0.. {
+                let Some(tag) = self.scenario.tags.tag(number) else { break };
                 json::push_tag(&mut self.report, number, tag);
             }
             return json::push_done(&mut self.report);
         }
         for (pc_and_epc, count) in &self.seen.counts {
-            write!(self.report, "seen {count} ").unwrap();
+            push_numbers(&mut self.report, b"seen", &[*count]);
             push_pc_and_epc(&mut self.report, pc_and_epc);
         }
-        for (number, tag) in self.scenario.tags.iter().enumerate() {
+        for number in 0.. {
+            let Some(tag) = self.scenario.tags.tag(number) else { break };
             write_tag(&mut self.report, number, tag);
         }
-        self.report.push_str("done\n");
+        self.report.extend_from_slice(b"done\n");
     }
 }
 
@@ -403,19 +453,31 @@ impl Exchange for World {
     }
 }
 
-fn write_outcome(report: &mut String, outcome: &Outcome) {
-    match outcome {
-        Outcome::Ok(words) if words.is_empty() => report.push_str("ok"),
-        Outcome::Ok(words) => {
-            report.push_str("ok ");
-            push_words(report, words);
-        }
-        Outcome::Error(code) => write!(report, "error {code:02X}").unwrap(),
-        Outcome::Silent => report.push_str("silent"),
-        Outcome::Broken => report.push_str("broken"),
-        Outcome::Denied => report.push_str("denied"),
+/// Adds a name and numbers, with a space before each.
+fn push_numbers(report: &mut Vec<u8>, name: &[u8], numbers: &[u32]) {
+    report.extend_from_slice(name);
+    for &number in numbers {
+        report.push(b' ');
+        push_number(report, number as usize);
     }
-    report.push('\n');
+}
+
+fn write_outcome(report: &mut Vec<u8>, outcome: &Outcome) {
+    match outcome {
+        Outcome::Ok(words) if words.is_empty() => report.extend_from_slice(b"ok"),
+        Outcome::Ok(words) => {
+            report.extend_from_slice(b"ok ");
+            push_hex_words(report, words);
+        }
+        Outcome::Error(code) => {
+            report.extend_from_slice(b"error ");
+            push_hex(report, u32::from(*code), 2);
+        }
+        Outcome::Silent => report.extend_from_slice(b"silent"),
+        Outcome::Broken => report.extend_from_slice(b"broken"),
+        Outcome::Denied => report.extend_from_slice(b"denied"),
+    }
+    report.push(b'\n');
 }
 
 /// The name of a state.
@@ -433,48 +495,50 @@ pub fn state_name(state: State) -> &'static str {
 }
 
 /// Writes the tag's flags.
-pub fn push_flags(report: &mut String, tag: &Tag) {
-    report.extend(
-        tag.flags
-            .iter()
-            .map(|&flag| if flag == Flag::A { 'A' } else { 'B' }),
-    );
-    report.push(if tag.sl { '1' } else { '0' });
+pub fn push_flags(report: &mut Vec<u8>, tag: &Tag) {
+    report.extend_from_slice(&tag.flags.map(|flag| if flag == Flag::A { b'A' } else { b'B' }));
+    report.push(if tag.sl { b'1' } else { b'0' });
 }
 
 /// Writes the name of the tag's state, and its flags.
-pub fn write_state_and_flags(report: &mut String, tag: &Tag) {
-    report.push_str(state_name(tag.state));
-    report.push(' ');
+pub fn write_state_and_flags(report: &mut Vec<u8>, tag: &Tag) {
+    report.extend_from_slice(state_name(tag.state).as_bytes());
+    report.push(b' ');
     push_flags(report, tag);
 }
 
 /// Writes the line of a tag, as it is in the end.
-pub fn write_tag(report: &mut String, number: usize, tag: &Tag) {
-    write!(report, "tag {number} ").unwrap();
+pub fn write_tag(report: &mut Vec<u8>, number: usize, tag: &Tag) {
+    push_numbers(report, b"tag", &[number as u32]);
+    report.push(b' ');
     write_state_and_flags(report, tag);
     let memory = &tag.memory;
-    write!(report, " {}", memory.locks).unwrap();
+    report.push(b' ');
+    report.extend_from_slice(&memory.locks.digits());
     for bank in [&memory.reserved, &memory.epc, &memory.tid, &memory.user] {
-        report.push(' ');
+        report.push(b' ');
         push_words(report, bank);
     }
-    report.push('\n');
+    report.push(b'\n');
 }
 
-fn push_words(report: &mut String, words: &[u16]) {
+fn push_words(report: &mut Vec<u8>, words: &[u16]) {
     if words.is_empty() {
-        report.push('-');
+        report.push(b'-');
     }
-    for word in words {
-        write!(report, "{word:04X}").unwrap();
-    }
+    push_hex_words(report, words);
 }
 
-fn push_pc_and_epc(report: &mut String, words: &[u16]) {
-    let (pc, epc) = words.split_at(1);
-    push_words(report, pc);
-    report.push(' ');
-    push_words(report, epc);
-    report.push('\n');
+/// Writes the line of what was listed.
+pub fn push_list(report: &mut Vec<u8>, round: u32, slot: u32, pc_and_epc: &[u16]) {
+    push_numbers(report, b"list", &[round, slot]);
+    push_pc_and_epc(report, pc_and_epc);
+}
+
+fn push_pc_and_epc(report: &mut Vec<u8>, pc_and_epc: &[u16]) {
+    report.push(b' ');
+    push_word(report, pc_and_epc[0]);
+    report.push(b' ');
+    push_words(report, &pc_and_epc[1..]);
+    report.push(b'\n');
 }

@@ -1,11 +1,7 @@
 //! Frames in pulse-interval encoding, explained (6.3.1.2).
 
-use super::fields::{number, push_bits, push_number, Fields};
+use super::fields::{push_bits, push_number, Fields, MOST_INTERVALS};
 use super::Fault;
-
-/// The most intervals of a line, and the longest, in nanoseconds.
-const MOST_INTERVALS: usize = 20_000;
-const LONGEST_INTERVAL: u64 = 999_999;
 
 /// Why intervals are no frame.
 enum Refusal {
@@ -25,23 +21,13 @@ struct Header {
 
 /// Reads the intervals of a line, in place of what the list has. A wrong shape comes before a wrong number.
 pub fn read_intervals(fields: Fields, intervals: &mut Vec<u32>) -> Result<(), Fault> {
-    intervals.clear();
-    let mut good = true;
-    let mut count = 0;
-    for field in fields {
-        count += 1;
-        if field.is_empty() || count > MOST_INTERVALS {
-            return Err(Fault::Shape);
-        }
-        match number(field, LONGEST_INTERVAL) {
-            Ok(interval) => intervals.push(interval as u32),
-            Err(_) => good = false,
-        }
-    }
-    match (count, good) {
-        (0, _) => Err(Fault::Shape),
-        (_, false) => Err(Fault::Number),
-        _ => Ok(()),
+    let read = fields.read_intervals(intervals);
+    if read.count == 0 || read.has_empty || read.count > MOST_INTERVALS {
+        Err(Fault::Shape)
+    } else if read.are_numbers {
+        Ok(())
+    } else {
+        Err(Fault::Number)
     }
 }
 

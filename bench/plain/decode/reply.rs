@@ -1,7 +1,7 @@
 //! Replies of tags, explained by what is expected (6.3.2.11).
 
 use super::fields::{number, push_hex, push_word, push_words, word};
-use crate::bits::{crc16, value_of};
+use crate::bits::{crc16, value_of, words_of};
 
 /// The bits of an error reply.
 const ERROR_LENGTH: usize = 41;
@@ -100,7 +100,7 @@ pub fn answer(expect: Expect, bits: &[bool], output: &mut Vec<u8>) -> Result<(),
         Expect::Epc => {
             push_named_word(output, b"epc ", &bits[..16]);
             output.push(b' ');
-            push_words(output, words(&body[16..]));
+            push_words(output, words_of(&body[16..]));
         }
         _ if is_error => {
             output.extend_from_slice(b"error ");
@@ -109,14 +109,10 @@ pub fn answer(expect: Expect, bits: &[bool], output: &mut Vec<u8>) -> Result<(),
         Expect::Header(_) => output.extend_from_slice(b"header"),
         Expect::Words(..) | Expect::AnyWords(_) => {
             output.extend_from_slice(b"words ");
-            push_words(output, words(&bits[1..length - 32]));
+            push_words(output, words_of(&bits[1..length - 32]));
         }
     }
     Ok(())
-}
-
-fn words(bits: &[bool]) -> impl Iterator<Item = u16> + '_ {
-    bits.chunks_exact(16).map(|chunk| value_of(chunk) as u16)
 }
 
 fn push_named_word(output: &mut Vec<u8>, name: &[u8], bits: &[bool]) {

@@ -1,7 +1,8 @@
 //! Samples of a captured wave, and the levels that they stand for.
 
-use super::fields::{number, push_bits, push_number};
+use super::fields::{number, push_digits, push_number};
 use super::Fault;
+use crate::line_code::digit;
 
 /// The most samples of a line, and the most of a level.
 const MOST_SAMPLES: usize = 132_000;
@@ -27,7 +28,7 @@ pub fn answer(
     per_level: &[u8],
     digits: &[u8],
     samples: &mut Vec<u8>,
-    levels: &mut Vec<bool>,
+    levels: &mut Vec<u8>,
     output: &mut Vec<u8>,
 ) -> Result<(), Fault> {
     let threshold = number(threshold, 255)? as u8;
@@ -46,11 +47,11 @@ pub fn answer(
             push_number(output, place * per_level);
             return Ok(());
         }
-        levels.push(level);
+        levels.push(digit(level));
     }
     if rest.is_empty() {
         output.extend_from_slice(b"levels ");
-        push_bits(output, levels);
+        push_digits(output, levels);
     } else {
         output.extend_from_slice(b"rest ");
         push_number(output, samples.len() - rest.len());

@@ -8,7 +8,7 @@ use crate::decode::Fault;
 const MOST_POINTER: u64 = 268_435_455;
 
 /// The command that the fields spell.
-pub fn read(mut fields: Fields) -> Result<Command, Fault> {
+pub fn read(mut fields: Fields) -> Result<Command<'static>, Fault> {
     let name = fields.next().ok_or(Fault::Shape)?;
     let access = |order, rn| Ok(Command::Access(Access { order, rn: rn16(rn)? }));
     match name {
@@ -62,7 +62,7 @@ pub fn read(mut fields: Fields) -> Result<Command, Fault> {
             if words.is_empty() {
                 return Err(Fault::Number);
             }
-            access(Order::BlockWrite { place, words }, rn)
+            access(Order::BlockWrite { place, words: words.into() }, rn)
         }
         b"blockerase" => {
             let [bank, pointer, count, rn] = fields.exactly()?;
@@ -98,7 +98,7 @@ fn read_query([ratio, code, trext, sel, session, target, q]: [&[u8]; 7]) -> Resu
     })
 }
 
-fn read_select([target, action, bank, pointer, mask]: [&[u8]; 5]) -> Result<Select, Fault> {
+fn read_select([target, action, bank, pointer, mask]: [&[u8]; 5]) -> Result<Select<'static>, Fault> {
     let mut bits = Vec::new();
     read_bits(mask, 255, &mut bits)?;
     Ok(Select {
@@ -110,7 +110,7 @@ fn read_select([target, action, bank, pointer, mask]: [&[u8]; 5]) -> Result<Sele
         action: number(action, 7)? as u32,
         bank: bank_of(bank).filter(|bank| !matches!(bank, Bank::Reserved)).ok_or(Fault::Number)?,
         pointer: number(pointer, MOST_POINTER)? as u32,
-        mask: bits,
+        mask: bits.into(),
     })
 }
 

@@ -3,9 +3,7 @@ use Rattle.std.proofs.Common.{◌≡◌, ℕ, ◌+◌, ◌*◌, ◌<◌, ◌≤�
 use Rattle.std.specs.List.{All}
 use Rattle.air_events.specs.declared.Entry.{Entry}
 use Rattle.air_events.specs.declared.Event.{Event}
-use Rattle.air_events.specs.declared.Several.{Several}
 use Rattle.command_grammar.specs.declared.commands.Command.{Command}
-use Rattle.pie_line.specs.Link.{LinkValue}
 use Rattle.tag_machine.specs.Answers.{Outcome}
 use Rattle.tag_machine.specs.TagValue.{TagValue}
 use Rattle.tag_population.proofs.TagsAtRest.{length-befallen}
@@ -51,6 +49,11 @@ outcomes_are old command entry is =
     ∙ ap (λ (l : List TagValue). hearing_from 0 command entry l) (is.befell ∙ ap (λ (l : List (Event × ℕ)). tags_after_events 0 l old) is.events_are)
     ∙ exchange_outcomes 0 command entry old
 
+-- what the tags answered is what is said of the exchange
+pub exchange_replies : (old : List TagValue) (command : Command) (entry : Entry) (is : Exchanged old command entry)
+    → replies_from 0 (hearing_from 0 is.heard entry is.befallen) ≡ replies_in command entry old
+exchange_replies old command entry is = ap (λ (l : List Outcome). replies_from 0 l) (outcomes_are old command entry is)
+
 -- ... and what came of it for the air
 pub record ChangedAir (old : AirValue) (command : Command) (entry : Entry) (outcomes : List Outcome) : Type 0 where
   pub tags : List TagValue
@@ -78,12 +81,14 @@ exchange_air old command entry is new =
     let count_is : new.kept.count ≡ length (replies_in command entry old.tags) = new.stands.count_is ∙ ap (λ (l : List Outcome). length (replies_from 0 l)) outcomes in
     rw (tags_are, new.wave, stream_is, count_is, new.counts) refl
 
-pub exchange_got : (link : LinkValue) (several : Several) (old : List TagValue) (command : Command) (entry : Entry) (is : Exchanged old command entry) (kept : KeptReplies) (got : Got)
+-- whether anything comes is what the channel gives
+pub exchange_got : (old : AirValue) (command : Command) (entry : Entry) (is : Exchanged old.tags command entry) (kept : KeptReplies) (got : Got)
     → RepliesStandFor (replies_from 0 (hearing_from 0 is.heard entry is.befallen)) kept
-    → ((replies : List Replied) → RepliesStandFor replies kept → got ≡ got_of (given_of link replies entry.choice several)) → got ≡ got_of (given_in link several command entry old)
-exchange_got link several old command entry is kept got stands gives =
-    let outcomes = outcomes_are old command entry is in
-    gives (replies_from 0 (hearing_from 0 is.heard entry is.befallen)) stands ∙ ap (λ (l : List Outcome). got_of (given_of link (replies_from 0 l) entry.choice several)) outcomes
+    → ((replies : List Replied) → RepliesStandFor replies kept → got ≡ got_of (given_of old.link replies entry.choice old.several))
+    → got ≡ got_of (given_in old.link old.several command entry old.tags)
+exchange_got old command entry is kept got stands gives =
+    gives (replies_from 0 (hearing_from 0 is.heard entry is.befallen)) stands
+    ∙ ap (λ (l : List Outcome). got_of (given_of old.link (replies_from 0 l) entry.choice old.several)) (outcomes_are old.tags command entry is)
 
 -- the numbers of steps: before the exchange, behind the events, and at its end
 pub record ExchangeSteps (events : List (Event × ℕ)) : Type 0 where

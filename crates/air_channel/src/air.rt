@@ -1,5 +1,5 @@
 //! The air between one interrogator and a population of tags.
-ghost use Rattle.std.specs.Prelude.{◌≡◌, ◌+◌, ◌*◌, ◌<◌, ◌≤◌, [], All, Some, length, slice_get, IfOk};
+ghost use Rattle.std.specs.Prelude.{◌≡◌, ◌+◌, ◌*◌, ◌<◌, ◌≤◌, List, [], ◌++◌, All, Some, length, slice_get, IfOk};
 ghost use Rattle.std.specs.Borrow.{sem};
 ghost use Rattle.air_events.specs.Streams.{longest_stream};
 ghost use Rattle.air_events.specs.TagNumbers.{most_tags};
@@ -7,12 +7,13 @@ ghost use Rattle.command_grammar.specs.Commands.{IsLegalCommand};
 ghost use Rattle.pie_line.specs.Pie.{longest_interval};
 ghost use Rattle.tag_machine.specs.Hearing.{tag_value_of};
 ghost use Rattle.tag_machine.specs.TagValue.{IsLegalTag};
-ghost use Rattle.tag_machine.specs.Exchange.{AreLegalTags, IsQueryRep, busy_from};
+ghost use Rattle.tag_machine.specs.Exchange.{AreLegalTags, IsQueryRep, Replied, busy_from, replies_in};
 ghost use Rattle.air_channel.specs.Air.{NamesTags, air_after, air_after_event};
 ghost use Rattle.air_model.specs.Channel.{HasFewLevels, given_in, got_of};
 ghost use Rattle.air_channel.specs.Lent.{KeepsAir};
 ghost use Rattle.air_channel.specs.Rooms.{longest_frame};
 
+use crate::listening::{AnswerListener, tell};
 use crate::receiver::Receiver;
 use crate::replies::Replies;
 use crate::transmit::transmit;
@@ -91,18 +92,21 @@ impl Air {
     }
 
     /// Sends a command, and says whether the channel gives anything in reply. The entry's events happen first.
-    /// Then each tag that doesn't miss the command hears what it reads from the frame. A QueryRep takes at most two steps for each
+    /// Then each tag that doesn't miss the command hears what it reads from the frame, and `answers` hears of each answer. A QueryRep takes at most two steps for each
     /// tag that answers it, was beyond arbitrate before it, or missed it, and none for any other.
-    pub fn exchange<L: Ledger>(
+    pub fn exchange<A: AnswerListener, L: Ledger>(
         &mut self,
         command: &Command,
         entry: &Entry,
+        answers: &mut A,
         steps: &mut Steps<L>,
     ) -> Got
         requires named { NamesTags (length self.old.tags) entry.now }
         requires few { HasFewLevels entry.now.choice }
         ensures air { self.new ≡ air_after self.old command.now entry.now }
         ensures got { result ≡ got_of (given_in self.old.link self.old.several command.now entry.now self.old.tags) }
+        ensures told { (first : A) (before : List Replied) → A.hears first before answers.old
+            → A.hears first (before ++ replies_in command.now entry.now self.old.tags) answers.new }
         ensures counted { steps.new ≤ steps.old + length entry.now.events + 2 * length self.old.tags }
         ensures bound { IsQueryRep command.now → entry.now.events ≡ [] → steps.new ≤ steps.old + 2 * busy_from 0 command.now entry.now self.old.tags }
         ensures legal { AreLegalTags self.new.tags }
@@ -118,7 +122,14 @@ impl Air {
         );
         self.replies.begin(&entry.choice);
         let heard = self.receiver.command();
-        self.population.hear(heard, entry, &mut self.replies, steps);
+        tell(
+            &mut self.population,
+            heard,
+            entry,
+            &mut self.replies,
+            answers,
+            steps,
+        );
         self.exchanges = self.exchanges.saturating_add(1);
         self.replies
             .give(&entry.choice, self.several, &self.link, &mut self.stream)
@@ -151,6 +162,13 @@ impl Air {
         ensures { result.now ≡ self.now.link }
     {
         &self.link
+    }
+
+    /// What the channel gives where several tags reply and nothing is chosen.
+    pub fn several(&self) -> Several
+        ensures { result ≡ self.now.several }
+    {
+        self.several
     }
 
     /// How many tags there are.

@@ -2,10 +2,13 @@
 #![tactic(auto)]
 
 mod air;
+mod listening;
 mod receiver;
 mod replies;
 mod transmit;
 
 pub use air::Air;
 pub use air_model::Got;
+pub use listening::{AnswerListener, Unheard};
+pub use replies::{Giving, giving_of, wanted_by};
 pub use tag_population::Population;

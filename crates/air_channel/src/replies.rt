@@ -63,7 +63,7 @@ impl AnswerTaker for Replies {
 
 /// What the channel gives.
 #[derive(Clone, Copy)]
-pub(crate) enum Giving<'a> {
+pub enum Giving<'a> {
     /// Nothing.
     Nothing,
     /// The reply that is kept.
@@ -179,7 +179,7 @@ fn put_levels(levels: &[bool], stream: &mut Levels)
 }
 
 /// What the channel gives of so many replies by this choice, or by the default for several.
-fn giving_of(choice: &Option<Choice>, several: Several, count: u32) -> Giving<'_>
+pub fn giving_of(choice: &Option<Choice>, several: Several, count: u32) -> Giving<'_>
     ensures { (link : LinkValue) (replies : List Replied) → count ≡ length replies → Means link result replies (wanted_by choice.now) (given_of link replies choice.now several) }
 {
     match choice {
@@ -230,7 +230,7 @@ fn unchosen(several: Several, count: u32) -> Giving<'static>
 }
 
 /// The number of the reply that a choice may give, counted from 0.
-fn wanted_by(choice: &Option<Choice>) -> u32
+pub fn wanted_by(choice: &Option<Choice>) -> u32
     ensures { result ≡ wanted_by choice.now }
 {
     match choice {

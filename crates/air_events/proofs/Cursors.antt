@@ -12,8 +12,7 @@ entry_at-before (entry ∷ entries) before exchange rises low =
     rw (ne_eqb entry.0 exchange (λ e. omega (arith, rises.0))) (entry_at-before entries entry.0 exchange rises.1 (omega (arith, rises.0)))
 
 -- where the first that is left speaks of another exchange, nothing is said of the next one
-pub other-entry : (left : List (ℕ × Entry)) (first : ℕ × Entry) (behind entries : List (ℕ × Entry)) (played exchange : ℕ) → left ≡ first ∷ behind →
-    first.0 ≢ exchange → IsLeft left entries played → exchange ≡ played + 1 → no_entry ≡ entry_at entries exchange
-other-entry left first behind entries played exchange is_left other is next =
-    let here : IsLeft (first ∷ behind) entries played = rw is_left at is in
-    sym (entry_at-before (first ∷ behind) exchange exchange (omega (arith, here.rises.0), here.rises.1) (omega arith)) ∙ here.same exchange (omega arith)
+pub other-entry : (first : ℕ × Entry) (behind entries : List (ℕ × Entry)) (played exchange : ℕ) → IsLeft (first ∷ behind) entries played →
+    first.0 ≢ exchange → exchange ≡ played + 1 → no_entry ≡ entry_at entries exchange
+other-entry first behind entries played exchange is other next =
+    sym (entry_at-before (first ∷ behind) exchange exchange (omega (arith, is.rises.0), is.rises.1) (omega arith)) ∙ is.same exchange (omega arith)

@@ -1,5 +1,5 @@
 -- A run as it begins and as it ends.
-use Rattle.std.proofs.Common.{◌≡◌, ◌⊎◌, ℕ, ◌+◌, ◌<◌, ◌≤◌, ◌==◌, Bool, true, false, List, [], ◌∷◌, ◌++◌, length, map, Option, Some, None, Result, Ok, Err, refl, sym, ◌∙◌, ap, subst, arith}
+use Rattle.std.proofs.Common.{◌≡◌, ℕ, ◌+◌, ◌<◌, ◌≤◌, ◌==◌, Bool, true, false, List, [], ◌∷◌, ◌++◌, length, map, Option, Some, None, Result, Ok, Err, refl, sym, ◌∙◌, ap, subst, arith}
 use Rattle.std.proofs.lemmas.List.{length-map}
 use Rattle.std.proofs.lemmas.List.Elements.{All-head, All-tail, All-nil, All-weaker}
 use Rattle.std.specs.Prelude.{All, IfSome, if◌then◌else◌}
@@ -14,15 +14,14 @@ use Rattle.air_events.specs.declared.Entry.{Entry}
 use Rattle.air_events.specs.declared.Event.{Event}
 use Rattle.air_model.specs.Channel.{HasFewLevels}
 use Rattle.tag_machine.specs.Exchange.{AreLegalTags}
-use Rattle.air_model.specs.Past.{tags_behind_from}
-use Rattle.air_world.proofs.Passing.{cut-behind, cut-longer, passes-then}
+use Rattle.air_model.specs.Past.{Start, Item, tags_behind_from}
+use Rattle.air_world.proofs.Passing.{Listening, IsTold, IsCutIn, IsCause, cut-behind, cut-longer, passes-then}
 use Rattle.air_world.specs.NewAir.{new_air}
 use Rattle.air_world.specs.Playing.{RunValue, IsAt, IsPlayable, StandsAt, IsBetweenSteps, NamesItsTags, pair_of}
-use Rattle.air_world.specs.Telling.{Ends, IsCutOff, IsPlayed, Passes, lines_behind}
+use Rattle.air_world.specs.Telling.{Ends, IsPlayed, Passes, lines_behind}
 use Rattle.report_lines.specs.ReportLine.{ReportLine, DoneLine}
 use Rattle.report_lines.specs.SeenCounts.{seen_in, seen_line}
 use Rattle.report_lines.specs.declared.mode.PlayFault.{PlayFault}
-use Rattle.report_lines.specs.declared.mode.PlayFault.TheVariants.{OutOfMemory}
 use Rattle.runs.specs.History.{past_behind}
 use Rattle.runs.specs.Listing.{listing_of}
 use Rattle.runs.specs.Report.{last_lines, run_lines, tag_lines}
@@ -138,33 +137,31 @@ pub stands-slice : (Heard : List ReportLine → Type 0) (scenario : Scenario) (s
 stands-slice Heard scenario steps air run same stands = subst (λ (s : List Step). StandsAt Heard (start_of scenario) (past_behind (start_of scenario) s []) air run) same stands
 
 -- all is told
-pub whole-told : {A : Type 0} (hears : A → List ReportLine → A → Type 0) (scenario : Scenario) (old middle new : A) (air : AirValue) (run : RunValue)
-    → StandsAt (Passes hears [] old middle) (start_of scenario) (history scenario) air run → run.out_of_memory ≡ false
-    → ((before : List ReportLine) → Passes hears before middle new (before ++ (map seen_line run.seen ++ tag_lines 0 air.tags ++ DoneLine ∷ [])))
-    → Passes hears [] old new (run_lines (start_of scenario) scenario.steps)
-whole-told hears scenario old middle new air run stands enough last =
+pub whole-told : {A : Type 0} (l : Listening A) (first : A) (scenario : Scenario) (air : AirValue) (run : RunValue)
+    → StandsAt (Passes l.hears [] first l.old) (start_of scenario) (history scenario) air run → run.out_of_memory ≡ false
+    → ((before : List ReportLine) → IsTold l before (before ++ (map seen_line run.seen ++ tag_lines 0 air.tags ++ DoneLine ∷ [])))
+    → Passes l.hears [] first l.new (run_lines (start_of scenario) scenario.steps)
+whole-told l first scenario air run stands enough last =
     let lines : List ReportLine = lines_behind (start_of scenario) (history scenario) in
-    passes-then hears [] lines (run_lines (start_of scenario) scenario.steps) old middle new stands.told
-    (subst (λ (l : List ReportLine). Passes hears lines middle new (lines ++ l)) (last-told scenario air run stands.at enough) (last lines))
+    passes-then l first [] lines (run_lines (start_of scenario) scenario.steps) stands.told
+    (subst (λ (more : List ReportLine). IsTold l lines (lines ++ more)) (last-told scenario air run stands.at enough) (last lines))
+
+-- the air stayed as it was
+pub at-kept : (start : Start) (past : List Item) (air after : AirValue) (run : RunValue) → after ≡ air → IsAt start past air run → IsAt start past after run
+at-kept start past air after run kept at = subst (λ (a : AirValue). IsAt start past a run) (sym kept) at
 
 -- ... so the run is played, or its listener met a fault
-pub ends-played : {A : Type 0} (hears : A → List ReportLine → A → Type 0) (failed : A → Option PlayFault) (r : Result (Unit {0}) PlayFault) (scenario : Scenario) (old new : A) (air after : AirValue) (run : RunValue)
-    → Passes hears [] old new (run_lines (start_of scenario) scenario.steps) → IsAt (start_of scenario) (history scenario) air run → after ≡ air
-    → OnOk r (failed new ≡ None) → IfErr r (λ fault. (failed new ≡ Some fault) ⊎ (fault ≡ OutOfMemory))
-    → Ends r (IsPlayed hears failed scenario old new after) (IsCutOff hears failed [] old new (run_lines (start_of scenario) scenario.steps))
-ends-played hears failed (Ok done) scenario old new air after run told at kept faultless cause = record {
-  passes = told;
-  faultless = faultless;
-  tags = ap (λ (a : AirValue). a.tags) kept ∙ at.plays.tags;
-  exchanges = ap (λ (a : AirValue). a.exchanges) kept ∙ at.plays.exchanges;
-}
-ends-played hears failed (Err fault) scenario old new air after run told at kept faultless cause =
-    cut-behind hears failed [] (run_lines (start_of scenario) scenario.steps) old new fault told cause
+pub ends-played : {A : Type 0} (l : Listening A) (r : Result (Unit {0}) PlayFault) (scenario : Scenario) (air : AirValue) (run : RunValue)
+    → IsTold l [] (run_lines (start_of scenario) scenario.steps) → IsAt (start_of scenario) (history scenario) air run
+    → OnOk r (l.failed l.new ≡ None) × IfErr r (IsCause l)
+    → Ends r (IsPlayed l.hears l.failed scenario l.old l.new air) (IsCutIn l [] (run_lines (start_of scenario) scenario.steps))
+ends-played l (Ok done) scenario air run told at (faultless, cause) =
+    record { passes = told; faultless = faultless; tags = at.plays.tags; exchanges = at.plays.exchanges }
+ends-played l (Err fault) scenario air run told at (faultless, cause) = cut-behind l [] (run_lines (start_of scenario) scenario.steps) fault told cause
 
 -- the steps were cut off
-pub cut-history : {A : Type 0} (hears : A → List ReportLine → A → Type 0) (failed : A → Option PlayFault) (scenario : Scenario) (steps : List Step) (old new : A) (fault : PlayFault) → steps ≡ scenario.steps
-    → IsCutOff hears failed [] old new (lines_behind (start_of scenario) (past_behind (start_of scenario) steps [])) fault
-    → IsCutOff hears failed [] old new (run_lines (start_of scenario) scenario.steps) fault
-cut-history hears failed scenario steps old new fault same cut =
-    cut-longer hears failed [] (lines_behind (start_of scenario) (history scenario)) (last_lines (start_of scenario) (history scenario)) (run_lines (start_of scenario) scenario.steps) old new fault refl
-    (subst (λ (s : List Step). IsCutOff hears failed [] old new (lines_behind (start_of scenario) (past_behind (start_of scenario) s [])) fault) same cut)
+pub cut-history : {A : Type 0} (l : Listening A) (scenario : Scenario) (steps : List Step) (fault : PlayFault) → steps ≡ scenario.steps
+    → IsCutIn l [] (lines_behind (start_of scenario) (past_behind (start_of scenario) steps [])) fault → IsCutIn l [] (run_lines (start_of scenario) scenario.steps) fault
+cut-history l scenario steps fault same cut =
+    cut-longer l [] (lines_behind (start_of scenario) (history scenario)) (last_lines (start_of scenario) (history scenario)) (run_lines (start_of scenario) scenario.steps) fault refl
+    (subst (λ (s : List Step). IsCutIn l [] (lines_behind (start_of scenario) (past_behind (start_of scenario) s [])) fault) same cut)

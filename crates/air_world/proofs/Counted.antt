@@ -4,7 +4,7 @@ use Rattle.std.proofs.lemmas.List.{length-map}
 use Rattle.std.proofs.lemmas.List.Sums.{count_by-le-length, length-filter}
 use Rattle.std.specs.Borrow.{Bor}
 use Rattle.access_ops.specs.declared.OpList.{OpList}
-use Rattle.air_model.specs.Past.{Start, Item, befell, exchanged, operated, ended, past_behind_command, exchanges_in, rounds_in, tags_behind}
+use Rattle.air_model.specs.Past.{Start, Record, Item, befell, exchanged, operated, ended, past_behind_command, exchanges_in, rounds_in, tags_behind}
 use Rattle.air_world.proofs.Beginning.{scenario-few}
 use Rattle.air_world.proofs.Rounds.{KeepsLimit}
 use Rattle.air_world.proofs.Slots.{few-listed}
@@ -13,10 +13,12 @@ use Rattle.air_world.specs.laws.CountingLaws.{counted-append}
 use Rattle.air_world.specs.Playing.{most_slots}
 use Rattle.air_world.specs.Telling.{lines_behind}
 use Rattle.command_grammar.specs.declared.commands.Command.{Command}
+use Rattle.pie_line.specs.Link.{LinkValue}
 use Rattle.q_round.specs.declared.round.RoundEnd.{RoundEnd}
 use Rattle.report_lines.specs.Line.{line_of}
-use Rattle.report_lines.specs.ReportLine.{ReportLine, OpLine, RoundLine, SeenLine, DoneLine}
-use Rattle.report_lines.specs.SeenCounts.{Seen, distinct, same_pair, seen_among, seen_in}
+use Rattle.report_lines.specs.ReportLine.{ReportLine, MissedLine, GivenLine, OpLine, RoundLine, SeenLine, DoneLine}
+use Rattle.reply_grammar.specs.Pairs.{same_pair}
+use Rattle.report_lines.specs.SeenCounts.{Seen, distinct, seen_among, seen_in}
 use Rattle.report_lines.specs.declared.line.Line.{Line}
 use Rattle.report_lines.specs.declared.line.Line.TheVariants as lines
 use Rattle.runs.specs.laws.Growth.{answer-keeps, few-outcomes, round-holds}
@@ -26,7 +28,8 @@ use Rattle.runs.specs.laws.Tags.{length-tags}
 use Rattle.runs.specs.Headline.{AreLegalSteps, IsLegalStep}
 use Rattle.runs.specs.History.{past_behind, past_behind_slot, past_behind_step, slot_reception}
 use Rattle.runs.specs.Listing.{Listed, listed_by, listing_of}
-use Rattle.runs.specs.Report.{item_lines, last_lines, list_line, run_lines, tag_lines}
+use Rattle.runs.specs.Report.{exchange_lines, item_lines, last_lines, list_line, run_lines, tag_lines, wave_lines}
+use Rattle.runs.specs.Said.{answer_line, exchanged_by, said_lines}
 use Rattle.runs.specs.ScenarioStart.{history, start_of, tag_of}
 use Rattle.runs.specs.Summary.{all_quiet, pairs_in, slots_in, summary_of}
 use Rattle.runs.specs.declared.summary.Summary.{Summary}
@@ -59,6 +62,20 @@ counted-tags counted number (tag ∷ tags) =
     let sum : counted.tags + 1 + length tags ≡ counted.tags + suc (length tags) = omega arith in
     counted-tags (record counted { tags = counted.tags + 1 }) (number + 1) tags ∙ ap (λ n. record counted { tags = n }) sum
 
+-- lines that are made of items, none of which is counted
+counted-made : {A : Type 0} (make : A → ReportLine) → ((counted : Summary) (item : A) → counted_line counted (make item) ≡ counted)
+    → (counted : Summary) (items : List A) (more : List ReportLine) → counted_lines counted (map make items ++ more) ≡ counted_lines counted more
+counted-made make same counted [] more = refl
+counted-made make same counted (item ∷ items) more =
+    ap (λ (c : Summary). counted_lines c (map make items ++ more)) (same counted item) ∙ counted-made make same counted items more
+
+-- of who said what, and of the waves, nothing is counted
+counted-exchange : (counted : Summary) (link : LinkValue) (sent : Record) → counted_lines counted (exchange_lines link sent) ≡ counted
+counted-exchange counted link sent =
+    counted-append counted (said_lines link sent) (wave_lines link sent)
+    ∙ counted-made (MissedLine sent.exchange) (λ c tag. refl) counted sent.entry.missed (map (answer_line sent.exchange) sent.replies ++ GivenLine (exchanged_by link sent) ∷ [])
+    ∙ counted-made (answer_line sent.exchange) (λ c replied. refl) counted sent.replies (GivenLine (exchanged_by link sent) ∷ [])
+
 -- what a past counts of listings and rounds
 abbrev counted_past : List Item → Summary
 counted_past past = record { tags = 0; listed = length (listing_of past); distinct = 0; slots = slots_in past; quiet = all_quiet past }
@@ -75,6 +92,8 @@ counted-past start (exchanged sent ∷ past) =
     let more : length (listing_of past) + length (listed_by sent) ≡ length (listing_of past ++ listed_by sent) = sym (length-append (listing_of past) (listed_by sent)) in
     counted-append nothing_counted (lines_behind start past) (item_lines start.link (exchanged sent))
     ∙ ap (λ (c : Summary). counted_lines c (item_lines start.link (exchanged sent))) (counted-past start past)
+    ∙ counted-append (counted_past past) (exchange_lines start.link sent) (map list_line (listed_by sent))
+    ∙ ap (λ (c : Summary). counted_lines c (map list_line (listed_by sent))) (counted-exchange (counted_past past) start.link sent)
     ∙ counted-listed (counted_past past) (listed_by sent)
     ∙ ap (λ n. record (counted_past past) { listed = n }) more
 
@@ -103,7 +122,7 @@ counted-whole scenario =
 slots-slot : (start : Start) (operations : OpList) (round slot : ℕ) (command : Command) (past : List Item)
     → slots_in (past_behind_slot start operations round slot command past) ≡ slots_in past
 slots-slot start operations round slot command past =
-    answer-keeps (λ now. slots_in now ≡ slots_in past) start operations round slot (slot_reception start round slot command past) (past_behind_command start round slot command past)
+    answer-keeps (λ now. slots_in now ≡ slots_in past) (record { start = start; round = round; slot = slot }) operations (slot_reception start round slot command past) (past_behind_command start round slot command past)
     (record { command = λ sent expect extended now expects same. same; result = λ index result now same. same })
     (λ rn same. same) refl
 
@@ -113,10 +132,11 @@ step-slots keeps start (steps.Select command) past is = omega arith
 step-slots keeps start steps.Nak past is = omega arith
 step-slots keeps start (steps.Event event number) past is = omega arith
 step-slots keeps start (steps.Round spec operations) past is =
-    round-holds (λ outcomes now. slots_in now ≡ slots_in past) (λ now. slots_in now ≤ slots_in past + most_slots) start operations spec past keeps is.legal
+    round-holds (λ outcomes now. slots_in now ≡ slots_in past) (λ now. slots_in now ≤ slots_in past + most_slots)
+    (record { start = start; operations = operations; spec = spec; before = past }) keeps is.legal
     (record {
-      slot = λ outcomes now command are sends same. slots-slot start operations (rounds_in past + 1) (length outcomes + 1) command now ∙ same;
-      end = λ outcomes now end are sends same. omega (arith, same, few-outcomes keeps spec outcomes is.legal are, is.legal.limit.1);
+      slot = λ outcomes now command next same. slots-slot start operations (rounds_in past + 1) (length outcomes + 1) command now ∙ same;
+      end = λ outcomes now end next same. omega (arith, same, few-outcomes keeps spec outcomes is.legal next.are, is.legal.limit.1);
     })
     refl
 

@@ -6,6 +6,8 @@ pub mod Operating
 pub mod Passing
 pub mod Rounds
 pub mod Sending
+pub mod Saying
 pub mod Slots
 pub mod Steps
 pub mod Written
+pub mod Halls

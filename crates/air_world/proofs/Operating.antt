@@ -2,7 +2,7 @@
 use Rattle.std.proofs.Common.{◌≡◌, ℕ, ◌+◌, ◌≤◌, ◌*◌, ◌-◌, ◌||◌, List, [], ◌∷◌, ◌++◌, length, Bool, Option, Some, None, refl, sym, ◌∙◌, ap, subst, arith}
 use Rattle.access_ops.specs.laws.DialogueLaws.{AwaitsReplies, SendsAtMost, dialogues-await, dialogues-are-few, first-sends, first-tells, first-done}
 use Rattle.access_ops.specs.laws.OperationLaws.{Expects}
-use Rattle.access_ops.specs.Operations.{Dialogue, sends, tells, done, dialogue_of, Move, answered, told, reception_in, dialogue_behind, dialogue_after, IsAnswerFor}
+use Rattle.access_ops.specs.Operations.{Dialogue, sends, done, dialogue_of, Move, answered, told, reception_in, dialogue_behind, dialogue_after, IsAnswerFor}
 use Rattle.access_ops.specs.OpRunValue.{OpRunValue, OpRunStandsFor, IsNextOperation, last_answer, turns_left}
 use Rattle.access_ops.specs.declared.OpList.{OpList}
 use Rattle.access_ops.specs.declared.op_next.Answer.{Answer}
@@ -10,7 +10,7 @@ use Rattle.access_ops.specs.declared.op_next.Answer.TheVariants.{Got}
 use Rattle.access_ops.specs.declared.op_next.OpNext.TheVariants as nexts
 use Rattle.access_ops.specs.declared.op_next.OpResult.{OpResult}
 use Rattle.air_channel.specs.Air.{AirValue}
-use Rattle.air_model.specs.Past.{Start, Record, Item, operated, past_behind_command, exchanges_in}
+use Rattle.air_model.specs.Past.{Record, Item, operated, past_behind_command, exchanges_in}
 use Rattle.air_model.specs.laws.AwaitedLaws.{awaited_reception}
 use Rattle.air_model.specs.Channel.{Given, IsReadBy, got_of, heard_levels}
 use Rattle.reply_wire.specs.Received.{IsReceived}
@@ -19,8 +19,9 @@ use Rattle.air_model.specs.declared.got.Got.TheVariants as gots
 use Rattle.runs.specs.laws.Tags.{tags-operated}
 use Rattle.runs.specs.History.{operation_reception, past_behind_dialogue}
 use Rattle.runs.specs.Listing.{reception_of_ack, listed_from, listed_by}
-use Rattle.air_world.specs.Playing.{RunValue, IsAt, StandsAt}
-use Rattle.air_world.specs.Telling.{lines_behind}
+use Rattle.air_world.proofs.Passing.{RunBehind, Stands}
+use Rattle.air_world.specs.Playing.{RunValue, StandsAt}
+use Rattle.runs.specs.laws.PlayedRounds.{SlotOfRun}
 use Rattle.command_grammar.specs.declared.commands.Command.{Command}
 use Rattle.command_grammar.specs.declared.commands.Command.TheVariants as commands
 use Rattle.line_code.specs.Table.{Table}
@@ -37,76 +38,105 @@ pub received-answer : (t : Table) (trext : Bool) (expect : Expect) (levels : Lis
 received-answer t trext expect levels (Whole reply) is = (is.answers.suits, is.answers.in_range)
 received-answer t trext expect levels (Refused place) is = tt
 
--- what is received of the stream of the last exchange, with the preamble that is awaited
-pub heard-awaited : (link : LinkValue) (given : Given) (air : AirValue) (expect : Expect) (extended : Bool) (received : Received) → air.link ≡ link → air.stream ≡ heard_levels link given
-    → got_of given ≡ gots.Stream → HoldsOfSent (IsUnmistakable expect) given → IsReadBy link given → IsReceived (table_of air.link.code) (extended || air.link.trext) expect air.stream received
-    → reception_in (Got received) ≡ reception_with link.trext extended expect given
-heard-awaited link given air expect extended received link_is stream came is read heard =
-    let at_link : IsReceived (table_of link.code) (extended || link.trext) expect air.stream received =
-    subst (λ (l : LinkValue). IsReceived (table_of l.code) (extended || l.trext) expect air.stream received) link_is heard in
-    sym (awaited_reception link extended expect given received is read came
-    (subst (λ (levels : List Bool). IsReceived (table_of link.code) (extended || link.trext) expect levels received) stream at_link))
+-- a stream that came in the last exchange, where this was given, and what is received of it with the preamble that is awaited
+pub record StreamHeard (link : LinkValue) (given : Given) (expect : Expect) (extended : Bool) : Type 0 where
+  pub air : AirValue
+  pub received : Received
+  pub link_is : air.link ≡ link
+  pub stream : air.stream ≡ heard_levels link given
+  pub came : got_of given ≡ gots.Stream
+  pub heard : IsReceived (table_of air.link.code) (extended || air.link.trext) expect air.stream received
 
--- between two moves of a dialogue whose end leaves a known past: the past and the moves so far, and how many commands are left
-pub record OperationsUnderway (Heard : List ReportLine → Type 0) (start : Start) (list : OpList) (epc : List ℕ) (rn round slot : ℕ) (first whole : List Item) (operating : OpRunValue) (answer : Option Answer)
-    (index : ℕ) (air : AirValue) (run : RunValue) : Type 0 where
-  pub past : List Item
+pub heard-awaited : (link : LinkValue) (given : Given) (expect : Expect) (extended : Bool) (s : StreamHeard link given expect extended) → HoldsOfSent (IsUnmistakable expect) given
+    → IsReadBy link given → reception_in (Got s.received) ≡ reception_with link.trext extended expect given
+heard-awaited link given expect extended s is read =
+    let at_link : IsReceived (table_of link.code) (extended || link.trext) expect s.air.stream s.received =
+    subst (λ (l : LinkValue). IsReceived (table_of l.code) (extended || l.trext) expect s.air.stream s.received) s.link_is s.heard in
+    sym (awaited_reception link extended expect given s.received is read s.came
+    (subst (λ (levels : List Bool). IsReceived (table_of link.code) (extended || link.trext) expect levels s.received) s.stream at_link))
+
+-- the operations of a round with a tag that sent this EPC, and this RN16 before it, in a slot, and what was past before them
+pub record TagOperations : Type 0 where
+  pub at : SlotOfRun
+  pub list : OpList
+  pub epc : List ℕ
+  pub rn : ℕ
+  pub before : List Item
+
+-- what is left of their dialogue behind these moves
+abbrev pub left_behind : TagOperations → List Move → Dialogue
+left_behind of moves = dialogue_after of.list of.epc of.rn moves
+
+-- what is past behind what is left of it, whose next result has this number
+abbrev pub past_behind_left : TagOperations → ℕ → Dialogue → List Item → List Item
+past_behind_left of index left past = past_behind_dialogue of.at.start of.at.round of.at.slot index left past
+
+-- what is past behind all of it
+abbrev pub past_behind_operations : TagOperations → List Item
+past_behind_operations of = past_behind_left of 1 (dialogue_of of.list of.epc of.rn) of.before
+
+-- how far they have come: where the list stands, what the last command brought, and the number of the next result
+pub record OperationsSoFar : Type 0 where
+  pub run : OpRunValue
+  pub answer : Option Answer
+  pub index : ℕ
+
+-- between two moves of the dialogue, behind this past: the moves so far, and how many commands are left
+pub record AreInDialogue (of : TagOperations) (here : OperationsSoFar) (past : List Item) : Type 0 where
   pub moves : List Move
   pub left : ℕ
-  pub stands : StandsAt Heard start past air run
-  pub goes : OpRunStandsFor operating list epc rn moves
-  pub last : answer ≡ last_answer moves
-  pub awaits : AwaitsReplies (dialogue_after list epc rn moves)
-  pub sends_few : SendsAtMost left (dialogue_after list epc rn moves)
-  pub few : exchanges_in past + left ≤ exchanges_in first + 129
-  pub rest : past_behind_dialogue start round slot index (dialogue_after list epc rn moves) past ≡ whole
-  pub turns : index + turns_left list operating ≤ 163
+  pub goes : OpRunStandsFor here.run of.list of.epc of.rn moves
+  pub last : here.answer ≡ last_answer moves
+  pub awaits : AwaitsReplies (left_behind of moves)
+  pub sends_few : SendsAtMost left (left_behind of moves)
+  pub few : exchanges_in past + left ≤ exchanges_in of.before + 129
+  pub rest : past_behind_left of here.index (left_behind of moves) past ≡ past_behind_operations of
+  pub turns : here.index + turns_left of.list here.run ≤ 163
+
+-- ... with the air and the run
+pub record OperationsUnderway (Heard : List ReportLine → Type 0) (of : TagOperations) (here : OperationsSoFar) (air : AirValue) (run : RunValue) : Type 0 where
+  pub past : List Item
+  pub stands : StandsAt Heard of.at.start past air run
+  pub are : AreInDialogue of here past
 
 -- a dialogue begins
-pub operations-begin : (Heard : List ReportLine → Type 0) (start : Start) (list : OpList) (epc : List ℕ) (rn round slot : ℕ) (past : List Item) (operating : OpRunValue) (air : AirValue) (run : RunValue)
-    → length list.ops ≤ 32 → StandsAt Heard start past air run → OpRunStandsFor operating list epc rn []
-    → turns_left list operating ≤ 5 * length list.ops + 2
-    → OperationsUnderway Heard start list epc rn round slot past (past_behind_dialogue start round slot 1 (dialogue_of list epc rn) past) operating None 1 air run
-operations-begin Heard start list epc rn round slot past operating air run few stands goes turns = record {
-  past = past;
+pub operations-begin : (of : TagOperations) (run : OpRunValue) → length of.list.ops ≤ 32 → OpRunStandsFor run of.list of.epc of.rn []
+    → turns_left of.list run ≤ 5 * length of.list.ops + 2 → AreInDialogue of (record { run = run; answer = None; index = 1 }) of.before
+operations-begin of run few goes turns = record {
   moves = [];
-  left = 4 * length list.ops + 1;
-  stands = stands;
+  left = 4 * length of.list.ops + 1;
   goes = goes;
   last = refl;
-  awaits = dialogues-await list epc rn;
-  sends_few = dialogues-are-few list epc rn;
+  awaits = dialogues-await of.list of.epc of.rn;
+  sends_few = dialogues-are-few of.list of.epc of.rn;
   few = omega (arith, few);
   rest = refl;
   turns = omega (arith, few, turns);
 }
 
--- what is left of a dialogue behind a command
-pub record SentOf (list : OpList) (epc : List ℕ) (rn : ℕ) (moves : List Move) (command : Command) (expect : Expect) (extended : Bool) : Type 0 where
-  pub go_on : Reception → Dialogue
-  pub is : dialogue_after list epc rn moves ≡ sends command expect extended go_on
+-- a command that a dialogue sends, and what is awaited in reply
+pub record Asked : Type 0 where
+  pub command : Command
+  pub expect : Expect
+  pub extended : Bool
 
-pub sent-of : (list : OpList) (epc : List ℕ) (rn : ℕ) (moves : List Move) (command : Command) (expect : Expect) (extended : Bool) (after : OpRunValue)
-    → IsNextOperation (nexts.Send command expect extended) after list epc rn moves → SentOf list epc rn moves command expect extended
-sent-of list epc rn moves command expect extended after next =
-    let found = first-sends (dialogue_after list epc rn moves) command expect extended (sym next.next) in
+-- what is left of a dialogue begins with such a command
+pub record SendsNext (left : Dialogue) (asked : Asked) : Type 0 where
+  pub go_on : Reception → Dialogue
+  pub is : left ≡ sends asked.command asked.expect asked.extended go_on
+
+pub sends-next : (of : TagOperations) (moves : List Move) (asked : Asked) (after : OpRunValue)
+    → IsNextOperation (nexts.Send asked.command asked.expect asked.extended) after of.list of.epc of.rn moves → SendsNext (left_behind of moves) asked
+sends-next of moves asked after next =
+    let found = first-sends (left_behind of moves) asked.command asked.expect asked.extended (sym next.next) in
     record { go_on = found.0; is = found.1 }
 
 -- the command expects a reply of its kind, and is one of those that are left
-pub sent-expects : (list : OpList) (epc : List ℕ) (rn : ℕ) (moves : List Move) (command : Command) (expect : Expect) (extended : Bool)
-    → SentOf list epc rn moves command expect extended → AwaitsReplies (dialogue_after list epc rn moves) → Expects command expect extended
-sent-expects list epc rn moves command expect extended sent awaits = (subst AwaitsReplies sent.is awaits).0
+pub sent-expects : (left : Dialogue) (asked : Asked) → SendsNext left asked → AwaitsReplies left → Expects asked.command asked.expect asked.extended
+sent-expects left asked sent awaits = (subst AwaitsReplies sent.is awaits).0
 
-pub sent-one : (list : OpList) (epc : List ℕ) (rn : ℕ) (moves : List Move) (command : Command) (expect : Expect) (extended : Bool) (left : ℕ)
-    → SentOf list epc rn moves command expect extended → SendsAtMost left (dialogue_after list epc rn moves) → 1 ≤ left
-sent-one list epc rn moves command expect extended left sent few = (subst (SendsAtMost left) sent.is few).0
-
--- what the command leaves
-sent-rest : (start : Start) (list : OpList) (epc : List ℕ) (rn round slot index : ℕ) (moves : List Move) (past whole : List Item) (command : Command) (expect : Expect) (extended : Bool)
-    → (sent : SentOf list epc rn moves command expect extended) → past_behind_dialogue start round slot index (dialogue_after list epc rn moves) past ≡ whole
-    → past_behind_dialogue start round slot index (sent.go_on (operation_reception start round slot command expect extended past)) (past_behind_command start round slot command past) ≡ whole
-sent-rest start list epc rn round slot index moves past whole command expect extended sent rest =
-    sym (ap (λ (d : Dialogue). past_behind_dialogue start round slot index d past) sent.is) ∙ rest
+pub sent-one : (left : Dialogue) (asked : Asked) (most : ℕ) → SendsNext left asked → SendsAtMost most left → 1 ≤ most
+sent-one left asked most sent few = (subst (SendsAtMost most) sent.is few).0
 
 -- no command of a dialogue lists a tag
 listless : (sent : Record) (command : Command) (expect : Expect) (extended : Bool) → Expects command expect extended → reception_of_ack sent command ≡ no_stream
@@ -116,94 +146,80 @@ listless sent command expect extended is = refl
 pub operation-unlisted : (sent : Record) (expect : Expect) (extended : Bool) → Expects sent.command expect extended → listed_by sent ≡ []
 operation-unlisted sent expect extended is = ap (λ (r : Reception). listed_from sent r) (listless sent sent.command expect extended is)
 
+-- the answer to a command of a dialogue, in which what was past then has its say
+pub record IsAnswered (of : TagOperations) (asked : Asked) (past : List Item) : Type 0 where
+  pub answer : Answer
+  pub expected : IsAnswerFor asked.expect answer
+  pub heard : reception_in answer ≡ operation_reception of.at.start of.at.round of.at.slot asked.command asked.expect asked.extended past
+
 -- a command was answered
-pub operations-sent : (Heard Later : List ReportLine → Type 0) (start : Start) (list : OpList) (epc : List ℕ) (rn round slot : ℕ) (first whole : List Item) (operating after : OpRunValue) (was answer : Option Answer) (heard : Answer)
-    (index : ℕ) (air then_air : AirValue) (run then_run : RunValue) (command : Command) (expect : Expect) (extended : Bool)
-    → (u : OperationsUnderway Heard start list epc rn round slot first whole operating was index air run)
-    → IsNextOperation (nexts.Send command expect extended) after list epc rn u.moves → answer ≡ Some heard → IsAnswerFor expect heard
-    → reception_in heard ≡ operation_reception start round slot command expect extended u.past
-    → StandsAt Later start (past_behind_command start round slot command u.past) then_air then_run → turns_left list after + 1 ≤ turns_left list operating
-    → OperationsUnderway Later start list epc rn round slot first whole after answer index then_air then_run
-operations-sent Heard Later start list epc rn round slot first whole operating after was answer heard index air then_air run then_run command expect extended
-    u next is expected heard_is stands fewer =
-    let sent = sent-of list epc rn u.moves command expect extended after next in
-    let behind : dialogue_after list epc rn (answered heard ∷ u.moves) ≡ sent.go_on (reception_in heard) = ap (λ (d : Dialogue). dialogue_behind (answered heard) d) sent.is in
+pub operations-sent : (of : TagOperations) (here : OperationsSoFar) (past : List Item) (u : AreInDialogue of here past) (asked : Asked) (by : IsAnswered of asked past) (after : OpRunValue)
+    → IsNextOperation (nexts.Send asked.command asked.expect asked.extended) after of.list of.epc of.rn u.moves → turns_left of.list after + 1 ≤ turns_left of.list here.run
+    → AreInDialogue of (record { run = after; answer = Some by.answer; index = here.index }) (past_behind_command of.at.start of.at.round of.at.slot asked.command past)
+operations-sent of here past u asked by after next fewer =
+    let sent = sends-next of u.moves asked after next in
+    let behind : left_behind of (answered by.answer ∷ u.moves) ≡ sent.go_on (reception_in by.answer) = ap (λ (d : Dialogue). dialogue_behind (answered by.answer) d) sent.is in
     let few = subst (SendsAtMost u.left) sent.is u.sends_few in
     record {
-      past = past_behind_command start round slot command u.past;
-      moves = answered heard ∷ u.moves;
+      moves = answered by.answer ∷ u.moves;
       left = u.left - 1;
-      stands = stands;
-      goes = next.stands (answered heard) expected;
-      last = is;
-      awaits = subst AwaitsReplies (sym behind) ((subst AwaitsReplies sent.is u.awaits).1 (reception_in heard));
-      sends_few = subst (SendsAtMost (u.left - 1)) (sym behind) (few.1 (reception_in heard));
+      goes = next.stands (answered by.answer) by.expected;
+      last = refl;
+      awaits = subst AwaitsReplies (sym behind) ((subst AwaitsReplies sent.is u.awaits).1 (reception_in by.answer));
+      sends_few = subst (SendsAtMost (u.left - 1)) (sym behind) (few.1 (reception_in by.answer));
       few = omega (arith, u.few, few.0);
-      rest = ap (λ (d : Dialogue). past_behind_dialogue start round slot index d (past_behind_command start round slot command u.past))
-          (behind ∙ ap (λ (r : Reception). sent.go_on r) heard_is)
-          ∙ sent-rest start list epc rn round slot index u.moves u.past whole command expect extended sent u.rest;
+      rest = ap (λ (d : Dialogue). past_behind_left of here.index d (past_behind_command of.at.start of.at.round of.at.slot asked.command past))
+          (behind ∙ ap (λ (r : Reception). sent.go_on r) by.heard)
+          ∙ sym (ap (λ (d : Dialogue). past_behind_left of here.index d past) sent.is) ∙ u.rest;
       turns = omega (arith, u.turns, fewer);
     }
 
 -- what stands behind a result
-stands-operated : (Heard : List ReportLine → Type 0) (start : Start) (past : List Item) (round slot index : ℕ) (result : OpResult) (air : AirValue) (run : RunValue)
-    → IsAt start past air run → Heard (lines_behind start past ++ OpLine round slot index result ∷ []) → StandsAt Heard start (operated round slot index result ∷ past) air run
-stands-operated Heard start past round slot index result air run at heard = record {
-  at = record {
-    plays = record {
-      names = at.plays.names;
-      few = at.plays.few;
-      link = at.plays.link;
-      several = at.plays.several;
-      tags = at.plays.tags ∙ sym (tags-operated start round slot index result past);
-      legal = at.plays.legal;
-      exchanges = at.plays.exchanges;
-      entries = at.plays.entries;
-      rounds = at.plays.rounds;
-    };
-    seen = at.seen;
-  };
-  told = heard;
-}
-
-told-rest : (start : Start) (list : OpList) (epc : List ℕ) (rn round slot index : ℕ) (moves : List Move) (past whole : List Item) (result : OpResult) (later : Dialogue)
-    → dialogue_after list epc rn moves ≡ tells result later → past_behind_dialogue start round slot index (dialogue_after list epc rn moves) past ≡ whole
-    → past_behind_dialogue start round slot (index + 1) later (operated round slot index result ∷ past) ≡ whole
-told-rest start list epc rn round slot index moves past whole result later is rest = sym (ap (λ (d : Dialogue). past_behind_dialogue start round slot index d past) is) ∙ rest
+pub stands-operated : (Heard : List ReportLine → Type 0) (at : RunBehind) (round slot index : ℕ) (result : OpResult)
+    → Stands (λ lines. Heard (lines ++ OpLine round slot index result ∷ [])) at → StandsAt Heard at.start (operated round slot index result ∷ at.past) at.air at.run
+stands-operated Heard at round slot index result stands =
+    let plays = stands.at.plays in
+    record {
+      at = record {
+        plays = record {
+          names = plays.names;
+          few = plays.few;
+          link = plays.link;
+          several = plays.several;
+          tags = plays.tags ∙ sym (tags-operated at.start round slot index result at.past);
+          legal = plays.legal;
+          exchanges = plays.exchanges;
+          entries = plays.entries;
+          rounds = plays.rounds;
+        };
+        seen = stands.at.seen;
+      };
+      told = stands.told;
+    }
 
 -- a result was told
-pub operations-told : (Heard Later : List ReportLine → Type 0) (start : Start) (list : OpList) (epc : List ℕ) (rn round slot : ℕ) (first whole : List Item) (operating after : OpRunValue) (was answer : Option Answer)
-    (index : ℕ) (air : AirValue) (run : RunValue) (result : OpResult)
-    → (u : OperationsUnderway Heard start list epc rn round slot first whole operating was index air run)
-    → IsNextOperation (nexts.Result result) after list epc rn u.moves → answer ≡ None
-    → Later (lines_behind start u.past ++ OpLine round slot index result ∷ []) → turns_left list after + 1 ≤ turns_left list operating
-    → OperationsUnderway Later start list epc rn round slot first whole after answer (index + 1) air run
-operations-told Heard Later start list epc rn round slot first whole operating after was answer index air run result u next is heard fewer =
-    let found = first-tells (dialogue_after list epc rn u.moves) result (sym next.next) in
-    let later : Dialogue = found.0 in
-    let behind : dialogue_after list epc rn (told ∷ u.moves) ≡ later = ap (λ (d : Dialogue). dialogue_behind told d) found.1 in
-    let past : List Item = operated round slot index result ∷ u.past in
+pub operations-told : (of : TagOperations) (here : OperationsSoFar) (past : List Item) (u : AreInDialogue of here past) (after : OpRunValue) (result : OpResult)
+    → IsNextOperation (nexts.Result result) after of.list of.epc of.rn u.moves → turns_left of.list after + 1 ≤ turns_left of.list here.run
+    → AreInDialogue of (record { run = after; answer = None; index = here.index + 1 }) (operated of.at.round of.at.slot here.index result ∷ past)
+operations-told of here past u after result next fewer =
+    let found = first-tells (left_behind of u.moves) result (sym next.next) in
+    let behind : left_behind of (told ∷ u.moves) ≡ found.0 = ap (λ (d : Dialogue). dialogue_behind told d) found.1 in
     record {
-      past = past;
       moves = told ∷ u.moves;
       left = u.left;
-      stands = stands-operated Later start u.past round slot index result air run u.stands.at heard;
       goes = next.stands told tt;
-      last = is;
+      last = refl;
       awaits = subst AwaitsReplies (sym behind) (subst AwaitsReplies found.1 u.awaits);
       sends_few = subst (SendsAtMost u.left) (sym behind) (subst (SendsAtMost u.left) found.1 u.sends_few);
       few = u.few;
-      rest = ap (λ (d : Dialogue). past_behind_dialogue start round slot (index + 1) d past) behind
-          ∙ told-rest start list epc rn round slot index u.moves u.past whole result later found.1 u.rest;
+      rest = ap (λ (d : Dialogue). past_behind_left of (here.index + 1) d (operated of.at.round of.at.slot here.index result ∷ past)) behind
+          ∙ sym (ap (λ (d : Dialogue). past_behind_left of here.index d past) found.1) ∙ u.rest;
       turns = omega (arith, u.turns, fewer);
     }
 
 -- all is done
-pub operations-end : (Heard : List ReportLine → Type 0) (start : Start) (list : OpList) (epc : List ℕ) (rn round slot : ℕ) (first whole : List Item) (operating after : OpRunValue) (was : Option Answer)
-    (index : ℕ) (air : AirValue) (run : RunValue)
-    → (u : OperationsUnderway Heard start list epc rn round slot first whole operating was index air run)
-    → IsNextOperation nexts.End after list epc rn u.moves → StandsAt Heard start whole air run
-operations-end Heard start list epc rn round slot first whole operating after was index air run u next =
-    let over : dialogue_after list epc rn u.moves ≡ done = first-done (dialogue_after list epc rn u.moves) (sym next.next) in
-    let same : u.past ≡ whole = sym (ap (λ (d : Dialogue). past_behind_dialogue start round slot index d u.past) over) ∙ u.rest in
-    subst (λ (p : List Item). StandsAt Heard start p air run) same u.stands
+pub operations-end : (of : TagOperations) (here : OperationsSoFar) (past : List Item) (u : AreInDialogue of here past) (after : OpRunValue)
+    → IsNextOperation nexts.End after of.list of.epc of.rn u.moves → past ≡ past_behind_operations of
+operations-end of here past u after next =
+    let over : left_behind of u.moves ≡ done = first-done (left_behind of u.moves) (sym next.next) in
+    sym (ap (λ (d : Dialogue). past_behind_left of here.index d past) over) ∙ u.rest

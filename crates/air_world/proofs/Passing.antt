@@ -1,22 +1,46 @@
 -- What is told one after another, and what was told where a run is cut off.
-use Rattle.std.proofs.Common.{◌≡◌, ◌⊎◌, List, [], ◌++◌, Option, Some, Result, Ok, Err, sym, ◌∙◌, ap, subst, append_assoc}
+use Rattle.std.proofs.Common.{◌≡◌, ◌⊎◌, List, [], ◌++◌, Option, Some, None, Result, Ok, Err, sym, ◌∙◌, ap, subst, append_assoc}
 use Rattle.std.proofs.lemmas.List.{append-nil}
 use Rattle.std.specs.Result.{IfErr, IsErrAnd}
+use Rattle.air_channel.specs.Air.{AirValue}
 use Rattle.air_model.specs.Past.{Start, Item}
+use Rattle.air_world.specs.Playing.{RunValue, StandsAt}
 use Rattle.air_world.specs.Telling.{Ends, IsCutOff, Passes, lines_behind}
 use Rattle.report_lines.specs.ReportLine.{ReportLine}
 use Rattle.report_lines.specs.declared.mode.PlayFault.{PlayFault}
 use Rattle.report_lines.specs.declared.mode.PlayFault.TheVariants.{OutOfMemory}
 use Rattle.runs.specs.laws.Growth.{Grows, added_lines, past_lines-more}
 
+-- a listener that is told lines: what such a one hears, which fault it met, what it was before, and what it is now
+pub record Listening (A : Type 0) : Type 1 where
+  pub hears : A → List ReportLine → A → Type 0
+  pub failed : A → Option PlayFault
+  pub old : A
+  pub new : A
+
+abbrev pub listening : {A : Type 0} → (A → List ReportLine → A → Type 0) → (A → Option PlayFault) → A → A → Listening A
+listening hears failed old new = record { hears = hears; failed = failed; old = old; new = new }
+
+-- it had been told the lines before, and now has been told these
+abbrev pub IsTold : {A : Type 0} → Listening A → List ReportLine → List ReportLine → Type 0
+IsTold l before = Passes l.hears before l.old l.new
+
+-- ... and now has been told a front of these, when the run was cut off
+abbrev pub IsCutIn : {A : Type 0} → Listening A → (before whole : List ReportLine) → PlayFault → Type 0
+IsCutIn l before whole = IsCutOff l.hears l.failed before l.old l.new whole
+
+-- it met this fault, or it met none, and there was no memory
+abbrev pub IsCause : {A : Type 0} → Listening A → PlayFault → Type 0
+IsCause l = λ fault. (l.failed l.new ≡ Some fault) ⊎ ((fault ≡ OutOfMemory) × (l.failed l.new ≡ None))
+
 -- nothing was told
 pub passes-nothing : {A : Type 0} (hears : A → List ReportLine → A → Type 0) (before : List ReportLine) (old : A) → Passes hears before old old before
 passes-nothing hears before old = record { on = λ first heard. heard }
 
 -- one thing after another
-pub passes-then : {A : Type 0} (hears : A → List ReportLine → A → Type 0) (before between after : List ReportLine) (old middle new : A)
-    → Passes hears before old middle between → Passes hears between middle new after → Passes hears before old new after
-passes-then hears before between after old middle new first second = record { on = λ listener heard. second.on listener (first.on listener heard) }
+pub passes-then : {A : Type 0} (l : Listening A) (first : A) (before between after : List ReportLine)
+    → Passes l.hears before first l.old between → IsTold l between after → Passes l.hears before first l.new after
+passes-then l first before between after told then = record { on = λ listener heard. then.on listener (told.on listener heard) }
 
 -- the same lines
 pub passes-same : {A : Type 0} (hears : A → List ReportLine → A → Type 0) (before lines same : List ReportLine) (old new : A) → lines ≡ same
@@ -24,31 +48,30 @@ pub passes-same : {A : Type 0} (hears : A → List ReportLine → A → Type 0) 
 passes-same hears before lines same old new is told = subst (λ (l : List ReportLine). Passes hears before old new l) is told
 
 -- what is told first comes before what is told where a run is cut off
-pub cut-then : {A : Type 0} (hears : A → List ReportLine → A → Type 0) (failed : A → Option PlayFault) (before between whole : List ReportLine) (old middle new : A) (fault : PlayFault)
-    → Passes hears before old middle between → IsCutOff hears failed between middle new whole fault → IsCutOff hears failed before old new whole fault
-cut-then hears failed before between whole old middle new fault first cut = record {
+pub cut-then : {A : Type 0} (l : Listening A) (first : A) (before between whole : List ReportLine) (fault : PlayFault)
+    → Passes l.hears before first l.old between → IsCutIn l between whole fault → IsCutOff l.hears l.failed before first l.new whole fault
+cut-then l first before between whole fault told cut = record {
   front = cut.front;
   rest = cut.rest;
   split = cut.split;
-  passes = passes-then hears before between cut.front old middle new first cut.passes;
+  passes = passes-then l first before between cut.front told cut.passes;
   cause = cut.cause;
 }
 
 -- a front of lines is a front of all that begin with them
-pub cut-longer : {A : Type 0} (hears : A → List ReportLine → A → Type 0) (failed : A → Option PlayFault) (before lines more whole : List ReportLine) (old new : A) (fault : PlayFault)
-    → whole ≡ lines ++ more → IsCutOff hears failed before old new lines fault → IsCutOff hears failed before old new whole fault
-cut-longer hears failed before lines more whole old new fault joined cut = record {
+pub cut-longer : {A : Type 0} (l : Listening A) (before lines more whole : List ReportLine) (fault : PlayFault) → whole ≡ lines ++ more → IsCutIn l before lines fault
+    → IsCutIn l before whole fault
+cut-longer l before lines more whole fault joined cut = record {
   front = cut.front;
   rest = cut.rest ++ more;
-  split = joined ∙ ap (λ (l : List ReportLine). l ++ more) cut.split ∙ append_assoc cut.front cut.rest more;
+  split = joined ∙ ap (λ (lines : List ReportLine). lines ++ more) cut.split ∙ append_assoc cut.front cut.rest more;
   passes = cut.passes;
   cause = cut.cause;
 }
 
 -- a run is cut off behind lines that were told whole
-pub cut-behind : {A : Type 0} (hears : A → List ReportLine → A → Type 0) (failed : A → Option PlayFault) (before lines : List ReportLine) (old new : A) (fault : PlayFault)
-    → Passes hears before old new lines → (failed new ≡ Some fault) ⊎ (fault ≡ OutOfMemory) → IsCutOff hears failed before old new lines fault
-cut-behind hears failed before lines old new fault told cause = record {
+pub cut-behind : {A : Type 0} (l : Listening A) (before lines : List ReportLine) (fault : PlayFault) → IsTold l before lines → IsCause l fault → IsCutIn l before lines fault
+cut-behind l before lines fault told cause = record {
   front = lines;
   rest = [];
   split = sym (append-nil lines);
@@ -57,23 +80,30 @@ cut-behind hears failed before lines old new fault told cause = record {
 }
 
 -- the same, of pasts
-pub cut-past : {A : Type 0} (hears : A → List ReportLine → A → Type 0) (failed : A → Option PlayFault) (before : List ReportLine) (start : Start) (past longer : List Item) (old new : A) (fault : PlayFault)
-    → Grows past longer → IsCutOff hears failed before old new (lines_behind start past) fault → IsCutOff hears failed before old new (lines_behind start longer) fault
-cut-past hears failed before start past longer old new fault grows cut =
-    cut-longer hears failed before (lines_behind start past) (added_lines start.link grows.own) (lines_behind start longer) old new fault
+pub cut-past : {A : Type 0} (l : Listening A) (before : List ReportLine) (start : Start) (past longer : List Item) (fault : PlayFault) → Grows past longer
+    → IsCutIn l before (lines_behind start past) fault → IsCutIn l before (lines_behind start longer) fault
+cut-past l before start past longer fault grows cut =
+    cut-longer l before (lines_behind start past) (added_lines start.link grows.own) (lines_behind start longer) fault
     (ap (λ (items : List Item). lines_behind start items) grows.is ∙ past_lines-more start.link grows.own past) cut
-
-pub cut-same : {A : Type 0} (hears : A → List ReportLine → A → Type 0) (failed : A → Option PlayFault) (before : List ReportLine) (start : Start) (past same : List Item) (old new : A) (fault : PlayFault)
-    → past ≡ same → IsCutOff hears failed before old new (lines_behind start past) fault → IsCutOff hears failed before old new (lines_behind start same) fault
-cut-same hears failed before start past same old new fault is cut = subst (λ (p : List Item). IsCutOff hears failed before old new (lines_behind start p) fault) is cut
 
 -- a fault that is handed on
 pub ends-cut : {T : Type 0} (r : Result T PlayFault) (cause : PlayFault) (Whole : Type 0) (CutOff : PlayFault → Type 0) → IsErrAnd r (λ fault. fault ≡ cause) → CutOff cause → Ends r Whole CutOff
 ends-cut (Ok done) cause Whole CutOff is cut = absurd is
 ends-cut (Err fault) cause Whole CutOff is cut = subst CutOff (sym is) cut
 
+-- a run, and what it stands behind
+pub record RunBehind : Type 0 where
+  pub start : Start
+  pub past : List Item
+  pub air : AirValue
+  pub run : RunValue
+
+-- it stands there, and the lines of the past are heard
+abbrev pub Stands : (List ReportLine → Type 0) → RunBehind → Type 0
+Stands Heard at = StandsAt Heard at.start at.past at.air at.run
+
 -- what stands where a run goes on, and is cut off behind it where it doesn't
-pub ends-checked : {A T : Type 0} (hears : A → List ReportLine → A → Type 0) (failed : A → Option PlayFault) (r : Result T PlayFault) (before lines : List ReportLine) (old new : A) (Whole : Type 0)
-    → Passes hears before old new lines → Whole → IfErr r (λ fault. (failed new ≡ Some fault) ⊎ (fault ≡ OutOfMemory)) → Ends r Whole (IsCutOff hears failed before old new lines)
-ends-checked hears failed (Ok done) before lines old new Whole told whole cause = whole
-ends-checked hears failed (Err fault) before lines old new Whole told whole cause = cut-behind hears failed before lines old new fault told cause
+pub ends-checked : {A T : Type 0} (l : Listening A) (before : List ReportLine) (r : Result T PlayFault) (at : RunBehind) → Stands (IsTold l before) at → IfErr r (IsCause l)
+    → Ends r (Stands (IsTold l before) at) (IsCutIn l before (lines_behind at.start at.past))
+ends-checked l before (Ok done) at stands cause = stands
+ends-checked l before (Err fault) at stands cause = cut-behind l before (lines_behind at.start at.past) fault stands.told cause

@@ -1,12 +1,11 @@
 -- The slots of a round, one after another.
-use Rattle.std.proofs.Common.{◌≡◌, ◌⊎◌, ℕ, zero, suc, ◌+◌, ◌*◌, ◌≤◌, false, List, [], ◌∷◌, ◌++◌, length, Option, Some, refl, sym, ◌∙◌, ap, subst, arith}
+use Rattle.std.proofs.Common.{◌≡◌, ℕ, zero, suc, ◌+◌, ◌*◌, ◌≤◌, false, List, [], ◌∷◌, ◌++◌, length, refl, sym, ◌∙◌, ap, subst, arith}
 use Rattle.access_ops.specs.declared.OpList.{OpList}
 use Rattle.air_channel.specs.Air.{AirValue}
 use Rattle.air_events.specs.Cursor.{IsLeft}
 use Rattle.air_model.specs.Past.{Start, Item, ended, past_behind_command, exchanges_in, rounds_in}
-use Rattle.air_world.proofs.Passing.{cut-behind, cut-past, cut-same}
-use Rattle.air_world.specs.Playing.{RunValue, IsAt, StandsAt, most_in_slot}
-use Rattle.air_world.specs.Telling.{IsCutOff, Passes, lines_behind}
+use Rattle.air_world.proofs.Passing.{RunBehind, Stands}
+use Rattle.air_world.specs.Playing.{RunValue, StandsAt, most_in_slot}
 use Rattle.command_grammar.specs.declared.commands.Command.{Command}
 use Rattle.q_round.specs.laws.SlotLaws.{slots-underway}
 use Rattle.q_round.specs.Rounds.{AreOutcomes, is_over, slots_of, next_command}
@@ -17,30 +16,37 @@ use Rattle.q_round.specs.declared.round.Next.{Next}
 use Rattle.q_round.specs.declared.round.Next.TheVariants as nexts
 use Rattle.q_round.specs.declared.round.RoundEnd.{RoundEnd}
 use Rattle.report_lines.specs.ReportLine.{ReportLine, RoundLine}
-use Rattle.report_lines.specs.declared.mode.PlayFault.{PlayFault}
-use Rattle.report_lines.specs.declared.mode.PlayFault.TheVariants.{OutOfMemory}
-use Rattle.runs.specs.laws.Growth.{answer-keeps, turns-grow}
+use Rattle.runs.specs.laws.Growth.{Grows, answer-keeps, turns-grow}
+use Rattle.runs.specs.laws.PlayedRounds.{PlayedRound, past_behind_played}
 use Rattle.runs.specs.laws.HeadlineCounts.{slot-exchanges}
 use Rattle.runs.specs.laws.Tags.{tags-ended}
 use Rattle.runs.specs.Headline.{most_operating}
-use Rattle.runs.specs.History.{outcome_of, slot_reception, past_behind_slot, past_behind_turn, past_behind_turns, past_behind_round}
+use Rattle.runs.specs.History.{outcome_of, slot_reception, past_behind_slot, past_behind_turn, past_behind_turns}
 
--- between two slots of a round whose end leaves a known past: the past so far, the outcomes so far, the turns that are left,
--- and the slot command that comes next
-pub record RoundUnderway (Heard : List ReportLine → Type 0) (start : Start) (operations : OpList) (first whole : List Item) (number : ℕ) (spec : SpecValue) (round : RoundValue) (command : Command)
-    (air : AirValue) (run : RunValue) : Type 0 where
-  pub past : List Item
+-- how far a round has come that is played: its number, the slots that were sent, and the slot command that comes next
+pub record RoundSoFar : Type 0 where
+  pub number : ℕ
+  pub round : RoundValue
+  pub command : Command
+
+-- between two slots of the round, behind this past: the outcomes so far, and the turns that are left
+pub record IsInRound (played : PlayedRound) (here : RoundSoFar) (past : List Item) : Type 0 where
   pub outcomes : List Outcome
   pub left : ℕ
-  pub stands : StandsAt Heard start past air run
+  pub goes : RoundStandsFor here.round played.spec outcomes
+  pub on : is_over played.spec outcomes ≡ false
+  pub sends : next_command played.spec played.start.link outcomes ≡ nexts.Send here.command
+  pub slots : suc left + length outcomes ≡ played.spec.limit
+  pub rest : past_behind_turns (suc (suc left)) played.start played.operations here.number played.spec outcomes past ≡ past_behind_played played
+  pub few : exchanges_in past + most_in_slot * suc left ≤ exchanges_in played.before + most_in_slot * played.spec.limit
+  pub rounds : here.number ≡ rounds_in past + 1
+
+-- ... with the air and the run
+pub record RoundUnderway (Heard : List ReportLine → Type 0) (played : PlayedRound) (here : RoundSoFar) (air : AirValue) (run : RunValue) : Type 0 where
+  pub past : List Item
+  pub stands : StandsAt Heard played.start past air run
   pub enough : run.out_of_memory ≡ false
-  pub goes : RoundStandsFor round spec outcomes
-  pub on : is_over spec outcomes ≡ false
-  pub sends : next_command spec start.link outcomes ≡ nexts.Send command
-  pub slots : suc left + length outcomes ≡ spec.limit
-  pub rest : past_behind_turns (suc (suc left)) start operations number spec outcomes past ≡ whole
-  pub few : exchanges_in past + most_in_slot * suc left ≤ exchanges_in first + most_in_slot * spec.limit
-  pub rounds : number ≡ rounds_in past + 1
+  pub is : IsInRound played here past
 
 abbrev pred : ℕ → ℕ
 pred zero = zero
@@ -51,41 +57,52 @@ suc-pred zero some = absurd (omega arith)
 suc-pred (suc n) some = refl
 
 -- a round begins
-pub round-begins : (Heard : List ReportLine → Type 0) (start : Start) (operations : OpList) (past : List Item) (number : ℕ) (spec : SpecValue) (round : RoundValue) (command : Command) (air : AirValue) (run : RunValue)
-    → 1 ≤ spec.limit → number ≡ rounds_in past + 1 → StandsAt Heard start past air run → run.out_of_memory ≡ false → RoundStandsFor round spec []
-    → next_command spec start.link [] ≡ nexts.Send command
-    → RoundUnderway Heard start operations past (past_behind_round start operations spec past) number spec round command air run
-round-begins Heard start operations past number spec round command air run some is stands enough goes sends =
+pub round-begins : (played : PlayedRound) (here : RoundSoFar) → 1 ≤ played.spec.limit → here.number ≡ rounds_in played.before + 1 → RoundStandsFor here.round played.spec []
+    → next_command played.spec played.start.link [] ≡ nexts.Send here.command → IsInRound played here played.before
+round-begins played here some is goes sends =
+    let start = played.start in
+    let spec = played.spec in
     let left : ℕ = pred spec.limit in
     let whole : suc left ≡ spec.limit = suc-pred spec.limit some in
     record {
-      past = past;
       outcomes = [];
       left = left;
-      stands = stands;
-      enough = enough;
       goes = goes;
       on = refl;
       sends = sends;
       slots = omega (arith, whole);
-      rest = ap (λ n. past_behind_turns (suc n) start operations number spec [] past) whole ∙ ap (λ n. past_behind_turns (suc spec.limit) start operations n spec [] past) is;
+      rest = ap (λ n. past_behind_turns (suc n) start played.operations here.number spec [] played.before) whole
+          ∙ ap (λ n. past_behind_turns (suc spec.limit) start played.operations n spec [] played.before) is;
       few = omega (arith, whole);
       rounds = is;
     }
 
--- the past behind the slot that comes next
-abbrev pub slot_past : (start : Start) (operations : OpList) (number : ℕ) (outcomes : List Outcome) (command : Command) (past : List Item) → List Item
-slot_past start operations number outcomes command past = past_behind_slot start operations number (length outcomes + 1) command past
+-- the slot that comes next was played, with this number and outcome
+pub record SlotPlayed (played : PlayedRound) (here : RoundSoFar) (past : List Item) (outcomes : List Outcome) : Type 0 where
+  pub slot : ℕ
+  pub outcome : Outcome
+  pub is : slot ≡ length outcomes + 1
+  pub outcome_is : outcome ≡ outcome_of (slot_reception played.start here.number slot here.command past)
 
-abbrev pub slot_outcome : (start : Start) (number : ℕ) (outcomes : List Outcome) (command : Command) (past : List Item) → Outcome
-slot_outcome start number outcomes command past = outcome_of (slot_reception start number (length outcomes + 1) command past)
+abbrev pub slot_played : (played : PlayedRound) (here : RoundSoFar) (past : List Item) (u : IsInRound played here past) (slot : ℕ) (outcome : Outcome) → slot ≡ length u.outcomes + 1
+    → outcome ≡ outcome_of (slot_reception played.start here.number slot here.command past) → SlotPlayed played here past u.outcomes
+slot_played played here past u slot outcome is outcome_is = record { slot = slot; outcome = outcome; is = is; outcome_is = outcome_is }
 
-pub turn-rest : (start : Start) (operations : OpList) (number : ℕ) (spec : SpecValue) (outcomes : List Outcome) (command : Command) (past : List Item) (left : ℕ)
-    → next_command spec start.link outcomes ≡ nexts.Send command
-    → past_behind_turns (suc left) start operations number spec outcomes past
-    ≡ past_behind_turns left start operations number spec (slot_outcome start number outcomes command past ∷ outcomes) (slot_past start operations number outcomes command past)
-turn-rest start operations number spec outcomes command past left sends =
-    ap (λ (n : Next). past_behind_turn (past_behind_turns left start operations number spec) start operations number outcomes past n) sends
+-- what is past behind a slot with this number
+abbrev pub past_behind_numbered : PlayedRound → RoundSoFar → ℕ → List Item → List Item
+past_behind_numbered played here slot past = past_behind_slot played.start played.operations here.number slot here.command past
+
+-- the turns that are left behind it lead to the end of the round
+turn-rest : (played : PlayedRound) (here : RoundSoFar) (past : List Item) (u : IsInRound played here past) (s : SlotPlayed played here past u.outcomes)
+    → past_behind_turns (suc u.left) played.start played.operations here.number played.spec (s.outcome ∷ u.outcomes) (past_behind_numbered played here s.slot past)
+    ≡ past_behind_played played
+turn-rest played here past u s =
+    let start = played.start in
+    let turns = past_behind_turns (suc u.left) start played.operations here.number played.spec in
+    ap (λ (o : Outcome). turns (o ∷ u.outcomes) (past_behind_numbered played here s.slot past)) s.outcome_is
+    ∙ ap (λ n. turns (outcome_of (slot_reception start here.number n here.command past) ∷ u.outcomes) (past_behind_numbered played here n past)) s.is
+    ∙ sym (ap (λ (n : Next). past_behind_turn turns start played.operations here.number u.outcomes past n) u.sends)
+    ∙ u.rest
 
 -- the number of the slot that comes next
 pub slot-number : (spec : SpecValue) (round : RoundValue) (outcomes : List Outcome) (slot : ℕ) → RoundStandsFor round spec outcomes → is_over spec outcomes ≡ false
@@ -100,58 +117,61 @@ KeepsLimit = (spec : SpecValue) (outcomes : List Outcome) → IsLegalSpec spec �
 pub rounds-slot : (start : Start) (operations : OpList) (round slot : ℕ) (command : Command) (past : List Item)
     → rounds_in (past_behind_slot start operations round slot command past) ≡ rounds_in past
 rounds-slot start operations round slot command past =
-    answer-keeps (λ now. rounds_in now ≡ rounds_in past) start operations round slot (slot_reception start round slot command past) (past_behind_command start round slot command past)
+    answer-keeps (λ now. rounds_in now ≡ rounds_in past) (record { start = start; round = round; slot = slot }) operations (slot_reception start round slot command past) (past_behind_command start round slot command past)
     (record { command = λ sent expect extended now expects same. same; result = λ index result now same. same })
     (λ rn same. same) refl
 
--- a slot of a round that goes on
-pub round-goes-on : (Heard Later : List ReportLine → Type 0) (start : Start) (operations : OpList) (first whole : List Item) (number : ℕ) (spec : SpecValue) (round after : RoundValue) (command next : Command) (air then_air : AirValue) (run then_run : RunValue)
-    (slot : ℕ) (outcome : Outcome)
-    → (u : RoundUnderway Heard start operations first whole number spec round command air run) → length operations.ops ≤ 32 → IsLegalSpec spec → KeepsLimit → slot ≡ length u.outcomes + 1
-    → outcome ≡ outcome_of (slot_reception start number slot command u.past) → StandsAt Later start (past_behind_slot start operations number slot command u.past) then_air then_run
-    → then_run.out_of_memory ≡ false
-    → IsNextAnswer (nexts.Send next) after spec (outcome ∷ u.outcomes) → RoundUnderway Later start operations first whole number spec after next then_air then_run
-round-goes-on Heard Later start operations first whole number spec round after command next air then_air run then_run slot outcome u few_operations legal keeps is outcome_is stands enough answers =
-    let between : List Item = past_behind_slot start operations number slot command u.past in
-    let on : is_over spec (outcome ∷ u.outcomes) ≡ false = answers.over in
-    let sent : slots_of spec (outcome ∷ u.outcomes) ≡ suc (length u.outcomes) + 1 = slots-underway spec (outcome ∷ u.outcomes) answers.stands.outcomes_are on in
-    let fits = keeps spec (outcome ∷ u.outcomes) legal answers.stands.outcomes_are in
-    let some : 1 ≤ u.left = omega (arith, u.slots, sent, fits) in
+-- what the code of a round keeps to: few operations, and no more slots than the limit
+pub record HasFewTurns (played : PlayedRound) : Type 0 where
+  pub few_operations : length played.operations.ops ≤ 32
+  pub within : (outcomes : List Outcome) → AreOutcomes played.spec outcomes → slots_of played.spec outcomes ≤ played.spec.limit
+
+-- a slot of a round that goes on with a slot command
+pub round-goes-on : (played : PlayedRound) (here : RoundSoFar) (past : List Item) (u : IsInRound played here past) (s : SlotPlayed played here past u.outcomes)
+    (after : RoundValue) (next : Command) → HasFewTurns played → IsNextAnswer (nexts.Send next) after played.spec (s.outcome ∷ u.outcomes)
+    → IsInRound played (record { number = here.number; round = after; command = next }) (past_behind_numbered played here s.slot past)
+round-goes-on played here past u s after next fits answers =
+    let start = played.start in
+    let spec = played.spec in
+    let between : List Item = past_behind_numbered played here s.slot past in
+    let on : is_over spec (s.outcome ∷ u.outcomes) ≡ false = answers.over in
+    let sent : slots_of spec (s.outcome ∷ u.outcomes) ≡ suc (length u.outcomes) + 1 = slots-underway spec (s.outcome ∷ u.outcomes) answers.stands.outcomes_are on in
+    let within = fits.within (s.outcome ∷ u.outcomes) answers.stands.outcomes_are in
+    let some : 1 ≤ u.left = omega (arith, u.slots, sent, within) in
     let one : suc (pred u.left) ≡ u.left = suc-pred u.left some in
-    let turned : past_behind_turns (suc u.left) start operations number spec (outcome ∷ u.outcomes) between ≡ whole =
-    ap (λ (o : Outcome). past_behind_turns (suc u.left) start operations number spec (o ∷ u.outcomes) between) outcome_is
-    ∙ ap (λ n. past_behind_turns (suc u.left) start operations number spec (outcome_of (slot_reception start number n command u.past) ∷ u.outcomes) (past_behind_slot start operations number n command u.past)) is
-    ∙ sym (turn-rest start operations number spec u.outcomes command u.past (suc u.left) u.sends) ∙ u.rest in
-    let grown : exchanges_in between ≤ exchanges_in u.past + (2 + most_operating operations) = slot-exchanges start operations number slot command u.past in
+    let grown : exchanges_in between ≤ exchanges_in past + (2 + most_operating played.operations) =
+    slot-exchanges start played.operations here.number s.slot here.command past in
     record {
-      past = between;
-      outcomes = outcome ∷ u.outcomes;
+      outcomes = s.outcome ∷ u.outcomes;
       left = pred u.left;
-      stands = stands;
-      enough = enough;
       goes = answers.stands;
       on = on;
       sends = sym (answers.next start.link);
       slots = omega (arith, one, u.slots);
-      rest = ap (λ n. past_behind_turns (suc n) start operations number spec (outcome ∷ u.outcomes) between) one ∙ turned;
-      few = omega (arith, one, u.few, grown, few_operations);
-      rounds = u.rounds ∙ ap (λ n. n + 1) (sym (rounds-slot start operations number slot command u.past));
+      rest = ap (λ n. past_behind_turns (suc n) start played.operations here.number spec (s.outcome ∷ u.outcomes) between) one ∙ turn-rest played here past u s;
+      few = omega (arith, one, u.few, grown, fits.few_operations);
+      rounds = u.rounds ∙ ap (λ n. n + 1) (sym (rounds-slot start played.operations here.number s.slot here.command past));
     }
 
 -- the past that the end of a round leaves
-pub round-left : (Heard : List ReportLine → Type 0) (start : Start) (operations : OpList) (first whole : List Item) (number : ℕ) (spec : SpecValue) (round after : RoundValue) (command : Command) (air : AirValue) (run : RunValue)
-    (slot : ℕ) (outcome : Outcome) (next : Next)
-    → (u : RoundUnderway Heard start operations first whole number spec round command air run) → slot ≡ length u.outcomes + 1
-    → outcome ≡ outcome_of (slot_reception start number slot command u.past)
-    → IsNextAnswer next after spec (outcome ∷ u.outcomes)
-    → past_behind_turn (past_behind_turns u.left start operations number spec) start operations number (outcome ∷ u.outcomes) (past_behind_slot start operations number slot command u.past) next ≡ whole
-round-left Heard start operations first whole number spec round after command air run slot outcome next u is outcome_is answers =
-    let between : List Item = past_behind_slot start operations number slot command u.past in
-    let turned : past_behind_turns (suc u.left) start operations number spec (outcome ∷ u.outcomes) between ≡ whole =
-    ap (λ (o : Outcome). past_behind_turns (suc u.left) start operations number spec (o ∷ u.outcomes) between) outcome_is
-    ∙ ap (λ n. past_behind_turns (suc u.left) start operations number spec (outcome_of (slot_reception start number n command u.past) ∷ u.outcomes) (past_behind_slot start operations number n command u.past)) is
-    ∙ sym (turn-rest start operations number spec u.outcomes command u.past (suc u.left) u.sends) ∙ u.rest in
-    ap (λ (n : Next). past_behind_turn (past_behind_turns u.left start operations number spec) start operations number (outcome ∷ u.outcomes) between n) (answers.next start.link) ∙ turned
+pub round-left : (played : PlayedRound) (here : RoundSoFar) (past : List Item) (u : IsInRound played here past) (s : SlotPlayed played here past u.outcomes)
+    (after : RoundValue) (next : Next) → IsNextAnswer next after played.spec (s.outcome ∷ u.outcomes)
+    → past_behind_turn (past_behind_turns u.left played.start played.operations here.number played.spec) played.start played.operations here.number (s.outcome ∷ u.outcomes)
+    (past_behind_numbered played here s.slot past) next
+    ≡ past_behind_played played
+round-left played here past u s after next answers =
+    let start = played.start in
+    ap (λ (n : Next). past_behind_turn (past_behind_turns u.left start played.operations here.number played.spec) start played.operations here.number (s.outcome ∷ u.outcomes)
+    (past_behind_numbered played here s.slot past) n) (answers.next start.link)
+    ∙ turn-rest played here past u s
+
+-- what is past behind a slot leads to what is past behind the round
+pub slot-leads : (played : PlayedRound) (here : RoundSoFar) (past : List Item) (u : IsInRound played here past) (s : SlotPlayed played here past u.outcomes)
+    → Grows (past_behind_numbered played here s.slot past) (past_behind_played played)
+slot-leads played here past u s =
+    let between : List Item = past_behind_numbered played here s.slot past in
+    subst (λ (behind : List Item). Grows between behind) (turn-rest played here past u s)
+    (turns-grow (suc u.left) played.start played.operations here.number played.spec (s.outcome ∷ u.outcomes) between)
 
 -- with the number of its last slot
 pub ended-slots : (number : ℕ) (end : RoundEnd) (slot : ℕ) (outcome : Outcome) (outcomes : List Outcome) (past whole : List Item) → slot ≡ length outcomes + 1
@@ -161,45 +181,25 @@ ended-slots number end slot outcome outcomes past whole is left =
     ap (λ n. ended number end n ∷ past) same ∙ left
 
 -- a round ended
-stands-ended : (Heard : List ReportLine → Type 0) (start : Start) (past : List Item) (number : ℕ) (end : RoundEnd) (slots : ℕ) (air : AirValue) (run after : RunValue)
-    → number ≡ rounds_in past + 1 → IsAt start past air run → after ≡ record run { rounds = number } → Heard (lines_behind start past ++ RoundLine number end slots ∷ [])
-    → StandsAt Heard start (ended number end slots ∷ past) air after
-stands-ended Heard start past number end slots air run after number_is at is heard = record {
-  at = record {
-    plays = record {
-      names = at.plays.names;
-      few = at.plays.few;
-      link = at.plays.link;
-      several = at.plays.several;
-      tags = at.plays.tags ∙ sym (tags-ended start number end slots past);
-      legal = at.plays.legal;
-      exchanges = at.plays.exchanges;
-      entries = subst (λ l. IsLeft l start.entries (exchanges_in past)) (sym (ap (λ (r : RunValue). r.entries) is)) at.plays.entries;
-      rounds = ap (λ (r : RunValue). r.rounds) is ∙ number_is;
-    };
-    seen = λ enough. ap (λ (r : RunValue). r.seen) is ∙ at.seen (sym (ap (λ (r : RunValue). r.out_of_memory) is) ∙ enough);
-  };
-  told = heard;
-}
-
--- ... so ends it
-pub whole-ended : (Heard : List ReportLine → Type 0) (start : Start) (past whole : List Item) (number : ℕ) (end : RoundEnd) (slots : ℕ) (air : AirValue) (run after : RunValue)
-    → number ≡ rounds_in past + 1 → IsAt start past air run → after ≡ record run { rounds = number } → ended number end slots ∷ past ≡ whole
-    → Heard (lines_behind start past ++ RoundLine number end slots ∷ []) → StandsAt Heard start whole air after
-whole-ended Heard start past whole number end slots air run after number_is at is left heard =
-    subst (λ (p : List Item). StandsAt Heard start p air after) left (stands-ended Heard start past number end slots air run after number_is at is heard)
-
--- ... or it is cut off behind a slot
-pub cut-round : {A : Type 0} (hears : A → List ReportLine → A → Type 0) (failed : A → Option PlayFault) (before : List ReportLine) (old new : A) (Heard : List ReportLine → Type 0)
-    (start : Start) (operations : OpList) (first whole : List Item) (number : ℕ) (spec : SpecValue) (round : RoundValue) (command : Command) (air then_air : AirValue) (run then_run : RunValue)
-    (slot : ℕ) (fault : PlayFault) → (u : RoundUnderway Heard start operations first whole number spec round command air run) → slot ≡ length u.outcomes + 1
-    → StandsAt (Passes hears before old new) start (past_behind_slot start operations number slot command u.past) then_air then_run → (failed new ≡ Some fault) ⊎ (fault ≡ OutOfMemory)
-    → IsCutOff hears failed before old new (lines_behind start whole) fault
-cut-round hears failed before old new Heard start operations first whole number spec round command air then_air run then_run slot fault u is stands cause =
-    let between : List Item = slot_past start operations number u.outcomes command u.past in
-    let later : List Outcome = slot_outcome start number u.outcomes command u.past ∷ u.outcomes in
-    let end : past_behind_turns (suc u.left) start operations number spec later between ≡ whole = sym (turn-rest start operations number spec u.outcomes command u.past (suc u.left) u.sends) ∙ u.rest in
-    let here : past_behind_slot start operations number slot command u.past ≡ between = ap (λ n. past_behind_slot start operations number n command u.past) is in
-    cut-same hears failed before start (past_behind_turns (suc u.left) start operations number spec later between) whole old new fault end
-    (cut-past hears failed before start between (past_behind_turns (suc u.left) start operations number spec later between) old new fault (turns-grow (suc u.left) start operations number spec later between)
-    (cut-same hears failed before start (past_behind_slot start operations number slot command u.past) between old new fault here (cut-behind hears failed before _ old new fault stands.told cause)))
+pub stands-ended : (Heard : List ReportLine → Type 0) (at : RunBehind) (number : ℕ) (end : RoundEnd) (slots : ℕ) (after : RunValue) → number ≡ rounds_in at.past + 1
+    → Stands (λ lines. Heard (lines ++ RoundLine number end slots ∷ [])) at → after ≡ record at.run { rounds = number }
+    → StandsAt Heard at.start (ended number end slots ∷ at.past) at.air after
+stands-ended Heard at number end slots after number_is stands is =
+    let plays = stands.at.plays in
+    record {
+      at = record {
+        plays = record {
+          names = plays.names;
+          few = plays.few;
+          link = plays.link;
+          several = plays.several;
+          tags = plays.tags ∙ sym (tags-ended at.start number end slots at.past);
+          legal = plays.legal;
+          exchanges = plays.exchanges;
+          entries = subst (λ l. IsLeft l at.start.entries (exchanges_in at.past)) (sym (ap (λ (r : RunValue). r.entries) is)) plays.entries;
+          rounds = ap (λ (r : RunValue). r.rounds) is ∙ number_is;
+        };
+        seen = λ enough. ap (λ (r : RunValue). r.seen) is ∙ stands.at.seen (sym (ap (λ (r : RunValue). r.out_of_memory) is) ∙ enough);
+      };
+      told = stands.told;
+    }

@@ -8,7 +8,10 @@ use Rattle.air_events.specs.Entries.{entry_at}
 use Rattle.air_events.specs.declared.Entry.{Entry}
 use Rattle.runs.specs.laws.Tags.{tags-exchanged, length-tags}
 use Rattle.air_world.specs.Playing.{RunValue, PlaysAt, HasRoom, last_exchange_lines}
-use Rattle.runs.specs.Report.{exchange_lines}
+use Rattle.air_world.specs.Saying.{said_of, said_with}
+use Rattle.air_events.specs.declared.Several.{Several}
+use Rattle.runs.specs.Report.{wave_lines}
+use Rattle.runs.specs.Said.{said_lines}
 use Rattle.command_grammar.specs.declared.commands.Command.{Command}
 use Rattle.pie_line.specs.Link.{LinkValue}
 use Rattle.report_lines.specs.ReportLine.{ReportLine, TxLine, RxLine}
@@ -108,9 +111,22 @@ pub sent-got : (start : Start) (past : List Item) (round slot : ℕ) (command : 
     → got_of (given_in sends.air.link sends.air.several command sends.entry sends.air.tags) ≡ got_of (next_record start round slot command past).given
 sent-got start past round slot command sends = ap (λ g. got_of g) (given-recorded start past round slot command sends)
 
--- what is told of the exchange is what a trace has of the record
+-- who said what in the exchange is what the record says
+pub sent-said : (start : Start) (past : List Item) (round slot : ℕ) (command : Command) (sends : Sends start past command)
+    → said_of sends.air command sends.entry ≡ said_lines start.link (next_record start round slot command past)
+sent-said start past round slot command sends =
+    let air = sends.air in
+    let plays = sends.plays in
+    let entry : Entry = entry_at start.entries (exchanges_in past + 1) in
+    ap (λ (link : LinkValue). said_with link air.several command sends.entry air.tags air.exchanges) plays.link
+    ∙ ap (λ (several : Several). said_with start.link several command sends.entry air.tags air.exchanges) plays.several
+    ∙ ap (λ (e : Entry). said_with start.link start.several command e air.tags air.exchanges) sends.entry_is
+    ∙ ap (λ (tags : List TagValue). said_with start.link start.several command entry tags air.exchanges) plays.tags
+    ∙ ap (λ (exchanges : ℕ). said_with start.link start.several command entry (tags_behind start past) exchanges) plays.exchanges
+
+-- the waves that are told of the exchange are those of the record
 pub sent-lines : (start : Start) (past : List Item) (round slot : ℕ) (command : Command) (sends : Sends start past command)
-    → last_exchange_lines sends.next ≡ exchange_lines start.link (next_record start round slot command past)
+    → last_exchange_lines sends.next ≡ wave_lines start.link (next_record start round slot command past)
 sent-lines start past round slot command sends =
     let sent : Record = next_record start round slot command past in
     let next = sends.next in

@@ -13,7 +13,7 @@ use Rattle.air_model.specs.Reception.{reception_of}
 use Rattle.air_model.specs.laws.GivenLaws.{given_is_read}
 use Rattle.air_model.specs.laws.ReceptionLaws.{stream_reception}
 use Rattle.air_model.specs.declared.got.Got.TheVariants as gots
-use Rattle.air_world.proofs.Passing.{passes-then}
+use Rattle.air_world.proofs.Passing.{Listening, IsTold, passes-then, RunBehind, Stands}
 use Rattle.air_world.specs.Heard.{pair_received, rn16_received}
 use Rattle.air_world.specs.Playing.{RunValue, PlaysAt, IsAt, StandsAt, HasRoom, pair_of}
 use Rattle.air_world.specs.Telling.{Passes, lines_behind}
@@ -98,13 +98,14 @@ lines-exchanged : (start : Start) (sent : Record) (past : List Item)
 lines-exchanged start sent past = sym (append_assoc (lines_behind start past) (exchange_lines start.link sent) (map list_line (listed_by sent)))
 
 -- where an exchange lists nothing
-pub stands-unlisted : (Heard : List ReportLine → Type 0) (start : Start) (sent : Record) (past : List Item) (air : AirValue) (run : RunValue)
-    → PlaysAt start (exchanged sent ∷ past) air run → (run.out_of_memory ≡ false → run.seen ≡ seen_in (map pair_of (listing_of past)))
-    → Heard (lines_behind start past ++ exchange_lines start.link sent) → listed_by sent ≡ [] → StandsAt Heard start (exchanged sent ∷ past) air run
-stands-unlisted Heard start sent past air run plays seen told none =
-    let before : List ReportLine = lines_behind start past ++ exchange_lines start.link sent in
-    let lines : lines_behind start (exchanged sent ∷ past) ≡ before =
-    lines-exchanged start sent past ∙ ap (λ (l : List Listed). before ++ map list_line l) none ∙ append-nil before in
+pub stands-unlisted : (Heard : List ReportLine → Type 0) (at : RunBehind) (sent : Record) → PlaysAt at.start (exchanged sent ∷ at.past) at.air at.run
+    → (at.run.out_of_memory ≡ false → at.run.seen ≡ seen_in (map pair_of (listing_of at.past)))
+    → Heard (lines_behind at.start at.past ++ exchange_lines at.start.link sent) → listed_by sent ≡ [] → StandsAt Heard at.start (exchanged sent ∷ at.past) at.air at.run
+stands-unlisted Heard at sent plays seen told none =
+    let past : List Item = at.past in
+    let before : List ReportLine = lines_behind at.start past ++ exchange_lines at.start.link sent in
+    let lines : lines_behind at.start (exchanged sent ∷ past) ≡ before =
+    lines-exchanged at.start sent past ∙ ap (λ (l : List Listed). before ++ map list_line l) none ∙ append-nil before in
     let same : listing_of past ++ listed_by sent ≡ listing_of past = ap (λ (l : List Listed). listing_of past ++ l) none ∙ append-nil (listing_of past) in
     record {
       at = record { plays = plays; seen = λ enough. seen enough ∙ ap (λ (l : List Listed). seen_in (map pair_of l)) (sym same) };
@@ -112,14 +113,15 @@ stands-unlisted Heard start sent past air run plays seen told none =
     }
 
 -- where it lists one tag
-pub stands-listed : (Heard : List ReportLine → Type 0) (start : Start) (sent : Record) (past : List Item) (listed : Listed) (air : AirValue) (run : RunValue)
-    → PlaysAt start (exchanged sent ∷ past) air run → (run.out_of_memory ≡ false → run.seen ≡ seen_in (map pair_of (listing_of past) ++ pair_of listed ∷ []))
-    → Heard ((lines_behind start past ++ exchange_lines start.link sent) ++ list_line listed ∷ []) → listed_by sent ≡ listed ∷ []
-    → StandsAt Heard start (exchanged sent ∷ past) air run
-stands-listed Heard start sent past listed air run plays seen told one =
-    let before : List ReportLine = lines_behind start past ++ exchange_lines start.link sent in
-    let lines : lines_behind start (exchanged sent ∷ past) ≡ before ++ list_line listed ∷ [] =
-    lines-exchanged start sent past ∙ ap (λ (l : List Listed). before ++ map list_line l) one in
+pub stands-listed : (Heard : List ReportLine → Type 0) (at : RunBehind) (sent : Record) (listed : Listed) → PlaysAt at.start (exchanged sent ∷ at.past) at.air at.run
+    → (at.run.out_of_memory ≡ false → at.run.seen ≡ seen_in (map pair_of (listing_of at.past) ++ pair_of listed ∷ []))
+    → Heard ((lines_behind at.start at.past ++ exchange_lines at.start.link sent) ++ list_line listed ∷ []) → listed_by sent ≡ listed ∷ []
+    → StandsAt Heard at.start (exchanged sent ∷ at.past) at.air at.run
+stands-listed Heard at sent listed plays seen told one =
+    let past : List Item = at.past in
+    let before : List ReportLine = lines_behind at.start past ++ exchange_lines at.start.link sent in
+    let lines : lines_behind at.start (exchanged sent ∷ past) ≡ before ++ list_line listed ∷ [] =
+    lines-exchanged at.start sent past ∙ ap (λ (l : List Listed). before ++ map list_line l) one in
     let same : map pair_of (listing_of past ++ listed_by sent) ≡ map pair_of (listing_of past) ++ pair_of listed ∷ [] =
     ap (λ (l : List Listed). map pair_of (listing_of past ++ l)) one ∙ map-append pair_of (listing_of past) (listed ∷ []) in
     record {
@@ -128,11 +130,11 @@ stands-listed Heard start sent past listed air run plays seen told one =
     }
 
 -- what was told before, and what stands when more was told
-pub stands-then : {A : Type 0} (hears : A → List ReportLine → A → Type 0) (before between : List ReportLine) (old middle new : A) (start : Start) (past : List Item) (air : AirValue) (run : RunValue)
-    → Passes hears before old middle between → StandsAt (Passes hears between middle new) start past air run → StandsAt (Passes hears before old new) start past air run
-stands-then hears before between old middle new start past air run first stands = record {
+pub stands-then : {A : Type 0} (l : Listening A) (first : A) (before between : List ReportLine) (at : RunBehind)
+    → Passes l.hears before first l.old between → Stands (IsTold l between) at → Stands (Passes l.hears before first l.new) at
+stands-then l first before between at told stands = record {
   at = stands.at;
-  told = passes-then hears before between (lines_behind start past) old middle new first stands.told;
+  told = passes-then l first before between (lines_behind at.start at.past) told stands.told;
 }
 
 -- what stands behind the same past

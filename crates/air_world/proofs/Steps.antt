@@ -1,5 +1,5 @@
 -- What the steps of a run make of it.
-use Rattle.std.proofs.Common.{◌≡◌, ℕ, suc, ◌+◌, ◌*◌, ◌≤◌, ◌<◌, false, List, [], ◌∷◌, length, drop, get_or, Option, None, refl, sym, ◌∙◌, ap, subst, arith}
+use Rattle.std.proofs.Common.{◌≡◌, ℕ, suc, ◌+◌, ◌*◌, ◌≤◌, ◌<◌, false, List, [], ◌∷◌, length, drop, get_or, None, refl, sym, ◌∙◌, ap, subst, arith}
 use Rattle.std.proofs.Math.Nat.{mul-le-mul}
 use Rattle.std.proofs.Math.Seq.{drop-cons}
 use Rattle.std.proofs.lemmas.List.{append-nil}
@@ -9,16 +9,15 @@ use Rattle.air_channel.specs.Air.{AirValue, air_after_event}
 use Rattle.air_events.specs.declared.Event.{Event}
 use Rattle.tag_machine.specs.Exchange.{AreLegalTags}
 use Rattle.air_model.specs.Past.{Start, Record, Item, befell, exchanges_in, rounds_in, tags_behind}
-use Rattle.air_world.proofs.Passing.{cut-past, cut-same}
+use Rattle.air_world.proofs.Passing.{RunBehind, Stands}
 use Rattle.air_world.proofs.Rounds.{KeepsLimit, rounds-slot}
-use Rattle.air_world.specs.Playing.{RunValue, PlaysAt, IsAt, IsPlayable, StandsAt, most_in_round, most_in_slot, most_slots}
-use Rattle.air_world.specs.Telling.{IsCutOff, lines_behind}
+use Rattle.air_world.specs.Playing.{RunValue, PlaysAt, IsPlayable, StandsAt, most_in_round, most_in_slot, most_slots}
+use Rattle.air_world.specs.Telling.{lines_behind}
 use Rattle.command_grammar.specs.declared.commands.Command.{Command}
 use Rattle.command_grammar.specs.declared.commands.Command.TheVariants as commands
 use Rattle.reply_grammar.specs.Reception.{Reception, no_stream}
 use Rattle.report_lines.specs.ReportLine.{ReportLine}
-use Rattle.report_lines.specs.declared.mode.PlayFault.{PlayFault}
-use Rattle.runs.specs.laws.Growth.{steps-grow, round-holds}
+use Rattle.runs.specs.laws.Growth.{Grows, steps-grow, round-holds}
 use Rattle.runs.specs.laws.HeadlineCounts.{round-exchanges}
 use Rattle.runs.specs.laws.HeadlineLegal.{legal-step}
 use Rattle.runs.specs.laws.Tags.{tags-befell, length-tags}
@@ -38,27 +37,28 @@ pub alone-unlisted : (sent : Record) → expectation_of sent.command ≡ None �
 alone-unlisted sent asked = ap (λ (r : Reception). listed_from sent r) (command-unlisted sent sent.command asked)
 
 -- behind an event
-pub stands-befell : (Heard : List ReportLine → Type 0) (start : Start) (past : List Item) (event : Event) (number : ℕ) (air next : AirValue) (run : RunValue)
-    → IsAt start past air run → Heard (lines_behind start past) → next ≡ air_after_event air event number → AreLegalTags next.tags → StandsAt Heard start (befell event number ∷ past) next run
-stands-befell Heard start past event number air next run at told is legal =
-    let moved : next.tags ≡ tags_behind start (befell event number ∷ past) =
-    ap (λ (a : AirValue). a.tags) is ∙ ap (λ t. (air_after_event (record air { tags = t }) event number).tags) at.plays.tags ∙ sym (tags-befell start event number past) in
+pub stands-befell : (Heard : List ReportLine → Type 0) (at : RunBehind) (event : Event) (number : ℕ) (next : AirValue) → Stands Heard at
+    → next ≡ air_after_event at.air event number → AreLegalTags next.tags → StandsAt Heard at.start (befell event number ∷ at.past) next at.run
+stands-befell Heard at event number next stands is legal =
+    let plays = stands.at.plays in
+    let moved : next.tags ≡ tags_behind at.start (befell event number ∷ at.past) =
+    ap (λ (a : AirValue). a.tags) is ∙ ap (λ t. (air_after_event (record at.air { tags = t }) event number).tags) plays.tags ∙ sym (tags-befell at.start event number at.past) in
     record {
       at = record {
         plays = record {
-          names = at.plays.names;
-          few = at.plays.few;
-          link = ap (λ (a : AirValue). a.link) is ∙ at.plays.link;
-          several = ap (λ (a : AirValue). a.several) is ∙ at.plays.several;
+          names = plays.names;
+          few = plays.few;
+          link = ap (λ (a : AirValue). a.link) is ∙ plays.link;
+          several = ap (λ (a : AirValue). a.several) is ∙ plays.several;
           tags = moved;
           legal = legal;
-          exchanges = ap (λ (a : AirValue). a.exchanges) is ∙ at.plays.exchanges;
-          entries = at.plays.entries;
-          rounds = at.plays.rounds;
+          exchanges = ap (λ (a : AirValue). a.exchanges) is ∙ plays.exchanges;
+          entries = plays.entries;
+          rounds = plays.rounds;
         };
-        seen = at.seen;
+        seen = stands.at.seen;
       };
-      told = subst Heard (sym (append-nil (lines_behind start past))) told;
+      told = subst Heard (sym (append-nil (lines_behind at.start at.past))) stands.told;
     }
 
 -- how many exchanges a step adds at most
@@ -79,21 +79,36 @@ step-rounds keeps tags start (steps.Select command) past is = omega arith
 step-rounds keeps tags start steps.Nak past is = omega arith
 step-rounds keeps tags start (steps.Event event number) past is = omega arith
 step-rounds keeps tags start (steps.Round spec operations) past is =
-    round-holds (λ outcomes now. rounds_in now ≡ rounds_in past) (λ now. rounds_in now ≤ rounds_in past + 1) start operations spec past keeps (legal-step is.version tags (steps.Round spec operations) is.is).legal
+    round-holds (λ outcomes now. rounds_in now ≡ rounds_in past) (λ now. rounds_in now ≤ rounds_in past + 1)
+    (record { start = start; operations = operations; spec = spec; before = past }) keeps (legal-step is.version tags (steps.Round spec operations) is.is).legal
     (record {
-      slot = λ outcomes now command are sends same. rounds-slot start operations (rounds_in past + 1) (length outcomes + 1) command now ∙ same;
-      end = λ outcomes now end are sends same. omega (arith, same);
+      slot = λ outcomes now command next same. rounds-slot start operations (rounds_in past + 1) (length outcomes + 1) command now ∙ same;
+      end = λ outcomes now end next same. omega (arith, same);
     })
     refl
 
--- before a step of those whose end leaves a known past
-pub record StepsUnderway (Heard : List ReportLine → Type 0) (start : Start) (first whole : List Item) (steps : List Step) (index : ℕ) (air : AirValue) (run : RunValue) : Type 0 where
+-- steps that are taken behind a past
+pub record StepsTaken : Type 0 where
+  pub start : Start
+  pub before : List Item
+  pub steps : List Step
+
+-- what is past behind them
+abbrev pub past_behind_taken : StepsTaken → List Item
+past_behind_taken taken = past_behind taken.start taken.steps taken.before
+
+-- so many of them are taken, which left this past
+pub record AreTaken (taken : StepsTaken) (index : ℕ) (past : List Item) : Type 0 where
+  pub rest : past_behind taken.start (drop index taken.steps) past ≡ past_behind_taken taken
+  pub few : exchanges_in past ≤ exchanges_in taken.before + most_in_round * index
+  pub rounds : rounds_in past ≤ rounds_in taken.before + index
+
+-- before the step with this number
+pub record StepsUnderway (Heard : List ReportLine → Type 0) (taken : StepsTaken) (index : ℕ) (air : AirValue) (run : RunValue) : Type 0 where
   pub past : List Item
-  pub stands : StandsAt Heard start past air run
+  pub stands : StandsAt Heard taken.start past air run
   pub enough : run.out_of_memory ≡ false
-  pub rest : past_behind start (drop index steps) past ≡ whole
-  pub few : exchanges_in past ≤ exchanges_in first + most_in_round * index
-  pub rounds : rounds_in past ≤ rounds_in first + index
+  pub are : AreTaken taken index past
 
 -- a step among others
 pub step-legal : (tags : ℕ) (list : List Step) (index : ℕ) (step : Step) → index < length list → step ≡ get_or list index step → All (IsPlayable tags) list → IsPlayable tags step
@@ -108,31 +123,27 @@ step-drop list index step inside is =
     let next : suc index ≡ index + 1 = omega arith in
     drop-cons list index step inside ∙ ap (λ (s : Step). s ∷ drop (suc index) list) (sym is) ∙ ap (λ n. step ∷ drop n list) next
 
-steps-rest : (start : Start) (list : List Step) (index : ℕ) (step : Step) (past whole : List Item) → index < length list → step ≡ get_or list index step → past_behind start (drop index list) past ≡ whole
-    → past_behind start (drop (index + 1) list) (past_behind_step start step past) ≡ whole
-steps-rest start list index step past whole inside is rest = ap (λ (l : List Step). past_behind start l past) (sym (step-drop list index step inside is)) ∙ rest
+-- the step with this number
+pub record IsStepAt (taken : StepsTaken) (index : ℕ) (step : Step) : Type 0 where
+  pub inside : index < length taken.steps
+  pub is : step ≡ get_or taken.steps index step
 
-pub steps-go-on : KeepsLimit → (Heard Later : List ReportLine → Type 0) (start : Start) (first whole : List Item) (tags : ℕ) (list : List Step) (index : ℕ) (step : Step) (air next : AirValue) (run then_run : RunValue)
-    → (u : StepsUnderway Heard start first whole list index air run) → index < length list → step ≡ get_or list index step → IsPlayable tags step
-    → StandsAt Later start (past_behind_step start step u.past) next then_run → then_run.out_of_memory ≡ false
-    → StepsUnderway Later start first whole list (index + 1) next then_run
-steps-go-on keeps Heard Later start first whole tags list index step air next run then_run u inside is legal stands enough =
-    record {
-      past = past_behind_step start step u.past;
-      stands = stands;
-      enough = enough;
-      rest = steps-rest start list index step u.past whole inside is u.rest;
-      few = omega (arith, step-exchanges keeps tags start step u.past legal, u.few);
-      rounds = omega (arith, step-rounds keeps tags start step u.past legal, u.rounds);
-    }
+steps-rest : (taken : StepsTaken) (index : ℕ) (step : Step) (past : List Item) → AreTaken taken index past → IsStepAt taken index step
+    → past_behind taken.start (drop (index + 1) taken.steps) (past_behind_step taken.start step past) ≡ past_behind_taken taken
+steps-rest taken index step past are at = ap (λ (l : List Step). past_behind taken.start l past) (sym (step-drop taken.steps index step at.inside at.is)) ∙ are.rest
 
--- a run that is cut off in a step
-pub cut-steps : {A : Type 0} (hears : A → List ReportLine → A → Type 0) (failed : A → Option PlayFault) (before : List ReportLine) (old new : A) (Heard : List ReportLine → Type 0)
-    (start : Start) (first whole : List Item) (list : List Step) (index : ℕ) (step : Step) (air : AirValue) (run : RunValue) (fault : PlayFault)
-    → (u : StepsUnderway Heard start first whole list index air run) → index < length list → step ≡ get_or list index step
-    → IsCutOff hears failed before old new (lines_behind start (past_behind_step start step u.past)) fault → IsCutOff hears failed before old new (lines_behind start whole) fault
-cut-steps hears failed before old new Heard start first whole list index step air run fault u inside is cut =
-    let between : List Item = past_behind_step start step u.past in
-    let others : List Step = drop (index + 1) list in
-    cut-same hears failed before start (past_behind start others between) whole old new fault (steps-rest start list index step u.past whole inside is u.rest)
-    (cut-past hears failed before start between (past_behind start others between) old new fault (steps-grow start others between) cut)
+-- one step more
+pub steps-go-on : KeepsLimit → (taken : StepsTaken) (tags index : ℕ) (step : Step) (past : List Item) → AreTaken taken index past → IsStepAt taken index step → IsPlayable tags step
+    → AreTaken taken (index + 1) (past_behind_step taken.start step past)
+steps-go-on keeps taken tags index step past are at playable = record {
+  rest = steps-rest taken index step past are at;
+  few = omega (arith, step-exchanges keeps tags taken.start step past playable, are.few);
+  rounds = omega (arith, step-rounds keeps tags taken.start step past playable, are.rounds);
+}
+
+-- what is past behind a step leads to what is past behind all
+pub step-leads : (taken : StepsTaken) (index : ℕ) (step : Step) (past : List Item) → AreTaken taken index past → IsStepAt taken index step
+    → Grows (past_behind_step taken.start step past) (past_behind_taken taken)
+step-leads taken index step past are at =
+    let between : List Item = past_behind_step taken.start step past in
+    subst (λ (behind : List Item). Grows between behind) (steps-rest taken index step past are at) (steps-grow taken.start (drop (index + 1) taken.steps) between)

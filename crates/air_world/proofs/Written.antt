@@ -1,9 +1,10 @@
 -- What is written of a run that is told to a text.
-use Rattle.std.proofs.Common.{◌≡◌, inl, inr, ℕ, ◌≤◌, List, [], ◌++◌, Option, Some, None, Result, Ok, Err, sym, ◌∙◌, ap, subst, append_assoc}
+use Rattle.std.proofs.Common.{◌≡◌, inl, inr, ℕ, List, [], ◌++◌, Option, Some, None, Result, Ok, Err, sym, ◌∙◌, ap, subst, append_assoc}
 use Rattle.std.proofs.lemmas.List.{append-nil}
 use Rattle.air_channel.specs.Air.{AirValue}
 use Rattle.air_io.specs.Flow.{Adds}
-use Rattle.air_world.specs.Telling.{Ends, IsCutOff, IsPlayed, IsWritten, Passes}
+use Rattle.air_world.proofs.Passing.{Listening, IsTold, IsCutIn}
+use Rattle.air_world.specs.Telling.{Ends, IsPlayed, IsWritten}
 use Rattle.report_lines.specs.ReportLine.{ReportLine}
 use Rattle.report_lines.specs.Spelled.{line_of_mode, mode_behind, new_spelling}
 use Rattle.report_lines.specs.TextReport.{IsAdded, spelling_behind, text_from}
@@ -46,31 +47,36 @@ front-text mode scenario front rest split =
     sym (report-told mode scenario) ∙ ap (λ (lines : List ReportLine). told_text (spelling_for mode scenario) lines) split
     ∙ text_from-append line_of_mode mode_behind (spelling_for mode scenario) front rest
 
--- what was added to a sink that was lent, as it was given back
-pub text-lent : {O : Type 0} (written : O → Option (List ℕ)) (faults : O → ℕ) (text : List ℕ) (lent first later back : O) (fault : Option PlayFault)
-    → lent ≡ first → back ≡ later → IsAdded text (written lent) (written later) (faults lent) (faults later) fault
-    → IsAdded text (written first) (written back) (faults first) (faults back) fault
-text-lent written faults text lent first later back fault is same added =
-    subst (λ f. IsAdded text (written f) (written back) (faults f) (faults back) fault) is
-    (subst (λ b. IsAdded text (written lent) (written b) (faults lent) (faults b) fault) (sym same) added)
+-- what a sink had written and how many faults it had met, before and after
+pub record SinkChange : Type 0 where
+  pub first : Option (List ℕ)
+  pub written : Option (List ℕ)
+  pub before : ℕ
+  pub after : ℕ
+
+-- a front of a text was added to it, and all of it where there was no fault
+abbrev pub IsAddedTo : SinkChange → List ℕ → Option PlayFault → Type 0
+IsAddedTo sink text fault = IsAdded text sink.first sink.written sink.before sink.after fault
 
 -- how a run ended is what it told, in the spelling of a mode
-pub run-written : {A : Type 0} (hears : A → List ReportLine → A → Type 0) (failed : A → Option PlayFault) (r : Result (Unit {0}) PlayFault) (mode : Mode) (scenario : Scenario) (old new : A)
-    (first written : Option (List ℕ)) (before after : ℕ) (air : AirValue)
-    → Ends r (IsPlayed hears failed scenario old new air) (IsCutOff hears failed [] old new (run_lines (start_of scenario) scenario.steps))
-    → ((lines : List ReportLine) → Passes hears [] old new lines → IsAdded (told_text (spelling_for mode scenario) lines) first written before after (failed new))
-    → IsWritten r mode scenario first written before after air
-run-written hears failed (Ok done) mode scenario old new first written before after air played adds =
+pub run-written : {A : Type 0} (l : Listening A) (r : Result (Unit {0}) PlayFault) (mode : Mode) (scenario : Scenario) (sink : SinkChange) (air : AirValue)
+    → Ends r (IsPlayed l.hears l.failed scenario l.old l.new air) (IsCutIn l [] (run_lines (start_of scenario) scenario.steps))
+    → ((lines : List ReportLine) → IsTold l [] lines → IsAddedTo sink (told_text (spelling_for mode scenario) lines) (l.failed l.new))
+    → IsWritten r mode scenario sink.first sink.written sink.before sink.after air
+run-written l (Ok done) mode scenario sink air played adds =
     let added = adds (run_lines (start_of scenario) scenario.steps) played.passes in
     record {
-      report = subst (λ (text : List ℕ). Adds first written text) (report-told mode scenario) (all-added _ first written before after (failed new) played.faultless added);
+      report = subst (λ (text : List ℕ). Adds sink.first sink.written text) (report-told mode scenario)
+          (all-added _ sink.first sink.written sink.before sink.after (l.failed l.new) played.faultless added);
       tags = played.tags;
       exchanges = played.exchanges;
       write = λ is. absurd (cc);
+      memory = λ is. absurd (cc);
+      steady = added.steady (λ write. let none : ◌≡◌ {A = Option PlayFault} None (Some Write) = sym played.faultless ∙ write in cc);
       part = tt;
       count = added.count;
     }
-run-written hears failed (Err fault) mode scenario old new first written before after air cut adds =
+run-written l (Err fault) mode scenario sink air cut adds =
     let added = adds cut.front cut.passes in
     let later : List ℕ = told_text (behind_lines (spelling_for mode scenario) cut.front) cut.rest in
     record {
@@ -79,8 +85,13 @@ run-written hears failed (Err fault) mode scenario old new first written before 
       exchanges = tt;
       write = λ is. elim cut.cause [
         | inl met ↦ added.rose (let same : fault ≡ Write = cc in met ∙ ap Some same)
-        | inr short ↦ absurd (let same : fault ≡ Write = cc in cc)
+        | inr short ↦ absurd (let same : fault ≡ Write = cc in let other = short.0 in cc)
       ];
+      memory = λ is. added.steady (λ write. elim cut.cause [
+        | inl met ↦ let same : ◌≡◌ {A = Option PlayFault} (Some fault) (Some Write) = sym met ∙ write in cc
+        | inr short ↦ let none : ◌≡◌ {A = Option PlayFault} None (Some Write) = sym short.1 ∙ write in cc
+      ]);
+      steady = tt;
       part = (
         added.front,
         added.rest ++ later,

@@ -20,14 +20,14 @@ lines_behind start past = past_lines start.link past
 pub record Passes {A : Type 0} (hears : A → List ReportLine → A → Type 0) (before : List ReportLine) (old new : A) (after : List ReportLine) : Type 0 where
   pub on : (first : A) → hears first before old → hears first after new
 
--- A run was cut off: a front of these lines was told. The fault is the first of the listener, or there was no memory.
+-- A run was cut off: a front of these lines was told. The fault is the first of the listener, or the listener met none, and there was no memory.
 pub record IsCutOff {A : Type 0} (hears : A → List ReportLine → A → Type 0) (failed : A → Option PlayFault) (before : List ReportLine) (old new : A)
     (whole : List ReportLine) (fault : PlayFault) : Type 0 where
   pub front : List ReportLine
   pub rest : List ReportLine
   pub split : whole ≡ front ++ rest
   pub passes : Passes hears before old new front
-  pub cause : (failed new ≡ Some fault) ⊎ (fault ≡ OutOfMemory)
+  pub cause : (failed new ≡ Some fault) ⊎ ((fault ≡ OutOfMemory) × (failed new ≡ None))
 
 -- this holds at an end, and that of the fault where it was cut off
 abbrev pub Ends : {T : Type 0} → Result T PlayFault → Type 0 → (PlayFault → Type 0) → Type 0
@@ -47,5 +47,7 @@ pub record IsWritten (r : Result (Unit {0}) PlayFault) (mode : Mode) (scenario :
   pub tags : OnOk r (air.tags ≡ tags_behind (start_of scenario) (history scenario))
   pub exchanges : OnOk r (air.exchanges ≡ exchanges_in (history scenario))
   pub write : IsErrOf r Write → FaultsRose before after
+  pub memory : IsErrOf r OutOfMemory → after ≡ before
+  pub steady : OnOk r (after ≡ before)
   pub part : OnErr r ((front : List ℕ) × (rest : List ℕ) × (report_text_of mode scenario ≡ front ++ rest) × Adds first written front)
   pub count : before ≤ after

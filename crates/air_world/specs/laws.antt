@@ -1,2 +1,4 @@
 -- Laws of the definitions.
 pub mod CountingLaws
+pub mod SayingLaws
+pub mod HallLaws

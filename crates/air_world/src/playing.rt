@@ -1,5 +1,5 @@
 //! A scenario, played.
-ghost use Rattle.std.specs.Prelude.{◌≡◌, ◌≤◌, ◌++◌, ℕ, List, [], IsErrOf, OnErr, OnOk};
+ghost use Rattle.std.specs.Prelude.{◌≡◌, ◌≤◌, ◌++◌, ℕ, List, [], None, IsErrOf, OnErr, OnOk};
 ghost use Rattle.air_io.specs.Flow.{Adds, FaultsRose};
 ghost use Rattle.air_model.specs.Past.{exchanges_in, tags_behind};
 ghost use Rattle.air_world.specs.NewAir.{new_air};
@@ -49,6 +49,9 @@ pub fn play<O: Sink>(
     ensures tags { OnOk result (air.new.tags ≡ tags_behind (start_of scenario.now) (history scenario.now)) }
     ensures exchanges { OnOk result (air.new.exchanges ≡ exchanges_in (history scenario.now)) }
     ensures write { IsErrOf result PlayFault.Write → FaultsRose (O.faults out.old) (O.faults out.new) }
+    // Where there was no memory, and at the end, no write failed.
+    ensures memory { IsErrOf result PlayFault.OutOfMemory → O.faults out.new ≡ O.faults out.old }
+    ensures steady { OnOk result (O.faults out.new ≡ O.faults out.old) }
     ensures part { OnErr result ((front : List ℕ) × (rest : List ℕ) × (report_text_of mode scenario.now ≡ front ++ rest) × Adds (O.written out.old) (O.written out.new) front) }
     ensures count { O.faults out.old ≤ O.faults out.new }
     ensures heard_as_listed { OnOk result (AreHeardAsListed (start_of scenario.now) (history scenario.now) (report_of mode (start_of scenario.now) scenario.now.steps)) }
@@ -91,6 +94,7 @@ pub(crate) fn tell_scenario<R: Listener>(
 ) -> Result<(), PlayFault>
     requires scenario { IsScenario scenario.now }
     requires fresh { air.old ≡ new_air (start_of scenario.now) }
+    requires faultless { R.failed report.old ≡ None }
     ensures { Ends result (IsPlayed R.hears R.failed scenario.now report.old report.new air.new)
         (IsCutOff R.hears R.failed [] report.old report.new (run_lines (start_of scenario.now) scenario.now.steps)) }
 {
@@ -111,6 +115,7 @@ fn tell_run<L: Ledger, R: Listener>(
     requires one { blank.parts ≡ 1 }
     requires scenario { IsScenario scenario.now }
     requires fresh { air.old ≡ new_air (start_of scenario.now) }
+    requires faultless { R.failed report.old ≡ None }
     ensures { Ends result (IsPlayed R.hears R.failed scenario.now report.old report.new air.new)
         (IsCutOff R.hears R.failed [] report.old report.new (run_lines (start_of scenario.now) scenario.now.steps)) }
 {

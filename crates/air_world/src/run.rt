@@ -16,18 +16,20 @@ ghost use Rattle.runs.specs.NextItem.{expectation_of};
 
 mod operating;
 mod report;
+mod saying;
 mod steps;
 
+use crate::receiving::{receive_epc, receive_last, receive_rn16};
 use access_ops::OpList;
 use air_channel::{Air, Got};
 use air_events::{Entry, EntryCursor, LONGEST_STREAM};
 use bit_strings::{Bits, OutOfMemory};
 use command_grammar::Command;
 use q_round::{Next, Outcome, Round, RoundEnd, RoundSpec, round_laws};
-use reply_grammar::{EpcWords, Expect, Received, Reply};
-use reply_wire::receive;
+use reply_grammar::{EpcWords, Expect, Received};
 pub(crate) use report::tell_link;
 use report_lines::{Line, Listener, PlayFault, SeenCounts};
+use saying::say;
 use std::alloc::Global;
 use std::marker::Model;
 use std::sync::ledger::Ledger;
@@ -93,7 +95,7 @@ impl<'a, L: Ledger> Run<'a, L> {
             → Passes R.hears before report.old report.new (before ++ exchange_lines start.link (next_record start round slot command.now past)) }
     {
         let entry = self.entries.next_entry(air.exchanges() + 1);
-        let got = air.exchange(command, entry, &mut self.steps);
+        let got = say(air, command, entry, &mut self.steps, report);
         tell_exchange(air, report);
         got
     }
@@ -103,10 +105,7 @@ impl<'a, L: Ledger> Run<'a, L> {
         ensures same { self.new ≡ self.old }
         ensures received { (received : Received) × IsReceived (table_of air.now.link.code) air.now.link.trext Expect.Rn16 air.now.stream received × (result ≡ rn16_received (reception_from received)) }
     {
-        match self.hear(air, &Expect::Rn16, false) {
-            Received::Whole(Reply::Rn16(rn)) => Some(rn),
-            _ => None,
-        }
+        receive_rn16(air, &mut self.bits)
     }
 
     /// The PC and the EPC of the stream that came last, if they come whole.
@@ -114,10 +113,7 @@ impl<'a, L: Ledger> Run<'a, L> {
         ensures same { self.new ≡ self.old }
         ensures received { (received : Received) × IsReceived (table_of air.now.link.code) air.now.link.trext Expect.Epc air.now.stream received × (result ≡ pair_received (reception_from received)) }
     {
-        match self.hear(air, &Expect::Epc, false) {
-            Received::Whole(Reply::Epc { pc, epc }) => Some((pc, epc)),
-            _ => None,
-        }
+        receive_epc(air, &mut self.bits)
     }
 
     /// What is received of the stream that came last, with the extended preamble or by the TRext of the link.
@@ -125,14 +121,7 @@ impl<'a, L: Ledger> Run<'a, L> {
         ensures same { self.new ≡ self.old }
         ensures received { IsReceived (table_of air.now.link.code) (extended || air.now.link.trext) expect.now air.now.stream result }
     {
-        let link = air.link();
-        receive(
-            air.stream(),
-            link.code(),
-            extended || link.trext(),
-            expect,
-            &mut self.bits,
-        )
+        receive_last(air, expect, extended, &mut self.bits)
     }
 
     /// Plays a round.
@@ -173,11 +162,11 @@ impl<'a, L: Ledger> Run<'a, L> {
         }
     }
 
-    /// The run goes on, unless the listener has met a fault or there was no memory for a count.
+    /// The run goes on, unless the listener has met a fault or there was no memory for a count. The listener's fault comes first.
     pub(crate) fn check<R: Listener>(&self, report: &R) -> Result<(), PlayFault>
         ensures enough { OnOk result (self.now.out_of_memory ≡ false) }
         ensures faultless { OnOk result (R.failed report.now ≡ None) }
-        ensures cause { IfErr result (λ fault. (R.failed report.now ≡ Some fault) ⊎ (fault ≡ PlayFault.OutOfMemory)) }
+        ensures cause { IfErr result (λ fault. (R.failed report.now ≡ Some fault) ⊎ ((fault ≡ PlayFault.OutOfMemory) × (R.failed report.now ≡ None))) }
     {
         if let Some(fault) = report.fault() {
             return Err(fault);

@@ -100,13 +100,21 @@ fn new_tags(alloc: Global, groups: &[TagGroup]) -> Result<Vec<AnyTag>, OutOfMemo
     Ok(tags)
 }
 
+/// The tags of a scenario as they are at the start.
+pub fn tags_at_start(alloc: Global, scenario: &Scenario) -> Result<Vec<AnyTag>, OutOfMemory>
+    requires { IsScenario scenario.now }
+    ensures { IfOk result (λ tags. map tag_value_of tags.items ≡ (start_of scenario.now).tags) }
+{
+    new_tags(alloc, scenario.groups.as_slice())
+}
+
 /// The air of a scenario: its link, its tags as they are at the start, what the channel gives of several replies, and no exchange
 /// made. It takes the memory for all that goes over the air.
 pub fn set_up(alloc: Global, scenario: &Scenario) -> Result<Air, OutOfMemory>
     requires { IsScenario scenario.now }
     ensures { IfOk result (λ air. air ≡ new_air (start_of scenario.now)) }
 {
-    let tags = new_tags(alloc, scenario.groups.as_slice())?;
+    let tags = tags_at_start(alloc, scenario)?;
     let population = Population::new(alloc, tags)?;
     Air::new(alloc, population, scenario.link, scenario.several)
 }

@@ -4,5 +4,7 @@
 #![tactic(auto)]
 
 mod fault;
+mod heard_fields;
 
 pub use fault::{FaultReason, FaultyLine, fault_text};
+pub use heard_fields::heard_as;

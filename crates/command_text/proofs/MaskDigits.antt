@@ -1,5 +1,5 @@
 -- Bits and their digits.
-use Rattle.std.proofs.Common.{◌≡◌, ◌≢◌, ◌≤◌, ℕ, Bool, List, [], ◌∷◌, ◌++◌, length, map, ap, arith, refl, sym, ◌∙◌, append_assoc}
+use Rattle.std.proofs.Common.{◌≡◌, ◌≢◌, ◌<◌, ◌≤◌, ℕ, Bool, List, [], ◌∷◌, ◌++◌, length, map, ap, arith, refl, sym, ◌∙◌, append_assoc}
 use Rattle.std.proofs.lemmas.List.{append-nil, length-append, length-map}
 use Rattle.text_fields.specs.Binary.{binary_digit, bits_of_digits}
 use Rattle.text_fields.specs.laws.BinaryLaws.{bits_of_digits-map}
@@ -37,12 +37,11 @@ all_read digits done bits read spells =
     sym (bits_of_digits-map done) ∙ ap bits_of_digits (sym read ∙ spells) ∙ bits_of_digits-map bits
 
 -- more digits than bits
-pub too_many : (digits rest behind : List ℕ) (done bits : List Bool) (bit : Bool) → digits ≡ map binary_digit done ++ rest
-    → rest ≡ binary_digit bit ∷ behind → length done ≡ 255 → length bits ≤ 255 → digits ≡ map binary_digit bits → ⊥
-too_many digits rest behind done bits bit so_far next full few spells =
+pub too_many : (digits rest : List ℕ) (done bits : List Bool) → digits ≡ map binary_digit done ++ rest → 0 < length rest
+    → length done ≡ 255 → length bits ≤ 255 → digits ≢ map binary_digit bits
+too_many digits rest done bits so_far some full few spells =
     let count = ap length (sym so_far ∙ spells) in
-    let more = ap length next in
-    omega (arith, count, more, length-append (map binary_digit done) rest, length-map done binary_digit, length-map bits binary_digit)
+    omega (arith, count, some, length-append (map binary_digit done) rest, length-map done binary_digit, length-map bits binary_digit)
 
 -- what is left of the digits of bits begins with a digit
 pub stuck : (digits rest : List ℕ) (done bits : List Bool) → digits ≡ map binary_digit done ++ rest → digits ≡ map binary_digit bits → rest ≢ []

@@ -4,15 +4,14 @@ use Rattle.text_fields.specs.Hexadecimal.{hex_digit, hex_word}
 use Rattle.text_fields.specs.laws.ToldApart.{hex_word_told}
 use Rattle.command_text.specs.CommandText.{payload_digits}
 
-four_digits : (a b c d a' b' c' d' : ℕ) → a ≡ a' → b ≡ b' → c ≡ c' → d ≡ d'
-    → hex_digit a ∷ hex_digit b ∷ hex_digit c ∷ hex_digit d ∷ [] ≡ hex_digit a' ∷ hex_digit b' ∷ hex_digit c' ∷ hex_digit d' ∷ []
-four_digits a b c d a' b' c' d' e f g h = rw (e, f, g, h) refl
-
 -- the first four digits spell a word
 pub upper_digits : (payload : ℕ) → payload ≤ 1048575 → take 4 (payload_digits payload) ≡ hex_word (payload / 16)
 upper_digits n small =
-    four_digits (n / 65536) (n % 65536 / 256 / 16) (n % 65536 / 256 % 16) (n % 65536 % 256 / 16) (n / 16 / 256 / 16) (n / 16 / 256 % 16)
-    (n / 16 % 256 / 16) (n / 16 % 256 % 16) (omega arith) (omega arith) (omega arith) (omega arith)
+    let first : n / 65536 ≡ n / 16 / 256 / 16 = omega arith in
+    let second : n % 65536 / 256 / 16 ≡ n / 16 / 256 % 16 = omega arith in
+    let third : n % 65536 / 256 % 16 ≡ n / 16 % 256 / 16 = omega arith in
+    let fourth : n % 65536 % 256 / 16 ≡ n / 16 % 256 % 16 = omega arith in
+    rw (first, second, third, fourth) refl
 
 pub no_upper : (field : List ℕ) (payload : ℕ) → payload ≤ 1048575 → field ≡ payload_digits payload → take 4 field ≡ hex_word (payload / 16)
 no_upper field payload small is = ap (take 4) is ∙ upper_digits payload small
@@ -30,12 +29,18 @@ first_digit digit rest word upper =
     let first : digit ≡ hex_digit (word / 256 / 16) = cc in
     first ∙ ap hex_digit same
 
-pub spelled_payload : (field : List ℕ) (upper lower : ℕ) → length field ≡ 5 → lower < 2 ^ 16 → take 4 field ≡ hex_word upper → drop 1 field ≡ hex_word lower
-    → field ≡ payload_digits (upper / 4096 * 65536 + lower)
-spelled_payload [] upper lower five small first second = absurd (omega (arith, five))
-spelled_payload (digit ∷ rest) upper lower five small first second =
-    ap (λ (n : ℕ). n ∷ rest) (first_digit digit rest upper first) ∙ ap (λ (list : List ℕ). hex_digit (upper / 4096) ∷ list) second
-    ∙ sym (two_parts (upper / 4096) lower small)
+-- the first four digits of a field, and the last four, are those of these words
+pub record HasWords (field : List ℕ) (upper lower : ℕ) : Type 0 where
+  pub high : upper < 2 ^ 16
+  pub low : lower < 2 ^ 16
+  pub first : take 4 field ≡ hex_word upper
+  pub others : drop 1 field ≡ hex_word lower
+
+pub spelled_payload : (field : List ℕ) (upper lower : ℕ) → length field ≡ 5 → HasWords field upper lower → field ≡ payload_digits (upper / 4096 * 65536 + lower)
+spelled_payload [] upper lower five words = absurd (omega (arith, five))
+spelled_payload (digit ∷ rest) upper lower five words =
+    ap (λ (n : ℕ). n ∷ rest) (first_digit digit rest upper words.first) ∙ ap (λ (list : List ℕ). hex_digit (upper / 4096) ∷ list) words.others
+    ∙ sym (two_parts (upper / 4096) lower words.low)
 
 -- the payload that was made of its parts
 pub payload_is : (field : List ℕ) (result : Option ℕ) (payload : ℕ) → field ≡ payload_digits payload → payload ≤ 1048575
@@ -43,22 +48,20 @@ pub payload_is : (field : List ℕ) (result : Option ℕ) (payload : ℕ) → fi
 payload_is field None payload spells small made = tt
 payload_is field (Some n) payload spells small made = (spells ∙ ap payload_digits (sym made), omega (arith, made, small))
 
--- the parts of the digits of a payload
-pub payload_parts : (field : List ℕ) (upper lower n : ℕ) → n ≤ 1048575 → upper < 2 ^ 16 → lower < 2 ^ 16 → take 4 field ≡ hex_word upper
-    → drop 1 field ≡ hex_word lower → field ≡ payload_digits n → upper / 4096 * 65536 + lower ≡ n
-payload_parts field upper lower n small high low first second spells =
-    let front = hex_word_told upper (n / 16) high (omega arith) (sym first ∙ no_upper field n small spells) in
-    let back = hex_word_told lower (n % 65536) low (omega arith) (sym second ∙ ap (drop 1) spells) in
+-- the words of the digits of a payload
+pub payload_words : (field : List ℕ) (upper lower n : ℕ) → n ≤ 1048575 → HasWords field upper lower → field ≡ payload_digits n → upper / 4096 * 65536 + lower ≡ n
+payload_words field upper lower n small words spells =
+    let front = hex_word_told upper (n / 16) words.high (omega arith) (sym words.first ∙ no_upper field n small spells) in
+    let back = hex_word_told lower (n % 65536) words.low (omega arith) (sym words.others ∙ ap (drop 1) spells) in
     omega (arith, front, back)
 
-pub payload_read : (field : List ℕ) (result : Option ℕ) (upper lower n : ℕ) → n ≤ 1048575 → upper < 2 ^ 16 → lower < 2 ^ 16 → take 4 field ≡ hex_word upper
-    → drop 1 field ≡ hex_word lower → field ≡ payload_digits n → IfSome result (λ payload. payload ≡ upper / 4096 * 65536 + lower)
-    → (IsNone result → 1048575 < upper / 4096 * 65536 + lower) → IsSomeAnd result (λ payload. payload ≡ n)
-payload_read field None upper lower n small high low first second spells made none =
+-- a payload that was made where there is room for it
+pub payload_made : (result : Option ℕ) (value n : ℕ) → n ≤ 1048575 → value ≡ n → IfSome result (λ payload. payload ≡ value)
+    → (IsNone result → 1048575 < value) → IsSomeAnd result (λ payload. payload ≡ n)
+payload_made None value n small same made none =
     let above = none refl in
-    omega (arith, above, payload_parts field upper lower n small high low first second spells)
-payload_read field (Some payload) upper lower n small high low first second spells made none =
-    made ∙ payload_parts field upper lower n small high low first second spells
+    omega (arith, above, same, small)
+payload_made (Some payload) value n small same made none = made ∙ same
 
 pub not_found : {A : Type 0} {x : A} → None ≡ Some x → ⊥
 not_found found = cc

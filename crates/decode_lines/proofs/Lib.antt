@@ -1,5 +1,6 @@
 pub mod AnsweredLines
 pub mod AskedOrFaulty
+pub mod HeardLines
 pub mod OneAnswer
 pub mod OneReading
 pub mod OneRequest

@@ -5,7 +5,7 @@ ghost use Rattle.decode_lines.specs.Request.{request_word, NamesNoCode, AsksBehi
 
 use crate::raw_field::RawField;
 use bit_strings::Code;
-use checked_lines::FaultReason;
+use checked_lines::{FaultReason, heard_as};
 use pie_line::Intervals;
 use pie_text::{NotNumbers, Numbers, read_numbers};
 use reply_grammar::Expect;
@@ -248,13 +248,7 @@ fn heard_of<'a>(others: Fields<'a>) -> Result<Request<'a>, FaultReason>
     let Some((code, trext, expect, levels)) = four_fields(others) else {
         return Err(FaultReason::Shape);
     };
-    let Some(code) = code_named(code) else {
-        return Err(FaultReason::Number);
-    };
-    let Some(trext) = one_bit(trext) else {
-        return Err(FaultReason::Number);
-    };
-    let Some(expect) = expect_of(expect) else {
+    let Some((code, trext, expect)) = heard_as(code, trext, expect) else {
         return Err(FaultReason::Number);
     };
     let Some(levels) = Digits::new(levels, MOST_LEVELS) else {

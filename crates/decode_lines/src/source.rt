@@ -1,7 +1,7 @@
 //! The answers to the lines of a source.
-ghost use Rattle.std.specs.Prelude.{◌≡◌, ◌<◌, ◌≤◌, ◌+◌, ◌^◌, ℕ, List, length, IfOk, IfErr, IsErrOf, vec_len};
+ghost use Rattle.std.specs.Prelude.{◌≡◌, ◌<◌, ◌≤◌, ◌+◌, ◌^◌, ℕ, List, length, IfOk, IfErr, OnOk, IsErrOf, vec_len};
 ghost use Rattle.air_io.specs.Flow.{AtEnd, FaultsRose, Reads};
-ghost use Rattle.air_io.specs.ReadEnds.{most_read};
+ghost use Rattle.air_io.specs.ReadEnds.{UnlessFault, most_read};
 ghost use Rattle.decode_lines.specs.DecodeLines.{Decodes, IsFirstFault};
 ghost use Rattle.std.specs.String.{string_bytes};
 
@@ -41,6 +41,9 @@ pub fn answer_source<I: Source>(
     ensures too_long { IsErrOf result ReadEnd.TooLong
         → ((bytes : List ℕ) × Reads (I.left source.old) (I.left source.new) bytes × (length bytes ≡ limit + 1)) }
     ensures fault { IsErrOf result ReadEnd.Fault → FaultsRose (I.faults source.old) (I.faults source.new) }
+    // No read failed where no failure is told.
+    ensures steady { OnOk result (I.faults source.new ≡ I.faults source.old) }
+    ensures unfailing { IfErr result (λ end. UnlessFault end (I.faults source.new ≡ I.faults source.old)) }
     ensures part { IfErr result (λ end. (bytes : List ℕ)
         × Reads (I.left source.old) (I.left source.new) bytes × (length bytes ≤ most_read end limit)) }
     ensures count { I.faults source.old ≤ I.faults source.new }

@@ -1,5 +1,6 @@
 -- For a request one line is written.
 use Rattle.std.proofs.Common.{◌≡◌, ℕ, List, refl, sym, ◌∙◌, ap, inl, inr}
+use Rattle.pie_line.specs.Link.{IsLegalLink, LinkValue}
 use Rattle.pie_line.specs.LinkRefusal.{IsFirstBroken}
 use Rattle.pie_line.specs.declared.link.LinkRefusal.{LinkRefusal}
 use Rattle.pie_line.specs.declared.link.LinkRefusal.TheVariants.{Tari, RtCal, TrCal, Pw}
@@ -7,11 +8,9 @@ use Rattle.reply_grammar.specs.declared.expected.Expect.{Expect}
 use Rattle.reply_grammar.specs.declared.expected.Reply.{Reply}
 use Rattle.checked_lines.specs.laws.OneLine.{HaveOneAnswer}
 use Rattle.encode_lines.specs.EncodeLines.{encode_rules}
-use Rattle.encode_lines.specs.Written.{AreWritten, AreOfReply, IsWave, link_of, refusal_word, refused_fields}
+use Rattle.encode_lines.specs.Written.{AreWritten, AreOfReply, link_of, refusal_word, refused_fields}
 use Rattle.encode_lines.specs.declared.request.Request.{Request}
 use Rattle.encode_lines.specs.declared.request.Request.TheVariants.{Stream, Pie, Command, Reply as ReplyLine, Heard}
-use Rattle.pie_line.specs.declared.frame.Lead.{Lead}
-use Rattle.std.specs.Prelude.{Bool}
 
 -- durations break one range first
 same_broken : (tari rtcal trcal pw : ℕ) (one other : LinkRefusal) → IsFirstBroken one tari rtcal trcal pw → IsFirstBroken other tari rtcal trcal pw → one ≡ other
@@ -33,12 +32,11 @@ same_broken tari rtcal trcal pw Pw TrCal left right = absurd (right.2 left.2)
 same_broken tari rtcal trcal pw Pw Pw left right = refl
 
 -- a legal link is not refused
-legal_apart : (tari rtcal trcal pw : ℕ) (lead : Lead) (bits : List Bool) (one other : List (List ℕ)) → IsWave (link_of tari rtcal trcal pw) lead bits one
-    → (refusal : LinkRefusal) → IsFirstBroken refusal tari rtcal trcal pw → ⊥
-legal_apart tari rtcal trcal pw lead bits one other wave Tari broken = broken wave.legal.tari_range
-legal_apart tari rtcal trcal pw lead bits one other wave RtCal broken = broken.1 wave.legal.rtcal_range
-legal_apart tari rtcal trcal pw lead bits one other wave TrCal broken = broken.2 wave.legal.trcal_range
-legal_apart tari rtcal trcal pw lead bits one other wave Pw broken = broken.3 wave.legal.pw_range
+legal_apart : (link : LinkValue) → IsLegalLink link → (refusal : LinkRefusal) → ¬ IsFirstBroken refusal link.tari link.rtcal link.trcal link.pw
+legal_apart link legal Tari broken = broken legal.tari_range
+legal_apart link legal RtCal broken = broken.1 legal.rtcal_range
+legal_apart link legal TrCal broken = broken.2 legal.trcal_range
+legal_apart link legal Pw broken = broken.3 legal.pw_range
 
 same_of_reply : (expect : Expect) (reply : Reply) (written one other : List (List ℕ)) → AreOfReply expect reply written one → AreOfReply expect reply written other → one ≡ other
 same_of_reply expect reply written one other (inl left) (inl right) = left.1 ∙ sym right.1
@@ -49,8 +47,8 @@ same_of_reply expect reply written one other (inr left) (inr right) = left.1 ∙
 same_written : (request : Request) (one other : List (List ℕ)) → AreWritten request one → AreWritten request other → one ≡ other
 same_written (Stream code trext bits) one other left right = left ∙ sym right
 same_written (Pie tari rtcal trcal pw lead bits) one other (inl left) (inl right) = left.wave ∙ sym right.wave
-same_written (Pie tari rtcal trcal pw lead bits) one other (inl left) (inr right) = absurd (legal_apart tari rtcal trcal pw lead bits one other left right.refusal right.broken)
-same_written (Pie tari rtcal trcal pw lead bits) one other (inr left) (inl right) = absurd (legal_apart tari rtcal trcal pw lead bits other one right left.refusal left.broken)
+same_written (Pie tari rtcal trcal pw lead bits) one other (inl left) (inr right) = absurd (legal_apart (link_of tari rtcal trcal pw) left.legal right.refusal right.broken)
+same_written (Pie tari rtcal trcal pw lead bits) one other (inr left) (inl right) = absurd (legal_apart (link_of tari rtcal trcal pw) right.legal left.refusal left.broken)
 same_written (Pie tari rtcal trcal pw lead bits) one other (inr left) (inr right) =
     left.refused ∙ ap (λ refusal. refused_fields (refusal_word refusal)) (same_broken tari rtcal trcal pw left.refusal right.refusal left.broken right.broken) ∙ sym right.refused
 same_written (Command command) one other left right = left ∙ sym right

@@ -1,12 +1,13 @@
 -- What is read of the fields behind the first, where a reply stands behind others.
-use Rattle.std.proofs.Common.{◌≡◌, ◌≢◌, ℕ, Bool, List, [], ◌∷◌, ◌∙◌, arith}
+use Rattle.std.proofs.Common.{◌≡◌, ◌≢◌, ℕ, Bool, List, [], ◌∷◌}
 use Rattle.std.proofs.lemmas.List.Elements.{All-head, All-tail}
 use Rattle.bit_strings.specs.declared.code.Code.{Code}
 use Rattle.text_fields.specs.Binary.{binary_digit}
 use Rattle.text_fields.specs.CodeNames.{code_word}
 use Rattle.text_fields.specs.NamedFields.{AreFilled}
 use Rattle.text_fields.specs.laws.FilledFields.{Filled, have_6, none_filled, one_more}
-use Rattle.reply_text.specs.ReplyText.{expect_word, reply_fields, IsExpect, IsReplyText}
+use Rattle.reply_text.specs.ReplyText.{expect_word, other_reply_fields, reply_fields, reply_kind, IsExpect, IsReplyText}
+use Rattle.reply_text.specs.laws.ReplyTexts.{replies_are}
 use Rattle.reply_grammar.specs.declared.expected.Expect.{Expect}
 use Rattle.reply_grammar.specs.declared.expected.Reply.{Reply as OneReply}
 use Rattle.checked_lines.specs.declared.fault.FaultReason.{FaultReason}
@@ -70,6 +71,18 @@ faulty_heard a b c tail Shape faulty = (faulty.0, λ has. faulty.1 (front_filled
 faulty_heard a b c tail Number faulty =
     ((three_filled a b c faulty.0.0 faulty.0.1 faulty.0.2, faulty.1), no_heard a b c tail (λ code trext expect reply first second is third spelled. faulty.2 reply spelled))
 faulty_heard a b c tail End faulty = faulty
+
+-- a reply stands behind three fields of which one spells nothing
+pub heard_unnamed : (a b c : List ℕ) (tail : List (List ℕ)) (reply : OneReply) → ThreeFilled a b c → IsReplyText tail reply
+    → ((code : Code) (trext : Bool) (expect : Expect) → a ≡ code_word code → b ≡ binary_digit trext ∷ [] → IsExpect expect → c ≡ expect_word expect → ⊥)
+    → AreFaulty HeardKind (a ∷ b ∷ c ∷ tail) Number
+heard_unnamed a b c tail reply filled is none = (
+  (
+    three_filled a b c filled.0 filled.1 filled.2,
+    record { named = reply_kind reply; behind = other_reply_fields reply; first = is.spelling; filled = replies_are.filled reply is.in_range },
+  ),
+  no_heard a b c tail (λ code trext expect other first second expected third spelled. none code trext expect first second expected third),
+)
 
 pub heard_faulty : (others : List (List ℕ)) (a b c : List ℕ) (tail : List (List ℕ)) (reason : FaultReason) → others ≡ a ∷ b ∷ c ∷ tail → IsFaultyReplyBehind (ThreeFilled a b c) tail reason
     → AreFaulty HeardKind others reason

@@ -1,5 +1,5 @@
 -- What was encoded is the line that is written.
-use Rattle.std.proofs.Common.{◌≡◌, ℕ, Bool, true, false, List, [], ◌∷◌, ◌++◌, map, refl, sym, ◌∙◌, ap, append_assoc, inl, inr}
+use Rattle.std.proofs.Common.{◌≡◌, ℕ, Bool, true, false, List, [], ◌∷◌, ◌++◌, map, refl, sym, ◌∙◌, ap, append_assoc, inl, inr, subst}
 use Rattle.std.specs.Prelude.{OnOk, Result, Ok, Err, codes, if◌then◌else◌}
 use Rattle.std.specs.Result.{is_ok}
 use Rattle.std.specs.Fmt.{decimal}
@@ -19,7 +19,8 @@ use Rattle.reply_grammar.specs.declared.expected.Expect.{Expect}
 use Rattle.reply_grammar.specs.declared.expected.Reply.{Reply}
 use Rattle.reply_text.specs.ReplyText.{expect_word}
 use Rattle.encode_lines.specs.EncodeLines.{AddsWave, AddsWritten, written_line}
-use Rattle.encode_lines.specs.Written.{IsAllowed, link_of, refusal_word, refused_fields, reply_bits}
+use Rattle.encode_lines.specs.Written.{IsAllowed, refusal_word, refused_fields, reply_bits}
+use Rattle.encode_lines.specs.declared.request.Request.{Request}
 use Rattle.encode_lines.specs.declared.request.Request.TheVariants.{Pie, Reply as ReplyLine, Heard}
 
 -- a test that says no, and yes
@@ -39,12 +40,12 @@ reply_written expect reply bits old new allowed same line = record {
   line = line;
 }
 
-pub heard_written : (code : Code) (trext : Bool) (expect : Expect) (reply : Reply) (levels : List Bool) (old new : List ℕ) → IsAllowed expect reply
-    → levels ≡ stream_of (table_of code) trext (reply_bits expect reply)
-    → new ≡ old ++ written_line (codes "heard" ∷ code_word code ∷ (binary_digit trext ∷ []) ∷ expect_word expect ∷ binary levels ∷ []) → AddsWritten (Heard code trext expect reply) old new
-heard_written code trext expect reply levels old new allowed same line = record {
-  answer = codes "heard" ∷ code_word code ∷ (binary_digit trext ∷ []) ∷ expect_word expect ∷ binary levels ∷ [];
-  right = inl (allowed, ap (λ (l : List Bool). codes "heard" ∷ code_word code ∷ (binary_digit trext ∷ []) ∷ expect_word expect ∷ binary l ∷ []) same);
+pub heard_written : (code : Code) (trext : Bool) (expect : Expect) (reply : Reply) (old new : List ℕ) → IsAllowed expect reply
+    → new ≡ old ++ written_line (codes "heard" ∷ code_word code ∷ (binary_digit trext ∷ []) ∷ expect_word expect ∷ binary (stream_of (table_of code) trext (reply_bits expect reply)) ∷ [])
+    → AddsWritten (Heard code trext expect reply) old new
+heard_written code trext expect reply old new allowed line = record {
+  answer = codes "heard" ∷ code_word code ∷ (binary_digit trext ∷ []) ∷ expect_word expect ∷ binary (stream_of (table_of code) trext (reply_bits expect reply)) ∷ [];
+  right = inl (allowed, refl);
   line = line;
 }
 
@@ -55,17 +56,25 @@ pub heard_refused : (code : Code) (trext : Bool) (expect : Expect) (reply : Repl
     → AddsWritten (Heard code trext expect reply) old new
 heard_refused code trext expect reply old new none line = record { answer = refused_fields (codes "reply"); right = inr (none, refl); line = line }
 
-pub wave_written : (tari rtcal trcal pw : ℕ) (lead : Lead) (bits : List Bool) (link : LinkValue) (old new : List ℕ) → link ≡ link_of tari rtcal trcal pw → IsLegalLink link → AddsWave link lead bits old new
-    → AddsWritten (Pie tari rtcal trcal pw lead bits) old new
-wave_written tari rtcal trcal pw lead bits link old new is legal line = record {
-  answer = codes "pie" ∷ map decimal (wave_of link lead bits);
-  right = inl (record { legal = rw (sym is) legal; wave = ap (λ (l : LinkValue). codes "pie" ∷ map decimal (wave_of l lead bits)) is });
-  line = line;
-}
+-- what is asked for over a link
+abbrev pub pie_over : LinkValue → Lead → List Bool → Request
+pie_over link lead bits = Pie link.tari link.rtcal link.trcal link.pw lead bits
 
-pub link_refused : (tari rtcal trcal pw : ℕ) (lead : Lead) (bits : List Bool) (refusal : LinkRefusal) (old new : List ℕ) → IsFirstBroken refusal tari rtcal trcal pw
-    → new ≡ old ++ written_line (refused_fields (refusal_word refusal)) → AddsWritten (Pie tari rtcal trcal pw lead bits) old new
-link_refused tari rtcal trcal pw lead bits refusal old new broken line =
+pub wave_written : (link made : LinkValue) (lead : Lead) (bits : List Bool) (old new : List ℕ) → made ≡ link → IsLegalLink made → AddsWave made lead bits old new → AddsWritten (pie_over link lead bits) old new
+wave_written link made lead bits old new is made_legal line =
+    let legal : IsLegalLink link = subst IsLegalLink is made_legal in
+    record {
+      answer = codes "pie" ∷ map decimal (wave_of made lead bits);
+      right = inl (record {
+        legal = record { tari_range = legal.tari_range; rtcal_range = legal.rtcal_range; trcal_range = legal.trcal_range; pw_range = legal.pw_range };
+        wave = ap (λ (l : LinkValue). codes "pie" ∷ map decimal (wave_of l lead bits)) is;
+      });
+      line = line;
+    }
+
+pub link_refused : (link : LinkValue) (lead : Lead) (bits : List Bool) (refusal : LinkRefusal) (old new : List ℕ) → IsFirstBroken refusal link.tari link.rtcal link.trcal link.pw
+    → new ≡ old ++ written_line (refused_fields (refusal_word refusal)) → AddsWritten (pie_over link lead bits) old new
+link_refused link lead bits refusal old new broken line =
     record { answer = refused_fields (refusal_word refusal); right = inr (record { refusal = refusal; broken = broken; refused = refl }); line = line }
 
 -- numbers as fields behind others

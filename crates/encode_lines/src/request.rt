@@ -6,7 +6,7 @@ ghost use Rattle.reply_text.specs.ReplyText.{IsReplyText};
 ghost use Rattle.encode_lines.specs.Request.{lead_word, kind_word, AsksBehind, AsksForRequest, AreFaulty, IsFaultyRequest, IsFaultyReplyBehind};
 
 use bit_strings::Code;
-use checked_lines::FaultReason;
+use checked_lines::{FaultReason, heard_as};
 use command_grammar::Command;
 use command_text::read_command;
 use pie_line::Lead;
@@ -237,13 +237,7 @@ fn heard_of<'a>(mut others: Fields<'a>) -> Result<Request<'a>, FaultReason>
         return Err(FaultReason::Shape);
     };
     let reply = reply_behind(are_filled(code, trext, expect), others)?;
-    let Some(code) = code_named(code) else {
-        return Err(FaultReason::Number);
-    };
-    let Some(trext) = one_bit(trext) else {
-        return Err(FaultReason::Number);
-    };
-    let Some(expect) = expect_of(expect) else {
+    let Some((code, trext, expect)) = heard_as(code, trext, expect) else {
         return Err(FaultReason::Number);
     };
     Ok(Request::Heard {

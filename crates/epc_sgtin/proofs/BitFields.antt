@@ -29,21 +29,20 @@ three_words half a b c first second third =
     front ∙ rw (back, middle, last, first) (simp append-nil)
 
 -- the two halves of an EPC, field by field, the company and the item as one field
-pub two_halves : (front back header filter partition both serial : ℕ) → both < 2 ^ 44 → front / 2 ^ 40 ≡ header → front / 2 ^ 37 % 2 ^ 3 ≡ filter
-    → front / 2 ^ 34 % 2 ^ 3 ≡ partition → front % 2 ^ 34 ≡ both / 2 ^ 10 → back / 2 ^ 38 ≡ both % 2 ^ 10 → back % 2 ^ 38 ≡ serial
-    → field_of front 48 ++ field_of back 48 ≡ field_of header 8 ++ (field_of filter 3 ++ (field_of partition 3 ++ (field_of both 44 ++ field_of serial 38)))
-two_halves front back header filter partition both serial small e0 e1 e2 e3 e4 e5 =
+pub two_halves : (front back both : ℕ) → front % 2 ^ 34 ≡ both / 2 ^ 10 → back / 2 ^ 38 ≡ both % 2 ^ 10
+    → field_of front 48 ++ field_of back 48 ≡ field_of (front / 2 ^ 40) 8 ++ (field_of (front / 2 ^ 37 % 2 ^ 3) 3 ++ (field_of (front / 2 ^ 34 % 2 ^ 3) 3 ++ (field_of both 44 ++ field_of (back % 2 ^ 38) 38)))
+two_halves front back both in_front in_back =
     let c0 : field_of front 48 ≡ field_of (front / 2 ^ 40) 8 ++ field_of front 40 = field_of-cut front 8 40 in
     let c1 : field_of front 40 ≡ field_of (front / 2 ^ 37) 3 ++ field_of front 37 = field_of-cut front 3 37 in
     let c2 : field_of front 37 ≡ field_of (front / 2 ^ 34) 3 ++ field_of front 34 = field_of-cut front 3 34 in
     let c3 : field_of both 44 ≡ field_of (both / 2 ^ 10) 34 ++ field_of both 10 = field_of-cut both 34 10 in
     let c4 : field_of back 48 ≡ field_of (back / 2 ^ 38) 10 ++ field_of back 38 = field_of-cut back 10 38 in
-    let s1 : field_of (front / 2 ^ 37) 3 ≡ field_of filter 3 = field_of-same_low (front / 2 ^ 37) filter 3 (omega arith) in
-    let s2 : field_of (front / 2 ^ 34) 3 ≡ field_of partition 3 = field_of-same_low (front / 2 ^ 34) partition 3 (omega arith) in
+    let s1 : field_of (front / 2 ^ 37) 3 ≡ field_of (front / 2 ^ 37 % 2 ^ 3) 3 = sym (field_of-mod (front / 2 ^ 37) 3) in
+    let s2 : field_of (front / 2 ^ 34) 3 ≡ field_of (front / 2 ^ 34 % 2 ^ 3) 3 = sym (field_of-mod (front / 2 ^ 34) 3) in
     let s3 : field_of front 34 ≡ field_of (both / 2 ^ 10) 34 = field_of-same_low front (both / 2 ^ 10) 34 (omega arith) in
     let s4 : field_of (back / 2 ^ 38) 10 ≡ field_of both 10 = field_of-same_low (back / 2 ^ 38) both 10 (omega arith) in
-    let s5 : field_of back 38 ≡ field_of serial 38 = field_of-same_low back serial 38 (omega arith) in
-    rw (c0, c1, c2, c3, c4, e0, s1, s2, s3, s4, s5) (simp append_assoc)
+    let s5 : field_of back 38 ≡ field_of (back % 2 ^ 38) 38 = sym (field_of-mod back 38) in
+    rw (c0, c1, c2, c3, c4, s1, s2, s3, s4, s5) (simp append_assoc)
 
 -- a company and an item in one field
 pub both_parts : (both company_bits item_bits company item width : ℕ) → company_bits + item_bits ≡ width → both / 2 ^ item_bits ≡ company

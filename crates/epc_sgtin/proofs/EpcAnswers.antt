@@ -15,8 +15,8 @@ use Rattle.epc_sgtin.specs.declared.encoding.EpcFault.TheVariants.{Length, Heade
 use Rattle.epc_sgtin.proofs.BitFields.{three_words}
 use Rattle.epc_sgtin.proofs.PartitionRows.{fits_row}
 use Rattle.epc_sgtin.proofs.EpcReading.{filter_in, serial_in, read_fields}
-use Rattle.epc_sgtin.proofs.EpcWords.{item_bits_of, both_of, AreHalved, six_words, right_words, wrong_header, wrong_partition, wrong_company, wrong_item}
-use Rattle.epc_sgtin.proofs.EpcEncoding.{fields_of, legal_room}
+use Rattle.epc_sgtin.proofs.EpcWords.{item_bits_of, both_of, fields_of, AreHalved, three_words_half, six_words, right_words, wrong_header, wrong_partition, wrong_company, wrong_item}
+use Rattle.epc_sgtin.proofs.EpcEncoding.{legal_room}
 
 -- what is read in the words of an SGTIN
 pub record Reads (sgtin : SgtinValue) (words : List ℕ) : Type 0 where
@@ -123,7 +123,7 @@ item_answer words front back partition are e at row small =
             item_range = less;
             serial_range = omega arith;
           } in
-          inl (sgtin, right_words words front back sgtin are legal e refl (at ∙ sym digits) (rw digits) (rw digits) refl)
+          inl (sgtin, right_words words front back sgtin are legal (record { header = e; filter = refl; partition = at ∙ sym digits; has_row = omega arith; company = rw digits; item = rw digits; serial = refl }))
       | inr more ↦ inr (Item, wrong_item words front back partition (record { halved = are; header_is = e; partition_is = at; has_row = row }) small more)
     ]
 
@@ -168,7 +168,8 @@ some_answer (a ∷ b ∷ c ∷ d ∷ e ∷ f ∷ []) all =
     let back : ℕ = d * 2 ^ 32 + e * 2 ^ 16 + f in
     let first = three_words (a * 2 ^ 32 + b * 2 ^ 16 + c) a b c (omega arith) (omega arith) (omega arith) in
     let second = three_words (d * 2 ^ 32 + e * 2 ^ 16 + f) d e f (omega arith) (omega arith) (omega arith) in
-    halved_answer (a ∷ b ∷ c ∷ d ∷ e ∷ f ∷ []) front back (six_words a b c d e f front back all (omega arith) (omega arith) first second)
+    halved_answer (a ∷ b ∷ c ∷ d ∷ e ∷ f ∷ []) front back
+    (six_words (a ∷ b ∷ c ∷ []) (d ∷ e ∷ f ∷ []) front back (three_words_half a b c front pa pb pc (sym first)) (three_words_half d e f back pd pe pf (sym second)) (omega arith) (omega arith))
 
 pub one_answer : (words : List ℕ) (one other : Result SgtinValue EpcFault) → IsEpcAnswer one words → IsEpcAnswer other words → one ≡ other
 one_answer words (Ok one) (Ok other) l r = ap (λ (sgtin : SgtinValue). Ok sgtin) (one_sgtin one other words l r)

@@ -2,7 +2,6 @@
 use Rattle.std.proofs.Common.{◌≡◌, ◌≢◌, ℕ, ◌+◌, ◌-◌, ◌*◌, ◌/◌, ◌%◌, ◌^◌, ◌<◌, ◌≤◌, List, [], ◌∷◌, length, get_or, sym, ◌∙◌, subst, arith}
 use Rattle.std.specs.Prelude.{bit_and}
 use Rattle.std.proofs.lemmas.Nat.{and_mask, one_shl}
-use Rattle.std.proofs.lemmas.List.Elements.{All-from_get_or}
 use Rattle.bit_strings.specs.Numbers.{field_of}
 use Rattle.bit_strings.specs.Words.{bits_of_words}
 use Rattle.epc_sgtin.specs.SgtinValue.{SgtinValue, IsLegalSgtin}
@@ -11,21 +10,21 @@ use Rattle.epc_sgtin.specs.Epc.{IsSgtin, header}
 use Rattle.epc_sgtin.specs.EpcFaults.{RefusesEpc}
 use Rattle.epc_sgtin.specs.declared.encoding.EpcFault.TheVariants.{Company, Item}
 use Rattle.epc_sgtin.proofs.PartitionRows.{fits_row}
-use Rattle.epc_sgtin.proofs.EpcWords.{item_bits_of, both_of, company_of, item_of, AreHalved, HasRow, six_words, right_words, wrong_company, wrong_item}
+use Rattle.epc_sgtin.proofs.EpcWords.{item_bits_of, both_of, company_of, item_of, AreHalved, HasRow, three_words_half, six_words, right_words, wrong_company, wrong_item}
 
 -- six words that are read one by one
-pub read_words : (words : List ℕ) (front back : ℕ) → 6 ≤ length words → length words < 7 → ((i : ℕ) → get_or words i 0 < 2 ^ 16) → front < 2 ^ 48 → back < 2 ^ 48
+pub read_words : (words : List ℕ) (front back : ℕ) → length words ≡ 6 → ((i : ℕ) → get_or words i 0 < 2 ^ 16) → front < 2 ^ 48 → back < 2 ^ 48
     → field_of front 48 ≡ bits_of_words (get_or words 0 0 ∷ get_or words 1 0 ∷ get_or words 2 0 ∷ [])
     → field_of back 48 ≡ bits_of_words (get_or words 3 0 ∷ get_or words 4 0 ∷ get_or words 5 0 ∷ []) → AreHalved words front back
-read_words [] front back least most fit p q first second = absurd (omega arith)
-read_words (a ∷ []) front back least most fit p q first second = absurd (omega arith)
-read_words (a ∷ b ∷ []) front back least most fit p q first second = absurd (omega arith)
-read_words (a ∷ b ∷ c ∷ []) front back least most fit p q first second = absurd (omega arith)
-read_words (a ∷ b ∷ c ∷ d ∷ []) front back least most fit p q first second = absurd (omega arith)
-read_words (a ∷ b ∷ c ∷ d ∷ e ∷ []) front back least most fit p q first second = absurd (omega arith)
-read_words (a ∷ b ∷ c ∷ d ∷ e ∷ f ∷ g ∷ more) front back least most fit p q first second = absurd (omega arith)
-read_words (a ∷ b ∷ c ∷ d ∷ e ∷ f ∷ []) front back least most fit p q first second =
-    six_words a b c d e f front back (All-from_get_or (λ word. word < 2 ^ 16) (a ∷ b ∷ c ∷ d ∷ e ∷ f ∷ []) 0 (λ i within. fit i)) p q first second
+read_words [] front back six fit p q first second = absurd (omega arith)
+read_words (a ∷ []) front back six fit p q first second = absurd (omega arith)
+read_words (a ∷ b ∷ []) front back six fit p q first second = absurd (omega arith)
+read_words (a ∷ b ∷ c ∷ []) front back six fit p q first second = absurd (omega arith)
+read_words (a ∷ b ∷ c ∷ d ∷ []) front back six fit p q first second = absurd (omega arith)
+read_words (a ∷ b ∷ c ∷ d ∷ e ∷ []) front back six fit p q first second = absurd (omega arith)
+read_words (a ∷ b ∷ c ∷ d ∷ e ∷ f ∷ g ∷ more) front back six fit p q first second = absurd (omega arith)
+read_words (a ∷ b ∷ c ∷ d ∷ e ∷ f ∷ []) front back six fit p q first second =
+    six_words (a ∷ b ∷ c ∷ []) (d ∷ e ∷ f ∷ []) front back (three_words_half a b c front (fit 0) (fit 1) (fit 2) (sym first)) (three_words_half d e f back (fit 3) (fit 4) (fit 5) (sym second)) p q
 
 -- the numbers that are computed
 abbrev pub partition_read : ℕ → ℕ
@@ -118,7 +117,12 @@ accepted words front back bits limit h limit_is small =
       item_range = subst (λ n. item_read front back bits < n) limit_is small;
       serial_range = omega (arith, and_mask back 38);
     } in
-    right_words words front back sgtin are legal h.read.row.header_is (sym (and_mask (front / 2 ^ 37) 3)) (partition_right front ∙ sym digits)
-    (rw digits (sym (company_there words front back bits h.read)))
-    (rw digits (sym (item_there words front back bits h.read)))
-    (sym (and_mask back 38))
+    right_words words front back sgtin are legal (record {
+      header = h.read.row.header_is;
+      filter = sym (and_mask (front / 2 ^ 37) 3);
+      partition = partition_right front ∙ sym digits;
+      has_row = omega arith;
+      company = rw digits (sym (company_there words front back bits h.read));
+      item = rw digits (sym (item_there words front back bits h.read));
+      serial = sym (and_mask back 38);
+    })

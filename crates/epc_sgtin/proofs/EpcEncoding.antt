@@ -1,17 +1,14 @@
 -- The halves that an SGTIN has.
-use Rattle.std.proofs.Common.{◌≡◌, ℕ, ◌+◌, ◌-◌, ◌*◌, ◌/◌, ◌%◌, ◌^◌, ◌<◌, ◌≤◌, List, [], ◌∷◌, refl, sym, ◌∙◌, ap, subst, arith}
-use Rattle.std.specs.Prelude.{All, bit_and}
+use Rattle.std.proofs.Common.{◌≡◌, ℕ, ◌+◌, ◌-◌, ◌*◌, ◌/◌, ◌%◌, ◌^◌, ◌<◌, ◌≤◌, List, [], ◌∷◌, ◌++◌, refl, sym, ◌∙◌, ap, subst, arith}
+use Rattle.std.specs.Prelude.{bit_and}
 use Rattle.std.proofs.lemmas.Nat.{and_mask, shl_whole, shr_high, mod_low, mul-add-lt, pow-add}
-use Rattle.std.proofs.lemmas.List.Elements.{All-cons, All-nil}
 use Rattle.epc_sgtin.specs.SgtinValue.{SgtinValue, IsLegalSgtin}
 use Rattle.epc_sgtin.specs.Partitions.{partition_row}
 use Rattle.epc_sgtin.specs.Epc.{IsSgtin, header}
-use Rattle.bit_strings.specs.Numbers.{field_of}
-use Rattle.bit_strings.specs.Words.{bits_of_words}
 use Rattle.epc_sgtin.proofs.BitFields.{three_words}
 use Rattle.epc_sgtin.proofs.PartitionRows.{fits_row}
-use Rattle.epc_sgtin.proofs.EpcReading.{Fields, HasRoom}
-use Rattle.epc_sgtin.proofs.EpcWords.{item_bits_of, both_of, AreHalved, six_words, right_words}
+use Rattle.epc_sgtin.proofs.EpcReading.{HasRoom}
+use Rattle.epc_sgtin.proofs.EpcWords.{item_bits_of, both_of, fields_of, AreHalf, AreHalved, three_words_half, six_words, right_words}
 
 -- the number of digits, back from the partition
 digits_back : (digits : ℕ) → digits ≤ 12 → 12 - (12 - digits) ≡ digits
@@ -29,11 +26,6 @@ item_room sgtin legal =
     let digits = fits.item_digits ∙ ap (λ n. 13 - n) (fits.company_digits ∙ digits_back sgtin.digits legal.digits_range.1) in
     let room = subst (λ n. 10 ^ n ≤ 2 ^ item_bits_of (12 - sgtin.digits)) digits fits.item_room in
     omega (arith, legal.item_range, room)
-
--- the fields of an SGTIN
-abbrev pub fields_of : SgtinValue → Fields
-fields_of sgtin =
-    record { header = header; filter = sgtin.filter; partition = 12 - sgtin.digits; company = sgtin.company; item = sgtin.item; serial = sgtin.serial }
 
 pub legal_room : (sgtin : SgtinValue) → IsLegalSgtin sgtin → HasRoom (fields_of sgtin)
 legal_room sgtin legal = record {
@@ -80,36 +72,34 @@ pub encoded : (sgtin : SgtinValue) (words : List ℕ) → IsLegalSgtin sgtin →
 encoded sgtin words legal are =
     let same = same_both sgtin legal in
     let bits = item_bits_of (12 - sgtin.digits) in
-    right_words words (front_of sgtin) (back_of sgtin) sgtin are legal
-    (omega (arith, legal.filter_range, legal.digits_range, both_small sgtin legal))
-    (omega (arith, legal.filter_range, legal.digits_range, both_small sgtin legal))
-    (omega (arith, legal.filter_range, legal.digits_range, both_small sgtin legal))
-    (rw same (shr_high sgtin.company bits sgtin.item (item_room sgtin legal)))
-    (rw same (mod_low sgtin.company bits sgtin.item (item_room sgtin legal)))
-    (omega (arith, legal.serial_range))
+    right_words words (front_of sgtin) (back_of sgtin) sgtin are legal (record {
+      header = omega (arith, legal.filter_range, legal.digits_range, both_small sgtin legal);
+      filter = omega (arith, legal.filter_range, legal.digits_range, both_small sgtin legal);
+      partition = omega (arith, legal.filter_range, legal.digits_range, both_small sgtin legal);
+      has_row = omega (arith, legal.digits_range);
+      company = rw same (shr_high sgtin.company bits sgtin.item (item_room sgtin legal));
+      item = rw same (mod_low sgtin.company bits sgtin.item (item_room sgtin legal));
+      serial = omega (arith, legal.serial_range);
+    })
 
--- the words of 96 bits, half by half
-abbrev pub words_of_halves : ℕ → ℕ → List ℕ
-words_of_halves front back =
-    front / 2 ^ 32 ∷ front / 2 ^ 16 % 2 ^ 16 ∷ front % 2 ^ 16 ∷ back / 2 ^ 32 ∷ back / 2 ^ 16 % 2 ^ 16 ∷ back % 2 ^ 16 ∷ []
+-- the words of a half
+abbrev pub words_of_half : ℕ → List ℕ
+words_of_half half = half / 2 ^ 32 ∷ half / 2 ^ 16 % 2 ^ 16 ∷ half % 2 ^ 16 ∷ []
 
-sixteens_of : (a b c d e f : ℕ) → a < 2 ^ 16 → b < 2 ^ 16 → c < 2 ^ 16 → d < 2 ^ 16 → e < 2 ^ 16 → f < 2 ^ 16 → All (λ word. word < 2 ^ 16) (a ∷ b ∷ c ∷ d ∷ e ∷ f ∷ [])
-sixteens_of a b c d e f p q r s t u =
-    let P : ℕ → Type 0 = λ word. word < 2 ^ 16 in
-    All-cons P a (b ∷ c ∷ d ∷ e ∷ f ∷ []) p (All-cons P b (c ∷ d ∷ e ∷ f ∷ []) q (All-cons P c (d ∷ e ∷ f ∷ []) r (All-cons P d (e ∷ f ∷ []) s (All-cons P e (f ∷ []) t (All-cons P f [] u (All-nil P))))))
-
-halved_words : (front back : ℕ) → front < 2 ^ 48 → back < 2 ^ 48 → AreHalved (words_of_halves front back) front back
-halved_words front back p q =
-    six_words (front / 2 ^ 32) (front / 2 ^ 16 % 2 ^ 16) (front % 2 ^ 16) (back / 2 ^ 32) (back / 2 ^ 16 % 2 ^ 16) (back % 2 ^ 16) front back
-    (sixteens_of (front / 2 ^ 32) (front / 2 ^ 16 % 2 ^ 16) (front % 2 ^ 16) (back / 2 ^ 32) (back / 2 ^ 16 % 2 ^ 16) (back % 2 ^ 16) (omega arith) (omega arith) (omega arith) (omega arith) (omega arith) (omega arith))
-    p q (three_words front (front / 2 ^ 32) (front / 2 ^ 16 % 2 ^ 16) (front % 2 ^ 16) refl refl refl) (three_words back (back / 2 ^ 32) (back / 2 ^ 16 % 2 ^ 16) (back % 2 ^ 16) refl refl refl)
+half_words : (half : ℕ) → half < 2 ^ 48 → AreHalf (words_of_half half) half
+half_words half small =
+    three_words_half (half / 2 ^ 32) (half / 2 ^ 16 % 2 ^ 16) (half % 2 ^ 16) half (omega arith) (omega arith) (omega arith)
+    (sym (three_words half (half / 2 ^ 32) (half / 2 ^ 16 % 2 ^ 16) (half % 2 ^ 16) refl refl refl))
 
 -- each SGTIN has words
 pub some_words : (sgtin : SgtinValue) → IsLegalSgtin sgtin → (words : List ℕ) × IsSgtin sgtin words
 some_words sgtin legal =
     let front = front_of sgtin in
     let back = back_of sgtin in
-    (words_of_halves front back, encoded sgtin (words_of_halves front back) legal (halved_words front back (front_small sgtin legal) (back_small sgtin legal)))
+    let p = front_small sgtin legal in
+    let q = back_small sgtin legal in
+    let words = words_of_half front ++ words_of_half back in
+    (words, encoded sgtin words legal (six_words (words_of_half front) (words_of_half back) front back (half_words front p) (half_words back q) p q))
 
 -- What `encode` computes: the company and the item as one number, and the two halves.
 abbrev pub both_written : SgtinValue → ℕ → ℕ
@@ -135,12 +125,9 @@ back_right : (sgtin : SgtinValue) (bits : ℕ) → IsLegalSgtin sgtin → bits �
 back_right sgtin bits legal is = rw (both_right sgtin bits legal is, and_mask (both_parts_of sgtin) 10) (omega arith)
 
 -- the words of the two halves that are computed are those of the SGTIN
-pub encoded_words : (sgtin : SgtinValue) (bits a b c d e f : ℕ) → IsLegalSgtin sgtin → bits ≡ (partition_row (12 - sgtin.digits)).company_bits
-    → a < 2 ^ 16 → b < 2 ^ 16 → c < 2 ^ 16 → d < 2 ^ 16 → e < 2 ^ 16 → f < 2 ^ 16
-    → bits_of_words (a ∷ b ∷ c ∷ []) ≡ field_of (front_written sgtin bits) 48 → bits_of_words (d ∷ e ∷ f ∷ []) ≡ field_of (back_written sgtin bits) 48
-    → IsSgtin sgtin (a ∷ b ∷ c ∷ d ∷ e ∷ f ∷ [])
-encoded_words sgtin bits a b c d e f legal is p q r s t u first second =
-    let front = ap (λ n. field_of n 48) (sym (front_right sgtin bits legal is)) ∙ sym first in
-    let back = ap (λ n. field_of n 48) (sym (back_right sgtin bits legal is)) ∙ sym second in
-    encoded sgtin (a ∷ b ∷ c ∷ d ∷ e ∷ f ∷ []) legal
-    (six_words a b c d e f (front_of sgtin) (back_of sgtin) (sixteens_of a b c d e f p q r s t u) (front_small sgtin legal) (back_small sgtin legal) front back)
+pub encoded_words : (sgtin : SgtinValue) (bits : ℕ) (first second : List ℕ) → IsLegalSgtin sgtin → bits ≡ (partition_row (12 - sgtin.digits)).company_bits
+    → AreHalf first (front_written sgtin bits) → AreHalf second (back_written sgtin bits) → IsSgtin sgtin (first ++ second)
+encoded_words sgtin bits first second legal is ahead behind =
+    encoded sgtin (first ++ second) legal
+    (six_words first second (front_of sgtin) (back_of sgtin) (subst (AreHalf first) (front_right sgtin bits legal is) ahead) (subst (AreHalf second) (back_right sgtin bits legal is) behind)
+    (front_small sgtin legal) (back_small sgtin legal))

@@ -1,6 +1,9 @@
 -- The words of an EPC, by its two halves.
 use Rattle.std.proofs.Common.{◌≡◌, ◌≢◌, ℕ, ◌+◌, ◌-◌, ◌*◌, ◌/◌, ◌%◌, ◌^◌, ◌<◌, ◌≤◌, List, [], ◌∷◌, ◌++◌, length, refl, sym, ◌∙◌, ap, subst, arith, append_assoc}
 use Rattle.std.specs.Prelude.{All}
+use Rattle.std.proofs.lemmas.List.{length-append}
+use Rattle.std.proofs.lemmas.List.Concat.{flat_map-append}
+use Rattle.std.proofs.lemmas.List.Elements.{All-append, All-cons, All-nil}
 use Rattle.std.proofs.lemmas.Nat.{shr_below, pow_pos}
 use Rattle.bit_strings.specs.Numbers.{field_of}
 use Rattle.bit_strings.specs.Words.{bits_of_words}
@@ -30,8 +33,6 @@ item_of front back partition = both_of front back % 2 ^ item_bits_of partition
 
 -- the two halves have these fields
 pub record AreHalvesOf (front back : ℕ) (f : Fields) : Type 0 where
-  pub front_small : front < 2 ^ 48
-  pub back_small : back < 2 ^ 48
   pub header : front / 2 ^ 40 ≡ f.header
   pub filter : front / 2 ^ 37 % 2 ^ 3 ≡ f.filter
   pub partition : front / 2 ^ 34 % 2 ^ 3 ≡ f.partition
@@ -40,26 +41,25 @@ pub record AreHalvesOf (front back : ℕ) (f : Fields) : Type 0 where
   pub item : both_of front back % 2 ^ item_bits_of f.partition ≡ f.item
   pub serial : back % 2 ^ 38 ≡ f.serial
 
-pub halves_bits : (front back : ℕ) (f : Fields) → AreHalvesOf front back f → field_of front 48 ++ field_of back 48 ≡ fields_bits f
-halves_bits front back f are =
+pub halves_bits : (front back : ℕ) (f : Fields) → back < 2 ^ 48 → AreHalvesOf front back f → field_of front 48 ++ field_of back 48 ≡ fields_bits f
+halves_bits front back f small are =
     let both = both_of front back in
     let shares = partition_row f.partition in
-    let halves = two_halves front back f.header f.filter f.partition both f.serial (omega (arith, are.front_small, are.back_small)) are.header are.filter are.partition
-    (omega (arith, are.back_small)) (omega (arith, are.back_small)) are.serial in
+    let halves = two_halves front back both (omega (arith, small)) (omega (arith, small)) in
     let parts : field_of both 44 ≡ field_of f.company shares.company_bits ++ field_of f.item shares.item_bits =
     both_parts both shares.company_bits shares.item_bits f.company f.item 44 (fits_row f.partition are.has_row).bits are.company are.item in
-    halves ∙ rw parts (simp append_assoc)
+    halves ∙ rw (are.header, are.filter, are.partition, are.serial, parts) (simp append_assoc)
 
 -- each number that stands in a half has room in its field
-pub halves_room : (front back : ℕ) (f : Fields) → AreHalvesOf front back f → HasRoom f
-halves_room front back f are =
+pub halves_room : (front back : ℕ) (f : Fields) → front < 2 ^ 48 → back < 2 ^ 48 → AreHalvesOf front back f → HasRoom f
+halves_room front back f front_small back_small are =
     let both = both_of front back in
     let shares = partition_row f.partition in
-    let small : both < 2 ^ 44 = omega (arith, are.front_small, are.back_small) in
+    let small : both < 2 ^ 44 = omega (arith, front_small, back_small) in
     let widths = (fits_row f.partition are.has_row).bits in
     let small' : both < 2 ^ (shares.company_bits + shares.item_bits) = subst (λ n. both < 2 ^ n) (sym widths) small in
     record {
-      header = omega (arith, are.front_small, are.header);
+      header = omega (arith, front_small, are.header);
       filter = omega (arith, are.filter);
       partition = omega (arith, are.partition);
       company = subst (λ n. n < 2 ^ shares.company_bits) are.company (shr_below both shares.company_bits shares.item_bits small');
@@ -75,24 +75,34 @@ pub record AreHalved (words : List ℕ) (front back : ℕ) : Type 0 where
   pub front_small : front < 2 ^ 48
   pub back_small : back < 2 ^ 48
 
--- six words, three to a half
-pub six_words : (a b c d e f front back : ℕ) → All (λ word. word < 2 ^ 16) (a ∷ b ∷ c ∷ d ∷ e ∷ f ∷ []) → front < 2 ^ 48 → back < 2 ^ 48
-    → field_of front 48 ≡ bits_of_words (a ∷ b ∷ c ∷ []) → field_of back 48 ≡ bits_of_words (d ∷ e ∷ f ∷ []) → AreHalved (a ∷ b ∷ c ∷ d ∷ e ∷ f ∷ []) front back
-six_words a b c d e f front back sixteens p q first second = record {
-  six = refl;
-  sixteens = sixteens;
-  bits = rw (first, second) (simp append_assoc);
-  front_small = p;
-  back_small = q;
+-- three words of 16 bits have the bits of a half
+pub record AreHalf (words : List ℕ) (half : ℕ) : Type 0 where
+  pub three : length words ≡ 3
+  pub sixteens : All (λ word. word < 2 ^ 16) words
+  pub bits : bits_of_words words ≡ field_of half 48
+
+-- such words, three to a half
+pub six_words : (first second : List ℕ) (front back : ℕ) → AreHalf first front → AreHalf second back → front < 2 ^ 48 → back < 2 ^ 48 → AreHalved (first ++ second) front back
+six_words first second front back ahead behind front_small back_small = record {
+  six = omega (arith, length-append first second, ahead.three, behind.three);
+  sixteens = All-append (λ word. word < 2 ^ 16) first second ahead.sixteens behind.sixteens;
+  bits = flat_map-append (λ word. field_of word 16) first second ∙ rw (ahead.bits, behind.bits);
+  front_small = front_small;
+  back_small = back_small;
 }
+
+-- three words with the bits of a half
+pub three_words_half : (a b c half : ℕ) → a < 2 ^ 16 → b < 2 ^ 16 → c < 2 ^ 16 → bits_of_words (a ∷ b ∷ c ∷ []) ≡ field_of half 48 → AreHalf (a ∷ b ∷ c ∷ []) half
+three_words_half a b c half p q r bits =
+    let P : ℕ → Type 0 = λ word. word < 2 ^ 16 in
+    record { three = refl; sixteens = All-cons P a (b ∷ c ∷ []) p (All-cons P b (c ∷ []) q (All-cons P c [] r (All-nil P))); bits = bits }
 
 -- the header and the partition of words
 pub front_of_words : (words : List ℕ) (front back : ℕ) → AreHalved words front back
     → (header_in (bits_of_words words) ≡ front / 2 ^ 40) × (partition_in (bits_of_words words) ≡ front / 2 ^ 34 % 2 ^ 3)
 front_of_words words front back are =
     let both = both_of front back in
-    let halves = two_halves front back (front / 2 ^ 40) (front / 2 ^ 37 % 2 ^ 3) (front / 2 ^ 34 % 2 ^ 3) both (back % 2 ^ 38) (omega (arith, are.front_small, are.back_small)) refl refl refl
-    (omega (arith, are.back_small)) (omega (arith, are.back_small)) refl in
+    let halves = two_halves front back both (omega (arith, are.back_small)) (omega (arith, are.back_small)) in
     let read = front_fields (bits_of_words words) (field_of both 44 ++ field_of (back % 2 ^ 38) 38) (front / 2 ^ 40) (front / 2 ^ 37 % 2 ^ 3) (front / 2 ^ 34 % 2 ^ 3)
     (omega (arith, are.front_small)) (omega arith) (omega arith) (are.bits ∙ halves) in
     (read.0, read.2)
@@ -130,8 +140,6 @@ unfolding fields_of_halves
 back_of_words words front back are row =
     let f = fields_of_halves front back in
     let halves : AreHalvesOf front back f = record {
-      front_small = are.front_small;
-      back_small = are.back_small;
       header = refl;
       filter = refl;
       partition = refl;
@@ -140,7 +148,7 @@ back_of_words words front back are row =
       item = refl;
       serial = refl;
     } in
-    let read = read_fields (bits_of_words words) f (halves_room front back f halves) (are.bits ∙ halves_bits front back f halves) in
+    let read = read_fields (bits_of_words words) f (halves_room front back f are.front_small are.back_small halves) (are.bits ∙ halves_bits front back f are.back_small halves) in
     (read.3, read.4, ap (λ n. (partition_row n).company_digits) read.2 ∙ (fits_row f.partition row).company_digits)
 
 has_partition : (words : List ℕ) (front back : ℕ) → AreHalved words front back → front / 2 ^ 40 ≡ header → front / 2 ^ 34 % 2 ^ 3 < 7 → HasPartition words
@@ -187,21 +195,12 @@ wrong_item words front back partition h small large =
       λ few. let few' : item < 10 ^ (13 - (12 - partition)) = subst (λ n. IsItem n item) read.2 (subst (λ n. IsItem (digits_in (bits_of_words words)) n) read.1 few) in omega (arith, few', large),
     )
 
+-- the fields of an SGTIN
+abbrev pub fields_of : SgtinValue → Fields
+fields_of sgtin =
+    record { header = header; filter = sgtin.filter; partition = 12 - sgtin.digits; company = sgtin.company; item = sgtin.item; serial = sgtin.serial }
+
 -- the words are an SGTIN-96
-pub right_words : (words : List ℕ) (front back : ℕ) (sgtin : SgtinValue) → AreHalved words front back → IsLegalSgtin sgtin → front / 2 ^ 40 ≡ header
-    → front / 2 ^ 37 % 2 ^ 3 ≡ sgtin.filter → front / 2 ^ 34 % 2 ^ 3 ≡ 12 - sgtin.digits → both_of front back / 2 ^ item_bits_of (12 - sgtin.digits) ≡ sgtin.company
-    → both_of front back % 2 ^ item_bits_of (12 - sgtin.digits) ≡ sgtin.item → back % 2 ^ 38 ≡ sgtin.serial → IsSgtin sgtin words
-right_words words front back sgtin are legal e0 e1 e2 e3 e4 e5 =
-    let f : Fields = record { header = header; filter = sgtin.filter; partition = 12 - sgtin.digits; company = sgtin.company; item = sgtin.item; serial = sgtin.serial } in
-    let halves : AreHalvesOf front back f = record {
-      front_small = are.front_small;
-      back_small = are.back_small;
-      header = e0;
-      filter = e1;
-      partition = e2;
-      has_row = omega (arith, legal.digits_range);
-      company = e3;
-      item = e4;
-      serial = e5;
-    } in
-    record { legal = legal; sixteens = are.sixteens; bits = are.bits ∙ halves_bits front back f halves }
+pub right_words : (words : List ℕ) (front back : ℕ) (sgtin : SgtinValue) → AreHalved words front back → IsLegalSgtin sgtin → AreHalvesOf front back (fields_of sgtin) → IsSgtin sgtin words
+right_words words front back sgtin are legal halves =
+    record { legal = legal; sixteens = are.sixteens; bits = are.bits ∙ halves_bits front back (fields_of sgtin) are.back_small halves }

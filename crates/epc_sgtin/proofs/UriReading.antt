@@ -1,5 +1,5 @@
 -- The parts of a URI.
-use Rattle.std.proofs.Common.{◌≡◌, ◌≢◌, ℕ, ◌+◌, ◌-◌, ◌^◌, ◌<◌, ◌≤◌, eqb, List, [], ◌∷◌, ◌++◌, length, sym, ◌∙◌, ap, subst, arith, append_assoc}
+use Rattle.std.proofs.Common.{◌≡◌, ℕ, ◌+◌, ◌-◌, ◌^◌, ◌<◌, ◌≤◌, eqb, List, [], ◌∷◌, ◌++◌, length, sym, ◌∙◌, ap, subst, arith, append_assoc}
 use Rattle.std.specs.Fmt.{decimal}
 use Rattle.std.specs.List.{join_with_byte}
 use Rattle.std.specs.Str.Parse.{digits_value}
@@ -11,14 +11,8 @@ use Rattle.epc_sgtin.specs.Uri.{padded, dot, prefix, IsUriOf}
 use Rattle.epc_sgtin.specs.UriFaults.{AreDigits, IsSerialPart, UriParts}
 use Rattle.epc_sgtin.proofs.Padded.{numerals, length-padded, digits_value-padded}
 
-pieces_there : (text : List ℕ) → 1 ≤ length (pieces_between dot text)
+pub pieces_there : (text : List ℕ) → 1 ≤ length (pieces_between dot text)
 pieces_there text = omega (arith, length-slice_split (λ each. eqb each dot) text)
-
--- four cuts leave at least five parts
-pub five_parts : (text a rest b rest' c rest'' d rest''' : List ℕ) → pieces_between dot text ≡ a ∷ pieces_between dot rest → pieces_between dot rest ≡ b ∷ pieces_between dot rest'
-    → pieces_between dot rest' ≡ c ∷ pieces_between dot rest'' → pieces_between dot rest'' ≡ d ∷ pieces_between dot rest''' → length (pieces_between dot text) ≢ 4
-five_parts text a rest b rest' c rest'' d rest''' e0 e1 e2 e3 four =
-    omega (arith, ap length e0, ap length e1, ap length e2, ap length e3, pieces_there rest''')
 
 -- a serial is written with 1 to 12 digits,
 pub serial_short : (part : List ℕ) → IsSerialPart part → (1 ≤ length part) × (length part ≤ 12)

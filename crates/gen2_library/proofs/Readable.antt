@@ -13,7 +13,7 @@ use Rattle.report_lines.specs.declared.mode.Mode.TheVariants.{Plain, Trace, Json
 use Rattle.text_fields.specs.Lines.{fields_of}
 use Rattle.top_call.specs.Form.{AskFor, IsForm, texts, words_of}
 use Rattle.top_call.specs.declared.forms.Form.{Form}
-use Rattle.top_call.specs.declared.forms.Form.TheVariants.{Decode, Encode, Run, Upgrade, Names, Probe, Gen}
+use Rattle.top_call.specs.declared.forms.Form.TheVariants.{Decode, Encode, Run, Upgrade, Portals, Names, Probe, Audit, Gen}
 
 decimal-readable : (n : ℕ) → n < 2 ^ 64 → IsUtf8 (decimal n)
 decimal-readable n small = IsUtf8-from_ascii (decimal n) (IsAscii-decimal n small)
@@ -42,8 +42,10 @@ words-readable (Run Json) is = run-readable (codes "json") (plain-readable (code
 words-readable (Run Exchanges) is = run-readable (codes "exchanges") (plain-readable (codes "exchanges") refl)
 words-readable (Run Vcd) is = run-readable (codes "vcd") (plain-readable (codes "vcd") refl)
 words-readable Upgrade is = one-readable (codes "upgrade") (plain-readable (codes "upgrade") refl)
+words-readable Portals is = one-readable (codes "portals") (plain-readable (codes "portals") refl)
 words-readable Names is = one-readable (codes "names") (plain-readable (codes "names") refl)
 words-readable Probe is = one-readable (codes "probe") (plain-readable (codes "probe") refl)
+words-readable Audit is = one-readable (codes "audit") (plain-readable (codes "audit") refl)
 words-readable (Gen seed tags) is =
     All-cons IsUtf8 (codes "gen") (decimal seed ∷ decimal tags ∷ []) (plain-readable (codes "gen") refl)
     (All-cons IsUtf8 (decimal seed) (decimal tags ∷ []) (decimal-readable seed is.0)

@@ -1,9 +1,9 @@
 -- From one place of the levels to the whole list, and what a decoder may then answer.
-use Rattle.std.proofs.Common.{◌<◌, ◌≡◌, ℕ, ◌+◌, ◌≤◌, Bool, true, List, [], ◌∷◌, ◌++◌, length, Result, Ok, Err, IsOk, IsErr, OnOk, IfErr, refl, sym, ap, ◌∙◌, subst, arith, length-append, mul-le-mul_right}
+use Rattle.std.proofs.Common.{◌<◌, ◌≡◌, ℕ, ◌≤◌, Bool, true, List, [], ◌∷◌, ◌++◌, length, Result, Ok, Err, IsOk, IsErr, OnOk, IfErr, refl, sym, ap, ◌∙◌, subst, arith, length-append, mul-le-mul_right}
 use Rattle.line_code.specs.Table.{Context, Table}
 use Rattle.line_code.specs.Stream.{blocks, IsStream, Streams}
 use Rattle.line_code.specs.States.{InsideValue, Reads}
-use Rattle.line_code.specs.TableFacts.{IsEven, TellsBits, RefusesFlips, HidesLead, with_level_flipped}
+use Rattle.line_code.specs.TableFacts.{IsEven, CodeTable, RefusesFlips, HidesLead, with_level_flipped}
 use Rattle.line_code.specs.Refusal.{RefusesStream}
 use Rattle.line_code.specs.laws.Streams.{length-blocks, one_stream, refused_is_none}
 use Rattle.line_code.specs.declared.refusal.LineRefusal.{LineRefusal}
@@ -18,10 +18,11 @@ bits_within t chips even trext state levels bits r =
     omega (arith, whole, outer, inner, few)
 
 -- where the levels are a stream, a true answer is its bits
-pub decided : (t : Table) (chips : ℕ) → IsEven t chips → TellsBits t → (trext : Bool) (result : Result (Unit {0}) LineRefusal) (levels out bits : List Bool)
-    → OnOk result (IsStream t trext out levels) → IfErr result (RefusesStream (Streams t trext) levels) → IsStream t trext bits levels → IsOk result × (out ≡ bits)
-decided t chips even tells trext (Ok done) levels out bits ok refused s = (refl, one_stream t chips even tells trext out bits levels ok s)
-decided t chips even tells trext (Err refusal) levels out bits ok refused s = absurd (refused_is_none (Streams t trext) levels refusal refused (bits, s))
+pub decided : (code : CodeTable) (trext : Bool) (result : Result (Unit {0}) LineRefusal) (levels out bits : List Bool)
+    → OnOk result (IsStream code.table trext out levels) → IfErr result (RefusesStream (Streams code.table trext) levels)
+    → IsStream code.table trext bits levels → IsOk result × (out ≡ bits)
+decided code trext (Ok done) levels out bits ok refused s = (refl, one_stream code trext out bits levels ok s)
+decided code trext (Err refusal) levels out bits ok refused s = absurd (refused_is_none (Streams code.table trext) levels refusal refused (bits, s))
 
 -- where the levels are no stream, the answer is a refusal
 pub refused_else : (t : Table) (trext : Bool) (result : Result (Unit {0}) LineRefusal) (levels out : List Bool)
@@ -30,11 +31,10 @@ refused_else t trext (Ok done) levels out ok none = absurd (none (out, ok))
 refused_else t trext (Err refusal) levels out ok none = refl
 
 -- a stream with one level inverted is none
-pub flip_is_none : (t : Table) (trext : Bool) (levels given sent : List Bool) (at : ℕ) → RefusesFlips t → levels ≡ given
-    → Streams t trext sent → at < length sent → given ≡ with_level_flipped sent at → ¬ Streams t trext levels
-flip_is_none t trext levels given sent at law is stream within e member =
-    law trext sent at within stream (subst (Streams t trext) (is ∙ e) member)
+pub flip_is_none : (t : Table) (trext : Bool) (levels sent : List Bool) (at : ℕ) → RefusesFlips t
+    → Streams t trext sent → at < length sent → levels ≡ with_level_flipped sent at → ¬ Streams t trext levels
+flip_is_none t trext levels sent at law stream within e member = law trext sent at within stream (subst (Streams t trext) e member)
 
 -- data blocks alone are none
-pub blocks_are_none : (t : Table) (trext : Bool) (levels given : List Bool) (c : Context) (bits : List Bool) → HidesLead t → levels ≡ given → given ≡ blocks t c bits → ¬ Streams t trext levels
-blocks_are_none t trext levels given c bits law is e (sent, f) = law trext c bits (blocks t t.start (sent ++ true ∷ [])) (sym e ∙ sym is ∙ f)
+pub blocks_are_none : (t : Table) (trext : Bool) (levels : List Bool) (c : Context) (bits : List Bool) → HidesLead t → levels ≡ blocks t c bits → ¬ Streams t trext levels
+blocks_are_none t trext levels c bits law e (sent, f) = law trext c bits (blocks t t.start (sent ++ true ∷ [])) (sym e ∙ f)

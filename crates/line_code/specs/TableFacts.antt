@@ -30,6 +30,13 @@ inverse_of None = false
 abbrev pub with_level_flipped : List Bool → ℕ → List Bool
 with_level_flipped levels at = slice_set levels at (inverse_of (slice_get levels at))
 
+-- a table whose blocks have one number of levels and tell the bits apart, so that a stream is that of one list of bits
+pub record CodeTable : Type 0 where
+  pub table : Table
+  pub chips : ℕ
+  pub even : IsEven table chips
+  pub tells : TellsBits table
+
 -- no stream with one level flipped is a stream of the same code and TRext
 abbrev pub RefusesFlips : Table → Type 0
 RefusesFlips t = (trext : Bool) (levels : List Bool) (at : ℕ) → at < length levels → Streams t trext levels → ¬ Streams t trext (with_level_flipped levels at)

@@ -1,5 +1,5 @@
 -- A decoder goes over data symbols.
-use Rattle.std.proofs.Common.{◌≡◌, ℕ, ◌+◌, ◌-◌, ◌≤◌, Bool, Ok, List, [], ◌∷◌, ◌++◌, length, ap, arith, ◌∙◌, length-append}
+use Rattle.std.proofs.Common.{◌≡◌, ℕ, ◌+◌, ◌-◌, Bool, Ok, List, [], ◌∷◌, ◌++◌, length, ap, arith, length-append}
 use Rattle.pie_line.specs.declared.frame.FrameKind.{FrameKind}
 use Rattle.pie_line.specs.declared.frame_state.FrameState.TheVariants.{High}
 use Rattle.pie_line.specs.Pie.{bit_of}
@@ -10,18 +10,19 @@ use Rattle.pie_line.proofs.TakenSymbols.{leads-symbol}
 use Rattle.pie_line.proofs.DecoderStandsFor.{stands-at, standing-so}
 
 -- it goes over those that are taken
-pub goes_over : (old new : EdgesValue) (kind : FrameKind) (before after : List Bool) (intervals rest : List ℕ) → old.standing ≡ Ok (High kind)
-    → new.standing ≡ old.standing → new.count ≡ old.count + (length intervals - length rest) → TakesSymbols kind before after intervals rest
-    → GoesOver old new before after intervals rest
-goes_over old new kind before after intervals rest is same count takes =
-    let more : new.count ≡ old.count + length takes.taken = omega (arith, count, ap length takes.cut, length-append takes.taken rest) in record {
+pub goes_over : (old : EdgesValue) (kind : FrameKind) (before after : List Bool) (intervals rest : List ℕ) → old.standing ≡ Ok (High kind)
+    → TakesSymbols kind before after intervals rest
+    → GoesOver old (record { standing = old.standing; count = old.count + (length intervals - length rest) }) before after intervals rest
+goes_over old kind before after intervals rest is takes =
+    let new : EdgesValue = record { standing = old.standing; count = old.count + (length intervals - length rest) } in
+    let more : new.count ≡ old.count + length takes.taken = omega (arith, ap length takes.cut, length-append takes.taken rest) in record {
       taken = takes.taken;
       cut = takes.cut;
       few = takes.few;
       counted = omega (arith, more);
       stands = λ came stands.
           let at = stands-at old (High kind) before came is stands in
-          standing-so new (High kind) after (came ++ takes.taken) (same ∙ is) (omega (arith, more, at.0, length-append came takes.taken), takes.leads came at.1);
+          standing-so new (High kind) after (came ++ takes.taken) is (omega (arith, more, at.0, length-append came takes.taken), takes.leads came at.1);
     }
 
 -- it takes one

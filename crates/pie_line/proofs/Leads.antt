@@ -41,13 +41,13 @@ leads-stops place bits xs x l s b =
     s.never f.0 a.0 b.0 a.2
 
 -- the interval at which no frame goes on is the bad place
-pub leads-refused : (place : FrameState) (bits : List Bool) (xs : List ℕ) (x count : ℕ) (refusal : PieRefusal) → LeadsToState place bits xs → Stops place x →
-    count ≡ length xs → refusal ≡ refusal_at count x → (at : ℕ) × IsFrameRefusedAt refusal (xs ++ x ∷ []) at
-leads-refused place bits xs x count refusal l s counted named = (
+pub leads-refused : (place : FrameState) (bits : List Bool) (xs : List ℕ) (x : ℕ) (refusal : PieRefusal) → LeadsToState place bits xs → Stops place x →
+    refusal ≡ refusal_at (length xs) x → (at : ℕ) × IsFrameRefusedAt refusal (xs ++ x ∷ []) at
+leads-refused place bits xs x refusal l s named = (
   length xs,
   record {
     bad = bad-last Frames xs x (leads-begins place bits xs l) (leads-stops place bits xs x l s);
-    named = rw get_or-append_seam (rw (← counted) named);
+    named = rw get_or-append_seam named;
   },
 )
 

@@ -29,61 +29,63 @@ symbol-moves header high low h h1 l1 le = record {
 }
 
 -- the first pair after RTcal, where it is no longer than RTcal: the frame has a frame-sync
-pub first-reads : (t r sum : ℕ) → IsTari t → IsRtCal t r → sum ≤ r → (kind : FrameKind) (bits : List Bool) (sums : List ℕ) →
+pub first-reads : (t r sum : ℕ) → IsHeader (FrameSync t r) → sum ≤ r → (kind : FrameKind) (bits : List Bool) (sums : List ℕ) →
     HasSums kind bits (t ∷ r ∷ sum ∷ sums) → (kind ≡ FrameSync t r) × AreSymbols r bits (sum ∷ sums)
-first-reads t r sum it ir le (FrameSync tari rtcal) bits sums f =
+first-reads t r sum header le (FrameSync tari rtcal) bits sums f =
     (rw (f.tari_is, f.rtcal_is) refl, f.symbols)
-first-reads t r sum it ir le (Preamble tari rtcal trcal) bits sums f =
-    absurd (omega (arith, f.trcal_range, it, ir))
+first-reads t r sum header le (Preamble tari rtcal trcal) bits sums f =
+    absurd (omega (arith, f.trcal_range, header.0, header.1))
 
-pub first-symbol : (t r sum : ℕ) → IsTari t → IsRtCal t r → sum ≤ r → (kind : FrameKind) (more : List Bool) (sums : List ℕ) →
-    kind ≡ FrameSync t r → AreSymbols r more sums → HasSums kind (bit_of r sum ∷ more) (t ∷ r ∷ sum ∷ sums)
-first-symbol t r sum it ir le kind more sums is s =
-    subst (λ k. HasSums k (bit_of r sum ∷ more) (t ∷ r ∷ sum ∷ sums)) (sym is) record {
-      tari_is = refl;
-      rtcal_is = refl;
-      tari_range = it;
-      rtcal_range = ir;
-      no_trcal = le;
-      symbols = symbols-more r sum more sums (omega arith) s;
-    }
+pub first-symbol : (t r sum : ℕ) → IsHeader (FrameSync t r) → sum ≤ r → (more : List Bool) (sums : List ℕ) → AreSymbols r more sums →
+    HasSums (FrameSync t r) (bit_of r sum ∷ more) (t ∷ r ∷ sum ∷ sums)
+first-symbol t r sum header le more sums s = record {
+  tari_is = refl;
+  rtcal_is = refl;
+  tari_range = header.0;
+  rtcal_range = header.1;
+  no_trcal = le;
+  symbols = symbols-more r sum more sums (omega arith) s;
+}
 
 pub first-moves : (t r high low : ℕ) → IsTari t → IsRtCal t r → 1 ≤ high → 1 ≤ low → high + low ≤ r →
     Moves (FirstLow t r high) low (High (FrameSync t r)) (Some (bit_of r (high + low)))
 first-moves t r high low it ir h1 l1 le = record {
   sound = (it, ir);
-  only = λ kind bits rest c. let f = first-reads t r (high + low) it ir le kind bits (pair_sums rest) c.1 in
+  only = λ kind bits rest c. let f = first-reads t r (high + low) (it, ir) le kind bits (pair_sums rest) c.1 in
       let s = symbols-rest r (high + low) bits (pair_sums rest) f.1 in
       (s.0, s.1, (f.0, c.0.2, s.2));
-  back = λ kind more rest c. ((h1, l1, c.1), first-symbol t r (high + low) it ir le kind more (pair_sums rest) c.0 c.2);
+  back = λ kind more rest c.
+      let read = first-symbol t r (high + low) (it, ir) le more (pair_sums rest) c.2 in
+      ((h1, l1, c.1), subst (λ k. HasSums k (bit_of r (high + low) ∷ more) (t ∷ r ∷ (high + low) ∷ pair_sums rest)) (sym c.0) read);
 }
 
 -- the first pair after RTcal, where it is TRcal: the frame has a preamble
-preamble-reads : (t r c : ℕ) → IsTari t → IsRtCal t r → IsTrCal r c → (kind : FrameKind) (bits : List Bool) (sums : List ℕ) →
+preamble-reads : (t r c : ℕ) → IsHeader (Preamble t r c) → (kind : FrameKind) (bits : List Bool) (sums : List ℕ) →
     HasSums kind bits (t ∷ r ∷ c ∷ sums) → (kind ≡ Preamble t r c) × AreSymbols r bits sums
-preamble-reads t r c it ir ic (FrameSync tari rtcal) bits sums f =
-    absurd (omega (arith, f.no_trcal, it, ir, ic))
-preamble-reads t r c it ir ic (Preamble tari rtcal trcal) bits sums f =
+preamble-reads t r c header (FrameSync tari rtcal) bits sums f =
+    absurd (omega (arith, f.no_trcal, header.0, header.1, header.2))
+preamble-reads t r c header (Preamble tari rtcal trcal) bits sums f =
     (rw (f.tari_is, f.rtcal_is, f.trcal_is) refl, f.symbols)
 
-preamble-more : (t r c : ℕ) → IsTari t → IsRtCal t r → IsTrCal r c → (kind : FrameKind) (bits : List Bool) (sums : List ℕ) →
-    kind ≡ Preamble t r c → AreSymbols r bits sums → HasSums kind bits (t ∷ r ∷ c ∷ sums)
-preamble-more t r c it ir ic kind bits sums is s =
-    subst (λ k. HasSums k bits (t ∷ r ∷ c ∷ sums)) (sym is) record {
-      tari_is = refl;
-      rtcal_is = refl;
-      trcal_is = refl;
-      tari_range = it;
-      rtcal_range = ir;
-      trcal_range = ic;
-      symbols = s;
-    }
+preamble-more : (t r c : ℕ) → IsHeader (Preamble t r c) → (bits : List Bool) (sums : List ℕ) → AreSymbols r bits sums →
+    HasSums (Preamble t r c) bits (t ∷ r ∷ c ∷ sums)
+preamble-more t r c header bits sums s = record {
+  tari_is = refl;
+  rtcal_is = refl;
+  trcal_is = refl;
+  tari_range = header.0;
+  rtcal_range = header.1;
+  trcal_range = header.2;
+  symbols = s;
+}
 
 pub preamble-moves : (t r high low : ℕ) → IsTari t → IsRtCal t r → 1 ≤ high → 1 ≤ low → IsTrCal r (high + low) →
     Moves (FirstLow t r high) low (High (Preamble t r (high + low))) None
 preamble-moves t r high low it ir h1 l1 ic = record {
   sound = (it, ir, ic);
-  only = λ kind bits rest c. let f = preamble-reads t r (high + low) it ir ic kind bits (pair_sums rest) c.1 in
+  only = λ kind bits rest c. let f = preamble-reads t r (high + low) (it, ir, ic) kind bits (pair_sums rest) c.1 in
       (bits, refl, (f.0, c.0.2, f.1));
-  back = λ kind more rest c. ((h1, l1, c.1), preamble-more t r (high + low) it ir ic kind more (pair_sums rest) c.0 c.2);
+  back = λ kind more rest c.
+      let read = preamble-more t r (high + low) (it, ir, ic) more (pair_sums rest) c.2 in
+      ((h1, l1, c.1), subst (λ k. HasSums k more (t ∷ r ∷ (high + low) ∷ pair_sums rest)) (sym c.0) read);
 }

@@ -43,10 +43,10 @@ takes_none kind bits intervals = record {
 }
 
 -- one symbol more is taken
-pub takes_more : (kind : FrameKind) (before after after' : List Bool) (intervals rest : List ℕ) → 2 ≤ length rest
-    → IsDataSymbol (rtcal_of kind) (get_or rest 0 0) (get_or rest 1 0) → after' ≡ after ++ bit_of (rtcal_of kind) (get_or rest 0 0 + get_or rest 1 0) ∷ []
-    → TakesSymbols kind before after intervals rest → TakesSymbols kind before after' intervals (take (length rest - 2) (drop 2 rest))
-takes_more kind before after after' intervals rest two symbol read so_far =
+pub takes_more : (kind : FrameKind) (before after : List Bool) (intervals rest : List ℕ) → 2 ≤ length rest
+    → IsDataSymbol (rtcal_of kind) (get_or rest 0 0) (get_or rest 1 0) → TakesSymbols kind before after intervals rest
+    → TakesSymbols kind before (after ++ bit_of (rtcal_of kind) (get_or rest 0 0 + get_or rest 1 0) ∷ []) intervals (take (length rest - 2) (drop 2 rest))
+takes_more kind before after intervals rest two symbol so_far =
     let high = get_or rest 0 0 in
     let low = get_or rest 1 0 in
     let pair = high ∷ low ∷ [] in
@@ -54,15 +54,14 @@ takes_more kind before after after' intervals rest two symbol read so_far =
     let bit = bit_of (rtcal_of kind) (high + low) in record {
       taken = so_far.taken ++ pair;
       cut = so_far.cut ∙ ap (λ (list : List ℕ). so_far.taken ++ list) (behind_two rest two) ∙ sym (append_assoc so_far.taken pair behind);
-      few = omega (arith, so_far.few, ap length read, length-append after (bit ∷ []), length-append so_far.taken pair);
+      few = omega (arith, so_far.few, length-append after (bit ∷ []), length-append so_far.taken pair);
       leads = λ came leads.
           let more = leads-symbol kind after (came ++ so_far.taken) high low symbol (so_far.leads came leads) in
-          subst (λ all. LeadsToState (High kind) all (came ++ (so_far.taken ++ pair))) (sym read)
-          (subst (λ ys. LeadsToState (High kind) (after ++ bit ∷ []) ys) (append_assoc came so_far.taken pair) more);
+          subst (λ ys. LeadsToState (High kind) (after ++ bit ∷ []) ys) (append_assoc came so_far.taken pair) more;
     }
 
 -- there is room for one more bit
-pub room_left : (kind : FrameKind) (before after : List Bool) (intervals rest : List ℕ) (capacity capacity' : ℕ) → 2 ≤ length rest
-    → length before + length intervals ≤ capacity → capacity' ≡ capacity → TakesSymbols kind before after intervals rest → length after < capacity'
-room_left kind before after intervals rest capacity capacity' two room same so_far =
-    omega (arith, two, room, same, so_far.few, ap length so_far.cut, length-append so_far.taken rest)
+pub room_left : (kind : FrameKind) (before after : List Bool) (intervals rest : List ℕ) (capacity : ℕ) → 2 ≤ length rest
+    → length before + length intervals ≤ capacity → TakesSymbols kind before after intervals rest → length after < capacity
+room_left kind before after intervals rest capacity two room so_far =
+    omega (arith, two, room, so_far.few, ap length so_far.cut, length-append so_far.taken rest)

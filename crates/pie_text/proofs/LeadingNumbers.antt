@@ -80,30 +80,35 @@ stands_inside text i end before within no_space ends =
           ]
     ]
 
-pub no_digit_here : (most i end : ℕ) (text : List ℕ) → most < 2 ^ 32 → i < length text → AllDigits 10 (take i text) → get_or text i 0 ≢ 32
-    → is_ascii_digit (get_or text i 0) ≡ false → IsFieldEnd text end → IsNumber most (take end text) → ⊥
-no_digit_here most i end text small within digits no_space is ends number =
-    let before = digits_before text i end (omega (arith, within)) digits ends in
-    let inside = stands_inside text i end before within no_space ends in
-    let count : length (take end text) ≡ end = length-take-le end text ends.0 in
-    let digit = digit_at (take end text) i (number_digits most (take end text) small number) (omega (arith, count, inside)) in
+-- the first field of the text ends there, and spells a number up to `most`, which has 32 bits
+pub record BeginsWithNumber (most : ℕ) (text : List ℕ) (end : ℕ) : Type 0 where
+  pub small : most < 2 ^ 32
+  pub ends : IsFieldEnd text end
+  pub number : IsNumber most (take end text)
+
+pub no_digit_here : (most i end : ℕ) (text : List ℕ) → BeginsWithNumber most text end → i < length text → AllDigits 10 (take i text)
+    → get_or text i 0 ≢ 32 → is_ascii_digit (get_or text i 0) ≡ false → ⊥
+no_digit_here most i end text begins within digits no_space is =
+    let before = digits_before text i end (omega (arith, within)) digits begins.ends in
+    let inside = stands_inside text i end before within no_space begins.ends in
+    let count : length (take end text) ≡ end = length-take-le end text begins.ends.0 in
+    let digit = digit_at (take end text) i (number_digits most (take end text) begins.small begins.number) (omega (arith, count, inside)) in
     let same = front_item text end i inside in
     no_digit (get_or text i 0) is (omega (arith, digit, same)) (omega (arith, digit, same))
 
-pub too_great : (most i end next : ℕ) (text : List ℕ) → most < 2 ^ 32 → i < length text → AllDigits 10 (take (i + 1) text)
-    → next ≡ decimal_value (take (i + 1) text) → most < next → IsFieldEnd text end → IsNumber most (take end text) → ⊥
-too_great most i end next text small within digits value great ends number =
-    let before = digits_before text (i + 1) end (omega (arith, within)) digits ends in
+pub too_great : (most i end : ℕ) (text : List ℕ) → BeginsWithNumber most text end → i < length text → AllDigits 10 (take (i + 1) text)
+    → most < decimal_value (take (i + 1) text) → ⊥
+too_great most i end text begins within digits great =
+    let before = digits_before text (i + 1) end (omega (arith, within)) digits begins.ends in
     let front : decimal_value (take (i + 1) (take end text)) ≤ decimal_value (take end text) = digits_value-take-le 10 (take end text) (i + 1) (omega arith) in
     let same : decimal_value (take (i + 1) (take end text)) ≡ decimal_value (take (i + 1) text) = ap decimal_value (take-take (i + 1) end text before) in
-    omega (arith, front, same, value, great, number.within)
+    omega (arith, front, same, great, begins.number.within)
 
 -- behind the last digit stands the end of the field
-pub same_end : (most i end : ℕ) (text : List ℕ) → most < 2 ^ 32 → AllDigits 10 (take i text) → IsFieldEnd text i → IsFieldEnd text end
-    → IsNumber most (take end text) → end ≡ i
-same_end most i end text small digits stands ends number =
-    let before = digits_before text i end stands.0 digits ends in
-    let behind = digits_before text end i ends.0 (number_digits most (take end text) small number) stands in
+pub same_end : (most i end : ℕ) (text : List ℕ) → BeginsWithNumber most text end → AllDigits 10 (take i text) → IsFieldEnd text i → end ≡ i
+same_end most i end text begins digits stands =
+    let before = digits_before text i end stands.0 digits begins.ends in
+    let behind = digits_before text end i begins.ends.0 (number_digits most (take end text) begins.small begins.number) stands in
     omega (arith, before, behind)
 
 -- a number that begins with 0 is that digit

@@ -1,5 +1,5 @@
 -- Lists of numbers and their fields.
-use Rattle.std.proofs.Common.{◌≡◌, ◌≢◌, ◌↔◌, ◌+◌, ◌-◌, ◌<◌, ◌≤◌, ◌^◌, ℕ, List, [], ◌∷◌, ◌++◌, length, map, All, ap, arith, refl, sym, ◌∙◌, append_assoc}
+use Rattle.std.proofs.Common.{◌≡◌, ◌≢◌, ◌↔◌, ◌+◌, ◌-◌, ◌<◌, ◌≤◌, ◌^◌, ℕ, List, [], ◌∷◌, ◌++◌, length, map, All, ap, arith, refl, sym, ◌∙◌, append_assoc, length-append}
 use Rattle.std.specs.Fmt.{decimal}
 use Rattle.std.proofs.lemmas.Fmt.{decimal_is_IsNumeral}
 use Rattle.std.proofs.lemmas.List.{length-map}
@@ -110,23 +110,43 @@ pub one_spelling : (most_items most : ℕ) (fields : List (List ℕ)) (numbers :
 one_spelling most_items most fields numbers small spells =
     ap (λ (fs : List (List ℕ)). map decimal_value fs) spells.spelling ∙ values_back most numbers small spells.within
 
--- a list that holds the numbers of the fields before these then holds the number of the next field as well
-pub holds_next : (all items items' field : List ℕ) (fields rest : List (List ℕ)) (number : ℕ) → all ≡ items ++ map decimal_value fields
-    → fields ≡ field ∷ rest → number ≡ decimal_value field → items' ≡ items ++ number ∷ [] → all ≡ items' ++ map decimal_value rest
-holds_next all items items' field fields rest number so_far next is pushed =
-    let whole : all ≡ items ++ decimal_value field ∷ map decimal_value rest = so_far ∙ ap (λ (fs : List (List ℕ)). items ++ map decimal_value fs) next in
-    let then : items' ++ map decimal_value rest ≡ items ++ decimal_value field ∷ map decimal_value rest =
-    rw (pushed, is) (append_assoc items (decimal_value field ∷ []) (map decimal_value rest)) in
-    whole ∙ sym then
+-- The list holds the numbers of the fields before `rest`, each of which spells one; there are at most so many.
+pub record HoldsBefore (most_items most : ℕ) (fields rest : List (List ℕ)) (items : List ℕ) : Type 0 where
+  pub count : length fields ≡ length items + length rest
+  pub few : length items ≤ most_items
+  pub values : map decimal_value fields ≡ items ++ map decimal_value rest
+  pub numbers : All (IsNumber most) fields ↔ All (IsNumber most) rest
+  pub filled : All (λ field. field ≢ []) fields ↔ All (λ field. field ≢ []) rest
 
--- where the fields before are numbers, and what is left has one that is none, the fields are refused as what is left is
-pub refused_behind : (most_items most done left : ℕ) (fields rest : List (List ℕ)) (reason : NotNumbers) → most < 2 ^ 32
-    → length fields ≡ done + length rest → done ≤ most_items → 1 ≤ length rest → left ≡ most_items - done
-    → All IsFilled fields ↔ All IsFilled rest → ¬ All (IsNumber most) fields
-    → (reason ≡ Shape → ¬ HasShape left rest) → (reason ≡ Number → HasShape left rest) → RefusesNumbers reason most_items most fields
-refused_behind most_items most done left fields rest Shape small count few some left_is filled none shape number = λ has.
-    shape refl (record { some = some; room = omega (arith, has.room, count, left_is, few); filled = filled.0 has.filled })
-refused_behind most_items most done left fields rest Number small count few some left_is filled none shape number = (
-  let has = number refl in record { some = omega (arith, count, some); room = omega (arith, has.room, count, left_is, few); filled = filled.1 has.filled },
-  λ numbers within spells. none (spelled_numbers most fields numbers small within spells),
+-- one number more
+pub holds_next : (most_items most : ℕ) (fields rest : List (List ℕ)) (field items : List ℕ) → most < 2 ^ 32 → HoldsBefore most_items most fields (field ∷ rest) items
+    → length items < most_items → IsNumber most field → HoldsBefore most_items most fields rest (items ++ decimal_value field ∷ [])
+holds_next most_items most fields rest field items small holds room number =
+    let longer : length (items ++ decimal_value field ∷ []) ≡ length items + 1 = length-append items (decimal_value field ∷ []) in
+    record {
+      count = omega (arith, holds.count, longer);
+      few = omega (arith, longer, room);
+      values = holds.values ∙ sym (append_assoc items (decimal_value field ∷ []) (map decimal_value rest));
+      numbers = (
+        λ all. All-tail (IsNumber most) field rest (holds.numbers.0 all),
+        λ are. holds.numbers.1 (All-cons (IsNumber most) field rest number are),
+      );
+      filled = (
+        λ all. All-tail IsFilled field rest (holds.filled.0 all),
+        λ are. holds.filled.1 (All-cons IsFilled field rest (number_is_filled most field small number) are),
+      );
+    }
+
+-- what is left has its shape where the fields have theirs
+pub shape_behind : (most_items most : ℕ) (fields rest : List (List ℕ)) (items : List ℕ) → HoldsBefore most_items most fields rest items → 1 ≤ length rest
+    → HasShape most_items fields ↔ HasShape (most_items - length items) rest
+shape_behind most_items most fields rest items holds some = (
+  λ has. record { some = some; room = omega (arith, has.room, holds.count); filled = holds.filled.0 has.filled },
+  λ has. record { some = omega (arith, holds.count, some); room = omega (arith, has.room, holds.count, holds.few); filled = holds.filled.1 has.filled },
 )
+
+-- where a field is no number, the fields are refused for the reason that is said of their shape
+pub refused_for : (most_items most : ℕ) (fields : List (List ℕ)) (reason : NotNumbers) → most < 2 ^ 32 → ¬ All (IsNumber most) fields
+    → (reason ≡ Shape → ¬ HasShape most_items fields) → (reason ≡ Number → HasShape most_items fields) → RefusesNumbers reason most_items most fields
+refused_for most_items most fields Shape small none shape number = shape refl
+refused_for most_items most fields Number small none shape number = (number refl, λ numbers within spells. none (spelled_numbers most fields numbers small within spells))

@@ -28,17 +28,24 @@ fault_here : (from : Standing) (first : ℕ) (all : List (List ℕ)) (line : Lis
 fault_here from first all line behind fault cut faulty =
     record { before = []; line = line; behind = behind; standing = from; cut = cut; lead = refl; place = omega arith; faulty = faulty }
 
+-- the first of some lines, which may stand there
+pub record FirstGoes (from : Standing) (all : List (List ℕ)) : Type 0 where
+  pub line : List ℕ
+  pub behind : List (List ℕ)
+  pub cut : all ≡ line ∷ behind
+  pub next : Standing
+  pub goes : GoesTo from line next
+
 -- ... and of one behind it
-fault_behind : (from next : Standing) (first second number : ℕ) (all : List (List ℕ)) (line : List ℕ) (behind : List (List ℕ)) (fault : Fault)
-    → second ≡ first + 1 → all ≡ line ∷ behind → GoesTo from line next → IsFirstFaultFrom next second behind number fault
-    → IsFirstFaultFrom from first all number fault
-fault_behind from next first second number all line behind fault one_more cut goes is = record {
-  before = line ∷ is.before;
+fault_behind : (from : Standing) (first second number : ℕ) (all : List (List ℕ)) (fault : Fault) (goes : FirstGoes from all) → second ≡ first + 1
+    → IsFirstFaultFrom goes.next second goes.behind number fault → IsFirstFaultFrom from first all number fault
+fault_behind from first second number all fault goes one_more is = record {
+  before = goes.line ∷ is.before;
   line = is.line;
   behind = is.behind;
   standing = is.standing;
-  cut = cut ∙ ap (λ (more : List (List ℕ)). line ∷ more) is.cut;
-  lead = (next, goes, is.lead);
+  cut = goes.cut ∙ ap (λ (more : List (List ℕ)). goes.line ∷ more) is.cut;
+  lead = (goes.next, goes.goes, is.lead);
   place = omega (arith, is.place, one_more);
   faulty = is.faulty;
 }
@@ -61,17 +68,30 @@ pub record HasReadTo (all left : List (List ℕ)) (count : ℕ) : Type 0 where
   pub faults : (number : ℕ) (fault : Fault) → IsFirstFaultFrom (within count) (3 + count) left number fault → IsFirstFaultFrom (within 0) 3 all number fault
   pub says : (said : List Stimulus) → SayStimuli left said → count + length said ≤ most_stimuli → (whole : List Stimulus) × AreStimuli all whole
 
+-- the first of some lines, which says what is done to the tag
+pub record FirstStimulus (left : List (List ℕ)) : Type 0 where
+  pub line : List ℕ
+  pub behind : List (List ℕ)
+  pub cut : left ≡ line ∷ behind
+  pub stimulus : Stimulus
+  pub spells : SpellsProbeLine (fields_of line) (lines.Stimulus stimulus)
+
 -- one line more
-pub one_read : (all left : List (List ℕ)) (line : List ℕ) (behind : List (List ℕ)) (count : ℕ) (stimulus : Stimulus) → HasReadTo all left count → left ≡ line ∷ behind
-    → SpellsProbeLine (fields_of line) (lines.Stimulus stimulus) → count < most_stimuli → HasReadTo all behind (count + 1)
-one_read all left line behind count stimulus so_far cut spells room = record {
+pub one_read : (all left : List (List ℕ)) (count : ℕ) (next : FirstStimulus left) → HasReadTo all left count → count < most_stimuli → HasReadTo all next.behind (count + 1)
+one_read all left count next so_far room = record {
   few = omega arith;
   faults = λ number fault is.
       so_far.faults number fault
-      (fault_behind (within count) (within (count + 1)) (3 + count) (3 + (count + 1)) number left line behind fault (omega arith) cut
-      (record { says = lines.Stimulus stimulus; spells = spells; room = room; leads = refl }) is);
+      (fault_behind (within count) (3 + count) (3 + (count + 1)) number left fault
+      (record {
+        line = next.line;
+        behind = next.behind;
+        cut = next.cut;
+        next = within (count + 1);
+        goes = record { says = lines.Stimulus next.stimulus; spells = next.spells; room = room; leads = refl };
+      }) (omega arith) is);
   says = λ said say few.
-      so_far.says (stimulus ∷ said) (subst (λ (list : List (List ℕ)). SayStimuli list (stimulus ∷ said)) (sym cut) (spells, say)) (omega arith);
+      so_far.says (next.stimulus ∷ said) (subst (λ (list : List (List ℕ)). SayStimuli list (next.stimulus ∷ said)) (sym next.cut) (next.spells, say)) (omega arith);
 }
 
 -- a line is missing, or has no line feed
@@ -96,8 +116,8 @@ pub line_extra : (all left : List (List ℕ)) (line behind : List ℕ) (count : 
     → SpellsProbeLine (fields_of line) lines.End → behind ≢ [] → IsFirstFaultFrom (within 0) 3 all (3 + (count + 1)) Extra
 line_extra all left line behind count so_far cut spells some =
     so_far.faults (3 + (count + 1)) Extra
-    (fault_behind (within count) ended (3 + count) (3 + (count + 1)) (3 + (count + 1)) left line (lines_of behind) Extra (omega arith) cut
-    (record { says = lines.End; spells = spells; room = tt; leads = refl })
+    (fault_behind (within count) (3 + count) (3 + (count + 1)) (3 + (count + 1)) left Extra
+    (record { line = line; behind = lines_of behind; cut = cut; next = ended; goes = record { says = lines.End; spells = spells; room = tt; leads = refl } }) (omega arith)
     (extra_at (lines_of behind) (3 + (count + 1)) (some_lines behind) (λ same. some (nothing_left behind same))))
 
 -- the end stands last
@@ -115,30 +135,51 @@ pub first_faulty : (text line behind : List ℕ) → lines_of text ≡ line ∷ 
 first_faulty text line behind cut other =
     fault_here start 1 (lines_of text) line (lines_of behind) Version cut (before_some start line (lines_of behind) Version (some_lines behind) (λ same. cc) (refl, other))
 
-second_fault : (text line behind : List ℕ) (number : ℕ) (fault : Fault) → lines_of text ≡ line ∷ lines_of behind → line ≡ version_line
-    → IsFirstFaultFrom begun 2 (lines_of behind) number fault → IsFirstFault text number fault
-second_fault text line behind number fault cut version is =
-    fault_behind start begun 1 2 number (lines_of text) line (lines_of behind) fault (omega arith) cut (version, refl) is
+-- the first line is the version
+pub record IsBegun (text : List ℕ) : Type 0 where
+  pub line : List ℕ
+  pub behind : List ℕ
+  pub cut : lines_of text ≡ line ∷ lines_of behind
+  pub version : line ≡ version_line
 
-pub second_wanted : (text line behind : List ℕ) → lines_of text ≡ line ∷ lines_of behind → line ≡ version_line → lines_of behind ≡ behind ∷ [] → IsFirstFault text 2 End
-second_wanted text line behind cut version last = second_fault text line behind 2 End cut version (fault_here begun 2 (lines_of behind) behind [] End last refl)
+second_fault : (text : List ℕ) (first : IsBegun text) (number : ℕ) (fault : Fault) → IsFirstFaultFrom begun 2 (lines_of first.behind) number fault → IsFirstFault text number fault
+second_fault text first number fault is =
+    fault_behind start 1 2 number (lines_of text) fault
+    (record { line = first.line; behind = lines_of first.behind; cut = first.cut; next = begun; goes = (first.version, refl) }) (omega arith) is
 
-pub second_faulty : (text line behind tag_line more : List ℕ) (fault : Fault) → lines_of text ≡ line ∷ lines_of behind → line ≡ version_line
-    → lines_of behind ≡ tag_line ∷ lines_of more → IsFaultyHere begun tag_line fault → IsFirstFault text 2 fault
-second_faulty text line behind tag_line more fault cut version next faulty =
-    second_fault text line behind 2 fault cut version
-    (fault_here begun 2 (lines_of behind) tag_line (lines_of more) fault next (before_some begun tag_line (lines_of more) fault (some_lines more) (λ same. cc) faulty))
+pub second_wanted : (text : List ℕ) (first : IsBegun text) → lines_of first.behind ≡ first.behind ∷ [] → IsFirstFault text 2 End
+second_wanted text first last = second_fault text first 2 End (fault_here begun 2 (lines_of first.behind) first.behind [] End last refl)
 
-pub later_faulty : (text line behind tag_line more : List ℕ) (tag : TagSpec) (number : ℕ) (fault : Fault) → lines_of text ≡ line ∷ lines_of behind → line ≡ version_line
-    → lines_of behind ≡ tag_line ∷ lines_of more → SpellsTag (fields_of tag_line) tag → IsFirstFaultFrom (within 0) 3 (lines_of more) number fault → IsFirstFault text number fault
-later_faulty text line behind tag_line more tag number fault cut version next spells is =
-    second_fault text line behind number fault cut version
-    (fault_behind begun (within 0) 2 3 number (lines_of behind) tag_line (lines_of more) fault (omega arith) next (record { tag = tag; spells = spells; leads = refl }) is)
+-- ... and a second line stands behind it
+pub record HasSecond (text : List ℕ) : Type 0 where
+  pub first : IsBegun text
+  pub tag_line : List ℕ
+  pub more : List ℕ
+  pub next : lines_of first.behind ≡ tag_line ∷ lines_of more
+
+pub second_faulty : (text : List ℕ) (second : HasSecond text) (fault : Fault) → IsFaultyHere begun second.tag_line fault → IsFirstFault text 2 fault
+second_faulty text second fault faulty =
+    second_fault text second.first 2 fault
+    (fault_here begun 2 (lines_of second.first.behind) second.tag_line (lines_of second.more) fault second.next
+    (before_some begun second.tag_line (lines_of second.more) fault (some_lines second.more) (λ same. cc) faulty))
+
+pub later_faulty : (text : List ℕ) (second : HasSecond text) (tag : TagSpec) (number : ℕ) (fault : Fault) → SpellsTag (fields_of second.tag_line) tag
+    → IsFirstFaultFrom (within 0) 3 (lines_of second.more) number fault → IsFirstFault text number fault
+later_faulty text second tag number fault spells is =
+    second_fault text second.first number fault
+    (fault_behind begun 2 3 number (lines_of second.first.behind) fault
+    (record {
+      line = second.tag_line;
+      behind = lines_of second.more;
+      cut = second.next;
+      next = within 0;
+      goes = record { tag = tag; spells = spells; leads = refl };
+    }) (omega arith) is)
 
 -- ... and where nothing is, these are the lines of a probe
-pub probe_cut : (text line behind tag_line more : List ℕ) → lines_of text ≡ line ∷ lines_of behind → line ≡ version_line → lines_of behind ≡ tag_line ∷ lines_of more
-    → lines_of text ≡ version_line ∷ tag_line ∷ lines_of more
-probe_cut text line behind tag_line more cut version next = cut ∙ ap₂ (λ (first : List ℕ) (rest : List (List ℕ)). first ∷ rest) version next
+pub probe_cut : (text : List ℕ) (second : HasSecond text) → lines_of text ≡ version_line ∷ second.tag_line ∷ lines_of second.more
+probe_cut text second =
+    second.first.cut ∙ ap₂ (λ (first : List ℕ) (rest : List (List ℕ)). first ∷ rest) second.first.version second.next
 
 -- What the first line that is left says is done to the tag is the first that is done to it.
 first_of : LineLaws → (line : List ℕ) (behind : List (List ℕ)) (stimulus : Stimulus) (said : List Stimulus)
@@ -151,17 +192,17 @@ first_of laws line behind stimulus (next ∷ rest) spells say =
     let same = laws.told (fields_of line) (lines.Stimulus stimulus) (lines.Stimulus next) spells say.0 in
     (rest, cc, say.1)
 
-pub first_left : LineLaws → (left : List (List ℕ)) (line : List ℕ) (behind : List (List ℕ)) (stimulus : Stimulus) (said : List Stimulus) → left ≡ line ∷ behind
-    → SpellsProbeLine (fields_of line) (lines.Stimulus stimulus) → SayStimuli left said → (rest : List Stimulus) × (said ≡ stimulus ∷ rest) × SayStimuli behind rest
-first_left laws left line behind stimulus said cut spells say =
-    first_of laws line behind stimulus said spells (subst (λ (list : List (List ℕ)). SayStimuli list said) cut say)
+pub first_left : LineLaws → (left : List (List ℕ)) (first : FirstStimulus left) (said : List Stimulus) → SayStimuli left said
+    → (rest : List Stimulus) × (said ≡ first.stimulus ∷ rest) × SayStimuli first.behind rest
+first_left laws left first said say =
+    first_of laws first.line first.behind first.stimulus said first.spells (subst (λ (list : List (List ℕ)). SayStimuli list said) first.cut say)
 
 -- ... and what is left behind it is no more
-pub left_behind : LineLaws → (left : List (List ℕ)) (line : List ℕ) (behind : List (List ℕ)) (stimulus : Stimulus) → left ≡ line ∷ behind
-    → SpellsProbeLine (fields_of line) (lines.Stimulus stimulus) → (said : List Stimulus) → AreStimuli left said → (rest : List Stimulus) × AreStimuli behind rest
-left_behind laws left line behind stimulus cut spells said are =
-    let first = first_left laws left line behind stimulus said cut spells are.say in
-    (first.0, record { say = first.2; few = omega (arith, are.few, ap length first.1) })
+pub left_behind : LineLaws → (left : List (List ℕ)) (first : FirstStimulus left) (said : List Stimulus) → AreStimuli left said
+    → (rest : List Stimulus) × AreStimuli first.behind rest
+left_behind laws left first said are =
+    let rest = first_left laws left first said are.say in
+    (rest.0, record { say = rest.2; few = omega (arith, are.few, ap length rest.1) })
 
 -- none of the lines that are left is faulty
 says_something : LineLaws → (line : List ℕ) (behind : List (List ℕ)) (said : List Stimulus) (fault : FieldsFault) → SayStimuli (line ∷ behind) said

@@ -7,6 +7,7 @@ use Rattle.probe_lines.specs.declared.line.ProbeLine.TheVariants as lines
 use Rattle.probe_lines.specs.declared.line.Stimulus.{Stimulus}
 use Rattle.probe_lines.specs.ProbeLine.{SpellsTag, version_line}
 use Rattle.probe_lines.specs.ProbeText.{AreStimuli, GoesTo, IsFaultyBefore, IsFirstFault, IsFirstFaultFrom, IsProbe, Lead, SayStimuli, Standing, begun, ended, most_stimuli, start, within}
+use Rattle.probe_lines.proofs.Checking.{FirstGoes}
 use Rattle.probe_lines.proofs.Walks.{Laws, goes_not_faulty, goes_once, one_reason}
 
 -- a line and those behind it
@@ -27,11 +28,11 @@ pub record IsFaultyAt (from : Standing) (all before : List (List ℕ)) (fault : 
   pub faulty : IsFaultyBefore behind standing line fault
 
 -- where the text goes on here, it is not faulty here
-goes_on : Laws → (from next : Standing) (line line' : List ℕ) (behind more : List (List ℕ)) (fault : Fault) → GoesTo from line next
-    → line' ∷ behind ≡ line ∷ more → more ≢ [] → IsFaultyBefore behind from line' fault → ⊥
-goes_on laws from next line line' behind more fault goes same some faulty =
-    let both = parts line' line behind more same in
-    goes_not_faulty laws from next line' behind fault (subst (λ (l : List ℕ). GoesTo from l next) (sym both.0) goes) (λ none. some (sym both.1 ∙ none)) faulty
+goes_on : Laws → (from : Standing) (line : List ℕ) (behind : List (List ℕ)) (fault : Fault) (goes : FirstGoes from (line ∷ behind)) → goes.behind ≢ []
+    → IsFaultyBefore behind from line fault → ⊥
+goes_on laws from line behind fault goes some faulty =
+    let both = parts line goes.line behind goes.behind goes.cut in
+    goes_not_faulty laws from goes.next line behind fault (subst (λ (l : List ℕ). GoesTo from l goes.next) (sym both.0) goes.goes) (λ none. some (sym both.1 ∙ none)) faulty
 
 -- two places are one, with one reason
 one_place : Laws → (from : Standing) (all before before' : List (List ℕ)) (one other : Fault) → IsFaultyAt from all before one → IsFaultyAt from all before' other
@@ -45,11 +46,13 @@ one_place laws from all [] [] one other at at' =
     (subst (λ (s : Standing). IsFaultyBefore at'.behind s at'.line other) (sym at'.lead ∙ at.lead) at'.faulty)) in
     (refl, one_reason laws at.standing at.line at.behind one other here there)
 one_place laws from all [] (line ∷ before') one other at at' =
-    absurd (goes_on laws from at'.lead.0 line at.line at.behind (before' ++ at'.line ∷ at'.behind) one at'.lead.1 (sym at.cut ∙ at'.cut)
+    absurd (goes_on laws from at.line at.behind one
+    (record { line = line; behind = before' ++ at'.line ∷ at'.behind; cut = sym at.cut ∙ at'.cut; next = at'.lead.0; goes = at'.lead.1 })
     (some_behind before' at'.behind at'.line)
     (subst (λ (s : Standing). IsFaultyBefore at.behind s at.line one) (sym at.lead) at.faulty))
 one_place laws from all (line ∷ before) [] one other at at' =
-    absurd (goes_on laws from at.lead.0 line at'.line at'.behind (before ++ at.line ∷ at.behind) other at.lead.1 (sym at'.cut ∙ at.cut)
+    absurd (goes_on laws from at'.line at'.behind other
+    (record { line = line; behind = before ++ at.line ∷ at.behind; cut = sym at'.cut ∙ at.cut; next = at.lead.0; goes = at.lead.1 })
     (some_behind before at.behind at.line)
     (subst (λ (s : Standing). IsFaultyBefore at'.behind s at'.line other) (sym at'.lead) at'.faulty))
 one_place laws from all (line ∷ before) (line' ∷ before') one other at at' =
@@ -81,7 +84,7 @@ one_fault laws bytes one other fault reason is is' =
 end_not_faulty : Laws → (count : ℕ) (line : List ℕ) (behind before : List (List ℕ)) (fault : Fault) → SayStimuli (line ∷ behind) [] → IsFaultyAt (within count) (line ∷ behind) before fault → ⊥
 end_not_faulty laws count line behind [] fault said at =
     let ends : GoesTo (within count) line ended = record { says = lines.End; spells = said.0; room = tt; leads = refl } in
-    goes_on laws (within count) ended line at.line at.behind behind fault ends (sym at.cut)
+    goes_on laws (within count) at.line at.behind fault (record { line = line; behind = behind; cut = sym at.cut; next = ended; goes = ends })
     (λ none. let same = sym said.1 ∙ none in cc)
     (subst (λ (s : Standing). IsFaultyBefore at.behind s at.line fault) (sym at.lead) at.faulty)
 end_not_faulty laws count line behind (first ∷ []) fault said at =
@@ -110,7 +113,8 @@ stimuli_not_faulty laws count [] said before fault say few at = say
 stimuli_not_faulty laws count (line ∷ behind) [] before fault say few at = end_not_faulty laws count line behind before fault say at
 stimuli_not_faulty laws count (line ∷ behind) (stimulus ∷ said) [] fault say few at =
     let goes : GoesTo (within count) line (within (count + 1)) = record { says = lines.Stimulus stimulus; spells = say.0; room = omega arith; leads = refl } in
-    goes_on laws (within count) (within (count + 1)) line at.line at.behind behind fault goes (sym at.cut) (some_said behind said say.1)
+    goes_on laws (within count) at.line at.behind fault (record { line = line; behind = behind; cut = sym at.cut; next = within (count + 1); goes = goes })
+    (some_said behind said say.1)
     (subst (λ (s : Standing). IsFaultyBefore at.behind s at.line fault) (sym at.lead) at.faulty)
 stimuli_not_faulty laws count (line ∷ behind) (stimulus ∷ said) (first ∷ before) fault say few at =
     let both = parts line first behind (before ++ at.line ∷ at.behind) at.cut in
@@ -129,17 +133,19 @@ stimuli_not_faulty laws count (line ∷ behind) (stimulus ∷ said) (first ∷ b
     })
 
 -- the first two lines, and those behind them
-two_lines_not_faulty : Laws → (tag_line : List ℕ) (behind : List (List ℕ)) (tag : TagSpec) (said : List Stimulus) (before : List (List ℕ)) (fault : Fault)
+two_lines_not_faulty : Laws → (tag_line : List ℕ) (behind : List (List ℕ)) (said : List Stimulus) (before : List (List ℕ)) (fault : Fault)
     → GoesTo begun tag_line (within 0) → AreStimuli behind said → IsFaultyAt start (version_line ∷ tag_line ∷ behind) before fault → ⊥
-two_lines_not_faulty laws tag_line behind tag said [] fault goes are at =
-    goes_on laws start begun version_line at.line at.behind (tag_line ∷ behind) fault (refl, refl) (sym at.cut) (λ none. cc)
+two_lines_not_faulty laws tag_line behind said [] fault goes are at =
+    goes_on laws start at.line at.behind fault
+    (record { line = version_line; behind = tag_line ∷ behind; cut = sym at.cut; next = begun; goes = (refl, refl) }) (λ none. cc)
     (subst (λ (s : Standing). IsFaultyBefore at.behind s at.line fault) (sym at.lead) at.faulty)
-two_lines_not_faulty laws tag_line behind tag said (first ∷ []) fault goes are at =
+two_lines_not_faulty laws tag_line behind said (first ∷ []) fault goes are at =
     let both = parts version_line first (tag_line ∷ behind) (at.line ∷ at.behind) at.cut in
     let there : at.standing ≡ begun = sym at.lead.2 ∙ at.lead.1.1 in
-    goes_on laws begun (within 0) tag_line at.line at.behind behind fault goes (sym both.1) (some_said behind said are.say)
+    goes_on laws begun at.line at.behind fault (record { line = tag_line; behind = behind; cut = sym both.1; next = within 0; goes = goes })
+    (some_said behind said are.say)
     (subst (λ (s : Standing). IsFaultyBefore at.behind s at.line fault) there at.faulty)
-two_lines_not_faulty laws tag_line behind tag said (first ∷ second ∷ before) fault goes are at =
+two_lines_not_faulty laws tag_line behind said (first ∷ second ∷ before) fault goes are at =
     let both = parts version_line first (tag_line ∷ behind) (second ∷ before ++ at.line ∷ at.behind) at.cut in
     let more = parts tag_line second behind (before ++ at.line ∷ at.behind) both.1 in
     let second_goes : GoesTo begun second at.lead.2.0 = subst (λ (s : Standing). GoesTo s second at.lead.2.0) at.lead.1.1 at.lead.2.1 in
@@ -157,7 +163,7 @@ two_lines_not_faulty laws tag_line behind tag said (first ∷ second ∷ before)
 
 pub probe_not_faulty : Laws → (bytes : List ℕ) (tag : TagSpec) (said : List Stimulus) (number : ℕ) (fault : Fault) → IsProbe bytes tag said → IsFirstFault bytes number fault → ⊥
 probe_not_faulty laws bytes tag said number fault is first =
-    two_lines_not_faulty laws is.tag_line is.behind tag said first.before fault (record { tag = tag; spells = is.tag_is; leads = refl }) is.stimuli
+    two_lines_not_faulty laws is.tag_line is.behind said first.before fault (record { tag = tag; spells = is.tag_is; leads = refl }) is.stimuli
     (subst (λ (all : List (List ℕ)). IsFaultyAt start all first.before fault) is.cut (at_of start 1 (lines_of bytes) number fault first))
 
 -- lines say one thing

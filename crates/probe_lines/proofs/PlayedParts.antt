@@ -11,7 +11,7 @@ use Rattle.text_fields.specs.Lines.{text_with}
 use Rattle.probe_lines.specs.declared.effect.Effect.{Effect}
 use Rattle.probe_lines.specs.declared.line.Stimulus.{Stimulus}
 use Rattle.probe_lines.specs.Answers.{HasEffect, first_number, last_text, lines_behind, outcome_of, text_from}
-use Rattle.probe_lines.specs.Played.{AddsFrontOf, HasPlayed, StopsAt, StopsIn, WritesPart}
+use Rattle.probe_lines.specs.Played.{AddsFrontOf, HasPlayed, StopsAt, StopsIn, TellsNext, WritesPart, WritesText}
 use Rattle.probe_lines.specs.ProbeText.{SayStimuli}
 
 -- whatever is done to a tag has an effect
@@ -24,100 +24,115 @@ pub record GoesBy (first : TagValue) (said : List Stimulus) (text : List ℕ) (n
   pub each : AllZip HasEffect said all
   pub told : text_from first_number first all ≡ text ++ text_from number tag effects
 
--- The tag has come so far, the text of that was written, and these lines are left.
-pub record PlayedTo (first : TagValue) (said : List Stimulus) (number : ℕ) (tag : TagValue) (behind : List (List ℕ)) (written written' : Option (List ℕ)) : Type 0 where
-  pub text : List ℕ
-  pub added : Adds written written' text
-  pub left : List Stimulus
-  pub say : SayStimuli behind left
-  pub count : number + length left ≡ first_number + length said
-  pub goes : (effects : List Effect) → AllZip HasEffect left effects → GoesBy first said text number tag effects
+-- what a probe is played over: the tag at first, what is done to it, and what the sink was given before and how many faults it had met
+pub record Beginning : Type 0 where
+  pub first : TagValue
+  pub said : List Stimulus
+  pub written : Option (List ℕ)
+  pub faults : ℕ
 
-pub none_played : (first : TagValue) (said : List Stimulus) (behind : List (List ℕ)) (written : Option (List ℕ)) → SayStimuli behind said
-    → PlayedTo first said first_number first behind written written
-none_played first said behind written say = record {
+-- where the play stands: the number of the next line, the tag, the lines that are left, and what the sink was given
+pub record Place : Type 0 where
+  pub number : ℕ
+  pub tag : TagValue
+  pub left : List (List ℕ)
+  pub written : Option (List ℕ)
+
+-- The tag has come so far, the text of that was written, and these lines are left.
+pub record PlayedTo (begun : Beginning) (to : Place) : Type 0 where
+  pub text : List ℕ
+  pub added : Adds begun.written to.written text
+  pub left : List Stimulus
+  pub say : SayStimuli to.left left
+  pub count : to.number + length left ≡ first_number + length begun.said
+  pub goes : (effects : List Effect) → AllZip HasEffect left effects → GoesBy begun.first begun.said text to.number to.tag effects
+
+pub none_played : (begun : Beginning) (behind : List (List ℕ)) → SayStimuli behind begun.said
+    → PlayedTo begun (record { number = first_number; tag = begun.first; left = behind; written = begun.written })
+none_played begun behind say = record {
   text = [];
-  added = Adds-nothing written;
-  left = said;
+  added = Adds-nothing begun.written;
+  left = begun.said;
   say = say;
   count = refl;
   goes = λ effects each. record { all = effects; each = each; told = refl };
 }
 
--- what comes next is one of those that are left
-pub record Next (stimulus : Stimulus) (behind : List (List ℕ)) (left : List Stimulus) : Type 0 where
+-- what is done next is the first of what is left
+pub record Next (left : List Stimulus) : Type 0 where
+  pub stimulus : Stimulus
+  pub behind : List (List ℕ)
   pub others : List Stimulus
   pub is : left ≡ stimulus ∷ others
   pub say : SayStimuli behind others
 
 -- one effect more
-pub one_played : (first : TagValue) (said : List Stimulus) (number : ℕ) (tag tag' : TagValue) (before behind : List (List ℕ)) (written between after : Option (List ℕ))
-    (stimulus : Stimulus) (effect : Effect) (piece : List ℕ) → (so_far : PlayedTo first said number tag before written between) → Next stimulus behind so_far.left → HasEffect stimulus effect
-    → tag' ≡ (outcome_of effect tag).tag → piece ≡ text_with (lines_behind number effect tag) → Adds between after piece
-    → PlayedTo first said (number + 1) tag' behind written after
-one_played first said number tag tag' before behind written between after stimulus effect piece so_far next has becomes is adds = record {
-  text = so_far.text ++ piece;
-  added = Adds-more written between after so_far.text piece so_far.added adds;
-  left = next.others;
-  say = next.say;
-  count = let count = so_far.count in let length_is = ap length next.is in omega arith;
-  goes = λ effects each.
-      let by = so_far.goes (effect ∷ effects) (subst (λ (list : List Stimulus). AllZip HasEffect list (effect ∷ effects)) (sym next.is) (has, each)) in
-      record {
-        all = by.all;
-        each = by.each;
-        told = by.told ∙ ap (λ (p : List ℕ). so_far.text ++ (p ++ text_from (number + 1) (outcome_of effect tag).tag effects)) (sym is)
-            ∙ ap (λ (t : TagValue). so_far.text ++ (piece ++ text_from (number + 1) t effects)) (sym becomes)
-            ∙ sym (append_assoc so_far.text piece (text_from (number + 1) tag' effects));
-      };
-}
+pub one_played : (begun : Beginning) (from : Place) (tag : TagValue) (after : Option (List ℕ)) (so_far : PlayedTo begun from) (next : Next so_far.left)
+    → TellsNext from.number from.tag next.stimulus tag from.written after
+    → PlayedTo begun (record { number = from.number + 1; tag = tag; left = next.behind; written = after })
+one_played begun from tag after so_far next told =
+    let piece : List ℕ = text_with (lines_behind from.number told.effect from.tag) in
+    record {
+      text = so_far.text ++ piece;
+      added = Adds-more begun.written from.written after so_far.text piece so_far.added told.added;
+      left = next.others;
+      say = next.say;
+      count = let count = so_far.count in let length_is = ap length next.is in omega arith;
+      goes = λ effects each.
+          let by = so_far.goes (told.effect ∷ effects) (subst (λ (list : List Stimulus). AllZip HasEffect list (told.effect ∷ effects)) (sym next.is) (told.has, each)) in
+          record {
+            all = by.all;
+            each = by.each;
+            told = by.told ∙ ap (λ (t : TagValue). so_far.text ++ (piece ++ text_from (from.number + 1) t effects)) (sym told.becomes)
+                ∙ sym (append_assoc so_far.text piece (text_from (from.number + 1) tag effects));
+          };
+    }
 
 -- a part of the text was written, of what comes of the next line or of nothing more
-part_of : (first : TagValue) (said : List Stimulus) (number : ℕ) (tag : TagValue) (before : List (List ℕ)) (written between after : Option (List ℕ)) (front rest : List ℕ)
-    (effects : List Effect) → (so_far : PlayedTo first said number tag before written between) → AllZip HasEffect so_far.left effects
-    → text_from number tag effects ≡ front ++ rest → Adds between after front → WritesPart first said written after
-part_of first said number tag before written between after front rest effects so_far each cut adds =
+part_of : (begun : Beginning) (from : Place) (after : Option (List ℕ)) (effects : List Effect) (so_far : PlayedTo begun from) → AllZip HasEffect so_far.left effects
+    → AddsFrontOf (text_from from.number from.tag effects) from.written after → WritesPart begun.first begun.said begun.written after
+part_of begun from after effects so_far each adds =
     let by = so_far.goes effects each in
     record {
-      front = so_far.text ++ front;
-      rest = rest;
+      front = so_far.text ++ adds.front;
+      rest = adds.rest;
       tells = record {
         effects = by.all;
         each = by.each;
-        told = sym (by.told ∙ ap (λ (t : List ℕ). so_far.text ++ t) cut ∙ sym (append_assoc so_far.text front rest));
+        told = sym (by.told ∙ ap (λ (t : List ℕ). so_far.text ++ t) adds.cut ∙ sym (append_assoc so_far.text adds.front adds.rest));
       };
-      added = Adds-more written between after so_far.text front so_far.added adds;
+      added = Adds-more begun.written from.written after so_far.text adds.front so_far.added adds.added;
     }
 
 -- a part of what comes of the next line was
-pub part_of_next : HaveEffects → (first : TagValue) (said : List Stimulus) (number : ℕ) (tag : TagValue) (before behind : List (List ℕ)) (written between after : Option (List ℕ))
-    (stimulus : Stimulus) (effect : Effect) (piece front rest : List ℕ) → (so_far : PlayedTo first said number tag before written between) → Next stimulus behind so_far.left
-    → HasEffect stimulus effect → piece ≡ text_with (lines_behind number effect tag) → piece ≡ front ++ rest → Adds between after front
-    → WritesPart first said written after
-part_of_next have first said number tag before behind written between after stimulus effect piece front rest so_far next has is cut adds =
+part_of_next : HaveEffects → (begun : Beginning) (from : Place) (after : Option (List ℕ)) (so_far : PlayedTo begun from) (next : Next so_far.left) (effect : Effect)
+    → HasEffect next.stimulus effect → AddsFrontOf (text_with (lines_behind from.number effect from.tag)) from.written after
+    → WritesPart begun.first begun.said begun.written after
+part_of_next have begun from after so_far next effect has adds =
     let others = have next.others in
-    let tail = text_from (number + 1) (outcome_of effect tag).tag others.0 in
-    part_of first said number tag before written between after front (rest ++ tail) (effect ∷ others.0) so_far
+    let tail = text_from (from.number + 1) (outcome_of effect from.tag).tag others.0 in
+    part_of begun from after (effect ∷ others.0) so_far
     (subst (λ (list : List Stimulus). AllZip HasEffect list (effect ∷ others.0)) (sym next.is) (has, others.1))
-    (ap (λ (p : List ℕ). p ++ tail) (sym is ∙ cut) ∙ append_assoc front rest tail) adds
+    (record {
+      front = adds.front;
+      rest = adds.rest ++ tail;
+      cut = ap (λ (p : List ℕ). p ++ tail) adds.cut ∙ append_assoc adds.front adds.rest tail;
+      added = adds.added;
+    })
 
 -- where nothing is left, the text ends with what the tag is
-pub last_part : (first : TagValue) (said : List Stimulus) (number : ℕ) (tag : TagValue) (before : List (List ℕ)) (written between after : Option (List ℕ)) (piece front rest : List ℕ)
-    → (so_far : PlayedTo first said number tag before written between) → so_far.left ≡ [] → piece ≡ text_from number tag [] → piece ≡ front ++ rest → Adds between after front
-    → WritesPart first said written after
-last_part first said number tag before written between after piece front rest so_far none is cut adds =
-    part_of first said number tag before written between after front rest [] so_far
-    (subst (λ (list : List Stimulus). AllZip HasEffect list []) (sym none) tt) (sym is ∙ cut) adds
+last_part : (begun : Beginning) (from : Place) (after : Option (List ℕ)) (so_far : PlayedTo begun from) → so_far.left ≡ []
+    → AddsFrontOf (last_text from.tag) from.written after → WritesPart begun.first begun.said begun.written after
+last_part begun from after so_far none adds = part_of begun from after [] so_far (subst (λ (list : List Stimulus). AllZip HasEffect list []) (sym none) tt) adds
 
-pub all_played : (first : TagValue) (said : List Stimulus) (number : ℕ) (tag : TagValue) (before : List (List ℕ)) (written between after : Option (List ℕ)) (piece : List ℕ)
-    → (faults faults' : ℕ) (done : Unit {0}) → (so_far : PlayedTo first said number tag before written between) → so_far.left ≡ [] → piece ≡ text_from number tag [] → Adds between after piece
-    → HasPlayed first said written after faults faults' (Ok done)
-all_played first said number tag before written between after piece faults faults' done so_far none is adds =
+all_played : (begun : Beginning) (from : Place) (after : Option (List ℕ)) (so_far : PlayedTo begun from) → so_far.left ≡ []
+    → Adds from.written after (last_text from.tag) → WritesText begun.first begun.said begun.written after
+all_played begun from after so_far none adds =
     let by = so_far.goes [] (subst (λ (list : List Stimulus). AllZip HasEffect list []) (sym none) tt) in
     record {
-      text = so_far.text ++ piece;
-      tells = record { effects = by.all; each = by.each; told = sym (by.told ∙ ap (λ (t : List ℕ). so_far.text ++ t) (sym is)) };
-      added = Adds-more written between after so_far.text piece so_far.added adds;
+      text = so_far.text ++ last_text from.tag;
+      tells = record { effects = by.all; each = by.each; told = sym by.told };
+      added = Adds-more begun.written from.written after so_far.text (last_text from.tag) so_far.added adds;
     }
 
 -- a fault that is handed on
@@ -125,70 +140,55 @@ kept : {T : Type 0} (result : Result T PlayFault) (cause : PlayFault) (P : PlayF
 kept (Ok value) cause P is holds = absurd is
 kept (Err fault) cause P is holds = subst P (sym is) holds
 
+pub handed_on : {T : Type 0} (result : Result T PlayFault) (cause : PlayFault) (P : Result T PlayFault → Type 0) → IsErrAnd result (λ fault. fault ≡ cause) → P (Err cause) → P result
+handed_on (Ok value) cause P is holds = absurd is
+handed_on (Err fault) cause P is holds = subst (λ (f : PlayFault). P (Err f)) (sym is) holds
+
 -- where there is no memory, nothing of a text was written
 nothing_of : (text : List ℕ) (written : Option (List ℕ)) → AddsFrontOf text written written
 nothing_of text written = record { front = []; rest = text; cut = refl; added = Adds-nothing written }
 
 pub no_memory : {T : Type 0} (result : Result T PlayFault) (text : List ℕ) (written : Option (List ℕ)) (faults : ℕ) → IsErrAnd result (λ fault. fault ≡ OutOfMemory)
     → IfErr result (StopsIn text written written faults faults)
-no_memory result text written faults is = kept result OutOfMemory (StopsIn text written written faults faults) is (nothing_of text written)
+no_memory result text written faults is = kept result OutOfMemory (StopsIn text written written faults faults) is (refl, nothing_of text written)
 
-pub no_memory_next : {T : Type 0} (result : Result T PlayFault) (number : ℕ) (tag : TagValue) (stimulus : Stimulus) (effect : Effect) (written : Option (List ℕ)) (faults : ℕ)
-    → IsErrAnd result (λ fault. fault ≡ OutOfMemory) → HasEffect stimulus effect → IfErr result (StopsAt number tag stimulus written written faults faults)
-no_memory_next result number tag stimulus effect written faults is has =
+pub no_memory_next : {T : Type 0} (result : Result T PlayFault) (number : ℕ) (tag : TagValue) (stimulus : Stimulus) (written : Option (List ℕ)) (faults : ℕ)
+    → IsErrAnd result (λ fault. fault ≡ OutOfMemory) → (effect : Effect) × HasEffect stimulus effect → IfErr result (StopsAt number tag stimulus written written faults faults)
+no_memory_next result number tag stimulus written faults is some =
     kept result OutOfMemory (StopsAt number tag stimulus written written faults faults) is
-    (record { effect = effect; has = has; stops = nothing_of (text_with (lines_behind number effect tag)) written })
+    (record { effect = some.0; has = some.1; stops = (refl, nothing_of (text_with (lines_behind number some.0 tag)) written) })
 
 -- an end of playing, where what comes next was cut off
-stop_played : HaveEffects → (first : TagValue) (said : List Stimulus) (number : ℕ) (tag : TagValue) (before behind : List (List ℕ)) (written between after : Option (List ℕ))
-    (faults faults' : ℕ) (stimulus : Stimulus) (fault : PlayFault) → (so_far : PlayedTo first said number tag before written between) → Next stimulus behind so_far.left
-    → StopsAt number tag stimulus between after faults faults' fault → HasPlayed first said written after faults faults' (Err fault)
-stop_played have first said number tag before behind written between after faults faults' stimulus Write so_far next stop = (
-  stop.stops.0,
-  part_of_next have first said number tag before behind written between after stimulus stop.effect (text_with (lines_behind number stop.effect tag))
-      stop.stops.1.front stop.stops.1.rest so_far next stop.has refl stop.stops.1.cut stop.stops.1.added,
-)
-stop_played have first said number tag before behind written between after faults faults' stimulus OutOfMemory so_far next stop =
-    part_of_next have first said number tag before behind written between after stimulus stop.effect (text_with (lines_behind number stop.effect tag))
-    stop.stops.front stop.stops.rest so_far next stop.has refl stop.stops.cut stop.stops.added
-
-pub next_stopped : HaveEffects → (result : Result (Unit {0}) PlayFault) (cause : PlayFault) (first : TagValue) (said : List Stimulus) (number : ℕ) (tag : TagValue) (before behind : List (List ℕ))
-    (written between after : Option (List ℕ)) (faults faults' : ℕ) (stimulus : Stimulus) → IsErrAnd result (λ fault. fault ≡ cause)
-    → (so_far : PlayedTo first said number tag before written between) → Next stimulus behind so_far.left → StopsAt number tag stimulus between after faults faults' cause
-    → HasPlayed first said written after faults faults' result
-next_stopped have (Ok done) cause first said number tag before behind written between after faults faults' stimulus is so_far next stop = absurd is
-next_stopped have (Err fault) cause first said number tag before behind written between after faults faults' stimulus is so_far next stop =
-    subst (λ (f : PlayFault). HasPlayed first said written after faults faults' (Err f)) (sym is)
-    (stop_played have first said number tag before behind written between after faults faults' stimulus cause so_far next stop)
+pub stop_played : HaveEffects → (begun : Beginning) (from : Place) (after : Option (List ℕ)) (faults : ℕ) (fault : PlayFault) (so_far : PlayedTo begun from) (next : Next so_far.left)
+    → StopsAt from.number from.tag next.stimulus from.written after begun.faults faults fault → HasPlayed begun.first begun.said begun.written after begun.faults faults (Err fault)
+stop_played have begun from after faults Write so_far next stop =
+    (stop.stops.0, part_of_next have begun from after so_far next stop.effect stop.has stop.stops.1)
+stop_played have begun from after faults OutOfMemory so_far next stop =
+    (stop.stops.0, part_of_next have begun from after so_far next stop.effect stop.has stop.stops.1)
 
 -- ... or what the tag is in the end was told, or cut off
-last_stop : (first : TagValue) (said : List Stimulus) (number : ℕ) (tag : TagValue) (before : List (List ℕ)) (written between after : Option (List ℕ)) (faults faults' : ℕ)
-    (fault : PlayFault) → (so_far : PlayedTo first said number tag before written between) → so_far.left ≡ []
-    → StopsIn (last_text tag) between after faults faults' fault → HasPlayed first said written after faults faults' (Err fault)
-last_stop first said number tag before written between after faults faults' Write so_far none stop =
-    (stop.0, last_part first said number tag before written between after (last_text tag) stop.1.front stop.1.rest so_far none refl stop.1.cut stop.1.added)
-last_stop first said number tag before written between after faults faults' OutOfMemory so_far none stop =
-    last_part first said number tag before written between after (last_text tag) stop.front stop.rest so_far none refl stop.cut stop.added
+last_stop : (begun : Beginning) (from : Place) (after : Option (List ℕ)) (faults : ℕ) (fault : PlayFault) (so_far : PlayedTo begun from) → so_far.left ≡ []
+    → StopsIn (last_text from.tag) from.written after begun.faults faults fault → HasPlayed begun.first begun.said begun.written after begun.faults faults (Err fault)
+last_stop begun from after faults Write so_far none stop = (stop.0, last_part begun from after so_far none stop.1)
+last_stop begun from after faults OutOfMemory so_far none stop = (stop.0, last_part begun from after so_far none stop.1)
 
-pub last_told : (result : Result (Unit {0}) PlayFault) (first : TagValue) (said : List Stimulus) (number : ℕ) (tag : TagValue) (before : List (List ℕ)) (written between after : Option (List ℕ))
-    (faults faults' : ℕ) → (so_far : PlayedTo first said number tag before written between) → so_far.left ≡ []
-    → OnOk result (Adds between after (last_text tag)) → IfErr result (StopsIn (last_text tag) between after faults faults')
-    → HasPlayed first said written after faults faults' result
-last_told (Ok done) first said number tag before written between after faults faults' so_far none ok failed =
-    all_played first said number tag before written between after (last_text tag) faults faults' done so_far none refl ok
-last_told (Err fault) first said number tag before written between after faults faults' so_far none ok failed =
-    last_stop first said number tag before written between after faults faults' fault so_far none failed
+pub last_told : (result : Result (Unit {0}) PlayFault) (begun : Beginning) (from : Place) (after : Option (List ℕ)) (faults : ℕ) (so_far : PlayedTo begun from) → so_far.left ≡ []
+    → OnOk result (Adds from.written after (last_text from.tag)) → IfErr result (StopsIn (last_text from.tag) from.written after begun.faults faults)
+    → HasPlayed begun.first begun.said begun.written after begun.faults faults result
+last_told (Ok done) begun from after faults so_far none ok failed = all_played begun from after so_far none ok
+last_told (Err fault) begun from after faults so_far none ok failed = last_stop begun from after faults fault so_far none failed
 
 -- nothing at all was written
 pub nothing_played : HaveEffects → (result : Result (Unit {0}) PlayFault) (first : TagValue) (said : List Stimulus) (written : Option (List ℕ)) (faults : ℕ)
     → IsErrAnd result (λ fault. fault ≡ OutOfMemory) → HasPlayed first said written written faults faults result
-nothing_played have (Ok done) first said written faults is = absurd is
-nothing_played have (Err fault) first said written faults is =
+nothing_played have result first said written faults is =
     let effects = have said in
-    subst (λ (f : PlayFault). HasPlayed first said written written faults faults (Err f)) (sym is)
-    (record {
-      front = [];
-      rest = text_from first_number first effects.0;
-      tells = record { effects = effects.0; each = effects.1; told = refl };
-      added = Adds-nothing written;
-    })
+    handed_on result OutOfMemory (HasPlayed first said written written faults faults) is (
+      refl,
+      record {
+        front = [];
+        rest = text_from first_number first effects.0;
+        tells = record { effects = effects.0; each = effects.1; told = refl };
+        added = Adds-nothing written;
+      },
+    )

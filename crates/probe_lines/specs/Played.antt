@@ -29,10 +29,10 @@ pub record AddsFrontOf (text : List ℕ) (written written' : Option (List ℕ)) 
   pub cut : text ≡ front ++ rest
   pub added : Adds written written' front
 
--- ... where a write failed, or there was no memory
+-- ... where a write failed; or there was no memory, and none failed
 abbrev pub StopsIn : List ℕ → (written written' : Option (List ℕ)) → (faults faults' : ℕ) → PlayFault → Type 0
 StopsIn text written written' faults faults' Write = FaultsRose faults faults' × AddsFrontOf text written written'
-StopsIn text written written' faults faults' OutOfMemory = AddsFrontOf text written written'
+StopsIn text written written' faults faults' OutOfMemory = (faults' ≡ faults) × AddsFrontOf text written written'
 
 -- what comes of what is done next was written, and the tag is this behind it
 pub record TellsNext (number : ℕ) (tag : TagValue) (stimulus : Stimulus) (tag' : TagValue) (written written' : Option (List ℕ)) : Type 0 where
@@ -51,4 +51,4 @@ pub record StopsAt (number : ℕ) (tag : TagValue) (stimulus : Stimulus) (writte
 abbrev pub HasPlayed : TagValue → List Stimulus → (written written' : Option (List ℕ)) → (faults faults' : ℕ) → Result (Unit {0}) PlayFault → Type 0
 HasPlayed tag said written written' faults faults' (Ok done) = WritesText tag said written written'
 HasPlayed tag said written written' faults faults' (Err Write) = FaultsRose faults faults' × WritesPart tag said written written'
-HasPlayed tag said written written' faults faults' (Err OutOfMemory) = WritesPart tag said written written'
+HasPlayed tag said written written' faults faults' (Err OutOfMemory) = (faults' ≡ faults) × WritesPart tag said written written'

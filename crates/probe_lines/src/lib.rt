@@ -4,7 +4,6 @@
 
 mod effect;
 mod events;
-mod expectation;
 mod fault;
 mod laws;
 mod line;

@@ -15,13 +15,13 @@ ghost use Rattle.probe_lines.specs.ProbeLine.{IsProbeLine};
 ghost use Rattle.probe_lines.specs.ProbeText.{AreStimuli};
 
 use crate::effect::{Effect, effect_of};
-use crate::expectation::{expectation_of, has_half};
 use crate::laws::stimuli_have_one_effect;
 use crate::line::Stimulus;
 use crate::printing::{push_answer_line, push_silence, push_state_line};
 use crate::probe::Probe;
 use crate::stimuli::{FIRST_NUMBER, Stimuli};
 use air_io::{Sink, write_all};
+use answer_reading::{expectation_of, has_half};
 use bit_strings::{Bits, OutOfMemory};
 use command_grammar::Command;
 use report_lines::{PlayFault, push_done_line, push_tag_line};

@@ -9,7 +9,7 @@ ghost use Rattle.tag_machine.specs.Hearing.{tag_value_of};
 ghost use Rattle.probe_lines.specs.Answers.{answer_line, cover_word, half_word, number_fields, password_word, state_line};
 ghost use Rattle.probe_lines.specs.Heard.{IsAnswered};
 
-use crate::expectation::reply_of;
+use answer_reading::reply_of;
 use bit_strings::{Bits, OutOfMemory};
 use reply_grammar::{Expect, Reply};
 use reply_text::push_reply;

@@ -8,6 +8,7 @@ use Rattle.q_round.specs.declared.frame.Frame.{Frame}
 use Rattle.q_round.specs.declared.frame.Outcome.{Outcome}
 use Rattle.q_round.specs.declared.round.Next.TheVariants.{Send, Limit}
 use Rattle.q_round.specs.declared.round.Stage.TheVariants as stages
+use Rattle.q_round.specs.declared.rule.Rule.{Rule}
 use Rattle.q_round.specs.SpecValue.{SpecValue}
 use Rattle.q_round.specs.Rounds.{goes_up, goes_down, Turn, adjust, rep, limit, turn_of, frame_of, is_over, slots_of}
 use Rattle.q_round.specs.laws.SlotLaws.{slots-underway}
@@ -70,84 +71,90 @@ pub underway : (round : RoundValue) (spec : SpecValue) (outcomes : List Outcome)
     round.stage ≡ stages.Underway frame → IsFrameOf frame spec outcomes
 underway round spec outcomes frame s is = subst (λ stage. IsStageOf stage spec outcomes) is s.stage
 
--- the frame with one more outcome, by the rule of the parameters
-next-is : (round : RoundValue) (spec : SpecValue) (outcome : Outcome) (frame next : Frame) → round.spec ≡ spec →
-    next ≡ frame_after_outcome round.spec.rule outcome frame → next ≡ frame_after_outcome spec.rule outcome frame
-next-is round spec outcome frame next is value = value ∙ ap (λ parameters. frame_after_outcome parameters.rule outcome frame) is
+-- A round under way was given one more outcome, by which `next` is its frame; the frame doesn't end it, as a whole one of silent slots would.
+pub record Counts (round : RoundValue) (spec : SpecValue) (outcomes : List Outcome) (outcome : Outcome) (next : Frame) : Type 0 where
+  pub frame : Frame
+  pub rule : Rule
+  pub stands : RoundStandsFor round spec outcomes
+  pub on : is_over spec outcomes ≡ false
+  pub underway_is : round.stage ≡ stages.Underway frame
+  pub rule_is : rule ≡ round.spec.rule
+  pub next_is : next ≡ frame_after_outcome rule outcome frame
+  pub not_quiet : (next.slots == 2 ^ next.q && next.silent) ≡ false
 
--- the round ends at its limit
-pub stands-limit : (round : RoundValue) (spec : SpecValue) (outcomes : List Outcome) (outcome : Outcome) (frame next : Frame) →
-    RoundStandsFor round spec outcomes → is_over spec outcomes ≡ false → round.stage ≡ stages.Underway frame →
-    next ≡ frame_after_outcome round.spec.rule outcome frame → (next.slots == 2 ^ next.q && next.silent) ≡ false → round.slots_sent ≡ round.spec.limit →
-    IsNextAnswer Limit (record { spec = round.spec; stage = stages.Limit; slots_sent = round.slots_sent }) spec (outcome ∷ outcomes)
-stands-limit round spec outcomes outcome frame next s on is value h full =
-    let at = underway round spec outcomes frame s is in
-    let n = next-is round spec outcome frame next s.spec_is value in
-    let after = frame_after_outcome spec.rule outcome frame in
-    let h' = subst (λ (f : Frame). (f.slots == 2 ^ f.q && f.silent) ≡ false) n h in
-    let count : length outcomes + 1 ≡ spec.limit = sym (slots-underway spec outcomes s.outcomes_are on) ∙ sym s.sent ∙ full ∙ ap (λ p. p.limit) s.spec_is in
-    let t : turn_of spec (outcome ∷ outcomes) ≡ limit = turn-is spec outcomes outcome frame at ∙ turn-limit spec (length outcomes + 1) after h' count in
-    record {
-      stands = record {
-        spec_is = s.spec_is;
-        outcomes_are = (on, s.outcomes_are);
-        stage = t;
-        sent = rw (t, add-zero (slots_of spec outcomes)) s.sent;
-      };
-      next = λ link. rw t;
-      over = rw t;
-    }
+module _ (round : RoundValue) (spec : SpecValue) (outcomes : List Outcome) (outcome : Outcome) (next : Frame) (counts : Counts round spec outcomes outcome next) where
+  -- its rule is that of the parameters
+  rule-of : counts.rule ≡ spec.rule
+  rule-of = counts.rule_is ∙ ap (λ p. p.rule) counts.stands.spec_is
 
--- what follows where the round goes on
-goes-on : (round : RoundValue) (spec : SpecValue) (outcomes : List Outcome) (outcome : Outcome) (frame next : Frame) →
-    RoundStandsFor round spec outcomes → is_over spec outcomes ≡ false → round.stage ≡ stages.Underway frame →
-    next ≡ frame_after_outcome round.spec.rule outcome frame → (next.slots == 2 ^ next.q && next.silent) ≡ false → round.slots_sent ≢ round.spec.limit →
-    turn_of spec (outcome ∷ outcomes) ≡ turn_for (change_of round.spec.rule next)
-goes-on round spec outcomes outcome frame next s on is value h other =
-    let at = underway round spec outcomes frame s is in
-    let n = next-is round spec outcome frame next s.spec_is value in
-    let after = frame_after_outcome spec.rule outcome frame in
-    let h' = subst (λ (f : Frame). (f.slots == 2 ^ f.q && f.silent) ≡ false) n h in
-    let count : length outcomes + 1 ≡ round.slots_sent = sym (slots-underway spec outcomes s.outcomes_are on) ∙ sym s.sent in
-    let other' : length outcomes + 1 ≢ spec.limit = λ e. other (sym count ∙ e ∙ sym (ap (λ p. p.limit) s.spec_is)) in
-    turn-is spec outcomes outcome frame at ∙ turn-on spec (length outcomes + 1) after h' other' ∙ ap (λ f. turn_for (change_of spec.rule f)) (sym n) ∙ ap (λ p. turn_for (change_of p.rule next)) (sym s.spec_is)
+  -- the frame before the outcome
+  frame-before : IsFrameOf counts.frame spec outcomes
+  frame-before = underway round spec outcomes counts.frame counts.stands counts.underway_is
 
--- it adjusts Q
-pub stands-adjust : (round : RoundValue) (spec : SpecValue) (outcomes : List Outcome) (outcome : Outcome) (frame next : Frame) (updn : UpDn) →
-    RoundStandsFor round spec outcomes → is_over spec outcomes ≡ false → round.stage ≡ stages.Underway frame →
-    next ≡ frame_after_outcome round.spec.rule outcome frame → (next.slots == 2 ^ next.q && next.silent) ≡ false → round.slots_sent ≢ round.spec.limit → change_of round.spec.rule next ≡ Some updn →
-    IsNextAnswer (Send (QueryAdjust round.spec.session updn)) (record { spec = round.spec; stage = stages.Underway (frame_begun_by updn next); slots_sent = round.slots_sent + 1 }) spec (outcome ∷ outcomes)
-stands-adjust round spec outcomes outcome frame next updn s on is value h other due =
-    let at = underway round spec outcomes frame s is in
-    let n = next-is round spec outcome frame next s.spec_is value in
-    let t : turn_of spec (outcome ∷ outcomes) ≡ adjust updn = goes-on round spec outcomes outcome frame next s on is value h other ∙ ap turn_for due in
-    record {
-      stands = record {
-        spec_is = s.spec_is;
-        outcomes_are = (on, s.outcomes_are);
-        stage = rw n (frame-begun spec outcomes outcome frame updn at t);
-        sent = rw (t, s.sent);
-      };
-      next = λ link. rw (t, s.spec_is);
-      over = rw t;
-    }
+  -- the frame behind it, by the rule of the parameters
+  next-is : next ≡ frame_after_outcome spec.rule outcome counts.frame
+  next-is = counts.next_is ∙ ap (λ rule. frame_after_outcome rule outcome counts.frame) rule-of
 
--- or it goes on in the same frame
-pub stands-rep : (round : RoundValue) (spec : SpecValue) (outcomes : List Outcome) (outcome : Outcome) (frame next : Frame) →
-    RoundStandsFor round spec outcomes → is_over spec outcomes ≡ false → round.stage ≡ stages.Underway frame →
-    next ≡ frame_after_outcome round.spec.rule outcome frame → (next.slots == 2 ^ next.q && next.silent) ≡ false → round.slots_sent ≢ round.spec.limit → change_of round.spec.rule next ≡ None →
-    IsNextAnswer (Send (QueryRep round.spec.session)) (record { spec = round.spec; stage = stages.Underway next; slots_sent = round.slots_sent + 1 }) spec (outcome ∷ outcomes)
-stands-rep round spec outcomes outcome frame next s on is value h other due =
-    let at = underway round spec outcomes frame s is in
-    let n = next-is round spec outcome frame next s.spec_is value in
-    let t : turn_of spec (outcome ∷ outcomes) ≡ rep = goes-on round spec outcomes outcome frame next s on is value h other ∙ ap turn_for due in
-    record {
-      stands = record {
-        spec_is = s.spec_is;
-        outcomes_are = (on, s.outcomes_are);
-        stage = rw n (frame-goes_on spec outcomes outcome frame at t);
-        sent = rw (t, s.sent);
-      };
-      next = λ link. rw (t, s.spec_is);
-      over = rw t;
-    }
+  -- the line of the table, by what the round knows
+  turn-counted : turn_of spec (outcome ∷ outcomes) ≡ turn_at spec round.slots_sent next
+  turn-counted =
+      let sent : length outcomes + 1 ≡ round.slots_sent = sym (slots-underway spec outcomes counts.stands.outcomes_are counts.on) ∙ sym counts.stands.sent in
+      turn-is spec outcomes outcome counts.frame frame-before
+      ∙ ap (λ n. turn_at spec n (frame_after_outcome spec.rule outcome counts.frame)) sent ∙ ap (turn_at spec round.slots_sent) (sym next-is)
+
+  -- the round ends at its limit
+  pub stands-limit : round.slots_sent ≡ round.spec.limit →
+      IsNextAnswer Limit (record { spec = round.spec; stage = stages.Limit; slots_sent = round.slots_sent }) spec (outcome ∷ outcomes)
+  stands-limit full =
+      let s = counts.stands in
+      let t : turn_of spec (outcome ∷ outcomes) ≡ limit = turn-counted ∙ turn-limit spec round.slots_sent next counts.not_quiet (full ∙ ap (λ p. p.limit) s.spec_is) in
+      record {
+        stands = record {
+          spec_is = s.spec_is;
+          outcomes_are = (counts.on, s.outcomes_are);
+          stage = t;
+          sent = rw (t, add-zero (slots_of spec outcomes)) s.sent;
+        };
+        next = λ link. rw t;
+        over = rw t;
+      }
+
+  -- what follows where the round goes on
+  goes-on : round.slots_sent ≢ round.spec.limit → turn_of spec (outcome ∷ outcomes) ≡ turn_for (change_of counts.rule next)
+  goes-on other =
+      let other' : round.slots_sent ≢ spec.limit = λ e. other (e ∙ sym (ap (λ p. p.limit) counts.stands.spec_is)) in
+      turn-counted ∙ turn-on spec round.slots_sent next counts.not_quiet other' ∙ ap (λ rule. turn_for (change_of rule next)) (sym rule-of)
+
+  -- it adjusts Q
+  pub stands-adjust : (updn : UpDn) → round.slots_sent ≢ round.spec.limit → change_of counts.rule next ≡ Some updn →
+      IsNextAnswer (Send (QueryAdjust round.spec.session updn)) (record { spec = round.spec; stage = stages.Underway (frame_begun_by updn next); slots_sent = round.slots_sent + 1 }) spec (outcome ∷ outcomes)
+  stands-adjust updn other due =
+      let s = counts.stands in
+      let t : turn_of spec (outcome ∷ outcomes) ≡ adjust updn = goes-on other ∙ ap turn_for due in
+      record {
+        stands = record {
+          spec_is = s.spec_is;
+          outcomes_are = (counts.on, s.outcomes_are);
+          stage = rw next-is (frame-begun spec outcomes outcome counts.frame updn frame-before t);
+          sent = rw (t, s.sent);
+        };
+        next = λ link. rw (t, s.spec_is);
+        over = rw t;
+      }
+
+  -- or it goes on in the same frame
+  pub stands-rep : round.slots_sent ≢ round.spec.limit → change_of counts.rule next ≡ None →
+      IsNextAnswer (Send (QueryRep round.spec.session)) (record { spec = round.spec; stage = stages.Underway next; slots_sent = round.slots_sent + 1 }) spec (outcome ∷ outcomes)
+  stands-rep other due =
+      let s = counts.stands in
+      let t : turn_of spec (outcome ∷ outcomes) ≡ rep = goes-on other ∙ ap turn_for due in
+      record {
+        stands = record {
+          spec_is = s.spec_is;
+          outcomes_are = (counts.on, s.outcomes_are);
+          stage = rw next-is (frame-goes_on spec outcomes outcome counts.frame frame-before t);
+          sent = rw (t, s.sent);
+        };
+        next = λ link. rw (t, s.spec_is);
+        over = rw t;
+      }

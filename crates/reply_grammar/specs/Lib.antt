@@ -1,3 +1,4 @@
+pub mod Pairs
 pub mod Reception
 pub mod Refusals
 pub mod Table

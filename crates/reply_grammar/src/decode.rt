@@ -1,12 +1,12 @@
 //! Bits to replies.
-ghost use Rattle.std.specs.Prelude.{◌≡◌, ℕ, ◌+◌, ◌*◌, ◌≤◌, ◌==◌, ◌↔◌, length, take, IsTrue, IfOk, IfErr, Ok, Err};
+ghost use Rattle.std.specs.Prelude.{◌≡◌, ℕ, ◌+◌, ◌-◌, ◌*◌, ◌≤◌, ◌==◌, ◌↔◌, length, take, IsTrue, IfOk, IfErr, Ok, Err};
 ghost use Rattle.bit_strings.specs.Numbers.{value_of, part_of};
-ghost use Rattle.bit_strings.specs.Words.{bits_of_words};
-ghost use Rattle.reply_grammar.specs.Table.{AnswersExpected, AreWords};
+ghost use Rattle.reply_grammar.specs.Table.{AnswersExpected};
 ghost use Rattle.reply_grammar.specs.Refusals.{RefusesReply, FitsLength, PassesCheck, PassesHeader, PassesNumber, EndsWithCheck, HasHandle, Passes};
 ghost use Rattle.reply_grammar.specs.declared.expected.Expect.TheVariants.{Epc as OneEpc};
 ghost use Rattle.reply_grammar.specs.declared.expected.Reply.{Reply};
 ghost use Rattle.reply_grammar.specs.declared.expected.ReplyRefusal.{ReplyRefusal};
+ghost use Rattle.reply_grammar.specs.laws.Reading.{ReadTo};
 
 use crate::expected::{Expect, Reply, ReplyRefusal};
 use crate::reply_words::{EpcWords, ReadWords};
@@ -199,9 +199,7 @@ fn error_code(bits: &Bits) -> u8
 /// The words between the PC and the CRC-16.
 fn epc_words(bits: &Bits) -> EpcWords
     requires { FitsLength OneEpc bits.now.items }
-    ensures count { length result ≡ value_of (take 5 bits.now.items) }
-    ensures range { AreWords result }
-    ensures words { bits_of_words result ≡ part_of bits.now.items 16 (16 * length result) }
+    ensures { ReadTo bits.now.items 16 (length bits.now.items - 16) result }
 {
     let mut words = EpcWords::new();
     let end = bits.len() - 16;
@@ -217,9 +215,7 @@ fn epc_words(bits: &Bits) -> EpcWords
 fn read_words(bits: &Bits, count: u32) -> ReadWords
     requires few { count ≤ 512 }
     requires whole { length bits.now.items ≡ 33 + 16 * count }
-    ensures count { length result ≡ count }
-    ensures range { AreWords result }
-    ensures words { bits_of_words result ≡ part_of bits.now.items 1 (16 * count) }
+    ensures { ReadTo bits.now.items 1 (length bits.now.items - 32) result }
 {
     let mut words = ReadWords::new();
     let end = 1 + 16 * count;

@@ -9,7 +9,7 @@ use std::marker::Model;
 /// word).
 ///
 /// A contract sees it as the list of its words.
-#[derive(Clone, Drop, Debug, PartialEq, Eq, Hash)]
+#[derive(Clone, Drop, Debug, PartialEq, Eq, PartialOrd, Ord, Hash)]
 pub struct EpcWords {
     words: ArrayVec<u16, 31>,
 }

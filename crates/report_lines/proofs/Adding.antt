@@ -18,29 +18,36 @@ all-added text first written before after added =
     let whole : text ≡ added.front = added.split ∙ ap (λ (rest : List ℕ). added.front ++ rest) (added.whole refl) ∙ append-nil added.front in
     subst (λ (bytes : List ℕ). Adds first written bytes) (sym whole) added.added
 
+-- a sink as it stands: what it was given, and how many faults it met
+pub record SinkAt : Type 0 where
+  pub given : Option (List ℕ)
+  pub faults : ℕ
+
 -- the text of a line was written behind what was added
-pub added-line : (text line piece : List ℕ) (first old new : Option (List ℕ)) (before was is : ℕ) → IsAdded text first old before was None → piece ≡ line → Adds old new piece → was ≤ is
-    → IsAdded (text ++ line) first new before is None
-added-line text line piece first old new before was is added same written count = record {
+pub added-line : (text line : List ℕ) (first old new : SinkAt) → IsAdded text first.given old.given first.faults old.faults None → Adds old.given new.given line → new.faults ≡ old.faults
+    → IsAdded (text ++ line) first.given new.given first.faults new.faults None
+added-line text line first old new added written stands = record {
   front = text ++ line;
   rest = [];
   split = sym (append-nil (text ++ line));
   whole = λ none. refl;
-  added = Adds-more first old new text line (all-added text first old before was added) (subst (λ (bytes : List ℕ). Adds old new bytes) same written);
+  added = Adds-more first.given old.given new.given text line (all-added text first.given old.given first.faults old.faults added) written;
   rose = λ rose. absurd (cc);
-  count = omega (arith, added.count);
+  steady = λ other. stands ∙ added.steady (λ write. cc);
+  count = omega (arith, added.count, stands);
 }
 
 -- ... or a front of it, where the write failed
-pub added-part : (text line piece : List ℕ) (first old new : Option (List ℕ)) (before was is count : ℕ) → IsAdded text first old before was None → piece ≡ line
-    → Adds old new (take count piece) → FaultsRose was is → IsAdded (text ++ line) first new before is (Some Write)
-added-part text line piece first old new before was is count added same written rose = record {
+pub added-part : (text line : List ℕ) (first old new : SinkAt) (count : ℕ) → IsAdded text first.given old.given first.faults old.faults None → Adds old.given new.given (take count line)
+    → FaultsRose old.faults new.faults → IsAdded (text ++ line) first.given new.given first.faults new.faults (Some Write)
+added-part text line first old new count added written rose = record {
   front = text ++ take count line;
   rest = drop count line;
   split = ap (λ (bytes : List ℕ). text ++ bytes) (sym (take-append-drop count line)) ∙ sym (append_assoc text (take count line) (drop count line));
   whole = λ none. absurd (cc);
-  added = Adds-more first old new text (take count line) (all-added text first old before was added) (subst (λ (bytes : List ℕ). Adds old new (take count bytes)) same written);
-  rose = λ write. rose-later before was is added.count rose;
+  added = Adds-more first.given old.given new.given text (take count line) (all-added text first.given old.given first.faults old.faults added) written;
+  rose = λ write. rose-later first.faults old.faults new.faults added.count rose;
+  steady = λ other. absurd (other refl);
   count = omega (arith, added.count, rose.no_less);
 }
 
@@ -60,6 +67,7 @@ added-nothing text more first written before after (Some fault) met added = reco
   whole = λ none. absurd (cc);
   added = added.added;
   rose = added.rose;
+  steady = added.steady;
   count = added.count;
 }
 

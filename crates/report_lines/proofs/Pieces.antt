@@ -1,10 +1,6 @@
 -- What a text has gained after several pieces.
-use Rattle.std.proofs.Common.{◌≡◌, ℕ, List, [], ◌∷◌, ◌++◌, map, codes, sym, ap, ◌∙◌, append_assoc}
+use Rattle.std.proofs.Common.{◌≡◌, ℕ, List, [], ◌∷◌, ◌++◌, map, codes, refl, sym, ap, ◌∙◌, append_assoc}
 use Rattle.std.specs.Fmt.{decimal}
-use Rattle.lock_rules.specs.declared.locks.Locks.{Locks}
-use Rattle.session_flags.specs.declared.flags.Flags.{Flags}
-use Rattle.tag_memory.specs.Memory.{Banks}
-use Rattle.tag_machine.specs.declared.states.StateName.{StateName}
 use Rattle.tag_machine.specs.Names.{name_of}
 use Rattle.tag_machine.specs.TagValue.{TagValue}
 use Rattle.text_fields.specs.Hexadecimal.{hex_words}
@@ -17,11 +13,16 @@ use Rattle.report_lines.specs.ReportLine.{TagLine, TxLine, flags_word, report_li
 pub one_field : (start text field : List ℕ) → text ≡ start ++ space ∷ [] → text ++ field ≡ start ++ space ∷ field
 one_field start text field f = rw f (simp append_assoc)
 
--- after two lists of fields and the line feed
-pub five_and_four : (start front text a b c d e f g h k : List ℕ) → front ≡ start ++ line_with (a ∷ b ∷ c ∷ d ∷ e ∷ []) →
-    text ≡ front ++ space ∷ line_with (f ∷ g ∷ h ∷ k ∷ []) →
-    text ++ line_feed ∷ [] ≡ start ++ (line_with (a ∷ b ∷ c ∷ d ∷ e ∷ f ∷ g ∷ h ∷ k ∷ []) ++ line_feed ∷ [])
-five_and_four start front text a b c d e f g h k first second = rw (second, first) (simp append_assoc)
+-- the fields of two lists in one line
+two_lists : (first next : List ℕ) (before behind : List (List ℕ)) → line_with (first ∷ (before ++ next ∷ behind)) ≡ line_with (first ∷ before) ++ space ∷ line_with (next ∷ behind)
+two_lists first next [] behind = refl
+two_lists first next (field ∷ before) behind =
+    ap (λ (rest : List ℕ). first ++ space ∷ rest) (two_lists field next before behind)
+    ∙ sym (append_assoc first (space ∷ line_with (field ∷ before)) (space ∷ line_with (next ∷ behind)))
+
+-- after two pieces of a line and the line feed
+two_pieces : (start front text one other : List ℕ) → front ≡ start ++ one → text ≡ front ++ space ∷ other → text ++ line_feed ∷ [] ≡ start ++ ((one ++ space ∷ other) ++ line_feed ∷ [])
+two_pieces start front text one other first second = rw (second, first) (simp append_assoc)
 
 -- after the number of an exchange, the intervals and the line feed
 pub sent_intervals : (start name front text : List ℕ) (exchange : ℕ) (intervals : List ℕ) → name ≡ start ++ codes "tx" →
@@ -35,17 +36,13 @@ sent_intervals start name front text exchange intervals first second third =
     joined ∙ sym (ap (λ (line : List ℕ). start ++ line) line)
 
 -- after the fields of a tag, those of its memory, and the line feed
-pub tag_line : (start front text : List ℕ) (number : ℕ) (tag : TagValue) (state : StateName) (flags : Flags) (locks : Locks) (memory : Banks) →
-    state ≡ name_of tag.state → flags ≡ tag.body.flags → locks ≡ tag.body.locks → memory ≡ tag.body.memory →
-    front ≡ start ++ line_with (codes "tag" ∷ decimal number ∷ state_word state ∷ flags_word flags ∷ locks_text locks ∷ []) →
-    text ≡ front ++ space ∷ line_with (hex_words memory.reserved ∷ hex_words memory.epc ∷ hex_words memory.tid ∷ hex_words memory.user ∷ []) →
+pub tag_line : (start front text : List ℕ) (number : ℕ) (tag : TagValue) →
+    front ≡ start ++ line_with (codes "tag" ∷ decimal number ∷ state_word (name_of tag.state) ∷ flags_word tag.body.flags ∷ locks_text tag.body.locks ∷ []) →
+    text ≡ front ++ space ∷ line_with (hex_words tag.body.memory.reserved ∷ hex_words tag.body.memory.epc ∷ hex_words tag.body.memory.tid ∷ hex_words tag.body.memory.user ∷ []) →
     text ++ line_feed ∷ [] ≡ start ++ report_line_text (TagLine number tag)
-tag_line start front text number tag state flags locks memory s f l m first second =
-    five_and_four start front text (codes "tag") (decimal number) (state_word (name_of tag.state)) (flags_word tag.body.flags) (locks_text tag.body.locks)
-    (hex_words tag.body.memory.reserved) (hex_words tag.body.memory.epc) (hex_words tag.body.memory.tid) (hex_words tag.body.memory.user)
-    (first
-    ∙ ap (λ (state : StateName). start ++ line_with (codes "tag" ∷ decimal number ∷ state_word state ∷ flags_word flags ∷ locks_text locks ∷ [])) s
-    ∙ ap (λ (flags : Flags). start ++ line_with (codes "tag" ∷ decimal number ∷ state_word (name_of tag.state) ∷ flags_word flags ∷ locks_text locks ∷ [])) f
-    ∙ ap (λ (locks : Locks). start ++ line_with (codes "tag" ∷ decimal number ∷ state_word (name_of tag.state) ∷ flags_word tag.body.flags ∷ locks_text locks ∷ [])) l)
-    (second
-    ∙ ap (λ (memory : Banks). front ++ space ∷ line_with (hex_words memory.reserved ∷ hex_words memory.epc ∷ hex_words memory.tid ∷ hex_words memory.user ∷ [])) m)
+tag_line start front text number tag first second =
+    let standing : List (List ℕ) = decimal number ∷ state_word (name_of tag.state) ∷ flags_word tag.body.flags ∷ locks_text tag.body.locks ∷ [] in
+    let memory = tag.body.memory in
+    let others : List (List ℕ) = hex_words memory.epc ∷ hex_words memory.tid ∷ hex_words memory.user ∷ [] in
+    two_pieces start front text (line_with (codes "tag" ∷ standing)) (line_with (hex_words memory.reserved ∷ others)) first second
+    ∙ sym (ap (λ (line : List ℕ). start ++ (line ++ line_feed ∷ [])) (two_lists (codes "tag") (hex_words memory.reserved) standing others))

@@ -4,9 +4,10 @@ use Rattle.std.specs.Prelude.{sum}
 use Rattle.std.proofs.lemmas.List.Sums.{sum_by-cons}
 use Rattle.std.specs.Map.{lookup}
 use Rattle.indexmap.specs.IndexMap.{insert_entry}
+use Rattle.reply_grammar.specs.Pairs.{same_pair}
 use Rattle.report_lines.specs.declared.seen.Listed.{Listed}
 use Rattle.report_lines.specs.Entries.{seen_of, seen_of_entry}
-use Rattle.report_lines.specs.SeenCounts.{Seen, same_pair, count_of, seen_in, seen_more, total_of}
+use Rattle.report_lines.specs.SeenCounts.{Seen, count_of, seen_in, seen_more, total_of}
 use Rattle.report_lines.specs.laws.SeenLaws.{seen_in-more}
 
 -- the derived test of keys is that of pairs

@@ -1,6 +1,6 @@
 -- Profile: how often each pair of PC and EPC was listed, in the order in which they came first.
-use Rattle.std.specs.Prelude.{ℕ, ◌+◌, ◌==◌, ◌&&◌, nat_eq, Bool, not, List, [], ◌∷◌, map, filter, count_by, if◌then◌else◌}
-use Rattle.std.specs.Cmp.Lexicographic.{pointwise}
+use Rattle.std.specs.Prelude.{ℕ, ◌+◌, Bool, not, List, [], ◌∷◌, map, filter, count_by, if◌then◌else◌}
+use Rattle.reply_grammar.specs.Pairs.{same_pair}
 use Rattle.report_lines.specs.ReportLine.{ReportLine, SeenLine}
 
 -- a PC with an EPC, and how often they were listed
@@ -8,10 +8,6 @@ pub record Seen : Type 0 where
   pub pc : ℕ
   pub epc : List ℕ
   pub count : ℕ
-
--- two pairs are one
-abbrev pub same_pair : ℕ × List ℕ → ℕ × List ℕ → Bool
-same_pair one other = one.0 == other.0 && pointwise nat_eq one.1 other.1
 
 -- the pairs without repetition, in the order in which they came first
 abbrev pub distinct : List (ℕ × List ℕ) → List (ℕ × List ℕ)

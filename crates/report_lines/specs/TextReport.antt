@@ -1,12 +1,12 @@
 -- Profile: what is told, as text that is written line by line.
-use Rattle.std.specs.Prelude.{◌≡◌, ℕ, ◌≤◌, List, [], ◌∷◌, ◌++◌, Option, Some, None}
+use Rattle.std.specs.Prelude.{◌≡◌, ◌≢◌, ℕ, ◌≤◌, List, [], ◌∷◌, ◌++◌, Option, Some, None}
 use Rattle.air_io.specs.Flow.{Adds, FaultsRose}
 use Rattle.report_lines.specs.ReportLine.{ReportLine}
 use Rattle.report_lines.specs.declared.mode.PlayFault.{PlayFault}
 use Rattle.report_lines.specs.declared.mode.PlayFault.TheVariants.{Write}
 
 -- A text was added behind what a sink had taken first: the whole of it, or where a fault was met a front. A fault in writing is one more
--- failure of the sink.
+-- failure of the sink, and without one the sink met none.
 pub record IsAdded (text : List ℕ) (first written : Option (List ℕ)) (before after : ℕ) (fault : Option PlayFault) : Type 0 where
   pub front : List ℕ
   pub rest : List ℕ
@@ -14,6 +14,7 @@ pub record IsAdded (text : List ℕ) (first written : Option (List ℕ)) (before
   pub whole : fault ≡ None → rest ≡ []
   pub added : Adds first written front
   pub rose : fault ≡ Some Write → FaultsRose before after
+  pub steady : fault ≢ Some Write → after ≡ before
   pub count : before ≤ after
 
 -- where a spelling stands behind lines

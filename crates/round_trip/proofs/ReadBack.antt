@@ -1,17 +1,17 @@
 -- What is written is a line of `decode`, and what was read is its answer.
-use Rattle.std.proofs.Common.{◌≡◌, ◌≢◌, ◌⊎◌, ◌≤◌, ◌<◌, ◌^◌, ◌+◌, ◌*◌, ℕ, Bool, List, [], ◌∷◌, ◌++◌, length, map, refl, sym, ◌∙◌, ap, arith, inl, inr, subst, length-append}
+use Rattle.std.proofs.Common.{◌≡◌, ◌⊎◌, ◌≤◌, ◌<◌, ◌^◌, ◌+◌, ◌*◌, ℕ, Bool, List, [], ◌∷◌, ◌++◌, length, map, refl, sym, ◌∙◌, ap, arith, inl, inr, subst, length-append}
 use Rattle.std.specs.Prelude.{Ok}
 use Rattle.std.specs.Prelude.{All, codes}
 use Rattle.std.specs.List.{AllZip, flat_map}
 use Rattle.std.specs.Fmt.{decimal}
 use Rattle.std.proofs.lemmas.List.{append-nil}
-use Rattle.std.proofs.lemmas.List.Elements.{All-append, All-cons, All-head, All-nil, All-tail, All-weaker}
+use Rattle.std.proofs.lemmas.List.Elements.{All-cons, All-head, All-nil, All-tail, All-weaker}
 use Rattle.bit_strings.specs.declared.code.Code.{Code}
 use Rattle.text_fields.specs.Binary.{binary, binary_digit}
 use Rattle.text_fields.specs.CodeNames.{code_word}
 use Rattle.text_fields.specs.laws.FieldTextLaws.{IsFieldText-binary, IsFieldText-cons, IsFieldText-decimal, IsFieldText-one}
 use Rattle.text_fields.specs.Lines.{IsFieldText, Lacks, line_feed, line_with, lines_of, space}
-use Rattle.text_fields.specs.laws.LineLaws.{fields_come_back, lines_come_back}
+use Rattle.text_fields.specs.laws.LineLaws.{fields_come_back, line_lacks, lines_come_back}
 use Rattle.line_code.specs.Stream.{stream_of}
 use Rattle.line_codes.specs.Codes.{table_of}
 use Rattle.line_codes.specs.laws.Codes.{stream_most}
@@ -19,9 +19,10 @@ use Rattle.pie_line.specs.Pie.{header_of, kind_of, longest_interval, pair_of, su
 use Rattle.pie_line.specs.Link.{IsLegalLink, LinkValue}
 use Rattle.pie_line.specs.declared.frame.Lead.{Lead}
 use Rattle.pie_line.specs.declared.frame.Lead.TheVariants.{Preamble, FrameSync}
+use Rattle.pie_text.specs.laws.WaveLength.{length-wave}
 use Rattle.command_grammar.specs.Commands.{spelling_of, IsLegalCommand, SpellsCommand}
 use Rattle.command_grammar.specs.declared.commands.Command.{Command as OneCommand}
-use Rattle.command_text.specs.laws.FieldTexts.{bit_is, code_is}
+use Rattle.command_text.specs.laws.FieldTexts.{Texts, bit_is, code_is, no_more, only, with}
 use Rattle.reply_grammar.specs.Table.{AnswersExpected, FitsBank, IsReply, handle_of}
 use Rattle.reply_grammar.specs.laws.Suiting.{spelling-within}
 use Rattle.reply_grammar.specs.declared.expected.Expect.{Expect}
@@ -44,24 +45,6 @@ use Rattle.encode_lines.specs.Written.{AreOfReply, AreWritten, IsAllowed, link_o
 use Rattle.encode_lines.specs.declared.request.Request.{Request}
 use Rattle.encode_lines.specs.declared.request.Request.TheVariants.{Stream, Pie, Command, Reply as ReplyLine, Heard}
 use Rattle.round_trip.specs.ReadBack.{ComesBack, IsReadBack}
-
--- the line of fields that have no line feed has none
-line_lacks : (fields : List (List ℕ)) → All (Lacks line_feed) fields → Lacks line_feed (line_with fields)
-line_lacks [] are = All-nil (λ each. each ≢ line_feed)
-line_lacks (field ∷ []) are = All-head (Lacks line_feed) field [] are
-line_lacks (field ∷ next ∷ fields) are =
-    All-append (λ each. each ≢ line_feed) field (space ∷ line_with (next ∷ fields)) (All-head (Lacks line_feed) field (next ∷ fields) are)
-    (All-cons (λ each. each ≢ line_feed) space (line_with (next ∷ fields)) (λ same. omega (arith, same)) (line_lacks (next ∷ fields) (All-tail (Lacks line_feed) field (next ∷ fields) are)))
-
--- each of the fields may stand as a field
-record Texts (fields : List (List ℕ)) : Type 0 where
-  are : All IsFieldText fields
-
-with : (field : List ℕ) (fields : List (List ℕ)) → IsFieldText field → Texts fields → Texts (field ∷ fields)
-with field fields is texts = record { are = All-cons IsFieldText field fields is texts.are }
-
-only : (field : List ℕ) → IsFieldText field → Texts (field ∷ [])
-only field is = with field [] is (record { are = All-nil IsFieldText })
 
 -- a line that asks `decode` for something, with its answer
 decodes_line : (kind : RequestKind) (others : List (List ℕ)) (request : DecodeRequest) (answer : Answer) → Texts (request_word kind ∷ others) → AsksBehind kind others request
@@ -101,7 +84,7 @@ heard_is : IsFieldText (codes "heard")
 heard_is = search (arith, IsFieldText-cons, IsFieldText-one) depth 20
 
 numbers_are : (numbers : List ℕ) → All (λ number. number ≤ longest_interval) numbers → Texts (map decimal numbers)
-numbers_are [] within = record { are = All-nil IsFieldText }
+numbers_are [] within = no_more
 numbers_are (n ∷ numbers) within =
     let Small : ℕ → Type 0 = λ number. number ≤ longest_interval in
     with (decimal n) (map decimal numbers) (IsFieldText-decimal n (omega (arith, All-head Small n numbers within))) (numbers_are numbers (All-tail Small n numbers within))
@@ -122,20 +105,6 @@ pub record WrittenLaws : Type 0 where
   pub frame : (link : LinkValue) (lead : Lead) (bits : List Bool) → IsLegalLink link → IsFrame (kind_of link lead) bits (wave_of link lead bits)
   pub each : (link : LinkValue) (lead : Lead) (bits : List Bool) → IsLegalLink link → All (λ interval. interval ≤ longest_interval) (wave_of link lead bits)
   pub short : (command : OneCommand) (bits : List Bool) → SpellsCommand command bits → length bits ≤ 4162
-
--- two intervals a bit
-length-symbols : (link : LinkValue) (bits : List Bool) → length (flat_map (λ bit. pair_of link (sum_of link bit)) bits) ≡ 2 * length bits
-length-symbols link [] = refl
-length-symbols link (bit ∷ bits) = omega (arith, length-symbols link bits)
-
-length-header : (link : LinkValue) (lead : Lead) → (length (header_of link lead) ≤ 6)
-length-header link Preamble = omega arith
-length-header link FrameSync = omega arith
-
-length-wave : (link : LinkValue) (lead : Lead) (bits : List Bool) → (1 ≤ length (wave_of link lead bits)) × (length (wave_of link lead bits) ≤ 7 + 2 * length bits)
-length-wave link lead bits =
-    let whole = length-append (header_of link lead) (flat_map (λ bit. pair_of link (sum_of link bit)) bits) in
-    (omega arith, omega (arith, whole, length-header link lead, length-symbols link bits))
 
 wave_back : WrittenLaws → (link : LinkValue) (lead : Lead) (bits : List Bool) → IsLegalLink link → length bits ≤ 8240
     → Decodes (written_line (codes "pie" ∷ map decimal (wave_of link lead bits))) (answer_line (framed (Ok (kind_of link lead, bits))))

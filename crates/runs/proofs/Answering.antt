@@ -1,20 +1,18 @@
 -- What tags answer to the commands of an inventory is what the interrogator expects, and what they answer to the commands of a
 -- dialogue is unmistakable.
-use Rattle.std.proofs.Common.{◌≡◌, ℕ, zero, suc, ◌+◌, ◌==◌, ◌⊎◌, inl, inr, Bool, true, false, ◌&&◌, List, [], ◌∷◌, ◌++◌, length, Option, Some, None, refl, sym, ap, ◌∙◌, subst, arith}
-use Rattle.std.specs.Prelude.{if◌then◌else◌}
-use Rattle.std.specs.List.{AllByRecursion}
+use Rattle.std.proofs.Common.{◌≡◌, ℕ, zero, suc, ◌⊎◌, inl, inr, Bool, true, false, ◌&&◌, List, length, Some, refl, sym, ap, ◌∙◌, subst, arith}
 use Rattle.std.proofs.lemmas.Bool.{eq-eqb}
 use Rattle.access_ops.specs.laws.OperationLaws.{Expects}
 use Rattle.access_ops.specs.Operations.{words_expected}
-use Rattle.tag_machine.specs.Exchange.{AreLegalTags, outcomes_in, replies_in, Replied, tag_after_own_event, tag_after_events, is_missed, outcome_unless, outcomes_from, reply_of, replies_from}
+use Rattle.tag_machine.specs.Exchange.{AreLegalTags, outcomes_in, replies_in}
 use Rattle.air_model.specs.Channel.{given_in}
 use Rattle.air_model.specs.Past.{Start}
 use Rattle.air_model.specs.Reception.{has_handle, is_expected, HoldsOfSent, IsReplyFor, IsGivenFor, IsUnmistakable}
 use Rattle.air_events.specs.declared.Entry.{Entry}
-use Rattle.air_events.specs.declared.Event.{Event}
 use Rattle.air_model.specs.laws.ReceptionLaws.{expected_answers}
 use Rattle.air_model.specs.laws.GivenLaws.{given_of_sent}
 use Rattle.runs.specs.NextItem.{expectation_of}
+use Rattle.runs.specs.laws.Replies.{AnswersSo, StaysLegal, outcomes-answered, replies-answered}
 use Rattle.command_grammar.specs.declared.commands.Command.{Command}
 use Rattle.command_grammar.specs.declared.commands.Command.TheVariants as commands
 use Rattle.reply_grammar.specs.laws.Passing.{answers_pass}
@@ -24,8 +22,7 @@ use Rattle.reply_grammar.specs.declared.expected.Expect.{Expect}
 use Rattle.reply_grammar.specs.declared.expected.Expect.TheVariants as expects
 use Rattle.reply_grammar.specs.declared.expected.Reply.{Reply}
 use Rattle.reply_grammar.specs.declared.expected.Reply.TheVariants.{Rn16, Epc, Handle, Words, Header, Error}
-use Rattle.tag_machine.specs.Answers.{Outcome, Sent, IsSent}
-use Rattle.tag_machine.specs.Events.{tag_after_event}
+use Rattle.tag_machine.specs.Answers.{Sent, IsSent}
 use Rattle.tag_machine.specs.laws.Extended.{has_half}
 use Rattle.tag_machine.specs.laws.Replies.{IsAnswerTo, IsHandleAnswer, IsHeaderOrError, IsDelayedAnswer, IsReadReply, IsReadAnswer, IsKillAnswer}
 use Rattle.tag_machine.specs.Step.{step}
@@ -39,9 +36,6 @@ AnswersByRow = (command : Command) (state : StateValue) (body : BodyValue) (sent
 abbrev pub SendsInRange : Type 0
 SendsInRange = (command : Command) (state : StateValue) (body : BodyValue) (sent : Sent) → IsLegalTag (record { state = state; body = body })
     → (step command state body).answer ≡ Some sent → IsSent (Some sent)
-
-abbrev pub StaysLegal : Type 0
-StaysLegal = (event : Event) (state : StateValue) (body : BodyValue) → IsLegalTag (record { state = state; body = body }) → IsLegalTag (tag_after_event event state body)
 
 -- what is used of the laws of tag_machine
 pub record TagLaws : Type 0 where
@@ -85,52 +79,6 @@ row-expected (commands.Lock payload rn) expect state body sent asked legal is = 
 row-expected (commands.Access covered rn) expect state body sent asked legal is = absurd (cc)
 row-expected (commands.BlockWrite bank pointer words rn) expect state body sent asked legal is = absurd (cc)
 row-expected (commands.BlockErase bank pointer count rn) expect state body sent asked legal is = absurd (cc)
-
-event-legal : (b : Bool) (event : Event) (tag : TagValue) → StaysLegal → IsLegalTag tag → IsLegalTag (if b then tag_after_event event tag.state tag.body else tag)
-event-legal true event tag stays legal = stays event tag.state tag.body legal
-event-legal false event tag stays legal = legal
-
-pub events-legal : (number : ℕ) (events : List (Event × ℕ)) (tag : TagValue) → StaysLegal → IsLegalTag tag → IsLegalTag (tag_after_events number events tag)
-events-legal number [] tag stays legal = legal
-events-legal number (event ∷ events) tag stays legal =
-    events-legal number events (tag_after_own_event number event.0 event.1 tag) stays (event-legal (event.1 == number) event.0 tag stays legal)
-
--- what one tag answers, that hears the command or misses it, is so
-abbrev IsAnswered : (Sent → Type 0) → Outcome → Type 0
-IsAnswered P outcome = (sent : Sent) → outcome.answer ≡ Some sent → P sent
-
--- whatever a legal tag answers to a command is so
-abbrev pub AnswersSo : (Sent → Type 0) → Command → Type 0
-AnswersSo P command = (tag : TagValue) → IsLegalTag tag → IsAnswered P (step command tag.state tag.body)
-
--- each reply is so
-abbrev pub AreReplies : (Sent → Type 0) → List Replied → Type 0
-AreReplies P replies = AllByRecursion (λ replied. P replied.sent) replies
-
-unless-missed : (P : Sent → Type 0) (misses : Bool) (command : Command) (tag : TagValue) → AnswersSo P command → IsLegalTag tag → IsAnswered P (outcome_unless misses command tag)
-unless-missed P true command tag answers legal = λ sent is. absurd (cc)
-unless-missed P false command tag answers legal = answers tag legal
-
-outcomes-answered : (P : Sent → Type 0) (number : ℕ) (command : Command) (entry : Entry) (tags : List TagValue) → AnswersSo P command → StaysLegal → AreLegalTags tags
-    → AllByRecursion (IsAnswered P) (outcomes_from number command entry tags)
-outcomes-answered P number command entry [] answers stays legal = tt
-outcomes-answered P number command entry (tag ∷ tags) answers stays legal = (
-  unless-missed P (is_missed number entry) command (tag_after_events number entry.events tag) answers (events-legal number entry.events tag stays legal.0),
-  outcomes-answered P (number + 1) command entry tags answers stays legal.1,
-)
-
-both-parts : (P : Sent → Type 0) (replies more : List Replied) → AreReplies P replies → AreReplies P more → AreReplies P (replies ++ more)
-both-parts P [] more are others = others
-both-parts P (replied ∷ replies) more are others = (are.0, both-parts P replies more are.1 others)
-
-reply-answered : (P : Sent → Type 0) (number : ℕ) (answer : Option Sent) → ((sent : Sent) → answer ≡ Some sent → P sent) → AreReplies P (reply_of number answer)
-reply-answered P number None is = tt
-reply-answered P number (Some sent) is = (is sent refl, tt)
-
-replies-answered : (P : Sent → Type 0) (number : ℕ) (outcomes : List Outcome) → AllByRecursion (IsAnswered P) outcomes → AreReplies P (replies_from number outcomes)
-replies-answered P number [] are = tt
-replies-answered P number (outcome ∷ outcomes) are =
-    both-parts P (reply_of number outcome.answer) (replies_from (number + 1) outcomes) (reply-answered P number outcome.answer are.0) (replies-answered P (number + 1) outcomes are.1)
 
 -- what holds of whatever legal tags answer to a command holds of what the channel gives
 pub given-of-answers : (P : Sent → Type 0) (start : Start) (command : Command) (entry : Entry) (tags : List TagValue) → AnswersSo P command → StaysLegal → AreLegalTags tags

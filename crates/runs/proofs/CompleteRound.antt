@@ -4,83 +4,85 @@ use Rattle.access_ops.specs.declared.OpList.{OpList}
 use Rattle.air_model.specs.Past.{Start, Item, ended, tag_behind, rounds_in}
 use Rattle.air_events.specs.declared.Several.TheVariants as severals
 use Rattle.runs.specs.Headline.{AreLegalSteps, rounds_of}
-use Rattle.runs.specs.History.{past_behind_round, past_behind_step, past_behind, history_of}
+use Rattle.runs.specs.History.{past_behind_step, past_behind, history_of}
 use Rattle.runs.specs.Complete.{HasNumber, IsMatchedTag, ListsNoTagTwice, StepsFlags, IsQuietComplete, EndsByLimit, CompleteInventory}
 use Rattle.runs.specs.Counted.{is_spoken_to, CountedRound}
 use Rattle.runs.specs.Honest.{IsHonest, IsApart}
 use Rattle.runs.specs.Listed.{is_of_round, is_of_slot, tags_listed_in, tags_listed_in_slot, times}
 use Rattle.runs.specs.Moments.{Ending, ending_of, past_after_query, tag_after_query, is_matched_in, flags_after_query}
 use Rattle.runs.specs.TagAtEnd.{StandsAtQuiet, StandsAtEnd, IsListedOnce}
-use Rattle.runs.specs.TagInRound.{is_matched, flags_in_round, StandsBeforeSlot}
+use Rattle.runs.specs.TagInRound.{is_matched, flags_in_round}
 use Rattle.runs.proofs.Others.{AllRecords, records-at, records-behind, records-all, AreOfOthers, of-others, listed-others, query-others, ending-others, records-others, Adds, step-adds, steps-add}
 use Rattle.runs.specs.laws.Growth.{RoundsKeepLimit}
-use Rattle.runs.proofs.TagsInRound.{StepsFlagsOf, ListsOwnEpc, StandsNext, known-once}
+use Rattle.runs.specs.laws.PlayedRounds.{PlayedRound, number_of, past_behind_played}
+use Rattle.runs.proofs.Members.{Member, StandsBefore}
+use Rattle.runs.proofs.TagsInRound.{past_at_query, frame_behind, StepsFlagsOf, ListsOwnEpc, StandsNext, known-once}
 use Rattle.runs.proofs.TagEnds.{listed-once, quiet-stands, end-stands}
 use Rattle.runs.proofs.Times.{bit}
 use Rattle.runs.proofs.Totals.{as-many-listed}
-use Rattle.runs.proofs.WholeRound.{IsFairIn, past_at_query, round-test, slot-test, IsOver, round-stands}
+use Rattle.runs.proofs.WholeRound.{IsFairIn, round-test, slot-test, LastSlot, slots_to, IsSilentWhereQuiet, IsOver, round-stands}
 use Rattle.pie_line.specs.Link.{LinkValue}
 use Rattle.q_round.specs.laws.RoundFacts.{RoundFacts}
-use Rattle.q_round.specs.laws.RoundLaws.{IsSilentFrame}
-use Rattle.q_round.specs.Rounds.{q_of, frame_of}
 use Rattle.q_round.specs.SpecValue.{SpecValue, IsLegalSpec}
-use Rattle.q_round.specs.declared.frame.Outcome.{Outcome}
 use Rattle.q_round.specs.declared.round.RoundEnd.{RoundEnd}
 use Rattle.q_round.specs.declared.round.RoundEnd.TheVariants as ends
 use Rattle.scenario.specs.declared.values.Step.{Step}
 use Rattle.scenario.specs.declared.values.Step.TheVariants as steps
 use Rattle.tag_machine.specs.TagValue.{TagValue}
 
--- The round as the whole history tells it, which began behind what was past before: in slots before the last one and in the last one a number was listed or not, and each tag
+-- The round as the whole history tells it: in slots before the last one and in the last one a number was listed or not, and each tag
 -- stands where it stands at the end of the round, seen from where it stood just after the Query.
-pub record IsToldBy (start : Start) (spec : SpecValue) (round : ℕ) (before history : List Item) (end : RoundEnd) (outcome : Outcome) (earlier : List Outcome) (now : List Item) : Type 0 where
+pub record IsToldBy (round : PlayedRound) (last : LastSlot) (history : List Item) : Type 0 where
   pub listed : ℕ → Bool
   pub listed_now : ℕ → Bool
-  pub ending : ending_of round history ≡ Some (record { end = end; slots = length (outcome ∷ earlier); past = now })
-  pub query_is : past_after_query round history ≡ past_at_query start spec round before
-  pub count : (number : ℕ) → times number (tags_listed_in round history) ≡ bit (listed number) + bit (listed_now number)
-  pub count_now : (number : ℕ) → times number (tags_listed_in_slot round (length (outcome ∷ earlier)) history) ≡ bit (listed_now number)
+  pub ending : ending_of (number_of round) history ≡ Some (record { end = last.end; slots = slots_to last; past = last.now })
+  pub query_is : past_after_query (number_of round) history ≡ past_at_query round
+  pub count : (number : ℕ) → times number (tags_listed_in (number_of round) history) ≡ bit (listed number) + bit (listed_now number)
+  pub count_now : (number : ℕ) → times number (tags_listed_in_slot (number_of round) (slots_to last) history) ≡ bit (listed_now number)
   pub once : (number : ℕ) → listed number ≡ true → listed_now number ≡ false
-  pub strangers : (number : ℕ) → slice_get start.tags number ≡ None → (listed number ≡ false) × (listed_now number ≡ false)
-  pub spoken : (number : ℕ) (tag : TagValue) → HasNumber start number tag
-      → is_matched_in round history number tag ≡ is_spoken_to spec (tag_after_query round history number tag)
-  pub flags : AllRecords (StepsFlagsOf start round spec.session) history
-  pub epcs : AllRecords (ListsOwnEpc start round (past_after_query round history)) history
-  pub tags : (number : ℕ) (tag : TagValue) → HasNumber start number tag
-      → StandsBeforeSlot spec.session (q_of spec earlier) outcome (frame_of spec earlier) (tag_after_query round history number tag) (listed number) (listed_now number) (tag_behind number tag now)
-  pub quiet : end ≡ ends.Quiet → IsSilentFrame (q_of spec earlier) (outcome ∷ frame_of spec earlier)
+  pub strangers : (number : ℕ) → slice_get round.start.tags number ≡ None → (listed number ≡ false) × (listed_now number ≡ false)
+  pub spoken : (number : ℕ) (tag : TagValue) → HasNumber round.start number tag
+      → is_matched_in (number_of round) history number tag ≡ is_spoken_to round.spec (tag_after_query (number_of round) history number tag)
+  pub flags : AllRecords (StepsFlagsOf round.start (number_of round) round.spec.session) history
+  pub epcs : AllRecords (ListsOwnEpc round.start (number_of round) (past_after_query (number_of round) history)) history
+  pub tags : (number : ℕ) (tag : TagValue) → HasNumber round.start number tag
+      → StandsBefore (frame_behind round last.earlier) last.outcome
+      (record { first = tag_after_query (number_of round) history number tag; listed = listed number; listed_now = listed_now number }) (tag_behind number tag last.now)
+  pub quiet : IsSilentWhereQuiet round.spec last
 
-told : (start : Start) (spec : SpecValue) (round : ℕ) (before later : List Item) (end : RoundEnd) (outcome : Outcome) (earlier : List Outcome) (now : List Item)
-    → AreOfOthers round later → StandsNext start spec round (past_at_query start spec round before) outcome earlier now
-    → (end ≡ ends.Quiet → IsSilentFrame (q_of spec earlier) (outcome ∷ frame_of spec earlier))
-    → IsToldBy start spec round before (later ++ ended round end (length (outcome ∷ earlier)) ∷ now) end outcome earlier now
-told start spec round before later end outcome earlier now others stands quiet =
-    let slots : ℕ = length (outcome ∷ earlier) in
-    let behind = ended round end slots ∷ now in
+told : (round : PlayedRound) (last : LastSlot) (later : List Item) → AreOfOthers (number_of round) later
+    → StandsNext round last.outcome last.earlier last.now → IsSilentWhereQuiet round.spec last
+    → IsToldBy round last (later ++ ended (number_of round) last.end (slots_to last) ∷ last.now)
+told round last later others stands quiet =
+    let start = round.start in
+    let of : ℕ = number_of round in
+    let slots : ℕ = slots_to last in
+    let now = last.now in
+    let behind = ended of last.end slots ∷ now in
     let history = later ++ behind in
-    let query_is : past_after_query round history ≡ past_at_query start spec round before = query-others round later behind others ∙ stands.tells.query_is in
+    let query_is : past_after_query of history ≡ past_at_query round = query-others of later behind others ∙ stands.tells.query_is in
     record {
       listed = stands.listed;
       listed_now = stands.listed_now;
-      ending = ending-others round later behind others
-          ∙ ap (λ (is : Bool). if is then Some (record { end = end; slots = slots; past = now }) else ending_of round now) (eq-eqb round round refl);
+      ending = ending-others of later behind others
+          ∙ ap (λ (is : Bool). if is then Some (record { end = last.end; slots = slots; past = now }) else ending_of of now) (eq-eqb of of refl);
       query_is = query_is;
-      count = λ number. ap (λ (tags : List ℕ). times number tags) (listed-others round (is_of_round round) later behind (round-test round) others) ∙ stands.counts.count number;
+      count = λ number. ap (λ (tags : List ℕ). times number tags) (listed-others of (is_of_round of) later behind (round-test of) others) ∙ stands.counts.count number;
       count_now = λ number.
-          ap (λ (tags : List ℕ). times number tags) (listed-others round (is_of_slot round slots) later behind (slot-test round slots) others)
-          ∙ ap (λ n. times number (tags_listed_in_slot round n now)) (sym (add-one (length earlier)))
+          ap (λ (tags : List ℕ). times number tags) (listed-others of (is_of_slot of slots) later behind (slot-test of slots) others)
+          ∙ ap (λ n. times number (tags_listed_in_slot of n now)) (sym (add-one (length last.earlier)))
           ∙ stands.counts.count_now number;
-      once = λ number. known-once start spec round (past_at_query start spec round before) outcome earlier now stands number (slice_get start.tags number) refl;
+      once = λ number. known-once round last.outcome last.earlier now stands number (slice_get start.tags number) refl;
       strangers = stands.counts.strangers;
       spoken = λ number tag numbered.
-          subst (λ (query : List Item). is_matched (tag_behind number tag query).state ≡ is_spoken_to spec (tag_behind number tag query)) (sym query_is)
+          subst (λ (query : List Item). is_matched (tag_behind number tag query).state ≡ is_spoken_to round.spec (tag_behind number tag query)) (sym query_is)
           (stands.tells.spoken number tag numbered);
-      epcs = subst (λ (query : List Item). AllRecords (ListsOwnEpc start round query) history) (sym query_is)
-          (records-others (ListsOwnEpc start round (past_at_query start spec round before)) round later behind (λ sent past differs same. absurd (differs same)) others stands.tells.epcs);
-      flags = records-others (StepsFlagsOf start round spec.session) round later behind (λ sent past differs same. absurd (differs same)) others stands.tells.flags;
+      epcs = subst (λ (query : List Item). AllRecords (ListsOwnEpc start of query) history) (sym query_is)
+          (records-others (ListsOwnEpc start of (past_at_query round)) of later behind (λ sent past differs same. absurd (differs same)) others stands.tells.epcs);
+      flags = records-others (StepsFlagsOf start of round.spec.session) of later behind (λ sent past differs same. absurd (differs same)) others stands.tells.flags;
       tags = λ number tag numbered.
-          subst (λ (query : List Item). StandsBeforeSlot spec.session (q_of spec earlier) outcome (frame_of spec earlier) (tag_behind number tag query)
-          (stands.listed number) (stands.listed_now number) (tag_behind number tag now)) (sym query_is)
+          subst (λ (query : List Item). StandsBefore (frame_behind round last.earlier) last.outcome
+          (record { first = tag_behind number tag query; listed = stands.listed number; listed_now = stands.listed_now number }) (tag_behind number tag now)) (sym query_is)
           (stands.tags number tag numbered);
       quiet = quiet;
     }
@@ -148,76 +150,75 @@ same-ending end slots past other other_slots other_past same =
       past_is = ap (λ (ending : Ending). ending.past) whole;
     }
 
-module _ (start : Start) (spec : SpecValue) (round : ℕ) (before history : List Item) (end : RoundEnd) (outcome : Outcome) (earlier : List Outcome) (now : List Item)
-    (by : IsToldBy start spec round before history end outcome earlier now) where
-  single : (number : ℕ) (tag : TagValue) → HasNumber start number tag → IsListedOnce (tag_after_query round history number tag) (by.listed number) (by.listed_now number)
-  single number tag numbered =
-      listed-once spec.session (q_of spec earlier) outcome (frame_of spec earlier) (tag_after_query round history number tag) (by.listed number) (by.listed_now number)
-      (tag_behind number tag now) (by.tags number tag numbered)
+-- what a tag was just after the Query, and whether it was listed
+abbrev member_told : (round : PlayedRound) (last : LastSlot) (history : List Item) → IsToldBy round last history → ℕ → TagValue → Member
+member_told round last history by number tag =
+    record { first = tag_after_query (number_of round) history number tag; listed = by.listed number; listed_now = by.listed_now number }
 
-  at-end : (number : ℕ) (tag : TagValue) → HasNumber start number tag
-      → StandsAtEnd spec.session (tag_after_query round history number tag) (by.listed number) (by.listed_now number) (tag_behind number tag now)
-  at-end number tag numbered =
-      end-stands spec.session (q_of spec earlier) outcome (frame_of spec earlier) (tag_after_query round history number tag) (by.listed number) (by.listed_now number)
-      (tag_behind number tag now) (by.tags number tag numbered)
+module _ (round : PlayedRound) (last : LastSlot) (history : List Item) (by : IsToldBy round last history) where
+  single : (number : ℕ) (tag : TagValue) → HasNumber round.start number tag → IsListedOnce (tag_after_query (number_of round) history number tag) (by.listed number) (by.listed_now number)
+  single number tag numbered = listed-once (frame_behind round last.earlier) last.outcome (member_told round last history by number tag) (tag_behind number tag last.now) (by.tags number tag numbered)
 
-  at-quiet : end ≡ ends.Quiet → (number : ℕ) (tag : TagValue) → HasNumber start number tag
-      → StandsAtQuiet spec.session (tag_after_query round history number tag) (by.listed number) (by.listed_now number) (tag_behind number tag now)
+  at-end : (number : ℕ) (tag : TagValue) → HasNumber round.start number tag
+      → StandsAtEnd round.spec.session (tag_after_query (number_of round) history number tag) (by.listed number) (by.listed_now number) (tag_behind number tag last.now)
+  at-end number tag numbered = end-stands (frame_behind round last.earlier) last.outcome (member_told round last history by number tag) (tag_behind number tag last.now) (by.tags number tag numbered)
+
+  at-quiet : last.end ≡ ends.Quiet → (number : ℕ) (tag : TagValue) → HasNumber round.start number tag
+      → StandsAtQuiet round.spec.session (tag_after_query (number_of round) history number tag) (by.listed number) (by.listed_now number) (tag_behind number tag last.now)
   at-quiet is number tag numbered =
-      quiet-stands spec.session (q_of spec earlier) outcome (frame_of spec earlier) (tag_after_query round history number tag) (by.listed number) (by.listed_now number)
-      (tag_behind number tag now) (by.quiet is) (by.tags number tag numbered)
+      quiet-stands (frame_behind round last.earlier) last.outcome (member_told round last history by number tag) (tag_behind number tag last.now) (by.quiet is) (by.tags number tag numbered)
 
-  matched-number : (number : ℕ) (found : Option TagValue) → slice_get start.tags number ≡ found → 1 ≤ times number (tags_listed_in round history)
-      → IsMatchedTag start history round number
+  matched-number : (number : ℕ) (found : Option TagValue) → slice_get round.start.tags number ≡ found → 1 ≤ times number (tags_listed_in (number_of round) history)
+      → IsMatchedTag round.start history (number_of round) number
   matched-number number None none some =
       let (first, second) = by.strangers number none in
-      let count : times number (tags_listed_in round history) ≡ bit false + bit false =
+      let count : times number (tags_listed_in (number_of round) history) ≡ bit false + bit false =
       by.count number ∙ ap (λ (b : Bool). bit b + bit (by.listed_now number)) first ∙ ap (λ (b : Bool). bit false + bit b) second in
       absurd (omega (arith, some, count))
   matched-number number (Some tag) numbered some = record {
     tag = tag;
     numbered = numbered;
-    matched = matched-either (tag_after_query round history number tag) (by.listed number) (by.listed_now number) (single number tag numbered)
+    matched = matched-either (tag_after_query (number_of round) history number tag) (by.listed number) (by.listed_now number) (single number tag numbered)
         (some-bit (by.listed number) (by.listed_now number) (subst (λ n. 1 ≤ n) (by.count number) some));
   }
 
-  strangers-unlisted : (number : ℕ) → slice_get start.tags number ≡ None → times number (tags_listed_in round history) ≡ 0
+  strangers-unlisted : (number : ℕ) → slice_get round.start.tags number ≡ None → times number (tags_listed_in (number_of round) history) ≡ 0
   strangers-unlisted number none =
       let (first, second) = by.strangers number none in
       by.count number ∙ ap (λ (b : Bool). bit b + bit (by.listed_now number)) first ∙ ap (λ (b : Bool). bit false + bit b) second ∙ omega arith
 
-  few-times : (number : ℕ) → times number (tags_listed_in round history) ≤ 1
+  few-times : (number : ℕ) → times number (tags_listed_in (number_of round) history) ≤ 1
   few-times number = subst (λ n. n ≤ 1) (sym (by.count number)) (few-bits (by.listed number) (by.listed_now number) (by.once number))
 
-  no-tag-twice : ListsNoTagTwice start history round
+  no-tag-twice : ListsNoTagTwice round.start history (number_of round)
   no-tag-twice = record {
     once = few-times;
-    matched = λ number some. matched-number number (slice_get start.tags number) refl some;
+    matched = λ number some. matched-number number (slice_get round.start.tags number) refl some;
   }
 
-  flag-steps : StepsFlags start history round spec.session
+  flag-steps : StepsFlags round.start history (number_of round) round.spec.session
   flag-steps = record {
     slot = λ sent past number tag recorded same begins numbered.
-        (records-at (StepsFlagsOf start round spec.session) recorded.later sent past (subst (AllRecords (StepsFlagsOf start round spec.session)) recorded.is by.flags)
+        (records-at (StepsFlagsOf round.start (number_of round) round.spec.session) recorded.later sent past (subst (AllRecords (StepsFlagsOf round.start (number_of round) round.spec.session)) recorded.is by.flags)
         same number tag numbered).slot begins;
     other = λ sent past number tag recorded same no_slot no_query numbered.
-        (records-at (StepsFlagsOf start round spec.session) recorded.later sent past (subst (AllRecords (StepsFlagsOf start round spec.session)) recorded.is by.flags)
+        (records-at (StepsFlagsOf round.start (number_of round) round.spec.session) recorded.later sent past (subst (AllRecords (StepsFlagsOf round.start (number_of round) round.spec.session)) recorded.is by.flags)
         same number tag numbered).other no_slot no_query;
   }
 
-  quiet-complete : end ≡ ends.Quiet → IsQuietComplete start history round spec.session now
+  quiet-complete : last.end ≡ ends.Quiet → IsQuietComplete round.start history (number_of round) round.spec.session last.now
   quiet-complete is = record {
     listed = λ number tag numbered.
         let stands = at-quiet is number tag numbered in
         by.count number
         ∙ ap (λ (b : Bool). bit (by.listed number) + bit b) stands.not_now
         ∙ ap (λ (b : Bool). bit b + bit false) stands.listed_is
-        ∙ bit-alone (is_matched_in round history number tag);
+        ∙ bit-alone (is_matched_in (number_of round) history number tag);
     flags = λ number tag numbered. (at-quiet is number tag numbered).flags;
     ready = λ number tag numbered present. (at-quiet is number tag numbered).ready present;
   }
 
-  limit-end : EndsByLimit start history round spec.session (length (outcome ∷ earlier)) now
+  limit-end : EndsByLimit round.start history (number_of round) round.spec.session (slots_to last) last.now
   limit-end = record {
     not_listed = λ number tag numbered matched none.
         let bits = no-bits (by.listed number) (by.listed_now number) (sym (by.count number) ∙ none) in
@@ -235,47 +236,47 @@ module _ (start : Start) (spec : SpecValue) (round : ℕ) (before history : List
         record { state = stands.0; flags = stands.1 };
   }
 
-  told-complete : CompleteInventory start history round spec.session
+  told-complete : CompleteInventory round.start history (number_of round) round.spec.session
   told-complete = record {
     no_tag_twice = no-tag-twice;
     flag_steps = flag-steps;
     quiet_is_complete = λ slots past is.
-        let same : Some (record { end = end; slots = length (outcome ∷ earlier); past = now }) ≡ Some (ending_with ends.Quiet slots past) = sym by.ending ∙ is in
-        let parts = same-ending end (length (outcome ∷ earlier)) now ends.Quiet slots past same in
-        subst (λ (p : List Item). IsQuietComplete start history round spec.session p) parts.past_is (quiet-complete parts.end_is);
+        let same : Some (record { end = last.end; slots = slots_to last; past = last.now }) ≡ Some (ending_with ends.Quiet slots past) = sym by.ending ∙ is in
+        let parts = same-ending last.end (slots_to last) last.now ends.Quiet slots past same in
+        subst (λ (p : List Item). IsQuietComplete round.start history (number_of round) round.spec.session p) parts.past_is (quiet-complete parts.end_is);
     limit_end = λ slots past is.
-        let same : Some (record { end = end; slots = length (outcome ∷ earlier); past = now }) ≡ Some (ending_with ends.Limit slots past) = sym by.ending ∙ is in
-        let parts = same-ending end (length (outcome ∷ earlier)) now ends.Limit slots past same in
-        subst (λ (p : List Item). EndsByLimit start history round spec.session slots p) parts.past_is
-        (subst (λ n. EndsByLimit start history round spec.session n now) parts.slots_are limit-end);
+        let same : Some (record { end = last.end; slots = slots_to last; past = last.now }) ≡ Some (ending_with ends.Limit slots past) = sym by.ending ∙ is in
+        let parts = same-ending last.end (slots_to last) last.now ends.Limit slots past same in
+        subst (λ (p : List Item). EndsByLimit round.start history (number_of round) round.spec.session slots p) parts.past_is
+        (subst (λ n. EndsByLimit round.start history (number_of round) round.spec.session n last.now) parts.slots_are limit-end);
   }
 
-  pub told-counted : CountedRound start history round spec
+  pub told-counted : CountedRound round.start history (number_of round) round.spec
   told-counted = (
-    record { end = end; slots = length (outcome ∷ earlier); past = now },
+    record { end = last.end; slots = slots_to last; past = last.now },
     by.ending,
     record {
       matched = by.spoken;
       each_once = few-times;
       spoken_to = λ number tag numbered some.
           sym (by.spoken number tag numbered)
-          ∙ matched-either (tag_after_query round history number tag) (by.listed number) (by.listed_now number) (single number tag numbered)
+          ∙ matched-either (tag_after_query (number_of round) history number tag) (by.listed number) (by.listed_now number) (single number tag numbered)
           (some-bit (by.listed number) (by.listed_now number) (subst (λ n. 1 ≤ n) (by.count number) some));
-      numbered = λ number some. matched-number number (slice_get start.tags number) refl some;
+      numbered = λ number some. matched-number number (slice_get round.start.tags number) refl some;
       own_epc = λ sent past number tag recorded same numbered senders.
-          records-at (ListsOwnEpc start round (past_after_query round history)) recorded.later sent past
-          (subst (AllRecords (ListsOwnEpc start round (past_after_query round history))) recorded.is by.epcs) same number tag numbered senders;
+          records-at (ListsOwnEpc round.start (number_of round) (past_after_query (number_of round) history)) recorded.later sent past
+          (subst (AllRecords (ListsOwnEpc round.start (number_of round) (past_after_query (number_of round) history))) recorded.is by.epcs) same number tag numbered senders;
       complete = λ number tag numbered quiet spoken.
           (quiet-complete quiet).listed number tag numbered
           ∙ ap (λ (b : Bool). if b then 1 else 0) (by.spoken number tag numbered ∙ spoken);
       as_many = λ quiet.
-          as-many-listed start spec round history (tags_listed_in round history)
+          as-many-listed round.start round.spec (number_of round) history (tags_listed_in (number_of round) history)
           (λ number tag numbered. (quiet-complete quiet).listed number tag numbered ∙ ap (λ (b : Bool). if b then 1 else 0) (by.spoken number tag numbered))
-          (λ number above. strangers-unlisted number (past-the-end start.tags number above));
+          (λ number above. strangers-unlisted number (past-the-end round.start.tags number above));
       flags = λ number tag numbered.
           (by.tags number tag numbered).body.flags
-          ∙ ap (λ (b : Bool). flags_in_round spec.session b (flags_after_query round history number tag))
-          (sym (ap (λ n. n == 1 && not (times number (tags_listed_in_slot round (length (outcome ∷ earlier)) history) == 1)) (by.count number)
+          ∙ ap (λ (b : Bool). flags_in_round round.spec.session b (flags_after_query (number_of round) history number tag))
+          (sym (ap (λ n. n == 1 && not (times number (tags_listed_in_slot (number_of round) (slots_to last) history) == 1)) (by.count number)
           ∙ ap (λ n. bit (by.listed number) + bit (by.listed_now number) == 1 && not (n == 1)) (by.count_now number)
           ∙ inverted-is (by.listed number) (by.listed_now number) (by.once number)));
       memory = λ number tag numbered. (by.tags number tag numbered).body.memory;
@@ -298,83 +299,107 @@ abbrev pub RoundsHaveFacts : Type 0
 RoundsHaveFacts = (spec : SpecValue) (link : LinkValue) → IsLegalSpec spec → RoundFacts spec link
 
 -- what the history of a run tells of a round that is honest
-pub record IsTold (start : Start) (spec : SpecValue) (round : ℕ) (before history : List Item) : Type 0 where
-  pub end : RoundEnd
-  pub outcome : Outcome
-  pub earlier : List Outcome
-  pub now : List Item
-  pub by : IsToldBy start spec round before history end outcome earlier now
+pub record IsTold (round : PlayedRound) (history : List Item) : Type 0 where
+  pub last : LastSlot
+  pub by : IsToldBy round last history
 
-told-behind : (start : Start) (spec : SpecValue) (round : ℕ) (before later behind : List Item) → AreOfOthers round later → AllRecords (IsFairIn start round) (later ++ behind)
-    → IsOver start spec round before behind → IsTold start spec round before (later ++ behind)
-told-behind start spec round before later behind others unsaid over =
-    let whole = ended round over.end (length (over.outcome ∷ over.earlier)) ∷ over.now in
-    let unsaid_now : AllRecords (IsFairIn start round) over.now = records-behind (IsFairIn start round) later whole (subst (λ (items : List Item). AllRecords (IsFairIn start round) (later ++ items)) over.is unsaid) in
+told-behind : (round : PlayedRound) (later behind : List Item) → AreOfOthers (number_of round) later → AllRecords (IsFairIn round.start (number_of round)) (later ++ behind)
+    → IsOver round behind → IsTold round (later ++ behind)
+told-behind round later behind others unsaid over =
+    let last = over.last in
+    let whole = ended (number_of round) last.end (slots_to last) ∷ last.now in
+    let unsaid_now : AllRecords (IsFairIn round.start (number_of round)) last.now =
+    records-behind (IsFairIn round.start (number_of round)) later whole
+    (subst (λ (items : List Item). AllRecords (IsFairIn round.start (number_of round)) (later ++ items)) over.is unsaid) in
     record {
-      end = over.end;
-      outcome = over.outcome;
-      earlier = over.earlier;
-      now = over.now;
-      by = subst (λ (items : List Item). IsToldBy start spec round before (later ++ items) over.end over.outcome over.earlier over.now) (sym over.is)
-          (told start spec round before later over.end over.outcome over.earlier over.now others (over.stands unsaid_now) over.quiet);
+      last = last;
+      by = subst (λ (items : List Item). IsToldBy round last (later ++ items)) (sym over.is) (told round last later others (over.stands unsaid_now) over.quiet);
     }
 
-pub history-told : RoundsKeepLimit → RoundsHaveFacts → (start : Start) (before after : List Step) (spec : SpecValue) (operations : OpList)
-    → AreLegalSteps (before ++ steps.Round spec operations ∷ after)
-    → IsHonest (history_of start (before ++ steps.Round spec operations ∷ after)) (rounds_of before + 1) operations
-    → (start.several ≡ severals.Capture → IsApart (history_of start (before ++ steps.Round spec operations ∷ after)) (rounds_of before + 1))
-    → IsTold start spec (rounds_of before + 1) (past_behind start before []) (history_of start (before ++ steps.Round spec operations ∷ after))
-history-told keeps facts start before after spec operations legal honest apart =
-    let history = history_of start (before ++ steps.Round spec operations ∷ after) in
-    let (legal_before, legal_after) = legal-split before (steps.Round spec operations ∷ after) legal in
-    let past = past_behind start before [] in
-    let behind = past_behind_round start operations spec past in
-    let first : Adds [] past (rounds_of before) = steps-add keeps start before [] legal_before in
-    let own : Adds past behind 1 = step-adds keeps start (steps.Round spec operations) past legal_after.0 in
-    let rest : Adds behind (past_behind start after behind) (rounds_of after) = steps-add keeps start after behind legal_after.1 in
-    let count : rounds_in past ≡ rounds_of before = first.rounds_are ∙ omega arith in
-    let round : ℕ = rounds_in past + 1 in
+-- a round among the steps of a run
+pub record RoundAmong : Type 0 where
+  pub start : Start
+  pub before : List Step
+  pub after : List Step
+  pub spec : SpecValue
+  pub operations : OpList
+
+-- these steps
+abbrev pub steps_around : RoundAmong → List Step
+steps_around among = among.before ++ steps.Round among.spec among.operations ∷ among.after
+
+-- the round as it is played
+abbrev pub played : RoundAmong → PlayedRound
+played among = record { start = among.start; operations = among.operations; spec = among.spec; before = past_behind among.start among.before [] }
+
+-- a round of a history is honest, and where the channel captures one of several replies no two tags answer alike in it
+pub record IsFairRound (start : Start) (history : List Item) (round : ℕ) (operations : OpList) : Type 0 where
+  pub honest : IsHonest history round operations
+  pub apart : start.several ≡ severals.Capture → IsApart history round
+
+-- its number is that of the rounds before it and one
+number-among : RoundsKeepLimit → (among : RoundAmong) → AreLegalSteps (steps_around among) → number_of (played among) ≡ rounds_of among.before + 1
+number-among keeps among legal =
+    let (legal_before, legal_after) = legal-split among.before (steps.Round among.spec among.operations ∷ among.after) legal in
+    let first : Adds [] (past_behind among.start among.before []) (rounds_of among.before) = steps-add keeps among.start among.before [] legal_before in
+    let count : rounds_in (past_behind among.start among.before []) ≡ rounds_of among.before = first.rounds_are ∙ omega arith in
+    ap (λ n. n + 1) count
+
+pub history-told : RoundsKeepLimit → RoundsHaveFacts → (among : RoundAmong) → AreLegalSteps (steps_around among)
+    → IsFairRound among.start (history_of among.start (steps_around among)) (rounds_of among.before + 1) among.operations
+    → IsTold (played among) (history_of among.start (steps_around among))
+history-told keeps facts among legal fair =
+    let start = among.start in
+    let round = played among in
+    let number : ℕ = number_of round in
+    let history = history_of start (steps_around among) in
+    let own_step = steps.Round among.spec among.operations in
+    let (legal_before, legal_after) = legal-split among.before (own_step ∷ among.after) legal in
+    let past = past_behind start among.before [] in
+    let behind = past_behind_played round in
+    let first : Adds [] past (rounds_of among.before) = steps-add keeps start among.before [] legal_before in
+    let own : Adds past behind 1 = step-adds keeps start own_step past legal_after.0 in
+    let rest : Adds behind (past_behind start among.after behind) (rounds_of among.after) = steps-add keeps start among.after behind legal_after.1 in
+    let same_number : number ≡ rounds_of among.before + 1 = number-among keeps among legal in
     let all_before : first.own ≡ past = sym (append-nil first.own) ∙ sym first.is in
-    let none_before : AreOfOthers round past =
-    subst (AreOfOthers round) all_before (of-others 0 (0 + rounds_of before) round first.own (omega arith) (inr (omega (arith, count))) first.of) in
-    let none_behind : AreOfOthers round rest.own =
-    of-others (rounds_in behind) (rounds_in behind + rounds_of after) round rest.own (omega arith) (inl (omega (arith, own.rounds_are))) rest.of in
-    let here : history ≡ rest.own ++ behind = past_behind-append start before (steps.Round spec operations ∷ after) [] ∙ rest.is in
-    let same_round : rounds_of before + 1 ≡ round = ap (λ n. n + 1) (sym count) in
-    let fair : AllRecords (IsFairIn start (rounds_of before + 1)) history =
-    records-all (IsFairIn start (rounds_of before + 1)) history
+    let none_before : AreOfOthers number past =
+    subst (AreOfOthers number) all_before (of-others 0 (0 + rounds_of among.before) number first.own (omega arith) (inr (omega (arith, same_number))) first.of) in
+    let none_behind : AreOfOthers number rest.own =
+    of-others (rounds_in behind) (rounds_in behind + rounds_of among.after) number rest.own (omega arith) (inl (omega (arith, own.rounds_are))) rest.of in
+    let here : history ≡ rest.own ++ behind = past_behind-append start among.before (own_step ∷ among.after) [] ∙ rest.is in
+    let each_fair : AllRecords (IsFairIn start number) history =
+    subst (λ n. AllRecords (IsFairIn start n) history) (sym same_number)
+    (records-all (IsFairIn start (rounds_of among.before + 1)) history
     (λ sent earlier recorded same. record {
-      unsaid = honest.unsaid sent earlier recorded same;
-      apart = λ captures begins. (apart captures).apart sent earlier recorded same begins;
-    }) in
-    subst (λ n. IsTold start spec n past history) (sym same_round)
-    (subst (λ (items : List Item). IsTold start spec round past items) (sym here)
-    (told-behind start spec round past rest.own behind none_behind
-    (subst (AllRecords (IsFairIn start round)) here (subst (λ n. AllRecords (IsFairIn start n) history) same_round fair))
-    (round-stands keeps start operations spec past legal_after.0.legal (facts spec start.link legal_after.0.legal) honest.no_operations none_before)))
+      unsaid = fair.honest.unsaid sent earlier recorded same;
+      apart = λ captures begins. (fair.apart captures).apart sent earlier recorded same begins;
+    })) in
+    subst (λ (items : List Item). IsTold round items) (sym here)
+    (told-behind round rest.own behind none_behind (subst (AllRecords (IsFairIn start number)) here each_fair)
+    (round-stands round keeps legal_after.0.legal (facts among.spec start.link legal_after.0.legal) fair.honest.no_operations none_before))
 
-pub complete-inventory : RoundsKeepLimit → RoundsHaveFacts → (start : Start) (taken before after : List Step) (spec : SpecValue) (operations : OpList)
-    → AreLegalSteps taken → taken ≡ before ++ steps.Round spec operations ∷ after → IsHonest (history_of start taken) (rounds_of before + 1) operations
-    → (start.several ≡ severals.Capture → IsApart (history_of start taken) (rounds_of before + 1))
-    → CompleteInventory start (history_of start taken) (rounds_of before + 1) spec.session
-complete-inventory keeps facts start taken before after spec operations legal is honest apart =
-    let all = before ++ steps.Round spec operations ∷ after in
-    let round : ℕ = rounds_of before + 1 in
-    let told = history-told keeps facts start before after spec operations (subst AreLegalSteps is legal)
-    (subst (λ (s : List Step). IsHonest (history_of start s) round operations) is honest)
-    (λ captures. subst (λ (s : List Step). IsApart (history_of start s) round) is (apart captures)) in
-    subst (λ (s : List Step). CompleteInventory start (history_of start s) round spec.session) (sym is)
-    (told-complete start spec round (past_behind start before []) (history_of start all) told.end told.outcome told.earlier told.now told.by)
+-- ... also where the steps of the run are called by a name
+taken-told : RoundsKeepLimit → RoundsHaveFacts → (among : RoundAmong) (taken : List Step) → AreLegalSteps taken → taken ≡ steps_around among
+    → IsFairRound among.start (history_of among.start taken) (rounds_of among.before + 1) among.operations → IsTold (played among) (history_of among.start taken)
+taken-told keeps facts among taken legal is fair =
+    subst (λ (s : List Step). IsTold (played among) (history_of among.start s)) (sym is)
+    (history-told keeps facts among (subst AreLegalSteps is legal)
+    (subst (λ (s : List Step). IsFairRound among.start (history_of among.start s) (rounds_of among.before + 1) among.operations) is fair))
 
-pub counted-round : RoundsKeepLimit → RoundsHaveFacts → (start : Start) (taken before after : List Step) (spec : SpecValue) (operations : OpList)
-    → AreLegalSteps taken → taken ≡ before ++ steps.Round spec operations ∷ after → IsHonest (history_of start taken) (rounds_of before + 1) operations
-    → (start.several ≡ severals.Capture → IsApart (history_of start taken) (rounds_of before + 1))
-    → CountedRound start (history_of start taken) (rounds_of before + 1) spec
-counted-round keeps facts start taken before after spec operations legal is honest apart =
-    let all = before ++ steps.Round spec operations ∷ after in
-    let round : ℕ = rounds_of before + 1 in
-    let told = history-told keeps facts start before after spec operations (subst AreLegalSteps is legal)
-    (subst (λ (s : List Step). IsHonest (history_of start s) round operations) is honest)
-    (λ captures. subst (λ (s : List Step). IsApart (history_of start s) round) is (apart captures)) in
-    subst (λ (s : List Step). CountedRound start (history_of start s) round spec) (sym is)
-    (told-counted start spec round (past_behind start before []) (history_of start all) told.end told.outcome told.earlier told.now told.by)
+pub complete-inventory : RoundsKeepLimit → RoundsHaveFacts → (among : RoundAmong) (taken : List Step) → AreLegalSteps taken → taken ≡ steps_around among
+    → IsFairRound among.start (history_of among.start taken) (rounds_of among.before + 1) among.operations
+    → CompleteInventory among.start (history_of among.start taken) (rounds_of among.before + 1) among.spec.session
+complete-inventory keeps facts among taken legal is fair =
+    let history = history_of among.start taken in
+    let told = taken-told keeps facts among taken legal is fair in
+    subst (λ n. CompleteInventory among.start history n among.spec.session) (number-among keeps among (subst AreLegalSteps is legal))
+    (told-complete (played among) told.last history told.by)
+
+pub counted-round : RoundsKeepLimit → RoundsHaveFacts → (among : RoundAmong) (taken : List Step) → AreLegalSteps taken → taken ≡ steps_around among
+    → IsFairRound among.start (history_of among.start taken) (rounds_of among.before + 1) among.operations
+    → CountedRound among.start (history_of among.start taken) (rounds_of among.before + 1) among.spec
+counted-round keeps facts among taken legal is fair =
+    let history = history_of among.start taken in
+    let told = taken-told keeps facts among taken legal is fair in
+    subst (λ n. CountedRound among.start history n among.spec) (number-among keeps among (subst AreLegalSteps is legal))
+    (told-counted (played among) told.last history told.by)

@@ -13,7 +13,6 @@ use Rattle.air_model.specs.Past.{Start, Record, Item, befell, exchanged, operate
 use Rattle.air_model.specs.Reception.{is_expected, reception_of}
 use Rattle.air_events.specs.Entries.{no_entry, entry_at}
 use Rattle.air_events.specs.declared.Entry.{Entry}
-use Rattle.air_events.specs.declared.Several.TheVariants as severals
 use Rattle.runs.specs.Headline.{IsLegalRound, Acknowledges, HasNoRawStream}
 use Rattle.runs.specs.History.{past_behind_round, history_of}
 use Rattle.runs.specs.Listing.{Listed, reception_of_ack, listed_from, listed_by, listing_of}
@@ -22,11 +21,10 @@ use Rattle.command_grammar.specs.declared.commands.Command.TheVariants as comman
 use Rattle.runs.specs.Complete.{HasNumber}
 use Rattle.runs.specs.Counted.{is_spoken_to, tags_spoken_to}
 use Rattle.runs.specs.EveryTag.{AllTakePart, HaveOwnEpcs, pairs_listed, ListsEveryTag}
-use Rattle.runs.specs.Honest.{IsHonest, IsApart}
 use Rattle.runs.specs.Listed.{listed_as, sender_where, sender_listed_by, is_of_round, tags_listed_where, tags_listed_in, times}
 use Rattle.runs.specs.Moments.{Ending, ending_of, tag_after_query}
 use Rattle.runs.specs.TagInRound.{is_matched, flags_behind_query}
-use Rattle.runs.proofs.CompleteRound.{IsTold, IsToldBy, RoundsHaveFacts, history-told, told-counted}
+use Rattle.runs.proofs.CompleteRound.{IsTold, IsToldBy, RoundsHaveFacts, RoundAmong, played, IsFairRound, history-told, told-counted}
 use Rattle.runs.proofs.MadeRecords.{made-record, none-given}
 use Rattle.runs.proofs.Others.{AllRecords, records-at, records-all}
 use Rattle.runs.specs.laws.Growth.{RoundsKeepLimit}
@@ -34,7 +32,7 @@ use Rattle.runs.proofs.Population.{tag_stepped, tag-steps}
 use Rattle.runs.proofs.TagQuery.{query-matched, query-memory}
 use Rattle.runs.proofs.Times.{times-append, times-one, times-first, bit, bit-if, lists-one}
 use Rattle.runs.proofs.Turns.{round-holds}
-use Rattle.runs.proofs.WholeRound.{query_command}
+use Rattle.runs.proofs.TagsInRound.{query_command}
 use Rattle.pie_line.specs.Link.{LinkValue}
 use Rattle.q_round.specs.SpecValue.{SpecValue, IsLegalSpec}
 use Rattle.q_round.specs.declared.round.RoundEnd.{RoundEnd}
@@ -43,7 +41,8 @@ use Rattle.reply_grammar.specs.Reception.{whole_reply, no_such_reply}
 use Rattle.reply_grammar.specs.declared.expected.Expect.TheVariants as expects
 use Rattle.reply_grammar.specs.declared.expected.Reply.{Reply}
 use Rattle.reply_grammar.specs.declared.expected.Reply.TheVariants as replies
-use Rattle.report_lines.specs.SeenCounts.{same_pair, distinct}
+use Rattle.reply_grammar.specs.Pairs.{same_pair}
+use Rattle.report_lines.specs.SeenCounts.{distinct}
 use Rattle.scenario.specs.declared.values.Step.TheVariants as steps
 use Rattle.session_flags.specs.Flags.{matches}
 use Rattle.tag_machine.specs.TagValue.{TagValue, StateValue, ReadyState, is_present}
@@ -56,14 +55,15 @@ AreOfRound round past = AllRecords (λ sent earlier. sent.round ≡ round) past
 -- in a run of one round they are
 one-round : RoundsKeepLimit → (start : Start) (operations : OpList) (spec : SpecValue) → IsLegalSpec spec → AreOfRound 1 (past_behind_round start operations spec [])
 one-round keeps start operations spec legal =
-    round-holds (λ outcomes now. AreOfRound 1 now) (λ outcomes sent now. AreOfRound 1 (exchanged sent ∷ now)) (AreOfRound 1) start operations spec [] keeps legal
+    round-holds (λ outcomes now. AreOfRound 1 now) (λ outcomes sent now. AreOfRound 1 (exchanged sent ∷ now)) (AreOfRound 1)
+    (record { start = start; operations = operations; spec = spec; before = [] }) keeps legal
     (record {
-      slot = λ outcomes now command are is holds. (refl, holds);
+      slot = λ outcomes now command next holds. (refl, holds);
       no_answer = λ outcomes now command reception heard none holds. holds;
       ack = λ outcomes now command rn heard holds. (refl, holds);
       operation = λ some outcomes now command holds. (refl, holds);
       result = λ some outcomes now index result holds. holds;
-      end = λ outcomes now end are is holds. holds;
+      end = λ outcomes now end next holds. holds;
     })
     tt
 
@@ -123,7 +123,7 @@ as-many listed senders (nobody none no_sender) = ap length no_sender ∙ sym (ap
 as-many listed senders (somebody one number listed_one sender) = ap length sender ∙ sym (ap length listed_one)
 
 -- no record of a past was given a raw stream
-abbrev AreOfReplies : List Item → Type 0
+abbrev pub AreOfReplies : List Item → Type 0
 AreOfReplies past = AllRecords (λ sent earlier. IsOfReplies sent.given) past
 
 -- as many tags are listed as there are list lines
@@ -140,11 +140,11 @@ listed-as-many (operated at slot index result ∷ past) of = listed-as-many past
 listed-as-many (ended number end slots ∷ past) of = listed-as-many past of
 
 -- the PC and the EPC of the tag of a number
-abbrev key_of : Option TagValue → ℕ × List ℕ
+abbrev pub key_of : Option TagValue → ℕ × List ℕ
 key_of None = (0, [])
 key_of (Some tag) = (pc_of tag.body.memory, epc_of tag.body.memory)
 
-abbrev key : Start → ℕ → ℕ × List ℕ
+abbrev pub key : Start → ℕ → ℕ × List ℕ
 key start number = key_of (slice_get start.tags number)
 
 abbrev pair_of : Listed → ℕ × List ℕ
@@ -210,9 +210,9 @@ all-of P (first ∷ others) each = (
 )
 
 -- the tag of a number is there
-record IsThere (start : Start) (number : ℕ) : Type 0 where
-  tag : TagValue
-  numbered : HasNumber start number tag
+pub record IsThere (start : Start) (number : ℕ) : Type 0 where
+  pub tag : TagValue
+  pub numbered : HasNumber start number tag
 
 same-epc : (one other : ℕ × List ℕ) → same_pair one other ≡ true → one.1 ≡ other.1
 same-epc one other same = same_text one.1 other.1 (sym (and_parts (one.0 == other.0) (pointwise nat_eq one.1 other.1) same).1)
@@ -303,50 +303,52 @@ first-matched spec link number tag after is ready matching =
     ∙ ap (λ (state : StateValue). is_present state && matches spec.sel spec.session spec.target (flags_behind_query spec.session state tag.body.flags)) ready
     ∙ matching
 
-end_of : Option Ending → RoundEnd
-end_of None = ends.Limit
-end_of (Some ending) = ending.end
-
 -- the history of a run of one round
 abbrev pub history_of_round : Start → SpecValue → OpList → List Item
 history_of_round start spec operations = history_of start (steps.Round spec operations ∷ [])
 
-pub every-tag : RoundsKeepLimit → RoundsHaveFacts → (start : Start) (spec : SpecValue) (operations : OpList) (slots : ℕ) (past : List Item) → IsLegalRound spec operations
-    → AllTakePart start spec → HaveOwnEpcs start → start.entries ≡ [] → IsHonest (history_of_round start spec operations) 1 operations
-    → (start.several ≡ severals.Capture → IsApart (history_of_round start spec operations) 1)
-    → ending_of 1 (history_of_round start spec operations) ≡ Some (record { end = ends.Quiet; slots = slots; past = past })
-    → ListsEveryTag start (history_of_round start spec operations)
-unfolding end_of
-every-tag keeps facts start spec operations slots past legal part own silent honest apart quiet =
+-- the one round of such a run
+abbrev pub among_of : Start → SpecValue → OpList → RoundAmong
+among_of start spec operations = record { start = start; before = []; after = []; spec = spec; operations = operations }
+
+-- the pairs that a run of one round lists are those of the tags that it lists, in order, each of which is one of the start and is listed once
+pub record ListsTags (start : Start) (history : List Item) : Type 0 where
+  pub pairs : pairs_listed history ≡ map (key start) (tags_listed_where (λ sent. true) history)
+  pub in_round : tags_listed_where (λ sent. true) history ≡ tags_listed_in 1 history
+  pub there : AllByRecursion (IsThere start) (tags_listed_where (λ sent. true) history)
+  pub once : (number : ℕ) → times number (tags_listed_where (λ sent. true) history) ≤ 1
+  pub of_replies : AreOfReplies history
+
+-- a run of one round that is honest, of which nothing is said
+pub record IsOneRun (start : Start) (spec : SpecValue) (operations : OpList) : Type 0 where
+  pub legal : IsLegalRound spec operations
+  pub silent : start.entries ≡ []
+  pub fair : IsFairRound start (history_of_round start spec operations) 1 operations
+
+-- what is known of its tags just after the Query: each has the memory that it had at the start
+pub after-query : (start : Start) (spec : SpecValue) (operations : OpList) (one : IsOneRun start spec operations) → IsTold (played (among_of start spec operations)) (history_of_round start spec operations)
+    → (number : ℕ) (tag : TagValue) → tag_after_query 1 (history_of_round start spec operations) number tag ≡ tag_stepped (query_command spec start.link) [] number tag
+after-query start spec operations one told number tag =
+    let unsaid : next_entry start [] ≡ no_entry = ap (λ (entries : List (ℕ × Entry)). entry_at entries 1) one.silent in
+    ap (λ (query : List Item). tag_behind number tag query) told.by.query_is ∙ tag-steps start 1 1 (query_command spec start.link) [] number tag unsaid
+
+pub lists-tags : RoundsKeepLimit → RoundsHaveFacts → (start : Start) (spec : SpecValue) (operations : OpList) → IsOneRun start spec operations
+    → ListsTags start (history_of_round start spec operations)
+lists-tags keeps facts start spec operations one =
     let history = history_of_round start spec operations in
-    let link = start.link in
-    let told : IsTold start spec 1 [] history = history-told keeps facts start [] [] spec operations (legal, tt) honest apart in
-    let by : IsToldBy start spec 1 [] history told.end told.outcome told.earlier told.now = told.by in
-    let (ending, ending_is, counted) = told-counted start spec 1 [] history told.end told.outcome told.earlier told.now told.by in
-    let ends_quiet : ending.end ≡ ends.Quiet = ap end_of (sym ending_is ∙ quiet) in
-    let unsaid : next_entry start [] ≡ no_entry = ap (λ (entries : List (ℕ × Entry)). entry_at entries 1) silent in
-    let after : (number : ℕ) (tag : TagValue) → tag_after_query 1 history number tag ≡ tag_stepped (query_command spec link) [] number tag =
-    λ number tag.
-    ap (λ (query : List Item). tag_behind number tag query) by.query_is
-    ∙ tag-steps start 1 1 (query_command spec link) [] number tag unsaid in
+    let among = among_of start spec operations in
+    let told : IsTold (played among) history = history-told keeps facts among (one.legal, tt) one.fair in
+    let (ending, ending_is, counted) = told-counted (played among) told.last history told.by in
     let memory : (number : ℕ) (tag : TagValue) → (tag_after_query 1 history number tag).body.memory ≡ tag.body.memory =
-    λ number tag. first-memory spec link number tag (tag_after_query 1 history number tag) (after number tag) in
-    let spoken : (number : ℕ) (tag : TagValue) → HasNumber start number tag → is_spoken_to spec (tag_after_query 1 history number tag) ≡ true =
-    λ number tag numbered.
-    sym (by.spoken number tag numbered)
-    ∙ first-matched spec link number tag (tag_after_query 1 history number tag) (after number tag) (part.ready number tag numbered) (part.matching number tag numbered) in
-    let round : AreOfRound 1 history = one-round keeps start operations spec legal.legal in
-    let numbers = tags_listed_where (λ sent. true) history in
-    let in_round : numbers ≡ tags_listed_in 1 history = all-in-round 1 history round in
-    let count : length numbers ≡ length start.tags =
-    ap length in_round ∙ counted.as_many ends_quiet
-    ∙ all-spoken-to spec 1 history 0 start.tags (λ place tag at. subst (λ n. is_spoken_to spec (tag_after_query 1 history n tag) ≡ true) (omega arith) (spoken place tag at)) in
+    λ number tag. first-memory spec start.link number tag (tag_after_query 1 history number tag) (after-query start spec operations one told number tag) in
+    let round : AreOfRound 1 history = one-round keeps start operations spec one.legal.legal in
+    let in_round = all-in-round 1 history round in
+    let there : (number : ℕ) → 1 ≤ times number (tags_listed_in 1 history) → IsThere start number =
+    λ number some. let found = counted.numbered number some in record { tag = found.tag; numbered = found.numbered } in
     let of : AreOfReplies history =
     records-all (λ sent earlier. IsOfReplies sent.given) history
     (λ sent earlier recorded.
-    none-given start sent earlier (subst HasNoRawStream (sym silent) tt) (made-record start (steps.Round spec operations ∷ []) sent earlier recorded)) in
-    let there : (number : ℕ) → 1 ≤ times number (tags_listed_in 1 history) → IsThere start number =
-    λ number some. let found = counted.numbered number some in record { tag = found.tag; numbered = found.numbered } in
+    none-given start sent earlier (subst HasNoRawStream (sym one.silent) tt) (made-record start (steps.Round spec operations ∷ []) sent earlier recorded)) in
     let keys : AllRecords (ListsKey start) history =
     records-all (ListsKey start) history
     (λ sent earlier recorded number sender.
@@ -354,13 +356,54 @@ every-tag keeps facts start spec operations slots past legal part own silent hon
     let some : 1 ≤ times number (tags_listed_in 1 history) =
     subst (λ (items : List Item). 1 ≤ times number (tags_listed_in 1 items)) (sym recorded.is)
     (listed-somewhere (is_of_round 1) recorded.later sent earlier number (eq-eqb sent.round 1 same) sender) in
-    let one = there number some in
-    lists-key start sent number one.tag (tag_after_query 1 history number one.tag).body.memory one.numbered
-    (counted.own_epc sent earlier number one.tag recorded same one.numbered sender) (memory number one.tag)) in
-    let all_there : AllByRecursion (IsThere start) numbers =
-    all-of (IsThere start) numbers (λ number some. there number (subst (λ (tags : List ℕ). 1 ≤ times number tags) in_round some)) in
-    let once : StandOnce numbers = stand-once numbers (λ number. subst (λ (tags : List ℕ). times number tags ≤ 1) (sym in_round) (counted.each_once number)) in
+    let tag = there number some in
+    lists-key start sent number tag.tag (tag_after_query 1 history number tag.tag).body.memory tag.numbered
+    (counted.own_epc sent earlier number tag.tag recorded same tag.numbered sender) (memory number tag.tag)) in
     record {
-      listed = sym (listed-as-many history of) ∙ count;
-      distinct_pairs = distinct-length start history numbers (pairs-are-keys start history of keys) (distinct-keys start numbers own all_there once) ∙ count;
+      pairs = pairs-are-keys start history of keys;
+      in_round = in_round;
+      there = all-of (IsThere start) (tags_listed_where (λ sent. true) history)
+          (λ number some. there number (subst (λ (tags : List ℕ). 1 ≤ times number tags) in_round some));
+      once = λ number. subst (λ (tags : List ℕ). times number tags ≤ 1) (sym in_round) (counted.each_once number);
+      of_replies = of;
+    }
+
+end_of : Option Ending → RoundEnd
+end_of None = ends.Limit
+end_of (Some ending) = ending.end
+
+-- a run of one round that is fair, of which nothing is said, in which each tag takes part and has an EPC of its own
+pub record IsPlainRun (start : Start) (spec : SpecValue) (operations : OpList) : Type 0 where
+  pub legal : IsLegalRound spec operations
+  pub part : AllTakePart start spec
+  pub own : HaveOwnEpcs start
+  pub silent : start.entries ≡ []
+  pub fair : IsFairRound start (history_of_round start spec operations) 1 operations
+
+pub every-tag : RoundsKeepLimit → RoundsHaveFacts → (start : Start) (spec : SpecValue) (operations : OpList) (slots : ℕ) (past : List Item) → IsPlainRun start spec operations
+    → ending_of 1 (history_of_round start spec operations) ≡ Some (record { end = ends.Quiet; slots = slots; past = past })
+    → ListsEveryTag start (history_of_round start spec operations)
+unfolding end_of
+every-tag keeps facts start spec operations slots past plain quiet =
+    let history = history_of_round start spec operations in
+    let link = start.link in
+    let one : IsOneRun start spec operations = record { legal = plain.legal; silent = plain.silent; fair = plain.fair } in
+    let among = among_of start spec operations in
+    let told : IsTold (played among) history = history-told keeps facts among (plain.legal, tt) plain.fair in
+    let by : IsToldBy (played among) told.last history = told.by in
+    let (ending, ending_is, counted) = told-counted (played among) told.last history told.by in
+    let ends_quiet : ending.end ≡ ends.Quiet = ap end_of (sym ending_is ∙ quiet) in
+    let spoken : (number : ℕ) (tag : TagValue) → HasNumber start number tag → is_spoken_to spec (tag_after_query 1 history number tag) ≡ true =
+    λ number tag numbered.
+    sym (by.spoken number tag numbered)
+    ∙ first-matched spec link number tag (tag_after_query 1 history number tag) (after-query start spec operations one told number tag)
+    (plain.part.ready number tag numbered) (plain.part.matching number tag numbered) in
+    let tags = lists-tags keeps facts start spec operations one in
+    let numbers = tags_listed_where (λ sent. true) history in
+    let count : length numbers ≡ length start.tags =
+    ap length tags.in_round ∙ counted.as_many ends_quiet
+    ∙ all-spoken-to spec 1 history 0 start.tags (λ place tag at. subst (λ n. is_spoken_to spec (tag_after_query 1 history n tag) ≡ true) (omega arith) (spoken place tag at)) in
+    record {
+      listed = sym (listed-as-many history tags.of_replies) ∙ count;
+      distinct_pairs = distinct-length start history numbers tags.pairs (distinct-keys start numbers plain.own tags.there (stand-once numbers tags.once)) ∙ count;
     }

@@ -1,15 +1,16 @@
 -- Which lines of a report pass a test that only lines of listed EPCs, of results and of ends of rounds may pass.
-use Rattle.std.proofs.Common.{◌≡◌, ℕ, ◌+◌, Bool, true, false, ◌&&◌, List, [], ◌∷◌, ◌++◌, length, map, filter, refl, ap, ◌∙◌, append-nil}
+use Rattle.std.proofs.Common.{◌≡◌, ℕ, ◌+◌, Bool, true, false, ◌&&◌, List, [], ◌∷◌, ◌++◌, length, map, filter, refl, ap, ◌∙◌, append-nil, append_assoc}
 use Rattle.std.proofs.lemmas.List.Elements.{filter-append}
 use Rattle.access_ops.specs.declared.op_next.OpResult.{OpResult}
 use Rattle.air_model.specs.Channel.{heard_levels, wave_for}
 use Rattle.air_model.specs.Past.{Start, Record, Item, exchanged, tags_behind}
 use Rattle.runs.specs.Headline.{is_round_line, is_list_line}
 use Rattle.runs.specs.Listing.{Listed, listed_by, listing_of}
+use Rattle.runs.specs.Said.{answer_line, exchanged_by}
 use Rattle.runs.specs.Report.{exchange_lines, first_lines, list_line, item_lines, past_lines, tag_lines, last_lines}
 use Rattle.report_lines.specs.Kept.{is_plain}
 use Rattle.pie_line.specs.Link.{LinkValue, blf_of}
-use Rattle.report_lines.specs.ReportLine.{ReportLine, BlfLine, TxLine, RxLine, ListLine, OpLine, RoundLine, SeenLine, TagLine, DoneLine}
+use Rattle.report_lines.specs.ReportLine.{ReportLine, BlfLine, ExchangeLine, MissedLine, GivenLine, TxLine, RxLine, ListLine, OpLine, RoundLine, SeenLine, TagLine, DoneLine}
 use Rattle.report_lines.specs.SeenCounts.{Seen, seen_in}
 use Rattle.tag_machine.specs.TagValue.{TagValue}
 
@@ -48,9 +49,29 @@ list-lines-pass round slot = record {
   done = refl;
 }
 
-no-exchange : (test : ReportLine → Bool) → PassesFew test → (link : LinkValue) (sent : Record) → filter test (exchange_lines link sent) ≡ []
-no-exchange test few link sent =
-    rw (few.trace (TxLine sent.exchange (wave_for link sent.command)) refl, few.trace (RxLine sent.exchange (length sent.replies) (heard_levels link sent.given)) refl) refl
+-- lines that are made of items, none of which passes
+none-made : {A : Type 0} (test : ReportLine → Bool) (made : A → ReportLine) → ((item : A) → test (made item) ≡ false) → (items : List A) (more : List ReportLine)
+    → filter test (map made items ++ more) ≡ filter test more
+none-made test made fails [] more = refl
+none-made test made fails (item ∷ items) more = rw (fails item) (none-made test made fails items more)
+
+-- of who said what and of the waves none does
+pub no-exchange : (test : ReportLine → Bool) → PassesNoTrace test → (link : LinkValue) (sent : Record) → filter test (exchange_lines link sent) ≡ []
+no-exchange test none link sent =
+    let waves : List ReportLine = TxLine sent.exchange (wave_for link sent.command) ∷ RxLine sent.exchange (length sent.replies) (heard_levels link sent.given) ∷ [] in
+    let over : List ReportLine = GivenLine (exchanged_by link sent) ∷ waves in
+    let fails : filter test over ≡ [] =
+    rw (
+      none (GivenLine (exchanged_by link sent)) refl,
+      none (TxLine sent.exchange (wave_for link sent.command)) refl,
+      none (RxLine sent.exchange (length sent.replies) (heard_levels link sent.given)) refl,
+    ) refl in
+    rw (none (ExchangeLine sent.exchange sent.command) refl)
+    (ap (filter test) (append_assoc (map (MissedLine sent.exchange) sent.entry.missed) (map (answer_line sent.exchange) sent.replies ++ GivenLine (exchanged_by link sent) ∷ []) waves
+    ∙ ap (λ (lines : List ReportLine). map (MissedLine sent.exchange) sent.entry.missed ++ lines) (append_assoc (map (answer_line sent.exchange) sent.replies) (GivenLine (exchanged_by link sent) ∷ []) waves))
+    ∙ none-made test (MissedLine sent.exchange) (λ tag. none (MissedLine sent.exchange tag) refl) sent.entry.missed (map (answer_line sent.exchange) sent.replies ++ over)
+    ∙ none-made test (answer_line sent.exchange) (λ replied. none (answer_line sent.exchange replied) refl) sent.replies over
+    ∙ fails)
 
 pub no-first : (test : ReportLine → Bool) → PassesNoTrace test → (link : LinkValue) → filter test (first_lines link) ≡ []
 no-first test none link = rw (none (BlfLine (blf_of link).0 (blf_of link).1) refl) refl
@@ -62,7 +83,7 @@ sent-passes test few link sent past =
     filter-append test (past_lines link past) (item_lines link (exchanged sent))
     ∙ ap (λ (lines : List ReportLine). filter test (past_lines link past) ++ lines)
     (filter-append test (exchange_lines link sent) (map list_line (listed_by sent))
-    ∙ ap (λ (lines : List ReportLine). lines ++ filter test (map list_line (listed_by sent))) (no-exchange test few link sent))
+    ∙ ap (λ (lines : List ReportLine). lines ++ filter test (map list_line (listed_by sent))) (no-exchange test few.trace link sent))
 
 -- where no list line passes, what is listed adds nothing
 pub no-listed : (test : ReportLine → Bool) → ((listed : Listed) → test (list_line listed) ≡ false) → (listing : List Listed)

@@ -13,6 +13,7 @@ use Rattle.runs.specs.History.{past_behind_answer, slot_reception, past_behind_s
 use Rattle.runs.specs.Listing.{Listed, reception_of_ack, listed_from, listed_by}
 use Rattle.runs.specs.Report.{list_line, past_lines, run_lines}
 use Rattle.runs.specs.laws.Growth.{RoundsKeepLimit, answer-holds, ack-keeps, round-holds, steps-hold}
+use Rattle.runs.specs.laws.PlayedRounds.{SlotOfRun}
 use Rattle.runs.proofs.HeadlineLines.{list-lines-pass, sent-passes, befell-passes, operated-passes, run-passes, and-false}
 use Rattle.runs.proofs.HeadlineSlots.{next-begins, slot-rounds}
 use Rattle.command_grammar.specs.declared.commands.Command.{Command}
@@ -126,9 +127,10 @@ rise-more round slot past holds = record {
 rise-answer : (start : Start) (operations : OpList) (round slot : ℕ) (reception : Reception) (past : List Item) → Rise round slot past
     → Rise round (slot + 1) (past_behind_answer start operations round slot reception past)
 rise-answer start operations round slot reception past holds =
+    let at : SlotOfRun = record { start = start; round = round; slot = slot } in
     let more : Rise round (slot + 1) past = rise-more round slot past holds in
-    answer-holds (Rise round (slot + 1)) start operations round slot reception past more
-    (λ rn is. ack-keeps (Rise round (slot + 1)) start operations round slot rn past
+    answer-holds (Rise round (slot + 1)) at operations reception past more
+    (λ rn is. ack-keeps (Rise round (slot + 1)) at operations rn past
     (record {
       command = λ command expect extended now suits rises.
           rise-other round (slot + 1) (next_record start round slot command now) now (expects-no-ack command expect extended suits) rises;
@@ -152,19 +154,20 @@ round-rise : RoundsKeepLimit → (start : Start) (operations : OpList) (spec : S
     → AcksRiseBefore (past_behind_round start operations spec past)
 round-rise keeps start operations spec past legal holds =
     let round : ℕ = rounds_in past + 1 in
-    round-holds (λ outcomes now. RiseIn round (length outcomes + 1) now) AcksRiseBefore start operations spec past keeps legal
+    round-holds (λ outcomes now. RiseIn round (length outcomes + 1) now) AcksRiseBefore
+    (record { start = start; operations = operations; spec = spec; before = past }) keeps legal
     (record {
-      slot = λ outcomes now command are is inside.
+      slot = λ outcomes now command next inside.
           let slot : ℕ = length outcomes + 1 in
           let sent = next_record start round slot command now in
-          let other : is_ack command ≡ false = slot-no-ack command (next-begins spec start.link outcomes command is) in
+          let other : is_ack command ≡ false = slot-no-ack command (next-begins spec start.link outcomes command next.is) in
           let count : rounds_in (past_behind_slot start operations round slot command now) ≡ rounds_in now = slot-rounds start operations round slot command now in
           record {
             rounds = ap (λ n. n + 1) count ∙ inside.rounds;
             rise = subst (λ n. Rise round (n + 1) (past_behind_slot start operations round slot command now)) (add-one (length outcomes))
                 (rise-answer start operations round slot (slot_reception start round slot command now) (exchanged sent ∷ now) (rise-other round slot sent now other inside.rise));
           };
-      end = λ outcomes now end are is inside.
+      end = λ outcomes now end next inside.
           let last : rounds_in now + 1 ≡ round = inside.rounds in
           (inside.rise.rise, before-on round (length outcomes + 1) (rounds_in now + 1 + 1) 1 now (inl (omega arith)) inside.rise.before);
     })

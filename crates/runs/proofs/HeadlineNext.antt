@@ -143,7 +143,7 @@ inside-dialogue : (on : UnderWay) (outcomes : List Outcome) (slot index : ℕ) (
 inside-dialogue on outcomes slot index left past count holds =
     let start = on.start in
     let round : ℕ = on.rounds + 1 in
-    dialogue-holds (InDialogue on outcomes) (Inside on outcomes None done) start round slot
+    dialogue-holds (InDialogue on outcomes) (Inside on outcomes None done) (record { start = start; round = round; slot = slot })
     (record {
       command = λ index command expect extended go_on now here.
           let sent = next_record start round slot command now in
@@ -208,7 +208,7 @@ inside-ack on outcomes slot rn past count inside =
 inside-answer : (on : UnderWay) (outcomes : List Outcome) (slot : ℕ) (reception : Reception) (past : List Item) → length outcomes ≡ slot → Inside on outcomes (rn_of reception) done past
     → Inside on outcomes None done (past_behind_answer on.start on.operations (on.rounds + 1) slot reception past)
 inside-answer on outcomes slot reception past count inside =
-    answer-cases (Inside on outcomes None done) on.start on.operations (on.rounds + 1) slot reception past
+    answer-cases (Inside on outcomes None done) (record { start = on.start; round = on.rounds + 1; slot = slot }) on.operations reception past
     (λ none. subst (λ (received : Option ℕ). Inside on outcomes received done past) none inside)
     (λ rn is. inside-ack on outcomes slot rn past count (subst (λ (reception : Reception). Inside on outcomes (rn_of reception) done past) is inside))
 
@@ -238,21 +238,21 @@ round-grows keeps start all finished past spec operations legal (at, between) =
     let rounds : ℕ = rounds_in past in
     let on : UnderWay = record { start = start; all = all; finished = finished; rounds = rounds; spec = spec; operations = operations; at = at } in
     round-holds (λ outcomes now. Inside on outcomes None done now) (λ now. Behind start all (finished + 1) now)
-    start operations spec past keeps legal
+    (record { start = start; operations = operations; spec = spec; before = past }) keeps legal
     (record {
-      slot = λ outcomes now command are is inside.
+      slot = λ outcomes now command does inside.
           let slot : ℕ = length outcomes + 1 in
-          let begins : begins_slot command ≡ true = next-begins spec start.link outcomes command is in
+          let begins : begins_slot command ≡ true = next-begins spec start.link outcomes command does.is in
           let next : next_item start all now ≡ Some (exchanged (next_record start (rounds + 1) slot command now)) =
-          next-of-slots on outcomes None now inside ∙ ap (λ (next : Next). Some (item_by_rule start (rounds + 1) outcomes now next)) is in
+          next-of-slots on outcomes None now inside ∙ ap (λ (next : Next). Some (item_by_rule start (rounds + 1) outcomes now next)) does.is in
           let reception = slot_reception start (rounds + 1) slot command now in
           inside-answer on (outcome_of reception ∷ outcomes) slot reception (past_behind_command start (rounds + 1) slot command now)
           (sym (add-one (length outcomes)))
           (inside-sent on outcomes now command begins next inside);
-      end = λ outcomes now end are is inside. record {
+      end = λ outcomes now end does inside. record {
         grows = (
           next-of-slots on outcomes None now inside
-              ∙ ap (λ (next : Next). Some (item_by_rule start (rounds + 1) outcomes now next)) is
+              ∙ ap (λ (next : Next). Some (item_by_rule start (rounds + 1) outcomes now next)) does.is
               ∙ ap (λ (item : Item). Some item) (end-item start (rounds + 1) outcomes now end),
           inside.grows,
         );
@@ -319,8 +319,11 @@ record Ends (start : Start) (all : List Step) (history : List Item) : Type 0 whe
   pub grows : GrowsByNext start all history
   pub ends : next_item start all history ≡ None
 
-steps-grow-by-next : RoundsKeepLimit → (start : Start) (all left : List Step) (finished : ℕ) (past : List Item) → AreLegalSteps left
-    → ((place more : ℕ) → place ≡ finished + more → slice_get all place ≡ slice_get left more)
+-- behind so many finished steps of all, these are left
+abbrev AreLeft : List Step → ℕ → List Step → Type 0
+AreLeft all finished left = (place more : ℕ) → place ≡ finished + more → slice_get all place ≡ slice_get left more
+
+steps-grow-by-next : RoundsKeepLimit → (start : Start) (all left : List Step) (finished : ℕ) (past : List Item) → AreLegalSteps left → AreLeft all finished left
     → Between start all finished past → Ends start all (past_behind start left past)
 steps-grow-by-next keeps start all [] finished past legal at between = record {
   grows = between.grows;

@@ -73,7 +73,7 @@ operation-begins-none of sent expect extended suits = rw (expects-begins-none se
 pub same-answer : (link : LinkValue) (of : ℕ) (start : Start) (operations : OpList) (round slot : ℕ) (reception : Reception) (past : List Item)
     → SameOf link of past (past_behind_answer start operations round slot reception past)
 same-answer link of start operations round slot reception past =
-    answer-keeps (λ now. SameOf link of past now) start operations round slot reception past
+    answer-keeps (λ now. SameOf link of past now) (record { start = start; round = round; slot = slot }) operations reception past
     (record {
       command = λ command expect extended now suits same.
           let sent = next_record start round slot command now in
@@ -100,8 +100,8 @@ same-slot link of start operations round slot command past other =
 pub slot-rounds : (start : Start) (operations : OpList) (round slot : ℕ) (command : Command) (past : List Item)
     → rounds_in (past_behind_slot start operations round slot command past) ≡ rounds_in past
 slot-rounds start operations round slot command past =
-    answer-keeps (λ now. rounds_in now ≡ rounds_in past) start operations round slot (slot_reception start round slot command past)
-    (past_behind_command start round slot command past)
+    answer-keeps (λ now. rounds_in now ≡ rounds_in past) (record { start = start; round = round; slot = slot }) operations
+    (slot_reception start round slot command past) (past_behind_command start round slot command past)
     (record { command = λ command expect extended now suits same. same; result = λ index result now same. same })
     (λ rn same. same)
     refl
@@ -128,16 +128,16 @@ pub round-passes : RoundsKeepLimit → (link : LinkValue) (of : ℕ) (start : St
 round-passes keeps link of start operations spec past legal other =
     let round : ℕ = rounds_in past + 1 in
     round-holds (λ outcomes now. Passes link of past now 0) (λ now. Passes link of past now 1)
-    start operations spec past keeps legal
+    (record { start = start; operations = operations; spec = spec; before = past }) keeps legal
     (record {
-      slot = λ outcomes now command are is holds.
+      slot = λ outcomes now command next holds.
           let behind = past_behind_slot start operations round (length outcomes + 1) command now in
           let count : rounds_in behind ≡ rounds_in now = slot-rounds start operations round (length outcomes + 1) command now in
           record {
             same = same-on link of past now behind holds.same (same-slot link of start operations round (length outcomes + 1) command now other);
             rounds = omega arith;
           };
-      end = λ outcomes now end are is holds. record {
+      end = λ outcomes now end next holds. record {
         same = same-on link of past now _ holds.same (same-end link of round end (length outcomes) now other);
         rounds = omega arith;
       };
@@ -212,12 +212,12 @@ round-settles keeps start operations spec past legal none =
     let round : ℕ = rounds_in past + 1 in
     let link : LinkValue = start.link in
     round-holds (λ outcomes now. Counts link round outcomes now) (λ now. IsBehind link round spec.limit now)
-    start operations spec past keeps legal
+    (record { start = start; operations = operations; spec = spec; before = past }) keeps legal
     (record {
-      slot = λ outcomes now command are is holds.
+      slot = λ outcomes now command next holds.
           let slot : ℕ = length outcomes + 1 in
           let behind = past_behind_slot start operations round slot command now in
-          let begins : begins_slot command ≡ true = next-begins spec link outcomes command is in
+          let begins : begins_slot command ≡ true = next-begins spec link outcomes command next.is in
           let count : rounds_in behind ≡ rounds_in now = slot-rounds start operations round slot command now in
           let more : length (slot_records round behind) ≡ suc (length (slot_records round now)) = ap length (own-slot link start operations round slot command now begins) in
           record {
@@ -225,8 +225,8 @@ round-settles keeps start operations spec past legal none =
             slots = more ∙ ap suc holds.slots;
             lines = own-lines link start operations round slot command now ∙ holds.lines;
           };
-      end = λ outcomes now end are is holds.
-          let few : length outcomes ≤ spec.limit = few-outcomes keeps spec outcomes legal are in
+      end = λ outcomes now end next holds.
+          let few : length outcomes ≤ spec.limit = few-outcomes keeps spec outcomes legal next.are in
           record {
             rounds = holds.rounds;
             settled = record {

@@ -4,9 +4,9 @@ use Rattle.std.proofs.lemmas.List.Elements.{filter-append}
 use Rattle.air_model.specs.Past.{Start, Item, befell, exchanged, operated, ended, tag_behind, tags_behind_from}
 use Rattle.runs.specs.Headline.{is_tag_line, tag_lines_behind}
 use Rattle.runs.specs.Listing.{listed_by, listing_of}
-use Rattle.runs.specs.Report.{item_lines, past_lines, tag_lines, last_lines, run_lines, report_of}
+use Rattle.runs.specs.Report.{exchange_lines, list_line, item_lines, past_lines, tag_lines, last_lines, run_lines, report_of}
 use Rattle.runs.proofs.HeadlineKept.{kept-pass}
-use Rattle.runs.proofs.HeadlineLines.{PassesNoTrace, no-listed}
+use Rattle.runs.proofs.HeadlineLines.{PassesNoTrace, no-exchange, no-listed}
 use Rattle.report_lines.specs.declared.mode.Mode.{Mode}
 use Rattle.runs.specs.History.{history_of}
 use Rattle.scenario.specs.declared.values.Step.{Step}
@@ -15,10 +15,17 @@ use Rattle.report_lines.specs.ReportLine.{ReportLine, SeenLine, TagLine, DoneLin
 use Rattle.report_lines.specs.SeenCounts.{Seen, seen_in}
 use Rattle.tag_machine.specs.TagValue.{TagValue}
 
+tag-no-trace : PassesNoTrace is_tag_line
+tag-no-trace (TagLine number tag) is = absurd (cc)
+tag-no-trace line is = refl
+
 -- no item has a tag line
 no-item : (link : LinkValue) (item : Item) → filter is_tag_line (item_lines link item) ≡ []
 no-item link (befell event number) = refl
-no-item link (exchanged sent) = no-listed is_tag_line (λ listed. refl) (listed_by sent)
+no-item link (exchanged sent) =
+    filter-append is_tag_line (exchange_lines link sent) (map list_line (listed_by sent))
+    ∙ ap (λ (lines : List ReportLine). lines ++ filter is_tag_line (map list_line (listed_by sent))) (no-exchange is_tag_line tag-no-trace link sent)
+    ∙ no-listed is_tag_line (λ listed. refl) (listed_by sent)
 no-item link (operated round slot index result) = refl
 no-item link (ended round end slots) = refl
 
@@ -47,10 +54,6 @@ run-tags start past =
     filter-append is_tag_line (past_lines start.link past) (last_lines start past)
     ∙ ap (λ (lines : List ReportLine). lines ++ filter is_tag_line (last_lines start past)) (no-past start.link past)
     ∙ seen-then-tags (seen_in (map (λ listed. (listed.pc, listed.epc)) (listing_of past))) 0 start.tags past
-
-tag-no-trace : PassesNoTrace is_tag_line
-tag-no-trace (TagLine number tag) is = absurd (cc)
-tag-no-trace line is = refl
 
 pub report-tags : (mode : Mode) (start : Start) (steps : List Step) → filter is_tag_line (report_of mode start steps) ≡ tag_lines_behind 0 start.tags (history_of start steps)
 report-tags mode start steps = kept-pass is_tag_line tag-no-trace mode (run_lines start steps) ∙ run-tags start (history_of start steps)

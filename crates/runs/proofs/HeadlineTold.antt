@@ -6,7 +6,8 @@ use Rattle.reply_grammar.specs.Reception.{Reception, no_stream, whole_reply, no_
 use Rattle.runs.specs.Headline.{AreLegalSteps, IsAckOf}
 use Rattle.runs.specs.History.{history_of}
 use Rattle.runs.specs.Listing.{Listed, reception_of_ack, listed_from, listed_by, listing_of}
-use Rattle.runs.specs.Report.{first_lines, exchange_lines, list_line, item_lines, past_lines, tag_lines, last_lines, run_lines, report_of}
+use Rattle.runs.specs.Said.{answer_line, exchanged_by}
+use Rattle.runs.specs.Report.{first_lines, exchange_lines, wave_lines, list_line, item_lines, past_lines, tag_lines, last_lines, run_lines, report_of}
 use Rattle.report_lines.specs.Kept.{keeps}
 use Rattle.report_lines.specs.declared.mode.Mode.{Mode}
 use Rattle.runs.specs.laws.Growth.{RoundsKeepLimit}
@@ -18,9 +19,10 @@ use Rattle.command_grammar.specs.declared.commands.Command.TheVariants as comman
 use Rattle.pie_line.specs.Link.{LinkValue}
 use Rattle.reply_grammar.specs.declared.expected.Expect.TheVariants as expects
 use Rattle.reply_grammar.specs.declared.expected.Reply.TheVariants as replies
-use Rattle.report_lines.specs.ReportLine.{SeenLine, DoneLine}
+use Rattle.report_lines.specs.ReportLine.{ReportLine, MissedLine, GivenLine, SeenLine, DoneLine}
 use Rattle.report_lines.specs.SeenCounts.{Seen, seen_in}
 use Rattle.scenario.specs.declared.values.Step.{Step}
+use Rattle.wave_dump.specs.Exchanged.{Exchanged}
 use Rattle.tag_machine.specs.TagValue.{TagValue}
 
 -- a line is what a record lists of what came
@@ -60,10 +62,32 @@ told-first : (link : LinkValue) (listed : Listed) → Among (list_line listed) (
 told-first link listed (inl is) = cc
 told-first link listed (inr none) = none
 
+-- lines that are made of items, none of which is the line
+not-made : {A : Type 0} (make : A → ReportLine) (listed : Listed) → ((item : A) → make item ≡ list_line listed → ⊥) → (items : List A) (more : List ReportLine)
+    → Among (list_line listed) (map make items ++ more) → Among (list_line listed) more
+not-made make listed differs [] more among = among
+not-made make listed differs (item ∷ items) more (inl is) = absurd (differs item is)
+not-made make listed differs (item ∷ items) more (inr among) = not-made make listed differs items more among
+
+told-given : (over : Exchanged) (listed : Listed) → Among (list_line listed) (GivenLine over ∷ []) → ⊥
+told-given over listed (inl is) = cc
+told-given over listed (inr none) = none
+
+told-waves : (link : LinkValue) (sent : Record) (listed : Listed) → Among (list_line listed) (wave_lines link sent) → ⊥
+told-waves link sent listed (inl is) = cc
+told-waves link sent listed (inr (inl is)) = cc
+told-waves link sent listed (inr (inr none)) = none
+
 told-exchange : (link : LinkValue) (sent : Record) (listed : Listed) → Among (list_line listed) (exchange_lines link sent) → ⊥
 told-exchange link sent listed (inl is) = cc
-told-exchange link sent listed (inr (inl is)) = cc
-told-exchange link sent listed (inr (inr none)) = none
+told-exchange link sent listed (inr among) =
+    let exchange : ℕ = sent.exchange in
+    let answers : List ReportLine = map (answer_line exchange) sent.replies ++ GivenLine (exchanged_by link sent) ∷ [] in
+    elim (among-split (list_line listed) (map (MissedLine exchange) sent.entry.missed ++ answers) (wave_lines link sent) among) [
+      | inl said ↦ told-given (exchanged_by link sent) listed
+          (not-made (answer_line exchange) listed (λ replied is. cc) sent.replies _ (not-made (MissedLine exchange) listed (λ tag is. cc) sent.entry.missed answers said))
+      | inr waves ↦ told-waves link sent listed waves
+    ]
 
 told-item : (link : LinkValue) (item : Item) (past : List Item) (listed : Listed)
     → Among (list_line listed) (item_lines link item) → IsTold (item ∷ past) listed

@@ -3,7 +3,7 @@ use Rattle.std.proofs.Common.{◌≡◌, ℕ, ◌+◌, ◌==◌, inl, inr, Bool,
 use Rattle.std.proofs.lemmas.Bool.{eqb-true}
 use Rattle.air_model.specs.Channel.{given_in, Given, whole, default_given}
 use Rattle.tag_machine.specs.Exchange.{Replied}
-use Rattle.air_model.specs.Past.{Start, Item, tags_behind, next_entry, next_record}
+use Rattle.air_model.specs.Past.{Start, Item, tag_behind, tags_behind, next_entry, next_record}
 use Rattle.air_model.specs.Reception.{is_expected, reception_of}
 use Rattle.reply_grammar.specs.Reception.{Reception, whole_reply, no_such_reply}
 use Rattle.air_events.specs.Entries.{no_entry}
@@ -155,41 +155,55 @@ answered-acknowledged rn (SecuredState held) sent answered same = absurd (cc)
 answered-acknowledged rn KilledState sent answered same = absurd (cc)
 answered-acknowledged rn UnpoweredState sent answered same = absurd (cc)
 
--- what each tag answered a slot command is what its state behind the command says
-abbrev pub AnswersByState : Start → Command → List Item → (ℕ → TagValue → StateValue) → Type 0
-AnswersByState start command past state_of =
-    (number : ℕ) (tag : TagValue) → HasNumber start number tag → answer_behind command past number tag ≡ slot_answer_of (state_of number tag)
+-- a slot command of a run: what was past when it was sent, and what was past just behind it
+pub record SlotCommand : Type 0 where
+  pub start : Start
+  pub command : Command
+  pub past : List Item
+  pub behind : List Item
+
+-- the state of a tag behind it
+abbrev pub state_behind : SlotCommand → ℕ → TagValue → StateValue
+state_behind sent number tag = (tag_behind number tag sent.behind).state
+
+-- what each tag answered it is what its state behind it says
+abbrev pub AnswersByState : SlotCommand → Type 0
+AnswersByState sent =
+    (number : ℕ) (tag : TagValue) → HasNumber sent.start number tag → answer_behind sent.command sent.past number tag ≡ slot_answer_of (state_behind sent number tag)
 
 pub same-tag : (start : Start) (number other : ℕ) (tag tag_of_other : TagValue) → HasNumber start number tag → HasNumber start other tag_of_other → number ≡ other → tag ≡ tag_of_other
 same-tag start number other tag tag_of_other numbered others same =
     let found : Some tag ≡ Some tag_of_other = sym numbered ∙ ap (λ n. slice_get start.tags n) same ∙ others in cc
 
-acknowledged-by : (start : Start) (command : Command) (past : List Item) (rn : ℕ) (state_of : ℕ → TagValue → StateValue) (one : IsOnlyAnswerer start command past rn)
-    → AnswersByState start command past state_of → (number : ℕ) (tag : TagValue) → HasNumber start number tag
-    → (acknowledged same : Bool) → is_acknowledged_by rn (state_of number tag) ≡ acknowledged → (one.number == number) ≡ same → acknowledged ≡ same
-acknowledged-by start command past rn state_of one by_state number tag numbered true true is same = refl
-acknowledged-by start command past rn state_of one by_state number tag numbered false false is same = refl
-acknowledged-by start command past rn state_of one by_state number tag numbered true false is same =
-    let answered = by_state number tag numbered ∙ acknowledged-answered rn (state_of number tag) is in
-    let alike : number ≡ one.number = one.only number tag _ numbered answered refl in
-    let test = eq-eqb one.number number (sym alike) in
-    absurd (cc)
-acknowledged-by start command past rn state_of one by_state number tag numbered false true is same =
+-- a tag that an ACK acknowledges is the one tag ..
+acknowledged-one : (by : SlotCommand) (rn : ℕ) (one : IsOnlyAnswerer by.start by.command by.past rn) → AnswersByState by
+    → (number : ℕ) (tag : TagValue) → HasNumber by.start number tag → is_acknowledged_by rn (state_behind by number tag) ≡ true → (one.number == number) ≡ true
+acknowledged-one by rn one by_state number tag numbered is =
+    let answered = by_state number tag numbered ∙ acknowledged-answered rn (state_behind by number tag) is in
+    eq-eqb one.number number (sym (one.only number tag _ numbered answered refl))
+
+-- .. and the other way round
+one-acknowledged : (by : SlotCommand) (rn : ℕ) (one : IsOnlyAnswerer by.start by.command by.past rn) → AnswersByState by
+    → (number : ℕ) (tag : TagValue) → HasNumber by.start number tag → (one.number == number) ≡ true → is_acknowledged_by rn (state_behind by number tag) ≡ true
+one-acknowledged by rn one by_state number tag numbered same =
     let alike : one.number ≡ number = eqb-true one.number number same in
-    let tags : one.tag ≡ tag = same-tag start one.number number one.tag tag one.numbered numbered alike in
-    let answered : answer_behind command past number tag ≡ Some one.sent =
-    subst (λ (t : TagValue). answer_behind command past number t ≡ Some one.sent) tags
-    (subst (λ n. answer_behind command past n one.tag ≡ Some one.sent) alike one.answered) in
-    let test = answered-acknowledged rn (state_of number tag) one.sent (sym (by_state number tag numbered) ∙ answered) one.reply in
-    absurd (cc)
+    let tags : one.tag ≡ tag = same-tag by.start one.number number one.tag tag one.numbered numbered alike in
+    let answered : answer_behind by.command by.past number tag ≡ Some one.sent =
+    subst (λ (t : TagValue). answer_behind by.command by.past number t ≡ Some one.sent) tags
+    (subst (λ n. answer_behind by.command by.past n one.tag ≡ Some one.sent) alike one.answered) in
+    answered-acknowledged rn (state_behind by number tag) one.sent (sym (by_state number tag numbered) ∙ answered) one.reply
+
+both-or-none : (one other : Bool) → (one ≡ true → other ≡ true) → (other ≡ true → one ≡ true) → one ≡ other
+both-or-none true other first second = sym (first refl)
+both-or-none false true first second = second refl
+both-or-none false false first second = refl
 
 -- An ACK with the RN16 of the one tag acknowledges that tag alone.
-pub acknowledges-one : (start : Start) (command : Command) (past : List Item) (rn : ℕ) (state_of : ℕ → TagValue → StateValue) (one : IsOnlyAnswerer start command past rn)
-    → AnswersByState start command past state_of → (number : ℕ) (tag : TagValue) → HasNumber start number tag
-    → is_acknowledged_by rn (state_of number tag) ≡ (one.number == number)
-acknowledges-one start command past rn state_of one by_state number tag numbered =
-    acknowledged-by start command past rn state_of one by_state number tag numbered
-    (is_acknowledged_by rn (state_of number tag)) (one.number == number) refl refl
+pub acknowledges-one : (by : SlotCommand) (rn : ℕ) (one : IsOnlyAnswerer by.start by.command by.past rn) → AnswersByState by
+    → (number : ℕ) (tag : TagValue) → HasNumber by.start number tag → is_acknowledged_by rn (state_behind by number tag) ≡ (one.number == number)
+acknowledges-one by rn one by_state number tag numbered =
+    both-or-none (is_acknowledged_by rn (state_behind by number tag)) (one.number == number)
+    (acknowledged-one by rn one by_state number tag numbered) (one-acknowledged by rn one by_state number tag numbered)
 
 -- the answer to an ACK
 abbrev pub epc_sent : BodyValue → Sent

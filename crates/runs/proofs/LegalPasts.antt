@@ -1,5 +1,5 @@
 -- The tags behind each past of a history are legal, since each command that is sent has its numbers in their fields.
-use Rattle.std.proofs.Common.{◌≡◌, ℕ, suc, ◌+◌, Bool, true, false, ◌&&◌, ◌||◌, List, [], ◌∷◌, ◌++◌, length, Some, if◌then◌else◌, refl, ap, sym, ◌∙◌, subst}
+use Rattle.std.proofs.Common.{◌≡◌, ℕ, ◌+◌, Bool, true, false, ◌&&◌, ◌||◌, List, [], ◌∷◌, ◌++◌, length, Some, if◌then◌else◌, refl, ap, sym, ◌∙◌, subst}
 use Rattle.std.proofs.lemmas.List.Elements.{recursion_from_All}
 use Rattle.std.specs.List.{AllByRecursion}
 use Rattle.access_ops.specs.laws.OperationLaws.{IsLegalOp}
@@ -12,16 +12,19 @@ use Rattle.access_ops.specs.declared.op_next.OpNext.TheVariants.{Send, Result}
 use Rattle.access_ops.specs.declared.op_next.OpResult.{OpResult}
 use Rattle.tag_machine.specs.Exchange.{AreLegalTags, outcome_unless, outcomes_from, tags_after, tags_after_event, tag_after_events, is_missed}
 use Rattle.air_model.specs.Channel.{given_in, Given, silence, whole, broken, raw}
-use Rattle.air_model.specs.Past.{Start, Item, befell, operated, ended, next_record, next_entry, past_behind_command, rounds_in, tags_behind, tags_behind_from}
+use Rattle.air_model.specs.Past.{Start, Record, Item, befell, exchanged, operated, ended, next_record, next_entry, past_behind_command, rounds_in, tags_behind, tags_behind_from}
 use Rattle.air_model.specs.Reception.{has_handle, has_preamble, is_expected, reception_of, reception_with, IsGiven}
 use Rattle.air_events.specs.declared.Entry.{Entry}
 use Rattle.air_events.specs.declared.Event.{Event}
 use Rattle.air_model.specs.laws.ReceptionLaws.{from_whole}
 use Rattle.bit_strings.specs.declared.code.Code.{Code}
-use Rattle.runs.proofs.Answering.{SendsInRange, StaysLegal, events-legal, given-of-answers}
+use Rattle.runs.proofs.Answering.{SendsInRange, given-of-answers}
 use Rattle.runs.specs.laws.Growth.{dialogue-holds, listing-holds, answer-holds, always-holds, steps-hold}
+use Rattle.runs.specs.laws.PlayedRounds.{SlotOfRun}
 use Rattle.runs.proofs.LegalStart.{CopiesAreTags, start-legal, selection-legal}
+use Rattle.runs.specs.laws.Replies.{StaysLegal, events-legal}
 use Rattle.runs.specs.laws.Tags.{tags-exchanged, tags-befell, tags-operated, tags-ended}
+use Rattle.runs.specs.Headline.{IsRecordOf}
 use Rattle.runs.specs.History.{operation_reception, past_behind_dialogue, ack_reception, past_behind_ack, slot_reception, past_behind_slot, past_behind_round, past_behind_step}
 use Rattle.runs.specs.ScenarioStart.{start_of, history}
 use Rattle.command_grammar.specs.Commands.{IsWord, IsLegalCommand}
@@ -76,10 +79,15 @@ pub record Laws : Type 0 where
   pub operations : OperationsLegal
   pub copies : CopiesAreTags
 
--- the tags are legal behind the past and behind each earlier one
+-- what an exchange sends has its numbers in their fields
+abbrev SendsLegal : Item → Type 0
+SendsLegal (exchanged sent) = IsLegalCommand sent.command
+SendsLegal item = Unit {0}
+
+-- the tags are legal behind the past and behind each earlier one, and so is each command
 abbrev pub AreLegalBehind : Start → List Item → Type 0
 AreLegalBehind start [] = AreLegalTags (tags_behind start [])
-AreLegalBehind start (item ∷ past) = AreLegalTags (tags_behind start (item ∷ past)) × AreLegalBehind start past
+AreLegalBehind start (item ∷ past) = AreLegalTags (tags_behind start (item ∷ past)) × SendsLegal item × AreLegalBehind start past
 
 now-legal : (start : Start) (past : List Item) → AreLegalBehind start past → AreLegalTags (tags_behind start past)
 now-legal start [] are = are
@@ -87,7 +95,12 @@ now-legal start (item ∷ past) are = are.0
 
 earlier-legal : (start : Start) (later earlier : List Item) → AreLegalBehind start (later ++ earlier) → AreLegalTags (tags_behind start earlier)
 earlier-legal start [] earlier are = now-legal start earlier are
-earlier-legal start (item ∷ later) earlier are = earlier-legal start later earlier are.1
+earlier-legal start (item ∷ later) earlier are = earlier-legal start later earlier are.2
+
+sent-legal : (start : Start) (later : List Item) (sent : Record) (earlier : List Item) → AreLegalBehind start (later ++ exchanged sent ∷ earlier)
+    → IsLegalCommand sent.command
+sent-legal start [] sent earlier are = are.1
+sent-legal start (item ∷ later) sent earlier are = sent-legal start later sent earlier are.2
 
 first-legal : (number : ℕ) (starts : List TagValue) → AreLegalTags starts → AreLegalTags (tags_behind_from number starts [])
 first-legal number [] are = tt
@@ -117,19 +130,20 @@ legal-sent : Laws → (start : Start) (round slot : ℕ) (command : Command) (pa
 legal-sent laws start round slot command past legal are = (
   subst AreLegalTags (sym (tags-exchanged start (next_record start round slot command past) past))
       (outcomes-legal 0 command (next_entry start past) (tags_behind start past) laws legal (now-legal start past are)),
+  legal,
   are,
 )
 
 legal-befell : Laws → (start : Start) (event : Event) (number : ℕ) (past : List Item) → AreLegalBehind start past → AreLegalBehind start (befell event number ∷ past)
 legal-befell laws start event number past are =
-    (subst AreLegalTags (sym (tags-befell start event number past)) (befallen-legal 0 event number (tags_behind start past) laws (now-legal start past are)), are)
+    (subst AreLegalTags (sym (tags-befell start event number past)) (befallen-legal 0 event number (tags_behind start past) laws (now-legal start past are)), tt, are)
 
 legal-operated : (start : Start) (round slot index : ℕ) (result : OpResult) (past : List Item) → AreLegalBehind start past
     → AreLegalBehind start (operated round slot index result ∷ past)
-legal-operated start round slot index result past are = (subst AreLegalTags (sym (tags-operated start round slot index result past)) (now-legal start past are), are)
+legal-operated start round slot index result past are = (subst AreLegalTags (sym (tags-operated start round slot index result past)) (now-legal start past are), tt, are)
 
 legal-ended : (start : Start) (round : ℕ) (end : RoundEnd) (slots : ℕ) (past : List Item) → AreLegalBehind start past → AreLegalBehind start (ended round end slots ∷ past)
-legal-ended start round end slots past are = (subst AreLegalTags (sym (tags-ended start round end slots past)) (now-legal start past are), are)
+legal-ended start round end slots past are = (subst AreLegalTags (sym (tags-ended start round end slots past)) (now-legal start past are), tt, are)
 
 -- what the channel gives of the answers of legal tags is in its ranges
 given-legal : Laws → (start : Start) (command : Command) (entry : Entry) (tags : List TagValue) → AreLegalTags tags → IsGiven (given_in start.link start.several command entry tags)
@@ -194,20 +208,21 @@ record InDialogue (start : Start) (list : OpList) (epc : List ℕ) (rn : ℕ) (l
   pub are : AreMoves list epc rn moves
   pub left_is : dialogue_after list epc rn moves ≡ left
 
-dialogue-legal : Laws → (start : Start) (list : OpList) (epc : List ℕ) (rn round slot : ℕ) (past : List Item) → AllByRecursion IsLegalOp list.ops → IsWord rn → AreLegalBehind start past
-    → AreLegalBehind start (past_behind_dialogue start round slot 1 (dialogue_of list epc rn) past)
-dialogue-legal laws start list epc rn round slot past ops word legal =
-    dialogue-holds (λ index left now. InDialogue start list epc rn left now) (AreLegalBehind start) start round slot
+dialogue-legal : Laws → (at : SlotOfRun) (list : OpList) (epc : List ℕ) (rn : ℕ) (past : List Item) → AllByRecursion IsLegalOp list.ops → IsWord rn → AreLegalBehind at.start past
+    → AreLegalBehind at.start (past_behind_dialogue at.start at.round at.slot 1 (dialogue_of list epc rn) past)
+dialogue-legal laws at list epc rn past ops word legal =
+    let start = at.start in
+    dialogue-holds (λ index left now. InDialogue start list epc rn left now) (AreLegalBehind start) at
     (record {
       command = λ index command expect extended go_on now here.
           let next : next_operation list epc rn here.moves ≡ Send command expect extended = ap first_of here.left_is in
-          let given : Given = (next_record start round slot command now).given in
+          let given : Given = (next_record start at.round at.slot command now).given in
           let range : IsGiven given = given-legal laws start command (next_entry start now) (tags_behind start now) (now-legal start now here.legal) in
-          let came : IsAnswered expect (operation_reception start round slot command expect extended now) =
-          answer-for expect (operation_reception start round slot command expect extended now)
+          let came : IsAnswered expect (operation_reception start at.round at.slot command expect extended now) =
+          answer-for expect (operation_reception start at.round at.slot command expect extended now)
           (λ reply heard. awaited-suits start.link.trext extended expect given reply range heard) in
           record {
-            legal = legal-sent laws start round slot command now (laws.operations list epc rn here.moves command expect extended ops word here.are next) here.legal;
+            legal = legal-sent laws start at.round at.slot command now (laws.operations list epc rn here.moves command expect extended ops word here.are next) here.legal;
             moves = answered came.answer ∷ here.moves;
             are = (subst (λ (n : OpNext). Follows n (answered came.answer)) (sym next) came.fits, here.are);
             left_is = ap (λ (d : Dialogue). dialogue_behind (answered came.answer) d) here.left_is ∙ ap go_on came.is;
@@ -215,7 +230,7 @@ dialogue-legal laws start list epc rn round slot past ops word legal =
       result = λ index result later now here.
           let next : next_operation list epc rn here.moves ≡ Result result = ap first_of here.left_is in
           record {
-            legal = legal-operated start round slot index result now here.legal;
+            legal = legal-operated start at.round at.slot index result now here.legal;
             moves = told ∷ here.moves;
             are = (subst (λ (n : OpNext). Follows n told) (sym next) tt, here.are);
             left_is = ap (λ (d : Dialogue). dialogue_behind told d) here.left_is;
@@ -224,35 +239,36 @@ dialogue-legal laws start list epc rn round slot past ops word legal =
     })
     1 (dialogue_of list epc rn) past (record { legal = legal; moves = []; are = tt; left_is = refl })
 
-ack-legal : Laws → (start : Start) (operations : OpList) (round slot rn : ℕ) (past : List Item) → AllByRecursion IsLegalOp operations.ops → IsWord rn → AreLegalBehind start past
-    → AreLegalBehind start (past_behind_ack start operations round slot rn past)
-ack-legal laws start operations round slot rn past ops word legal =
-    let sent = past_behind_command start round slot (commands.Ack rn) past in
-    let behind : AreLegalBehind start sent = legal-sent laws start round slot (commands.Ack rn) past word legal in
-    listing-holds (AreLegalBehind start) start operations round slot rn (ack_reception start round slot rn past) sent behind
-    (λ pc epc is. dialogue-legal laws start operations epc rn round slot sent ops word behind)
+ack-legal : Laws → (at : SlotOfRun) (operations : OpList) (rn : ℕ) (past : List Item) → AllByRecursion IsLegalOp operations.ops → IsWord rn → AreLegalBehind at.start past
+    → AreLegalBehind at.start (past_behind_ack at.start operations at.round at.slot rn past)
+ack-legal laws at operations rn past ops word legal =
+    let sent = past_behind_command at.start at.round at.slot (commands.Ack rn) past in
+    let behind : AreLegalBehind at.start sent = legal-sent laws at.start at.round at.slot (commands.Ack rn) past word legal in
+    listing-holds (AreLegalBehind at.start) at operations rn (ack_reception at.start at.round at.slot rn past) sent behind
+    (λ pc epc is. dialogue-legal laws at operations epc rn sent ops word behind)
 
-slot-legal : Laws → (start : Start) (operations : OpList) (round slot : ℕ) (command : Command) (past : List Item) → AllByRecursion IsLegalOp operations.ops → IsLegalCommand command
-    → AreLegalBehind start past → AreLegalBehind start (past_behind_slot start operations round slot command past)
-slot-legal laws start operations round slot command past ops lawful legal =
-    let sent = past_behind_command start round slot command past in
-    let behind : AreLegalBehind start sent = legal-sent laws start round slot command past lawful legal in
-    let given : Given = (next_record start round slot command past).given in
+slot-legal : Laws → (at : SlotOfRun) (operations : OpList) (command : Command) (past : List Item) → AllByRecursion IsLegalOp operations.ops → IsLegalCommand command
+    → AreLegalBehind at.start past → AreLegalBehind at.start (past_behind_slot at.start operations at.round at.slot command past)
+slot-legal laws at operations command past ops lawful legal =
+    let start = at.start in
+    let sent = past_behind_command start at.round at.slot command past in
+    let behind : AreLegalBehind start sent = legal-sent laws start at.round at.slot command past lawful legal in
+    let given : Given = (next_record start at.round at.slot command past).given in
     let range : IsGiven given = given-legal laws start command (next_entry start past) (tags_behind start past) (now-legal start past legal) in
-    answer-holds (AreLegalBehind start) start operations round slot (slot_reception start round slot command past) sent behind
-    (λ rn heard. ack-legal laws start operations round slot rn sent ops (reception-suits expects.Rn16 given (replies.Rn16 rn) range heard).1 behind)
+    answer-holds (AreLegalBehind start) at operations (slot_reception start at.round at.slot command past) sent behind
+    (λ rn heard. ack-legal laws at operations rn sent ops (reception-suits expects.Rn16 given (replies.Rn16 rn) range heard).1 behind)
 
 round-legal : Laws → (start : Start) (operations : OpList) (spec : SpecValue) (past : List Item) → AllByRecursion IsLegalOp operations.ops → IsLegalSpec spec
     → AreLegalBehind start past → AreLegalBehind start (past_behind_round start operations spec past)
 round-legal laws start operations spec past ops lawful legal =
     let round = rounds_in past + 1 in
-    always-holds (AreLegalBehind start) start operations round spec
+    always-holds (AreLegalBehind start) (record { start = start; operations = operations; spec = spec; before = past })
     (record {
-      slot = λ outcomes now command are next holds.
-          slot-legal laws start operations round (length outcomes + 1) command now ops (subst IsLegalNext next (laws.rounds spec start.link outcomes lawful)) holds;
-      end = λ outcomes now end are next holds. legal-ended start round end (length outcomes) now holds;
+      slot = λ outcomes now command next holds.
+          slot-legal laws (record { start = start; round = round; slot = length outcomes + 1 }) operations command now ops (subst IsLegalNext next.is (laws.rounds spec start.link outcomes lawful)) holds;
+      end = λ outcomes now end next holds. legal-ended start round end (length outcomes) now holds;
     })
-    (suc spec.limit) [] past tt legal
+    legal
 
 step-legal : Laws → (start : Start) (version : Version) (tags : ℕ) (step : Step) (past : List Item) → IsStep version tags step → AreLegalBehind start past
     → AreLegalBehind start (past_behind_step start step past)
@@ -275,3 +291,9 @@ pub past-legal : Laws → (scenario : Scenario) (later earlier : List Item) → 
     → AreLegalTags (tags_behind (start_of scenario) earlier)
 past-legal laws scenario later earlier is split =
     earlier-legal (start_of scenario) later earlier (subst (AreLegalBehind (start_of scenario)) split (history-legal laws scenario is))
+
+-- the commands of the history of a scenario
+pub command-legal : Laws → (scenario : Scenario) (sent : Record) (earlier : List Item) → IsScenario scenario → IsRecordOf (history scenario) sent earlier
+    → IsLegalCommand sent.command
+command-legal laws scenario sent earlier is recorded =
+    sent-legal (start_of scenario) recorded.later sent earlier (subst (AreLegalBehind (start_of scenario)) recorded.is (history-legal laws scenario is))

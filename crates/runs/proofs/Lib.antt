@@ -19,6 +19,7 @@ pub mod OnePast
 pub mod Times
 pub mod Turns
 pub mod EveryTag
+pub mod Members
 pub mod TagBetween
 pub mod WholeRound
 pub mod TagsInRound
@@ -32,3 +33,7 @@ pub mod TagSteps
 pub mod TagQuery
 pub mod Totals
 pub mod CompleteRound
+pub mod Keeping
+pub mod PlainRounds
+pub mod OneRound
+pub mod PortalRounds

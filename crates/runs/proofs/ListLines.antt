@@ -101,7 +101,7 @@ entries-of-round sent past round same (somebody one number listed_one sender) =
     (zip-one history round (one.round == round) one number here entry))
 
 entries-here : (sent : Record) (past : List Item) (round : ℕ) (here : Bool) → is_of_round round sent ≡ here
-    → (here ≡ true → (rn : ℕ) → Acknowledges sent rn → IsOfReplies sent.given)
+    → (of : here ≡ true → (rn : ℕ) → Acknowledges sent rn → IsOfReplies sent.given)
     → AllZip (IsEntryOf (exchanged sent ∷ past) round) (of_round round (listed_by sent)) (if here then sender_listed_by sent else [])
 entries-here sent past round true is of = entries-of-round sent past round (eqb-true sent.round round is) (lists sent (of refl))
 entries-here sent past round false is of =

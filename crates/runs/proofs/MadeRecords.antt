@@ -1,5 +1,5 @@
 -- Each record of a history is the one that its command makes, and what the channel gave in it is a raw stream only where one is chosen.
-use Rattle.std.proofs.Common.{◌≡◌, ℕ, suc, ◌+◌, ◌==◌, Bool, true, false, List, [], ◌∷◌, ◌++◌, length, if◌then◌else◌, refl, ap, sym, ◌∙◌, subst}
+use Rattle.std.proofs.Common.{◌≡◌, ℕ, ◌+◌, ◌==◌, Bool, true, false, List, [], ◌∷◌, ◌++◌, length, if◌then◌else◌, refl, ap, sym, ◌∙◌, subst}
 use Rattle.access_ops.specs.declared.OpList.{OpList}
 use Rattle.air_events.specs.Entries.{entry_at, no_entry}
 use Rattle.air_events.specs.declared.Entry.{Entry}
@@ -28,7 +28,7 @@ AreMade start (ended round end slots ∷ past) = AreMade start past
 made-slot : (start : Start) (operations : OpList) (round slot : ℕ) (command : Command) (past : List Item) → AreMade start past
     → AreMade start (past_behind_slot start operations round slot command past)
 made-slot start operations round slot command past made =
-    answer-keeps (AreMade start) start operations round slot (slot_reception start round slot command past) (past_behind_command start round slot command past)
+    answer-keeps (AreMade start) (record { start = start; round = round; slot = slot }) operations (slot_reception start round slot command past) (past_behind_command start round slot command past)
     (record { command = λ command expect extended now awaits holds. (refl, holds); result = λ index result now holds. holds })
     (λ rn holds. (refl, holds))
     (refl, made)
@@ -38,12 +38,12 @@ made-step start (steps.Select command) past made = (refl, made)
 made-step start steps.Nak past made = (refl, made)
 made-step start (steps.Event event number) past made = made
 made-step start (steps.Round spec operations) past made =
-    always-holds (AreMade start) start operations (rounds_in past + 1) spec
+    always-holds (AreMade start) (record { start = start; operations = operations; spec = spec; before = past })
     (record {
-      slot = λ outcomes now command are is holds. made-slot start operations (rounds_in past + 1) (length outcomes + 1) command now holds;
-      end = λ outcomes now end are is holds. holds;
+      slot = λ outcomes now command next holds. made-slot start operations (rounds_in past + 1) (length outcomes + 1) command now holds;
+      end = λ outcomes now end next holds. holds;
     })
-    (suc spec.limit) [] past tt made
+    made
 
 made-steps : (start : Start) (steps : List Step) (past : List Item) → AreMade start past → AreMade start (past_behind start steps past)
 made-steps start [] past made = made

@@ -121,9 +121,10 @@ adds-command start past now slot command within = record {
 round-adds : RoundsKeepLimit → (start : Start) (operations : OpList) (spec : SpecValue) (past : List Item) → IsLegalSpec spec → Adds past (past_behind_round start operations spec past) 1
 round-adds keeps start operations spec past legal =
     let round : ℕ = rounds_in past + 1 in
-    round-holds (λ outcomes now. AddsWithin past now) (λ outcomes sent now. AddsWithin past (exchanged sent ∷ now)) (λ now. Adds past now 1) start operations spec past keeps legal
+    round-holds (λ outcomes now. AddsWithin past now) (λ outcomes sent now. AddsWithin past (exchanged sent ∷ now)) (λ now. Adds past now 1)
+    (record { start = start; operations = operations; spec = spec; before = past }) keeps legal
     (record {
-      slot = λ outcomes now command are is within. adds-command start past now (length outcomes + 1) command within;
+      slot = λ outcomes now command next within. adds-command start past now (length outcomes + 1) command within;
       no_answer = λ outcomes now command reception heard none within. within;
       ack = λ outcomes now command rn heard within.
           adds-command start past (past_behind_command start round (length outcomes + 1) command now) (length outcomes + 1) (commands.Ack rn) within;
@@ -134,7 +135,7 @@ round-adds keeps start operations spec past legal =
         rounds_are = within.rounds_are;
         of = within.of;
       };
-      end = λ outcomes now end are is within. record {
+      end = λ outcomes now end next within. record {
         own = ended round end (length outcomes) ∷ within.own;
         is = ap (λ (items : List Item). ended round end (length outcomes) ∷ items) within.is;
         rounds_are = ap (λ n. n + 1) within.rounds_are;

@@ -101,30 +101,38 @@ none-replies command past number (first ∷ starts) none =
     none-replies command past (number + 1) starts (λ place tag at. subst (λ n. answer_behind command past n tag ≡ None) (omega arith) (none (suc place) tag at)) in
     ap (λ (answer : Option Sent). reply_of number answer ++ replies_behind (number + 1) command starts past) here ∙ rest
 
+-- the tag at a place, of those that are numbered from a number on, answers
+pub record AnswersAt (command : Command) (past : List Item) (number : ℕ) (starts : List TagValue) (place : ℕ) : Type 0 where
+  pub tag : TagValue
+  pub sent : Sent
+  pub numbered : slice_get starts place ≡ Some tag
+  pub answered : answer_behind command past (number + place) tag ≡ Some sent
+
 -- where one tag alone answers there is its reply alone
-pub one-replies : (command : Command) (past : List Item) (number : ℕ) (starts : List TagValue) (place : ℕ) (tag : TagValue) (sent : Sent)
-    → slice_get starts place ≡ Some tag → answer_behind command past (number + place) tag ≡ Some sent
+pub one-replies : (command : Command) (past : List Item) (number : ℕ) (starts : List TagValue) (place : ℕ) (by : AnswersAt command past number starts place)
     → ((other : ℕ) (tag : TagValue) → slice_get starts other ≡ Some tag → other ≢ place → answer_behind command past (number + other) tag ≡ None)
-    → replies_behind number command starts past ≡ reply_by (number + place) sent ∷ []
-one-replies command past number [] place tag sent at answered none = absurd (cc)
-one-replies command past number (first ∷ starts) zero tag sent at answered none =
-    let same : first ≡ tag = cc in
+    → replies_behind number command starts past ≡ reply_by (number + place) by.sent ∷ []
+one-replies command past number [] place by none = let at = by.numbered in absurd (cc)
+one-replies command past number (first ∷ starts) zero by none =
+    let at = by.numbered in
+    let same : first ≡ by.tag = cc in
     let here : number + 0 ≡ number = omega arith in
-    let answers : answer_behind command past number first ≡ Some sent =
-    ap (λ (t : TagValue). answer_behind command past number t) same ∙ sym (ap (λ n. answer_behind command past n tag) here) ∙ answered in
+    let answers : answer_behind command past number first ≡ Some by.sent =
+    ap (λ (t : TagValue). answer_behind command past number t) same ∙ sym (ap (λ n. answer_behind command past n by.tag) here) ∙ by.answered in
     let rest : replies_behind (number + 1) command starts past ≡ [] =
     none-replies command past (number + 1) starts
     (λ other later at. subst (λ n. answer_behind command past n later ≡ None) (omega arith) (none (suc other) later at (λ is. absurd (omega (arith, is))))) in
     ap (λ (answer : Option Sent). reply_of number answer ++ replies_behind (number + 1) command starts past) answers
-    ∙ ap (λ (others : List Replied). reply_by number sent ∷ others) rest
-    ∙ ap (λ n. reply_by n sent ∷ []) (sym here)
-one-replies command past number (first ∷ starts) (suc place) tag sent at answered none =
+    ∙ ap (λ (others : List Replied). reply_by number by.sent ∷ others) rest
+    ∙ ap (λ n. reply_by n by.sent ∷ []) (sym here)
+one-replies command past number (first ∷ starts) (suc place) by none =
     let here : answer_behind command past number first ≡ None =
     subst (λ n. answer_behind command past n first ≡ None) (omega arith) (none 0 first refl (λ is. absurd (omega (arith, is)))) in
     let next : number + suc place ≡ number + 1 + place = omega arith in
-    let rest : replies_behind (number + 1) command starts past ≡ reply_by (number + 1 + place) sent ∷ [] =
-    one-replies command past (number + 1) starts place tag sent at (subst (λ n. answer_behind command past n tag ≡ Some sent) next answered)
+    let rest : replies_behind (number + 1) command starts past ≡ reply_by (number + 1 + place) by.sent ∷ [] =
+    one-replies command past (number + 1) starts place
+    (record { tag = by.tag; sent = by.sent; numbered = by.numbered; answered = subst (λ n. answer_behind command past n by.tag ≡ Some by.sent) next by.answered })
     (λ other later at differs. subst (λ n. answer_behind command past n later ≡ None) (omega arith) (none (suc other) later at (λ is. differs (omega (arith, is))))) in
     ap (λ (answer : Option Sent). reply_of number answer ++ replies_behind (number + 1) command starts past) here
     ∙ rest
-    ∙ ap (λ n. reply_by n sent ∷ []) (sym next)
+    ∙ ap (λ n. reply_by n by.sent ∷ []) (sym next)

@@ -5,8 +5,9 @@ use Rattle.q_round.specs.declared.frame.Outcome.{Outcome as SlotOutcome}
 use Rattle.q_round.specs.declared.frame.Outcome.TheVariants.{Silence}
 use Rattle.q_round.specs.laws.RoundLaws.{IsSilentFrame}
 use Rattle.tag_machine.specs.TagValue.{StateValue, ReadyState, ArbitrateState, ReplyState, AcknowledgedState, OpenState, SecuredState, KilledState, UnpoweredState, TagValue, is_present}
-use Rattle.runs.specs.TagInRound.{is_matched, IsCounterBefore, IsBeforeSlot, flags_in_round, StandsBeforeSlot}
+use Rattle.runs.specs.TagInRound.{is_matched, IsCounterBefore, flags_in_round}
 use Rattle.runs.specs.TagAtEnd.{is_acknowledged, StandsAtQuiet, StandsAtEnd, IsListedOnce}
+use Rattle.runs.proofs.Members.{Frame, Member, MayStand, StandsBefore}
 
 -- a tag that is ready, or takes no part, isn't listed twice
 done-once : (first : TagValue) (listed listed_now : Bool) → listed ≡ is_matched first.state → listed_now ≡ false → IsListedOnce first listed listed_now
@@ -16,21 +17,19 @@ done-once first listed listed_now is none = record { matched = λ e. sym is ∙ 
 new-once : (first : TagValue) (listed listed_now : Bool) → is_matched first.state ≡ true → listed ≡ false → IsListedOnce first listed listed_now
 new-once first listed listed_now part new = record { matched = λ e. part; matched_now = λ e. part; once = λ e. absurd (cc) }
 
-once : (session q : ℕ) (outcome : SlotOutcome) (frame : List SlotOutcome) (first : TagValue) (listed listed_now : Bool) (state : StateValue)
-    → IsBeforeSlot session q outcome frame (is_matched first.state) listed listed_now state → IsListedOnce first listed listed_now
-once session q outcome frame first listed listed_now ReadyState is = done-once first listed listed_now is.earlier is.not_now
-once session q outcome frame first listed listed_now (ArbitrateState own own_q slot) is = new-once first listed listed_now is.unlisted.takes_part is.unlisted.not_listed
-once session q outcome frame first listed listed_now (ReplyState own own_q rn) is = new-once first listed listed_now is.unlisted.takes_part is.unlisted.not_listed
-once session q outcome frame first listed listed_now (AcknowledgedState own own_q rn) is = new-once first listed listed_now is.unlisted.takes_part is.unlisted.not_listed
-once session q outcome frame first listed listed_now (OpenState held) is = absurd is
-once session q outcome frame first listed listed_now (SecuredState held) is = absurd is
-once session q outcome frame first listed listed_now KilledState is = done-once first listed listed_now (is.0.not_listed ∙ sym is.0.no_part) is.1
-once session q outcome frame first listed listed_now UnpoweredState is = done-once first listed listed_now (is.0.not_listed ∙ sym is.0.no_part) is.1
+once : (on : Frame) (outcome : SlotOutcome) (of : Member) (state : StateValue) → MayStand on outcome of state → IsListedOnce of.first of.listed of.listed_now
+once on outcome of ReadyState is = done-once of.first of.listed of.listed_now is.earlier is.not_now
+once on outcome of (ArbitrateState own own_q slot) is = new-once of.first of.listed of.listed_now is.unlisted.takes_part is.unlisted.not_listed
+once on outcome of (ReplyState own own_q rn) is = new-once of.first of.listed of.listed_now is.unlisted.takes_part is.unlisted.not_listed
+once on outcome of (AcknowledgedState own own_q rn) is = new-once of.first of.listed of.listed_now is.unlisted.takes_part is.unlisted.not_listed
+once on outcome of (OpenState held) is = absurd is
+once on outcome of (SecuredState held) is = absurd is
+once on outcome of KilledState is = done-once of.first of.listed of.listed_now (is.0.not_listed ∙ sym is.0.no_part) is.1
+once on outcome of UnpoweredState is = done-once of.first of.listed of.listed_now (is.0.not_listed ∙ sym is.0.no_part) is.1
 
 -- A tag is listed in one slot of a round at most, and only where it matched.
-pub listed-once : (session q : ℕ) (outcome : SlotOutcome) (frame : List SlotOutcome) (first : TagValue) (listed listed_now : Bool) (tag : TagValue)
-    → StandsBeforeSlot session q outcome frame first listed listed_now tag → IsListedOnce first listed listed_now
-listed-once session q outcome frame first listed listed_now tag stands = once session q outcome frame first listed listed_now tag.state stands.state
+pub listed-once : (on : Frame) (outcome : SlotOutcome) (of : Member) (tag : TagValue) → StandsBefore on outcome of tag → IsListedOnce of.first of.listed of.listed_now
+listed-once on outcome of tag stands = once on outcome of tag.state stands.state
 
 -- each outcome of a silent frame is silence
 all-before : (later : List SlotOutcome) (outcome : SlotOutcome) (earlier : List SlotOutcome) → AllByRecursion (λ o. o ≡ Silence) (later ++ outcome ∷ earlier) → outcome ≡ Silence
@@ -50,29 +49,27 @@ record IsFinished (matched listed listed_now : Bool) (state : StateValue) : Type
   not_now : listed_now ≡ false
   ready : is_present state ≡ true → state ≡ ReadyState
 
-finished : (session q : ℕ) (outcome : SlotOutcome) (frame : List SlotOutcome) (matched listed listed_now : Bool) (state : StateValue)
-    → IsSilentFrame q (outcome ∷ frame) → IsBeforeSlot session q outcome frame matched listed listed_now state → IsFinished matched listed listed_now state
-finished session q outcome frame matched listed listed_now ReadyState silent is = record { listed_is = is.earlier; not_now = is.not_now; ready = λ e. refl }
-finished session q outcome frame matched listed listed_now (ArbitrateState own own_q slot) silent is = absurd (no-counter q outcome frame slot silent is.counter)
-finished session q outcome frame matched listed listed_now (ReplyState own own_q rn) silent is = absurd (is.heard silent.silent.0)
-finished session q outcome frame matched listed listed_now (AcknowledgedState own own_q rn) silent is = absurd (is.heard silent.silent.0)
-finished session q outcome frame matched listed listed_now (OpenState held) silent is = absurd is
-finished session q outcome frame matched listed listed_now (SecuredState held) silent is = absurd is
-finished session q outcome frame matched listed listed_now KilledState silent is =
-    record { listed_is = is.0.not_listed ∙ sym is.0.no_part; not_now = is.1; ready = λ e. absurd (cc) }
-finished session q outcome frame matched listed listed_now UnpoweredState silent is =
-    record { listed_is = is.0.not_listed ∙ sym is.0.no_part; not_now = is.1; ready = λ e. absurd (cc) }
+finished : (on : Frame) (outcome : SlotOutcome) (of : Member) (state : StateValue) → IsSilentFrame on.q (outcome ∷ on.slots) → MayStand on outcome of state
+    → IsFinished (is_matched of.first.state) of.listed of.listed_now state
+finished on outcome of ReadyState silent is = record { listed_is = is.earlier; not_now = is.not_now; ready = λ e. refl }
+finished on outcome of (ArbitrateState own own_q slot) silent is = absurd (no-counter on.q outcome on.slots slot silent is.counter)
+finished on outcome of (ReplyState own own_q rn) silent is = absurd (is.heard silent.silent.0)
+finished on outcome of (AcknowledgedState own own_q rn) silent is = absurd (is.heard silent.silent.0)
+finished on outcome of (OpenState held) silent is = absurd is
+finished on outcome of (SecuredState held) silent is = absurd is
+finished on outcome of KilledState silent is = record { listed_is = is.0.not_listed ∙ sym is.0.no_part; not_now = is.1; ready = λ e. absurd (cc) }
+finished on outcome of UnpoweredState silent is = record { listed_is = is.0.not_listed ∙ sym is.0.no_part; not_now = is.1; ready = λ e. absurd (cc) }
 
 -- Behind a frame of silent slots each tag that matched was listed, and each tag that is present is ready.
-pub quiet-stands : (session q : ℕ) (outcome : SlotOutcome) (frame : List SlotOutcome) (first : TagValue) (listed listed_now : Bool) (tag : TagValue)
-    → IsSilentFrame q (outcome ∷ frame) → StandsBeforeSlot session q outcome frame first listed listed_now tag → StandsAtQuiet session first listed listed_now tag
-quiet-stands session q outcome frame first listed listed_now tag silent stands =
-    let known = finished session q outcome frame (is_matched first.state) listed listed_now tag.state silent stands.state in
+pub quiet-stands : (on : Frame) (outcome : SlotOutcome) (of : Member) (tag : TagValue) → IsSilentFrame on.q (outcome ∷ on.slots) → StandsBefore on outcome of tag
+    → StandsAtQuiet on.session of.first of.listed of.listed_now tag
+quiet-stands on outcome of tag silent stands =
+    let known = finished on outcome of tag.state silent stands.state in
     record {
       listed_is = known.listed_is;
       not_now = known.not_now;
       ready = known.ready;
-      flags = stands.body.flags ∙ ap (λ (b : Bool). flags_in_round session b first.body.flags) known.listed_is;
+      flags = stands.body.flags ∙ ap (λ (b : Bool). flags_in_round on.session b of.first.body.flags) known.listed_is;
     }
 
 -- what the state of a tag says of how it was listed
@@ -82,25 +79,25 @@ record IsWhere (matched listed listed_now : Bool) (state : StateValue) : Type 0 
   earlier : listed ≡ true → state ≡ ReadyState
   outside : matched ≡ false → is_present state ≡ true → state ≡ ReadyState
 
-is-where : (session q : ℕ) (outcome : SlotOutcome) (frame : List SlotOutcome) (matched listed listed_now : Bool) (state : StateValue)
-    → IsBeforeSlot session q outcome frame matched listed listed_now state → IsWhere matched listed listed_now state
-is-where session q outcome frame matched listed listed_now ReadyState is =
+is-where : (on : Frame) (outcome : SlotOutcome) (of : Member) (state : StateValue) → MayStand on outcome of state
+    → IsWhere (is_matched of.first.state) of.listed of.listed_now state
+is-where on outcome of ReadyState is =
     let e = is.earlier in let n = is.not_now in record { unlisted = λ part new none. absurd (cc); last = λ now. absurd (cc); earlier = λ before. refl; outside = λ none present. refl }
-is-where session q outcome frame matched listed listed_now (ArbitrateState own own_q slot) is =
+is-where on outcome of (ArbitrateState own own_q slot) is =
     let n = is.not_now in let u = is.unlisted.not_listed in let p = is.unlisted.takes_part in
     record { unlisted = λ part new none. refl; last = λ now. absurd (cc); earlier = λ before. absurd (cc); outside = λ none present. absurd (cc) }
-is-where session q outcome frame matched listed listed_now (ReplyState own own_q rn) is =
+is-where on outcome of (ReplyState own own_q rn) is =
     let n = is.not_now in let u = is.unlisted.not_listed in let p = is.unlisted.takes_part in
     record { unlisted = λ part new none. refl; last = λ now. absurd (cc); earlier = λ before. absurd (cc); outside = λ none present. absurd (cc) }
-is-where session q outcome frame matched listed listed_now (AcknowledgedState own own_q rn) is =
+is-where on outcome of (AcknowledgedState own own_q rn) is =
     let n = is.now in let u = is.unlisted.not_listed in let p = is.unlisted.takes_part in
     record { unlisted = λ part new none. absurd (cc); last = λ now. refl; earlier = λ before. absurd (cc); outside = λ none present. absurd (cc) }
-is-where session q outcome frame matched listed listed_now (OpenState held) is = absurd is
-is-where session q outcome frame matched listed listed_now (SecuredState held) is = absurd is
-is-where session q outcome frame matched listed listed_now KilledState is =
+is-where on outcome of (OpenState held) is = absurd is
+is-where on outcome of (SecuredState held) is = absurd is
+is-where on outcome of KilledState is =
     let p = is.0.no_part in let u = is.0.not_listed in let n = is.1 in
     record { unlisted = λ part new none. absurd (cc); last = λ now. absurd (cc); earlier = λ before. absurd (cc); outside = λ none present. absurd (cc) }
-is-where session q outcome frame matched listed listed_now UnpoweredState is =
+is-where on outcome of UnpoweredState is =
     let p = is.0.no_part in let u = is.0.not_listed in let n = is.1 in
     record { unlisted = λ part new none. absurd (cc); last = λ now. absurd (cc); earlier = λ before. absurd (cc); outside = λ none present. absurd (cc) }
 
@@ -109,15 +106,15 @@ not_both true never = absurd (never refl)
 not_both false never = refl
 
 -- Behind the last slot, whichever way the round ends, the state and the flags of a tag say how it was listed.
-pub end-stands : (session q : ℕ) (outcome : SlotOutcome) (frame : List SlotOutcome) (first : TagValue) (listed listed_now : Bool) (tag : TagValue)
-    → StandsBeforeSlot session q outcome frame first listed listed_now tag → StandsAtEnd session first listed listed_now tag
-end-stands session q outcome frame first listed listed_now tag stands =
-    let known = is-where session q outcome frame (is_matched first.state) listed listed_now tag.state stands.state in
-    let single = once session q outcome frame first listed listed_now tag.state stands.state in
-    let flags : (b : Bool) → listed ≡ b → tag.body.flags ≡ flags_in_round session b first.body.flags =
-    λ b e. stands.body.flags ∙ ap (λ (c : Bool). flags_in_round session c first.body.flags) e in
-    let new_now : listed_now ≡ true → listed ≡ false = λ now. not_both listed (λ e. let none = single.once e in cc) in
-    let new_outside : is_matched first.state ≡ false → listed ≡ false = λ none. not_both listed (λ e. let part = single.matched e in cc) in
+pub end-stands : (on : Frame) (outcome : SlotOutcome) (of : Member) (tag : TagValue) → StandsBefore on outcome of tag
+    → StandsAtEnd on.session of.first of.listed of.listed_now tag
+end-stands on outcome of tag stands =
+    let known = is-where on outcome of tag.state stands.state in
+    let single = once on outcome of tag.state stands.state in
+    let flags : (b : Bool) → of.listed ≡ b → tag.body.flags ≡ flags_in_round on.session b of.first.body.flags =
+    λ b e. stands.body.flags ∙ ap (λ (c : Bool). flags_in_round on.session c of.first.body.flags) e in
+    let new_now : of.listed_now ≡ true → of.listed ≡ false = λ now. not_both of.listed (λ e. let none = single.once e in cc) in
+    let new_outside : is_matched of.first.state ≡ false → of.listed ≡ false = λ none. not_both of.listed (λ e. let part = single.matched e in cc) in
     record {
       unlisted = λ part new none. (known.unlisted part new none, flags false new);
       last = λ now. (known.last now, flags false (new_now now));

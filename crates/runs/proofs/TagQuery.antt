@@ -132,3 +132,8 @@ query-spoken dr code trext sel session target q tag =
 pub query-memory : (dr : Bool) (code : Code) (trext : Bool) (sel : Sel) (session : ℕ) (target : Side) (q : ℕ) (tag : TagValue)
     → (step (commands.Query dr code trext sel session target q) tag.state tag.body).tag.body.memory ≡ tag.body.memory
 query-memory dr code trext sel session target q tag = (query-begins sel session target q tag.state tag.body).memory
+
+-- It leaves the flags but that of a tag that was inventoried.
+pub query-flags : (dr : Bool) (code : Code) (trext : Bool) (sel : Sel) (session : ℕ) (target : Side) (q : ℕ) (tag : TagValue)
+    → (step (commands.Query dr code trext sel session target q) tag.state tag.body).tag.body.flags ≡ flags_behind_query session tag.state tag.body.flags
+query-flags dr code trext sel session target q tag = (query-begins sel session target q tag.state tag.body).flags_are

@@ -17,13 +17,8 @@ use Rattle.tag_machine.specs.Draws.{draw_of, body_after_draw, begin_reply, slot_
 use Rattle.tag_machine.specs.Inventory.{slot_below, count_down, query_rep, q_after_adjust, query_adjust}
 use Rattle.tag_machine.specs.Step.{step}
 use Rattle.tag_machine.specs.TagValue.{StateValue, ReadyState, ArbitrateState, ReplyState, AcknowledgedState, OpenState, SecuredState, KilledState, UnpoweredState, BodyValue, TagValue}
-use Rattle.runs.specs.TagInRound.{is_matched, IsToCome, HasAnswered, IsCounter, IsUnlisted, IsAfterSlot, IsCounterBefore, IsBeforeSlot, flags_in_round, KeepsBody, StandsAfterSlot, StandsBeforeSlot, slot_answer_of}
-
--- a frame of a round so far
-pub record Frame : Type 0 where
-  pub session : ℕ
-  pub q : ℕ
-  pub slots : List SlotOutcome
+use Rattle.runs.specs.TagInRound.{is_matched, IsToCome, HasAnswered, IsCounter, IsUnlisted, IsAfterSlot, IsCounterBefore, flags_in_round, KeepsBody, slot_answer_of}
+use Rattle.runs.proofs.Members.{Frame, Member, MayStand, StandsAfter, StandsBefore}
 
 -- a slot of the frame ends so, and behind it the round goes on with this Q and frame
 pub record Turn (on : Frame) : Type 0 where
@@ -32,12 +27,6 @@ pub record Turn (on : Frame) : Type 0 where
   pub next_slots : List SlotOutcome
   pub small : on.q ≤ 15
   pub next_small : next_q ≤ 15
-
--- a tag in the round: what it was just after the Query, and whether it was listed in an earlier slot, and in this one
-pub record Member : Type 0 where
-  pub first : TagValue
-  pub listed : Bool
-  pub listed_now : Bool
 
 -- What is known of what a slot command makes of a tag that wasn't listed before it, or was. The flags are those before it.
 record GoesOn (on : Frame) (first : TagValue) (listed listed_now : Bool) (before : Flags) (outcome : Outcome) : Type 0 where
@@ -174,23 +163,17 @@ of_round session q matched listed own own_q is = record { session_is = refl; q_i
 abbrev frame_with : Frame → SlotOutcome → Frame
 frame_with on outcome = record { session = on.session; q = on.q; slots = outcome ∷ on.slots }
 
--- where a tag may stand just before the slot command behind this outcome
-abbrev MayStand : Frame → SlotOutcome → Member → StateValue → Type 0
-MayStand on outcome of state = IsBeforeSlot on.session on.q outcome on.slots (is_matched of.first.state) of.listed of.listed_now state
-
--- 6.3.2.11.2.3 QueryRep
-counts_down : (on : Frame) (by : Turn on) (of : Member) (own own_q slot : ℕ) (body : BodyValue) → length (by.outcome ∷ on.slots) < 2 ^ on.q
-    → MayStand on by.outcome of (ArbitrateState own own_q slot) → KeepsBody on.session of.listed of.first.body body
-    → GoesOn (frame_with on by.outcome) of.first of.listed false body.flags (count_down on.session own_q slot body)
-counts_down on by of own own_q slot body room is kept =
-    let next = frame_with on by.outcome in
-    let its : IsUnlisted on.session on.q (is_matched of.first.state) of.listed on.session own_q =
-    of_round on.session on.q (is_matched of.first.state) of.listed own own_q is.unlisted in
+-- 6.3.2.11.2.3 QueryRep: a tag in arbitrate, in the frame with the slot that ended
+counts_down : (next : Frame) (of : Member) (own_q slot : ℕ) (body : BodyValue)
+    → IsUnlisted next.session next.q (is_matched of.first.state) of.listed next.session own_q
+    → (slot_below slot ≢ 0 → IsCounter next.q next.slots (slot_below slot)) → KeepsBody next.session of.listed of.first.body body
+    → GoesOn next of.first of.listed false body.flags (count_down next.session own_q slot body)
+counts_down next of own_q slot body its counter kept =
     choose (λ after. GoesOn next of.first of.listed false body.flags after) (slot_below slot == 0)
-    (begin_reply on.session own_q body) (silent (ArbitrateState on.session own_q (slot_below slot)) body)
+    (begin_reply next.session own_q body) (silent (ArbitrateState next.session own_q (slot_below slot)) body)
     (λ now. replies next of.first of.listed own_q body its kept)
-    (λ later. stays next of.first of.listed (ArbitrateState on.session own_q (slot_below slot)) body refl
-    (record { unlisted = its; counter = counter-next on.q by.outcome on.slots slot by.small room is.counter (λ e. let is = eq-eqb (slot_below slot) 0 e in cc) }) kept)
+    (λ later. stays next of.first of.listed (ArbitrateState next.session own_q (slot_below slot)) body refl
+    (record { unlisted = its; counter = counter (λ e. let is = eq-eqb (slot_below slot) 0 e in cc) }) kept)
 
 rep-goes : (on : Frame) (by : Turn on) (of : Member) (state : StateValue) (body : BodyValue) → length (by.outcome ∷ on.slots) < 2 ^ on.q
     → MayStand on by.outcome of state → KeepsBody on.session of.listed of.first.body body
@@ -202,7 +185,9 @@ rep-goes on by of (ArbitrateState own own_q slot) body room is kept =
     let next = frame_with on by.outcome in
     same_session (λ after. GoesOn next of.first (of.listed || of.listed_now) of.listed_now body.flags after) own on.session
     (count_down on.session own_q slot body) (silent (ArbitrateState own own_q slot) body) is.unlisted.session_is
-    (not_listed_now next of body.flags (count_down on.session own_q slot body) is.not_now (counts_down on by of own own_q slot body room is kept))
+    (not_listed_now next of body.flags (count_down on.session own_q slot body) is.not_now
+    (counts_down next of own_q slot body (of_round on.session on.q (is_matched of.first.state) of.listed own own_q is.unlisted)
+    (counter-next on.q by.outcome on.slots slot by.small room is.counter) kept))
 rep-goes on by of (ReplyState own own_q rn) body room is kept =
     let next = frame_with on by.outcome in
     let state = ArbitrateState on.session own_q 0x7FFF in
@@ -234,10 +219,10 @@ moved Up q next_q small next_small is = rw (ne_eqb q 15 (λ e. absurd (omega ari
 moved Same q next_q small next_small is = sym is
 moved Down q next_q small next_small is = rw (ne_eqb q 0 (λ e. absurd (omega arith))) (omega arith)
 
-adjust-enters : (on : Frame) (by : Turn on) (of : Member) (updn : UpDn) (own own_q : ℕ) (body : BodyValue) → IsMoved updn on.q by.next_q
-    → IsUnlisted on.session on.q (is_matched of.first.state) of.listed own own_q → KeepsBody on.session of.listed of.first.body body
+adjust-enters : (on : Frame) (by : Turn on) (of : Member) (updn : UpDn) (own_q : ℕ) (body : BodyValue) → IsMoved updn on.q by.next_q
+    → IsUnlisted on.session on.q (is_matched of.first.state) of.listed on.session own_q → KeepsBody on.session of.listed of.first.body body
     → GoesOn (begun on.session by.next_q) of.first of.listed false body.flags (enter on.session (q_after_adjust updn own_q) body)
-adjust-enters on by of updn own own_q body moves is kept =
+adjust-enters on by of updn own_q body moves is kept =
     let q_is = ap (λ (n : ℕ). q_after_adjust updn n) is.q_is ∙ moved updn on.q by.next_q by.small by.next_small moves in
     subst (λ (n : ℕ). GoesOn (begun on.session by.next_q) of.first of.listed false body.flags (enter on.session n body)) (sym q_is)
     (enters on.session by.next_q of.first of.listed body (record { session_is = refl; q_is = refl; takes_part = is.takes_part; not_listed = is.not_listed }) kept)
@@ -253,13 +238,15 @@ adjust-goes on by of updn (ArbitrateState own own_q slot) body moves is kept =
     let entered = enter on.session (q_after_adjust updn own_q) body in
     same_session (λ after. GoesOn next of.first (of.listed || of.listed_now) of.listed_now body.flags after) own on.session
     entered (silent (ArbitrateState own own_q slot) body) is.unlisted.session_is
-    (not_listed_now next of body.flags entered is.not_now (adjust-enters on by of updn own own_q body moves is.unlisted kept))
+    (not_listed_now next of body.flags entered is.not_now
+    (adjust-enters on by of updn own_q body moves (of_round on.session on.q (is_matched of.first.state) of.listed own own_q is.unlisted) kept))
 adjust-goes on by of updn (ReplyState own own_q rn) body moves is kept =
     let next = begun on.session by.next_q in
     let entered = enter on.session (q_after_adjust updn own_q) body in
     same_session (λ after. GoesOn next of.first (of.listed || of.listed_now) of.listed_now body.flags after) own on.session
     entered (silent (ReplyState own own_q rn) body) is.unlisted.session_is
-    (not_listed_now next of body.flags entered is.not_now (adjust-enters on by of updn own own_q body moves is.unlisted kept))
+    (not_listed_now next of body.flags entered is.not_now
+    (adjust-enters on by of updn own_q body moves (of_round on.session on.q (is_matched of.first.state) of.listed own own_q is.unlisted) kept))
 adjust-goes on by of updn (AcknowledgedState own own_q rn) body moves is kept =
     let next = begun on.session by.next_q in
     same_session (λ after. GoesOn next of.first (of.listed || of.listed_now) of.listed_now body.flags after) own on.session
@@ -283,12 +270,8 @@ next_frame on by = record { session = on.session; q = by.next_q; slots = by.next
 abbrev pub GoesBy : (on : Frame) → Turn on → Command → Type 0
 GoesBy on by command = IsNextSlot command on.session on.q (by.outcome ∷ on.slots) by.next_q by.next_slots
 
--- the tag stands in the round just before that command
-abbrev pub Stands : (on : Frame) → Turn on → Member → TagValue → Type 0
-Stands on by of tag = StandsBeforeSlot on.session on.q by.outcome on.slots of.first of.listed of.listed_now tag
-
 -- the slot command behind an outcome
-slot-goes : (on : Frame) (by : Turn on) (of : Member) (command : Command) (tag : TagValue) → GoesBy on by command → Stands on by of tag
+slot-goes : (on : Frame) (by : Turn on) (of : Member) (command : Command) (tag : TagValue) → GoesBy on by command → StandsBefore on by.outcome of tag
     → GoesOn (next_frame on by) of.first (of.listed || of.listed_now) of.listed_now tag.body.flags (step command tag.state tag.body)
 slot-goes on by of (commands.QueryRep own) tag next stands =
     rw (next.session_is, next.q_is, next.frame_is) (rep-goes on by of tag.state tag.body next.room stands.state stands.body)
@@ -297,17 +280,17 @@ slot-goes on by of (commands.QueryAdjust own updn) tag next stands =
 slot-goes on by of command tag next stands = absurd next
 
 -- A tag that stands just before a slot command stands in the next slot after it.
-pub slot-stands : (on : Frame) (by : Turn on) (of : Member) (command : Command) (tag : TagValue) → GoesBy on by command → Stands on by of tag
-    → StandsAfterSlot on.session by.next_q by.next_slots of.first (of.listed || of.listed_now) (step command tag.state tag.body).tag
+pub slot-stands : (on : Frame) (by : Turn on) (of : Member) (command : Command) (tag : TagValue) → GoesBy on by command → StandsBefore on by.outcome of tag
+    → StandsAfter (next_frame on by) of.first (of.listed || of.listed_now) (step command tag.state tag.body).tag
 slot-stands on by of command tag next stands =
     let known = slot-goes on by of command tag next stands in record { state = known.state; body = known.body }
 
 -- It answers exactly where it is in reply after it, with the RN16 that it then holds.
-pub slot-answer : (on : Frame) (by : Turn on) (of : Member) (command : Command) (tag : TagValue) → GoesBy on by command → Stands on by of tag
+pub slot-answer : (on : Frame) (by : Turn on) (of : Member) (command : Command) (tag : TagValue) → GoesBy on by command → StandsBefore on by.outcome of tag
     → (step command tag.state tag.body).answer ≡ slot_answer_of (step command tag.state tag.body).tag.state
 slot-answer on by of command tag next stands = (slot-goes on by of command tag next stands).answer
 
 -- Its flag of the session is inverted exactly where it was listed in the slot before, and no other flag changes.
-pub slot-flags : (on : Frame) (by : Turn on) (of : Member) (command : Command) (tag : TagValue) → GoesBy on by command → Stands on by of tag
+pub slot-flags : (on : Frame) (by : Turn on) (of : Member) (command : Command) (tag : TagValue) → GoesBy on by command → StandsBefore on by.outcome of tag
     → (step command tag.state tag.body).tag.body.flags ≡ flags_in_round on.session of.listed_now tag.body.flags
 slot-flags on by of command tag next stands = (slot-goes on by of command tag next stands).flags

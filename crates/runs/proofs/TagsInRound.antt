@@ -1,5 +1,5 @@
 -- Where the tags of a start stand in a round of which nothing is said: just after each slot command, and just before the next.
-use Rattle.std.proofs.Common.{◌≡◌, ◌≢◌, ℕ, ◌+◌, ◌-◌, ◌<◌, ◌≤◌, ◌==◌, ◌||◌, Bool, true, false, List, [], ◌∷◌, ◌++◌, length, Option, Some, None, slice_get, if◌then◌else◌, refl, ap, sym, ◌∙◌, subst, arith, add-one, eq-eqb, ne_eqb}
+use Rattle.std.proofs.Common.{◌≡◌, ◌≢◌, ℕ, ◌+◌, ◌-◌, ◌<◌, ◌==◌, ◌||◌, Bool, true, false, List, [], ◌∷◌, ◌++◌, length, Option, Some, None, slice_get, if◌then◌else◌, refl, ap, sym, ◌∙◌, subst, arith, add-one, eq-eqb, ne_eqb}
 use Rattle.std.proofs.lemmas.Bool.{eqb-true}
 use Rattle.air_model.specs.Past.{Start, Record, Item, exchanged, tag_behind, next_entry, next_record, past_behind_command}
 use Rattle.reply_grammar.specs.Reception.{Reception}
@@ -13,20 +13,37 @@ use Rattle.runs.specs.Complete.{HasNumber}
 use Rattle.runs.specs.Counted.{is_spoken_to}
 use Rattle.runs.specs.Listed.{sender_where, sender_listed_by, listed_as, is_of_round, is_of_slot, tags_listed_in, tags_listed_in_slot, times}
 use Rattle.runs.specs.Moments.{is_query, begins_later_slot, is_query_of, past_after_query, flags_behind}
-use Rattle.runs.specs.TagInRound.{is_matched, flags_in_round, slot_answer_of, is_acknowledged_by, StandsAfterSlot, StandsBeforeSlot}
+use Rattle.runs.specs.TagInRound.{is_matched, flags_in_round, slot_answer_of, is_acknowledged_by}
 use Rattle.runs.proofs.Heard.{slot-heard, silent-none, no-replies-none, IsOnlyAnswerer, same-tag, acknowledges-one, epc_sent, ack-lists, ack-lists-as}
 use Rattle.runs.proofs.Others.{AllRecords, and-false}
 use Rattle.runs.proofs.Population.{answer_behind, tag_stepped, tag-steps, reply_by, replies_behind, one-replies}
 use Rattle.runs.proofs.TagBetween.{unacknowledged-stands, ack-stands, ack-answer, ack-body}
 use Rattle.runs.proofs.TagEnds.{listed-once}
-use Rattle.runs.proofs.TagSteps.{Frame, Turn, Member, slot-stands, slot-answer, slot-flags}
+use Rattle.runs.proofs.Members.{Frame, Member, StandsAfter, StandsBefore}
+use Rattle.runs.proofs.TagSteps.{Turn, slot-stands, slot-answer, slot-flags}
 use Rattle.runs.proofs.Times.{bit, times-append, times-one, bit-either, bit-test, lists-none, lists-elsewhere, lists-one}
-use Rattle.q_round.specs.laws.RoundFacts.{IsNextSlot}
+use Rattle.runs.specs.laws.PlayedRounds.{SlotOfRun, PlayedRound, number_of, slot_in, DoesNext}
+use Rattle.pie_line.specs.Link.{LinkValue}
+use Rattle.q_round.specs.laws.RoundFacts.{IsNextSlot, IsNextTurn, RoundFacts}
 use Rattle.q_round.specs.Rounds.{q_of, frame_of}
 use Rattle.q_round.specs.SpecValue.{SpecValue}
 use Rattle.q_round.specs.declared.frame.Outcome.{Outcome}
 use Rattle.q_round.specs.declared.frame.Outcome.TheVariants.{Silence, Whole}
-use Rattle.tag_machine.specs.TagValue.{TagValue, StateValue}
+use Rattle.q_round.specs.declared.round.Next.{Next}
+use Rattle.q_round.specs.declared.round.Next.TheVariants as nexts
+use Rattle.tag_machine.specs.TagValue.{TagValue}
+
+-- the Query of a round
+abbrev pub query_command : SpecValue → LinkValue → Command
+query_command spec link = commands.Query link.dr link.code link.trext spec.sel spec.session spec.target spec.q
+
+-- what is past just after it
+abbrev pub past_at_query : PlayedRound → List Item
+past_at_query round = past_behind_command round.start (number_of round) 1 (query_command round.spec round.start.link) round.before
+
+-- the frame of a round behind these outcomes, the latest first
+abbrev pub frame_behind : PlayedRound → List Outcome → Frame
+frame_behind round outcomes = record { session = round.spec.session; q = q_of round.spec outcomes; slots = frame_of round.spec outcomes }
 
 -- what a record of the round does to the flags of a tag
 pub record StepsOwnFlags (round session : ℕ) (sent : Record) (earlier : List Item) (number : ℕ) (tag : TagValue) : Type 0 where
@@ -53,46 +70,47 @@ lists-nobody start round query sent earlier none same number tag numbered one =
 
 -- What a past tells of the round so far: its Query, behind which the tags that take part are those that it speaks to, and that its
 -- records did to the flags what they may.
-pub record Tells (start : Start) (spec : SpecValue) (round : ℕ) (query past : List Item) : Type 0 where
-  pub query_is : past_after_query round past ≡ query
-  pub spoken : (number : ℕ) (tag : TagValue) → HasNumber start number tag
-      → is_matched (tag_behind number tag query).state ≡ is_spoken_to spec (tag_behind number tag query)
-  pub flags : AllRecords (StepsFlagsOf start round spec.session) past
-  pub epcs : AllRecords (ListsOwnEpc start round query) past
+pub record Tells (round : PlayedRound) (past : List Item) : Type 0 where
+  pub query_is : past_after_query (number_of round) past ≡ past_at_query round
+  pub spoken : (number : ℕ) (tag : TagValue) → HasNumber round.start number tag
+      → is_matched (tag_behind number tag (past_at_query round)).state ≡ is_spoken_to round.spec (tag_behind number tag (past_at_query round))
+  pub flags : AllRecords (StepsFlagsOf round.start (number_of round) round.spec.session) past
+  pub epcs : AllRecords (ListsOwnEpc round.start (number_of round) (past_at_query round)) past
 
 -- how many times each number is listed in the round, just after the slot command behind so many slots
-pub record CountsAfter (start : Start) (round slots : ℕ) (listed : ℕ → Bool) (past : List Item) : Type 0 where
-  pub count : (number : ℕ) → times number (tags_listed_in round past) ≡ bit (listed number)
-  pub later : (slot : ℕ) → slots < slot → tags_listed_in_slot round slot past ≡ []
-  pub strangers : (number : ℕ) → slice_get start.tags number ≡ None → listed number ≡ false
+pub record CountsAfter (round : PlayedRound) (slots : ℕ) (listed : ℕ → Bool) (past : List Item) : Type 0 where
+  pub count : (number : ℕ) → times number (tags_listed_in (number_of round) past) ≡ bit (listed number)
+  pub later : (slot : ℕ) → slots < slot → tags_listed_in_slot (number_of round) slot past ≡ []
+  pub strangers : (number : ℕ) → slice_get round.start.tags number ≡ None → listed number ≡ false
 
 -- ... and just before the next one, in slots before this one and in this one
-pub record CountsBefore (start : Start) (round slot : ℕ) (listed listed_now : ℕ → Bool) (past : List Item) : Type 0 where
-  pub count : (number : ℕ) → times number (tags_listed_in round past) ≡ bit (listed number) + bit (listed_now number)
-  pub count_now : (number : ℕ) → times number (tags_listed_in_slot round slot past) ≡ bit (listed_now number)
-  pub later : (later : ℕ) → slot < later → tags_listed_in_slot round later past ≡ []
-  pub strangers : (number : ℕ) → slice_get start.tags number ≡ None → (listed number ≡ false) × (listed_now number ≡ false)
+pub record CountsBefore (round : PlayedRound) (slot : ℕ) (listed listed_now : ℕ → Bool) (past : List Item) : Type 0 where
+  pub count : (number : ℕ) → times number (tags_listed_in (number_of round) past) ≡ bit (listed number) + bit (listed_now number)
+  pub count_now : (number : ℕ) → times number (tags_listed_in_slot (number_of round) slot past) ≡ bit (listed_now number)
+  pub later : (later : ℕ) → slot < later → tags_listed_in_slot (number_of round) later past ≡ []
+  pub strangers : (number : ℕ) → slice_get round.start.tags number ≡ None → (listed number ≡ false) × (listed_now number ≡ false)
 
 -- Just after a slot command: where each tag stands, and what it answered the command.
-pub record StandsSent (start : Start) (spec : SpecValue) (round : ℕ) (query : List Item) (outcomes : List Outcome) (sent : Record) (past : List Item) : Type 0 where
+pub record StandsSent (round : PlayedRound) (outcomes : List Outcome) (sent : Record) (past : List Item) : Type 0 where
   pub listed : ℕ → Bool
   pub unsaid : sent.entry ≡ no_entry
   pub begins : begins_slot sent.command ≡ true
-  pub tells : Tells start spec round query (exchanged sent ∷ past)
-  pub counts : CountsAfter start round (length outcomes) listed (exchanged sent ∷ past)
-  pub tags : (number : ℕ) (tag : TagValue) → HasNumber start number tag
-      → StandsAfterSlot spec.session (q_of spec outcomes) (frame_of spec outcomes) (tag_behind number tag query) (listed number) (tag_behind number tag (exchanged sent ∷ past))
-  pub answers : (number : ℕ) (tag : TagValue) → HasNumber start number tag
+  pub tells : Tells round (exchanged sent ∷ past)
+  pub counts : CountsAfter round (length outcomes) listed (exchanged sent ∷ past)
+  pub tags : (number : ℕ) (tag : TagValue) → HasNumber round.start number tag
+      → StandsAfter (frame_behind round outcomes) (tag_behind number tag (past_at_query round)) (listed number) (tag_behind number tag (exchanged sent ∷ past))
+  pub answers : (number : ℕ) (tag : TagValue) → HasNumber round.start number tag
       → answer_behind sent.command past number tag ≡ slot_answer_of (tag_behind number tag (exchanged sent ∷ past)).state
 
 -- Just before the next slot command or the end: where each tag stands. The slot that ends had the first outcome.
-pub record StandsNext (start : Start) (spec : SpecValue) (round : ℕ) (query : List Item) (outcome : Outcome) (before : List Outcome) (past : List Item) : Type 0 where
+pub record StandsNext (round : PlayedRound) (outcome : Outcome) (before : List Outcome) (past : List Item) : Type 0 where
   pub listed : ℕ → Bool
   pub listed_now : ℕ → Bool
-  pub tells : Tells start spec round query past
-  pub counts : CountsBefore start round (length before + 1) listed listed_now past
-  pub tags : (number : ℕ) (tag : TagValue) → HasNumber start number tag
-      → StandsBeforeSlot spec.session (q_of spec before) outcome (frame_of spec before) (tag_behind number tag query) (listed number) (listed_now number) (tag_behind number tag past)
+  pub tells : Tells round past
+  pub counts : CountsBefore round (length before + 1) listed listed_now past
+  pub tags : (number : ℕ) (tag : TagValue) → HasNumber round.start number tag
+      → StandsBefore (frame_behind round before) outcome
+      (record { first = tag_behind number tag (past_at_query round); listed = listed number; listed_now = listed_now number }) (tag_behind number tag past)
 
 slot-lists-none : (sent : Record) (command : Command) → begins_slot command ≡ true → listed_from sent (reception_of_ack sent command) ≡ []
 slot-lists-none sent (commands.Ack rn) begins = absurd (cc)
@@ -105,22 +123,22 @@ slot-lists-none sent command begins = refl
 pub slot-no-sender : (sent : Record) → begins_slot sent.command ≡ true → sender_listed_by sent ≡ []
 slot-no-sender sent begins = ap (λ listed. sender_where listed sent.given) (slot-lists-none sent sent.command begins)
 
--- Where no ACK is sent, each tag stands as it stood after the slot command.
-silent-answer : (start : Start) (round slot : ℕ) (command : Command) (past : List Item) (reception : Reception) (outcome : Outcome) (number : ℕ) (tag : TagValue) (state : StateValue)
-    → next_entry start past ≡ no_entry → slot_reception start round slot command past ≡ reception → outcome_of reception ≡ outcome → HasNumber start number tag
-    → answer_behind command past number tag ≡ slot_answer_of state → outcome ≡ Silence → slot_answer_of state ≡ None
-silent-answer start round slot command past reception outcome number tag state unsaid heard is numbered answers silent =
-    let all = replies_behind 0 command start.tags past in
-    let none : all ≡ [] = silent-none start.several all (ap outcome_of (slot-heard start round slot command past reception unsaid heard) ∙ is ∙ silent) in
-    sym answers ∙ no-replies-none start command past number tag none numbered
+-- where silence is heard for a slot command no tag replied
+silent-slot : (at : SlotOfRun) (command : Command) (past : List Item) → next_entry at.start past ≡ no_entry
+    → outcome_of (slot_reception at.start at.round at.slot command past) ≡ Silence → replies_behind 0 command at.start.tags past ≡ []
+silent-slot at command past unsaid silent =
+    silent-none at.start.several (replies_behind 0 command at.start.tags past)
+    (ap outcome_of (slot-heard at.start at.round at.slot command past (slot_reception at.start at.round at.slot command past) unsaid refl) ∙ silent)
 
-pub stands-unacknowledged : (start : Start) (spec : SpecValue) (round : ℕ) (query : List Item) (outcomes : List Outcome) (past : List Item) (command : Command) (reception : Reception)
-    → slot_reception start round (length outcomes + 1) command past ≡ reception
-    → StandsSent start spec round query outcomes (next_record start round (length outcomes + 1) command past) past
-    → StandsNext start spec round query (outcome_of reception) outcomes (past_behind_command start round (length outcomes + 1) command past)
-stands-unacknowledged start spec round query outcomes past command reception heard stands =
-    let now = past_behind_command start round (length outcomes + 1) command past in
+-- Where no ACK is sent, each tag stands as it stood after the slot command.
+pub stands-unacknowledged : (round : PlayedRound) (outcomes : List Outcome) (past : List Item) (command : Command) (reception : Reception)
+    → slot_reception round.start (number_of round) (length outcomes + 1) command past ≡ reception
+    → StandsSent round outcomes (next_record round.start (number_of round) (length outcomes + 1) command past) past
+    → StandsNext round (outcome_of reception) outcomes (past_behind_command round.start (number_of round) (length outcomes + 1) command past)
+stands-unacknowledged round outcomes past command reception heard stands =
+    let start = round.start in
     let slot : ℕ = length outcomes + 1 in
+    let now = past_behind_command start (number_of round) slot command past in
     record {
       listed = stands.listed;
       listed_now = λ number. false;
@@ -132,9 +150,10 @@ stands-unacknowledged start spec round query outcomes past command reception hea
         strangers = λ number none. (stands.counts.strangers number none, refl);
       };
       tags = λ number tag numbered.
-          let tag_now = tag_behind number tag now in
-          unacknowledged-stands spec.session (q_of spec outcomes) (outcome_of reception) (frame_of spec outcomes) (tag_behind number tag query) (stands.listed number) tag_now
-          (silent-answer start round slot command past reception (outcome_of reception) number tag tag_now.state stands.unsaid heard refl numbered (stands.answers number tag numbered))
+          unacknowledged-stands (frame_behind round outcomes) (outcome_of reception) (tag_behind number tag (past_at_query round)) (stands.listed number) (tag_behind number tag now)
+          (λ silent.
+          sym (stands.answers number tag numbered)
+          ∙ no-replies-none start command past number tag (silent-slot (slot_in round slot) command past stands.unsaid (ap outcome_of heard ∙ silent)) numbered)
           (stands.tags number tag numbered);
     }
 
@@ -148,13 +167,13 @@ other-slot : (round slot : ℕ) (sent : Record) → sent.slot ≢ slot → is_of
 other-slot round slot sent other = and-false (sent.round == round) (sent.slot == slot) (ne_eqb sent.slot slot other)
 
 -- what an ACK does to the flags of a tag: nothing
-ack-flags : (start : Start) (round slot session rn : ℕ) (now : List Item) (number : ℕ) (tag : TagValue) → next_entry start now ≡ no_entry
+ack-flags : (at : SlotOfRun) (session rn : ℕ) (now : List Item) (number : ℕ) (tag : TagValue) → next_entry at.start now ≡ no_entry
     → (tag_stepped (commands.Ack rn) now number tag).body ≡ (tag_behind number tag now).body
-    → StepsOwnFlags round session (next_record start round slot (commands.Ack rn) now) now number tag
-ack-flags start round slot session rn now number tag unsaid kept = record {
+    → StepsOwnFlags at.round session (next_record at.start at.round at.slot (commands.Ack rn) now) now number tag
+ack-flags at session rn now number tag unsaid kept = record {
   slot = λ begins. absurd (cc);
   other = λ not_slot not_query.
-      ap (λ (t : TagValue). t.body.flags) (tag-steps start round slot (commands.Ack rn) now number tag unsaid) ∙ ap (λ body. body.flags) kept;
+      ap (λ (t : TagValue). t.body.flags) (tag-steps at.start at.round at.slot (commands.Ack rn) now number tag unsaid) ∙ ap (λ body. body.flags) kept;
 }
 
 -- the one that is acknowledged is no stranger
@@ -166,35 +185,43 @@ one-known start number one tag true numbered none is =
     absurd (cc)
 
 -- Where an ACK is sent, the one tag that answered with its RN16 is listed.
-pub stands-acknowledged : (start : Start) (spec : SpecValue) (round : ℕ) (query : List Item) (outcomes : List Outcome) (past : List Item) (command : Command) (rn : ℕ)
+pub stands-acknowledged : (round : PlayedRound) (outcomes : List Outcome) (past : List Item) (command : Command) (rn : ℕ)
     → let slot = length outcomes + 1 in
-    let now = past_behind_command start round slot command past in
-    IsOnlyAnswerer start command past rn → next_entry start now ≡ no_entry
-    → StandsSent start spec round query outcomes (next_record start round slot command past) past
-    → StandsNext start spec round query Whole outcomes (past_behind_command start round slot (commands.Ack rn) now)
-stands-acknowledged start spec round query outcomes past command rn one unsaid stands =
+    let now = past_behind_command round.start (number_of round) slot command past in
+    IsOnlyAnswerer round.start command past rn → next_entry round.start now ≡ no_entry
+    → StandsSent round outcomes (next_record round.start (number_of round) slot command past) past
+    → StandsNext round Whole outcomes (past_behind_command round.start (number_of round) slot (commands.Ack rn) now)
+stands-acknowledged round outcomes past command rn one unsaid stands =
+    let start = round.start in
+    let of : ℕ = number_of round in
+    let query = past_at_query round in
+    let on : Frame = frame_behind round outcomes in
     let slot : ℕ = length outcomes + 1 in
-    let now = past_behind_command start round slot command past in
-    let sent = next_record start round slot (commands.Ack rn) now in
-    let state_of = λ (number : ℕ) (tag : TagValue). (tag_behind number tag now).state in
+    let now = past_behind_command start of slot command past in
+    let sent = next_record start of slot (commands.Ack rn) now in
     let acknowledged : (number : ℕ) (tag : TagValue) → HasNumber start number tag → is_acknowledged_by rn (tag_behind number tag now).state ≡ (one.number == number) =
-    acknowledges-one start command past rn state_of one stands.answers in
+    acknowledges-one (record { start = start; command = command; past = past; behind = now }) rn one stands.answers in
     let answer : (number : ℕ) (tag : TagValue) → HasNumber start number tag
     → answer_behind (commands.Ack rn) now number tag ≡ (if one.number == number then Some (epc_sent (tag_behind number tag now).body) else None) =
     λ number tag numbered.
-    ack-answer spec.session (q_of spec outcomes) (frame_of spec outcomes) (tag_behind number tag query) (stands.listed number) rn (tag_behind number tag now) (stands.tags number tag numbered)
+    ack-answer on (tag_behind number tag query) (stands.listed number) rn (tag_behind number tag now) (stands.tags number tag numbered)
     ∙ ap (λ (test : Bool). if test then Some (epc_sent (tag_behind number tag now).body) else None) (acknowledged number tag numbered) in
     let body = (tag_behind one.number one.tag now).body in
     let here : 0 + one.number ≡ one.number = omega arith in
     let alone : replies_behind 0 (commands.Ack rn) start.tags now ≡ reply_by one.number (epc_sent body) ∷ [] =
-    one-replies (commands.Ack rn) now 0 start.tags one.number one.tag (epc_sent body) one.numbered
-    (subst (λ n. answer_behind (commands.Ack rn) now n one.tag ≡ Some (epc_sent body)) (sym here)
-    (answer one.number one.tag one.numbered ∙ ap (λ (test : Bool). if test then Some (epc_sent body) else None) (eq-eqb one.number one.number refl)))
+    one-replies (commands.Ack rn) now 0 start.tags one.number
+    (record {
+      tag = one.tag;
+      sent = epc_sent body;
+      numbered = one.numbered;
+      answered = subst (λ n. answer_behind (commands.Ack rn) now n one.tag ≡ Some (epc_sent body)) (sym here)
+          (answer one.number one.tag one.numbered ∙ ap (λ (test : Bool). if test then Some (epc_sent body) else None) (eq-eqb one.number one.number refl));
+    })
     (λ other tag numbered differs.
     subst (λ n. answer_behind (commands.Ack rn) now n tag ≡ None) (omega arith)
     (answer other tag numbered ∙ ap (λ (test : Bool). if test then Some (epc_sent (tag_behind other tag now).body) else None) (ne_eqb one.number other (λ same. differs (sym same)))))
     ∙ ap (λ n. reply_by n (epc_sent body) ∷ []) here in
-    let lists : sender_listed_by sent ≡ one.number ∷ [] = ack-lists start round slot rn now one.number body unsaid alone in
+    let lists : sender_listed_by sent ≡ one.number ∷ [] = ack-lists start of slot rn now one.number body unsaid alone in
     record {
       listed = stands.listed;
       listed_now = λ number. one.number == number;
@@ -202,8 +229,8 @@ stands-acknowledged start spec round query outcomes past command rn one unsaid s
         query_is = stands.tells.query_is;
         spoken = stands.tells.spoken;
         flags = (
-          λ same number tag numbered. ack-flags start round slot spec.session rn now number tag unsaid
-              (ack-body spec.session (q_of spec outcomes) (frame_of spec outcomes) (tag_behind number tag query) (stands.listed number) rn (tag_behind number tag now) (stands.tags number tag numbered)),
+          λ same number tag numbered. ack-flags (slot_in round slot) round.spec.session rn now number tag unsaid
+              (ack-body on (tag_behind number tag query) (stands.listed number) rn (tag_behind number tag now) (stands.tags number tag numbered)),
           stands.tells.flags,
         );
         epcs = (
@@ -211,7 +238,7 @@ stands-acknowledged start spec round query outcomes past command rn one unsaid s
               let found : one.number ∷ [] ≡ number ∷ [] = sym lists ∙ senders in
               let alike : one.number ≡ number = cc in
               let tags : one.tag ≡ tag = same-tag start one.number number one.tag tag one.numbered numbered alike in
-              ack-lists-as start round slot rn now one.number body unsaid alone
+              ack-lists-as start of slot rn now one.number body unsaid alone
               ∙ ap (λ memory. listed_as sent memory ∷ []) (stands.tags one.number one.tag one.numbered).body.memory
               ∙ ap (λ n. listed_as sent (tag_behind n one.tag query).body.memory ∷ []) alike
               ∙ ap (λ (t : TagValue). listed_as sent (tag_behind number t query).body.memory ∷ []) tags,
@@ -220,27 +247,28 @@ stands-acknowledged start spec round query outcomes past command rn one unsaid s
       };
       counts = record {
         count = λ number.
-            ap (λ (tags : List ℕ). times number tags) (lists-one (is_of_round round) sent now one.number (eq-eqb round round refl) lists)
-            ∙ times-append number (tags_listed_in round now) (one.number ∷ [])
+            ap (λ (tags : List ℕ). times number tags) (lists-one (is_of_round of) sent now one.number (eq-eqb of of refl) lists)
+            ∙ times-append number (tags_listed_in of now) (one.number ∷ [])
             ∙ ap (λ n. n + times number (one.number ∷ [])) (stands.counts.count number)
             ∙ ap (λ n. bit (stands.listed number) + n) (times-one number one.number);
         count_now = λ number.
             ap (λ (tags : List ℕ). times number tags)
-            (lists-one (is_of_slot round slot) sent now one.number (same-slot round slot sent refl refl) lists
+            (lists-one (is_of_slot of slot) sent now one.number (same-slot of slot sent refl refl) lists
             ∙ ap (λ (tags : List ℕ). tags ++ one.number ∷ []) (stands.counts.later slot (omega arith)))
             ∙ times-one number one.number;
         later = λ later above.
-            lists-elsewhere (is_of_slot round later) sent now (other-slot round later sent (λ same. absurd (omega (arith, same, above))))
+            lists-elsewhere (is_of_slot of later) sent now (other-slot of later sent (λ same. absurd (omega (arith, same, above))))
             ∙ stands.counts.later later (omega arith);
         strangers = λ number none. (stands.counts.strangers number none, one-known start number one.number one.tag (one.number == number) one.numbered none refl);
       };
       tags = λ number tag numbered.
           let first = tag_behind number tag query in
-          subst (λ (t : TagValue). StandsBeforeSlot spec.session (q_of spec outcomes) Whole (frame_of spec outcomes) first (stands.listed number) (one.number == number) t)
-          (sym (tag-steps start round slot (commands.Ack rn) now number tag unsaid))
-          (subst (λ (b : Bool). StandsBeforeSlot spec.session (q_of spec outcomes) Whole (frame_of spec outcomes) first (stands.listed number) b (tag_stepped (commands.Ack rn) now number tag))
+          let member : Bool → Member = λ is. record { first = first; listed = stands.listed number; listed_now = is } in
+          subst (λ (t : TagValue). StandsBefore on Whole (member (one.number == number)) t)
+          (sym (tag-steps start of slot (commands.Ack rn) now number tag unsaid))
+          (subst (λ (is : Bool). StandsBefore on Whole (member is) (tag_stepped (commands.Ack rn) now number tag))
           (acknowledged number tag numbered)
-          (ack-stands spec.session (q_of spec outcomes) Whole (frame_of spec outcomes) first (stands.listed number) rn (tag_behind number tag now) (λ e. cc) (stands.tags number tag numbered)));
+          (ack-stands on Whole first (stands.listed number) rn (tag_behind number tag now) (λ e. cc) (stands.tags number tag numbered)));
     }
 
 -- a slot command behind an outcome is a QueryRep or a QueryAdjust
@@ -263,89 +291,98 @@ later-no-query command later = absurd (cc)
 no-query-of : (round : ℕ) (sent : Record) → is_query sent.command ≡ false → is_query_of round sent ≡ false
 no-query-of round sent no_query = rw no_query refl
 
--- what a slot command does to the flags of a tag
-slot-steps-flags : (start : Start) (round slot session : ℕ) (command : Command) (past : List Item) (number : ℕ) (tag : TagValue) (listed_now : Bool) → next_entry start past ≡ no_entry
-    → begins_later_slot command ≡ true
-    → times number (tags_listed_in_slot round slot past) ≡ bit listed_now
-    → (tag_stepped command past number tag).body.flags ≡ flags_in_round session listed_now (tag_behind number tag past).body.flags
-    → StepsOwnFlags round session (next_record start round (slot + 1) command past) past number tag
-slot-steps-flags start round slot session command past number tag listed_now unsaid begins count flags =
+-- what a slot command does to the flags of a tag, which was listed in the slot before or not
+slot-steps-flags : (round : PlayedRound) (slot : ℕ) (command : Command) (past : List Item) (number : ℕ) (tag : TagValue)
+    → next_entry round.start past ≡ no_entry → begins_later_slot command ≡ true
+    → (tag_stepped command past number tag).body.flags
+    ≡ flags_in_round round.spec.session (times number (tags_listed_in_slot (number_of round) slot past) == 1) (tag_behind number tag past).body.flags
+    → StepsOwnFlags (number_of round) round.spec.session (next_record round.start (number_of round) (slot + 1) command past) past number tag
+slot-steps-flags round slot command past number tag unsaid begins flags =
     let before : slot + 1 - 1 ≡ slot = omega arith in
-    let now : (times number (tags_listed_in_slot round (slot + 1 - 1) past) == 1) ≡ listed_now =
-    ap (λ n. times number (tags_listed_in_slot round n past) == 1) before ∙ ap (λ n. n == 1) count ∙ bit-test listed_now in
     record {
       slot = λ is.
-          ap (λ (t : TagValue). t.body.flags) (tag-steps start round (slot + 1) command past number tag unsaid) ∙ flags
-          ∙ ap (λ (b : Bool). flags_in_round session b (flags_behind number tag past)) (sym now);
+          ap (λ (t : TagValue). t.body.flags) (tag-steps round.start (number_of round) (slot + 1) command past number tag unsaid) ∙ flags
+          ∙ ap (λ n. flags_in_round round.spec.session (times number (tags_listed_in_slot (number_of round) n past) == 1) (flags_behind number tag past)) (sym before);
       other = λ not_slot not_query. absurd (cc);
     }
 
 -- no number is listed in two slots
-pub known-once : (start : Start) (spec : SpecValue) (round : ℕ) (query : List Item) (outcome : Outcome) (before : List Outcome) (past : List Item)
-    (stands : StandsNext start spec round query outcome before past) (number : ℕ) (found : Option TagValue) → slice_get start.tags number ≡ found
+pub known-once : (round : PlayedRound) (outcome : Outcome) (before : List Outcome) (past : List Item)
+    (stands : StandsNext round outcome before past) (number : ℕ) (found : Option TagValue) → slice_get round.start.tags number ≡ found
     → stands.listed number ≡ true → stands.listed_now number ≡ false
-known-once start spec round query outcome before past stands number None none listed = (stands.counts.strangers number none).1
-known-once start spec round query outcome before past stands number (Some tag) numbered listed =
-    (listed-once spec.session (q_of spec before) outcome (frame_of spec before) (tag_behind number tag query) (stands.listed number) (stands.listed_now number) (tag_behind number tag past)
-    (stands.tags number tag numbered)).once listed
+known-once round outcome before past stands number None none listed = (stands.counts.strangers number none).1
+known-once round outcome before past stands number (Some tag) numbered listed =
+    let member : Member =
+    record { first = tag_behind number tag (past_at_query round); listed = stands.listed number; listed_now = stands.listed_now number } in
+    (listed-once (frame_behind round before) outcome member (tag_behind number tag past) (stands.tags number tag numbered)).once listed
 
 -- A slot command behind an outcome takes each tag to where it stands after it.
-pub stands-sent : (start : Start) (spec : SpecValue) (round : ℕ) (query : List Item) (outcome : Outcome) (before : List Outcome) (past : List Item) (command : Command)
-    → q_of spec before ≤ 15 → q_of spec (outcome ∷ before) ≤ 15
-    → IsNextSlot command spec.session (q_of spec before) (outcome ∷ frame_of spec before) (q_of spec (outcome ∷ before)) (frame_of spec (outcome ∷ before))
-    → next_entry start past ≡ no_entry → StandsNext start spec round query outcome before past
-    → StandsSent start spec round query (outcome ∷ before) (next_record start round (length (outcome ∷ before) + 1) command past) past
-stands-sent start spec round query outcome before past command small next_small next unsaid stands =
+pub stands-sent : (round : PlayedRound) → RoundFacts round.spec round.start.link
+    → (outcome : Outcome) (before : List Outcome) (past : List Item) (command : Command) → DoesNext round (outcome ∷ before) (nexts.Send command)
+    → next_entry round.start past ≡ no_entry → StandsNext round outcome before past
+    → StandsSent round (outcome ∷ before) (next_record round.start (number_of round) (length (outcome ∷ before) + 1) command past) past
+stands-sent round facts outcome before past command does unsaid stands =
+    let start = round.start in
+    let spec = round.spec in
+    let of : ℕ = number_of round in
     let slot : ℕ = length (outcome ∷ before) in
     let same : length before + 1 ≡ slot = add-one (length before) in
-    let sent = next_record start round (slot + 1) command past in
+    let sent = next_record start of (slot + 1) command past in
+    let next : IsNextSlot command spec.session (q_of spec before) (outcome ∷ frame_of spec before) (q_of spec (outcome ∷ before)) (frame_of spec (outcome ∷ before)) =
+    subst (λ (next : Next). IsNextTurn next spec.session (q_of spec before) (outcome ∷ frame_of spec before) (q_of spec (outcome ∷ before)) (frame_of spec (outcome ∷ before))) does.is
+    (facts.turn outcome before does.are) in
     let later : begins_later_slot command ≡ true =
     later-slot command spec.session (q_of spec before) (outcome ∷ frame_of spec before) (q_of spec (outcome ∷ before)) (frame_of spec (outcome ∷ before)) next in
     let none : sender_listed_by sent ≡ [] = slot-no-sender sent (later-begins command later) in
     let listed = λ (number : ℕ). stands.listed number || stands.listed_now number in
-    let first = λ (number : ℕ) (tag : TagValue). tag_behind number tag query in
-    let on : Frame = record { session = spec.session; q = q_of spec before; slots = frame_of spec before } in
+    let first = λ (number : ℕ) (tag : TagValue). tag_behind number tag (past_at_query round) in
+    let on : Frame = frame_behind round before in
     let by : Turn on = record {
       outcome = outcome;
       next_q = q_of spec (outcome ∷ before);
       next_slots = frame_of spec (outcome ∷ before);
-      small = small;
-      next_small = next_small;
+      small = facts.range before does.are.1;
+      next_small = facts.range (outcome ∷ before) does.are;
     } in
     let member : ℕ → TagValue → Member = λ number tag. record { first = first number tag; listed = stands.listed number; listed_now = stands.listed_now number } in
     let once : (number : ℕ) → stands.listed number ≡ true → stands.listed_now number ≡ false =
-    λ number is. known-once start spec round query outcome before past stands number (slice_get start.tags number) refl is in
+    λ number is. known-once round outcome before past stands number (slice_get start.tags number) refl is in
+    let listed_then : (number : ℕ) → (times number (tags_listed_in_slot of slot past) == 1) ≡ stands.listed_now number =
+    λ number.
+    ap (λ n. times number (tags_listed_in_slot of n past) == 1) (sym same)
+    ∙ ap (λ n. n == 1) (stands.counts.count_now number)
+    ∙ bit-test (stands.listed_now number) in
     record {
       listed = listed;
       unsaid = unsaid;
       begins = later-begins command later;
       tells = record {
         query_is =
-            ap (λ (is : Bool). if is then exchanged sent ∷ past else past_after_query round past) (no-query-of round sent (later-no-query command later))
+            ap (λ (is : Bool). if is then exchanged sent ∷ past else past_after_query of past) (no-query-of of sent (later-no-query command later))
             ∙ stands.tells.query_is;
         spoken = stands.tells.spoken;
         flags = (
           λ same_round number tag numbered.
-              slot-steps-flags start round slot spec.session command past number tag (stands.listed_now number) unsaid later
-              (subst (λ n. times number (tags_listed_in_slot round n past) ≡ bit (stands.listed_now number)) same (stands.counts.count_now number))
-              (slot-flags on by (member number tag) command (tag_behind number tag past) next (stands.tags number tag numbered)),
+              slot-steps-flags round slot command past number tag unsaid later
+              (slot-flags on by (member number tag) command (tag_behind number tag past) next (stands.tags number tag numbered)
+              ∙ ap (λ (is : Bool). flags_in_round spec.session is (flags_behind number tag past)) (sym (listed_then number))),
           stands.tells.flags,
         );
-        epcs = (lists-nobody start round query sent past none, stands.tells.epcs);
+        epcs = (lists-nobody start of (past_at_query round) sent past none, stands.tells.epcs);
       };
       counts = record {
         count = λ number.
-            ap (λ (tags : List ℕ). times number tags) (lists-none (is_of_round round) sent past none)
+            ap (λ (tags : List ℕ). times number tags) (lists-none (is_of_round of) sent past none)
             ∙ stands.counts.count number
             ∙ sym (bit-either (stands.listed number) (stands.listed_now number) (once number));
-        later = λ after above. lists-none (is_of_slot round after) sent past none ∙ stands.counts.later after (omega arith);
+        later = λ after above. lists-none (is_of_slot of after) sent past none ∙ stands.counts.later after (omega arith);
         strangers = λ number stranger. ap (λ (b : Bool). b || stands.listed_now number) (stands.counts.strangers number stranger).0 ∙ (stands.counts.strangers number stranger).1;
       };
       tags = λ number tag numbered.
-          subst (λ (t : TagValue). StandsAfterSlot spec.session (q_of spec (outcome ∷ before)) (frame_of spec (outcome ∷ before)) (first number tag) (listed number) t)
-          (sym (tag-steps start round (slot + 1) command past number tag unsaid))
+          subst (λ (t : TagValue). StandsAfter (frame_behind round (outcome ∷ before)) (first number tag) (listed number) t)
+          (sym (tag-steps start of (slot + 1) command past number tag unsaid))
           (slot-stands on by (member number tag) command (tag_behind number tag past) next (stands.tags number tag numbered));
       answers = λ number tag numbered.
           slot-answer on by (member number tag) command (tag_behind number tag past) next (stands.tags number tag numbered)
-          ∙ ap (λ (t : TagValue). slot_answer_of t.state) (sym (tag-steps start round (slot + 1) command past number tag unsaid));
+          ∙ ap (λ (t : TagValue). slot_answer_of t.state) (sym (tag-steps start of (slot + 1) command past number tag unsaid));
     }

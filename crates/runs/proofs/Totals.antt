@@ -109,3 +109,12 @@ as-many-listed start spec round history numbers each none =
     ∙ spoken-sum spec round history 0 start.tags (λ number. times number numbers)
     (λ place tag at.
     subst (λ n. times n numbers ≡ (if is_spoken_to spec (tag_after_query round history n tag) then 1 else 0)) (omega arith) (each place tag at))
+
+sum-most : (first count : ℕ) (f : ℕ → ℕ) → ((k : ℕ) → f k ≤ 1) → sum_from first count f ≤ count
+unfolding sum_from
+sum-most first zero f most = omega arith
+sum-most first (suc more) f most = let here = most first in let rest = sum-most (first + 1) more f most in omega (arith, here, rest)
+
+-- numbers below one, none of which stands in a list twice, are no more than that
+pub few-once : (count : ℕ) (numbers : List ℕ) → AllByRecursion (λ number. number < count) numbers → ((number : ℕ) → times number numbers ≤ 1) → length numbers ≤ count
+few-once count numbers below once = subst (λ n. n ≤ count) (times-sum count numbers below) (sum-most 0 count (λ k. times k numbers) once)

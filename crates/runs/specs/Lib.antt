@@ -1,6 +1,7 @@
 pub mod History
 pub mod Listing
 pub mod ScenarioStart
+pub mod Said
 pub mod Report
 pub mod Summary
 pub mod Headline
@@ -16,4 +17,6 @@ pub mod Honest
 pub mod EveryTag
 pub mod ListLines
 pub mod CompleteRounds
+pub mod RoundsTold
+pub mod Portals
 pub mod laws

@@ -1,9 +1,10 @@
 -- Profile: which tags a history lists, by their numbers. Two tags may have one EPC, but never one number.
-use Rattle.std.specs.Prelude.{ℕ, ◌==◌, ◌&&◌, Bool, List, [], ◌∷◌, ◌++◌, length, filter, if◌then◌else◌}
+use Rattle.std.specs.Prelude.{ℕ, ◌==◌, ◌&&◌, Bool, List, [], ◌∷◌, ◌++◌, if◌then◌else◌}
 use Rattle.air_model.specs.Channel.{Given, silence, whole, broken, raw}
 use Rattle.air_model.specs.Past.{Record, Item, befell, exchanged, operated, ended}
 use Rattle.runs.specs.Listing.{Listed, listed_by}
 use Rattle.tag_memory.specs.Memory.{Banks, pc_of, epc_of}
+pub use Rattle.two_portals.specs.Played.{times}
 
 -- who sent what the channel gave whole; a raw stream names no sender
 abbrev pub sender_in : Given → List ℕ
@@ -44,10 +45,6 @@ tags_listed_in round history = tags_listed_where (is_of_round round) history
 -- the tags that are listed in a slot of a round
 abbrev pub tags_listed_in_slot : ℕ → ℕ → List Item → List ℕ
 tags_listed_in_slot round slot history = tags_listed_where (is_of_slot round slot) history
-
--- how many times a number stands in a list
-abbrev pub times : ℕ → List ℕ → ℕ
-times number numbers = length (filter (λ other. other == number) numbers)
 
 -- what a record lists of a tag with this memory: the PC and the EPC in it
 abbrev pub listed_as : Record → Banks → Listed

@@ -4,6 +4,7 @@ use Rattle.air_model.specs.Channel.{heard_levels, wave_for}
 use Rattle.air_model.specs.Past.{Start, Record, Item, befell, exchanged, operated, ended, tags_behind}
 use Rattle.runs.specs.History.{history_of}
 use Rattle.runs.specs.Listing.{Listed, listed_by, listing_of}
+use Rattle.runs.specs.Said.{said_lines}
 use Rattle.runs.specs.ScenarioStart.{start_of}
 use Rattle.report_lines.specs.Kept.{keeps}
 use Rattle.report_lines.specs.Spelled.{text_in}
@@ -19,10 +20,14 @@ use Rattle.tag_machine.specs.TagValue.{TagValue}
 abbrev pub first_lines : LinkValue → List ReportLine
 first_lines link = BlfLine (blf_of link).0 (blf_of link).1 ∷ []
 
--- for each exchange: the intervals of the frame, how many tags replied, and the levels that came
-abbrev pub exchange_lines : LinkValue → Record → List ReportLine
-exchange_lines link sent =
+-- the intervals of the frame, how many tags replied, and the levels that came
+abbrev pub wave_lines : LinkValue → Record → List ReportLine
+wave_lines link sent =
     TxLine sent.exchange (wave_for link sent.command) ∷ RxLine sent.exchange (length sent.replies) (heard_levels link sent.given) ∷ []
+
+-- for each exchange: who said what, and the waves
+abbrev pub exchange_lines : LinkValue → Record → List ReportLine
+exchange_lines link sent = said_lines link sent ++ wave_lines link sent
 
 -- a line for what an exchange lists
 abbrev pub list_line : Listed → ReportLine

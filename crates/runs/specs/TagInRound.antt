@@ -9,6 +9,7 @@ use Rattle.q_round.specs.declared.frame.Outcome.{Outcome}
 use Rattle.q_round.specs.declared.frame.Outcome.TheVariants.{Silence}
 use Rattle.tag_machine.specs.Answers.{Sent}
 use Rattle.tag_machine.specs.TagValue.{StateValue, ReadyState, ArbitrateState, ReplyState, AcknowledgedState, OpenState, SecuredState, KilledState, UnpoweredState, BodyValue, TagValue}
+pub use Rattle.two_portals.specs.Played.{flags_in_round}
 
 -- 6.3.2.11.2.1 Query: a tag that takes part in the round is in arbitrate or reply behind its Query
 abbrev pub is_matched : StateValue → Bool
@@ -123,12 +124,6 @@ IsBeforeSlot session q outcome frame matched listed listed_now (OpenState held) 
 IsBeforeSlot session q outcome frame matched listed listed_now (SecuredState held) = ⊥
 IsBeforeSlot session q outcome frame matched listed listed_now KilledState = IsOutside matched listed × (listed_now ≡ false)
 IsBeforeSlot session q outcome frame matched listed listed_now UnpoweredState = IsOutside matched listed × (listed_now ≡ false)
-
--- 6.3.2.2 Sessions and inventoried flags: the flags of a tag that had these just after the Query. That of the round's session
--- is inverted by the slot command behind the slot in which the tag was listed.
-abbrev pub flags_in_round : ℕ → Bool → Flags → Flags
-flags_in_round session false flags = flags
-flags_in_round session true flags = flags_after_inversion flags session
 
 -- what a round does not change in a tag, whose body just after the Query was the first one, and which was listed in an earlier
 -- slot or not

@@ -1,6 +1,7 @@
 //! What the history and the report of every run say.
 ghost use Rattle.std.specs.Prelude.{◌≡◌, ◌*◌, ◌≤◌, ◌⊎◌, Bool, ◌||◌, List, ◌∷◌, ◌++◌, length, filter, Some, None};
 ghost use Rattle.access_ops.specs.laws.OperationLaws.{Expects};
+ghost use Rattle.command_grammar.specs.Commands.{IsLegalCommand};
 ghost use Rattle.tag_machine.specs.Exchange.{AreLegalTags};
 ghost use Rattle.air_model.specs.Channel.{got_of, heard_levels};
 ghost use Rattle.air_model.specs.Past.{Start, Record, Item, exchanges_in, next_record, tags_behind};
@@ -104,6 +105,18 @@ pub fn exchanges_are_few()
 pub fn histories_keep_tags_legal()
     ensures { (scenario : Scenario) (later earlier : List Item) → IsScenario scenario → history scenario ≡ later ++ earlier →
         AreLegalTags (tags_behind (start_of scenario) earlier) }
+{
+    answers_are_replies();
+    steps_keep_tags_legal();
+    round_laws();
+    operation_commands();
+    copies_are_tags();
+}
+
+/// Each command of the history of a scenario has its numbers in their fields.
+pub fn histories_send_legal_commands()
+    ensures { (scenario : Scenario) (sent : Record) (earlier : List Item) → IsScenario scenario →
+        IsRecordOf (history scenario) sent earlier → IsLegalCommand sent.command }
 {
     answers_are_replies();
     steps_keep_tags_legal();

@@ -5,6 +5,7 @@
 
 mod inventory;
 mod laws;
+mod rounds;
 mod summary;
 
 pub use inventory::{
@@ -15,7 +16,10 @@ pub use inventory::{
 pub use laws::{
     events_and_records_determine_a_past, exchanges_are_few, headline,
     histories_grow_by_the_next_item, histories_hear_what_is_received, histories_keep_tags_legal,
-    operations_are_told, records_follow_from_the_past, scenario_steps_are_legal,
-    upgraded_scenarios_run_the_same,
+    histories_send_legal_commands, operations_are_told, records_follow_from_the_past,
+    scenario_steps_are_legal, upgraded_scenarios_run_the_same,
+};
+pub use rounds::{
+    portal_rounds_are_played, portals_are_independent, rounds_go_by_tags, rounds_list_their_tags,
 };
 pub use summary::Summary;

@@ -121,26 +121,32 @@ group_length per place samples room =
     let size : place + per - place ≡ per = omega arith in
     length-take-le (place + per - place) (drop place samples) (rw length-drop (omega (arith, room))) ∙ size
 
--- the lowest bits of the mask of the samples from a place on are those of the group there
-pub group_mask : (threshold per place left mask all : ℕ) (samples : List ℕ) → mask ≡ mask_of threshold (take left (drop place samples))
-    → place + left ≤ length samples → per ≤ left → all + 1 ≡ 2 ^ per → bit_and mask all ≡ mask_of threshold (slice_range samples place (place + per))
-group_mask threshold per place left mask all samples is room within all_is =
+-- the mask of the samples that are left of a block, from a place on, a group of them or more
+pub record LeftOfBlock (threshold per place left mask : ℕ) (samples : List ℕ) : Type 0 where
+  pub mask_is : mask ≡ mask_of threshold (take left (drop place samples))
+  pub within : place + left ≤ length samples
+  pub some : per ≤ left
+
+-- its lowest bits are those of the group there
+pub group_mask : (threshold per place left mask all : ℕ) (samples : List ℕ) → LeftOfBlock threshold per place left mask samples → all + 1 ≡ 2 ^ per
+    → bit_and mask all ≡ mask_of threshold (slice_range samples place (place + per))
+group_mask threshold per place left mask all samples is all_is =
     let size : per ≡ place + per - place = omega arith in
     let low : all ≡ 2 ^ per - 1 = omega (arith, all_is) in
-    let count : length (take left (drop place samples)) ≡ left = length-take-le left (drop place samples) (rw length-drop (omega (arith, room))) in
-    ap (λ n. bit_and mask n) low ∙ and_mask mask per ∙ ap (λ n. n % 2 ^ per) is
-    ∙ mask_take threshold per (take left (drop place samples)) (omega (arith, count, within))
-    ∙ ap (mask_of threshold) (take-take per left (drop place samples) within)
+    let count : length (take left (drop place samples)) ≡ left = length-take-le left (drop place samples) (rw length-drop (omega (arith, is.within))) in
+    ap (λ n. bit_and mask n) low ∙ and_mask mask per ∙ ap (λ n. n % 2 ^ per) is.mask_is
+    ∙ mask_take threshold per (take left (drop place samples)) (omega (arith, count, is.some))
+    ∙ ap (mask_of threshold) (take-take per left (drop place samples) is.some)
     ∙ ap (λ n. mask_of threshold (take n (drop place samples))) size
 
 -- and the others those of the samples behind it
-pub behind_mask : (threshold per place left mask : ℕ) (samples : List ℕ) → mask ≡ mask_of threshold (take left (drop place samples))
-    → place + left ≤ length samples → per ≤ left → mask / 2 ^ per ≡ mask_of threshold (take (left - per) (drop (place + per) samples))
-behind_mask threshold per place left mask samples is room within =
-    let count : length (take left (drop place samples)) ≡ left = length-take-le left (drop place samples) (rw length-drop (omega (arith, room))) in
-    let split : left ≡ per + (left - per) = omega (arith, within) in
-    ap (λ n. n / 2 ^ per) is
-    ∙ mask_drop threshold per (take left (drop place samples)) (omega (arith, count, within))
+pub behind_mask : (threshold per place left mask : ℕ) (samples : List ℕ) → LeftOfBlock threshold per place left mask samples
+    → mask / 2 ^ per ≡ mask_of threshold (take (left - per) (drop (place + per) samples))
+behind_mask threshold per place left mask samples is =
+    let count : length (take left (drop place samples)) ≡ left = length-take-le left (drop place samples) (rw length-drop (omega (arith, is.within))) in
+    let split : left ≡ per + (left - per) = omega (arith, is.some) in
+    ap (λ n. n / 2 ^ per) is.mask_is
+    ∙ mask_drop threshold per (take left (drop place samples)) (omega (arith, count, is.some))
     ∙ ap (λ n. mask_of threshold (drop per (take n (drop place samples)))) split
     ∙ ap (mask_of threshold) (drop-take per (left - per) (drop place samples))
     ∙ ap (λ (list : List ℕ). mask_of threshold (take (left - per) list)) (drop-drop per place samples)
@@ -169,13 +175,12 @@ pub long_back : (threshold back : ℕ) (level : Bool) (group : List ℕ) → IsP
 long_back threshold back level group pure = All-take (IsOnSide threshold level) 32 (drop back group) (All-drop (IsOnSide threshold level) back group pure)
 
 -- where the two masks differ there is no one level
-pub long_mixed : (threshold back first last : ℕ) (group : List ℕ) → 32 ≤ length group → back + 32 ≡ length group → first ≡ mask_of threshold (take 32 group)
-    → last ≡ mask_of threshold (take 32 (drop back group)) → first ≢ last → (level : Bool) → ¬ IsPure threshold level group
-long_mixed threshold back first last group least stands first_is last_is differ level pure =
+pub long_mixed : (threshold back : ℕ) (group : List ℕ) → 32 ≤ length group → back + 32 ≡ length group
+    → mask_of threshold (take 32 group) ≢ mask_of threshold (take 32 (drop back group)) → (level : Bool) → ¬ IsPure threshold level group
+long_mixed threshold back group least stands differ level pure =
     let front : length (take 32 group) ≡ 32 = length-take-le 32 group least in
     let behind : length (take 32 (drop back group)) ≡ 32 = length-take-le 32 (drop back group) (rw length-drop (omega (arith, stands))) in
-    let same = same_mask threshold (take 32 group) (take 32 (drop back group)) level (front ∙ sym behind) (long_front threshold level group pure) (long_back threshold back level group pure) in
-    differ (first_is ∙ same ∙ sym last_is)
+    differ (same_mask threshold (take 32 group) (take 32 (drop back group)) level (front ∙ sym behind) (long_front threshold level group pure) (long_back threshold back level group pure))
 
 pub none_then : {A : Type 0} {P Q : Type 0} (answer : Option A) → IfNone answer P → (P → Q) → IfNone answer Q
 none_then None holds gives = gives holds

@@ -11,18 +11,23 @@ not_refused threshold per samples refusal levels least refused are =
     let same : ◌≡◌ {A = Result (List Bool) SliceRefusal} (Err refusal) (Ok levels) = same_answer threshold per samples (Err refusal) (Ok levels) least refused are in
     cc
 
+-- what the samples are answered: the levels that were written, or a refusal
+pub record Answered (threshold per : ℕ) (samples : List ℕ) (result : Result (Unit {0}) SliceRefusal) (written : List Bool) : Type 0 where
+  pub ok : OnOk result (AreLevels threshold per samples written)
+  pub refused : IfErr result (RefusesSamples threshold per samples)
+
 pub only_levels : (threshold per : ℕ) (samples : List ℕ) (result : Result (Unit {0}) SliceRefusal) (written levels : List Bool) → 1 ≤ per
-    → OnOk result (AreLevels threshold per samples written) → IfErr result (RefusesSamples threshold per samples) → AreLevels threshold per samples levels → IsOk result × (written ≡ levels)
-only_levels threshold per samples (Ok done) written levels least ok refused are =
-    let same : ◌≡◌ {A = Result (List Bool) SliceRefusal} (Ok written) (Ok levels) = same_answer threshold per samples (Ok written) (Ok levels) least ok are in
+    → Answered threshold per samples result written → AreLevels threshold per samples levels → IsOk result × (written ≡ levels)
+only_levels threshold per samples (Ok done) written levels least answered are =
+    let same : ◌≡◌ {A = Result (List Bool) SliceRefusal} (Ok written) (Ok levels) = same_answer threshold per samples (Ok written) (Ok levels) least answered.ok are in
     (refl, cc)
-only_levels threshold per samples (Err refusal) written levels least ok refused are = absurd (not_refused threshold per samples refusal levels least refused are)
+only_levels threshold per samples (Err refusal) written levels least answered are = absurd (not_refused threshold per samples refusal levels least answered.refused are)
 
 pub only_refusal : (threshold per : ℕ) (samples : List ℕ) (result : Result (Unit {0}) SliceRefusal) (written : List Bool) (refusal : SliceRefusal) → 1 ≤ per
-    → OnOk result (AreLevels threshold per samples written) → IfErr result (RefusesSamples threshold per samples) → RefusesSamples threshold per samples refusal → result ≡ Err refusal
-only_refusal threshold per samples (Ok done) written refusal least ok refused refuses = absurd (not_refused threshold per samples refusal written least refuses ok)
-only_refusal threshold per samples (Err other) written refusal least ok refused refuses =
-    let same : ◌≡◌ {A = Result (List Bool) SliceRefusal} (Err other) (Err refusal) = same_answer threshold per samples (Err other) (Err refusal) least refused refuses in
+    → Answered threshold per samples result written → RefusesSamples threshold per samples refusal → result ≡ Err refusal
+only_refusal threshold per samples (Ok done) written refusal least answered refuses = absurd (not_refused threshold per samples refusal written least refuses answered.ok)
+only_refusal threshold per samples (Err other) written refusal least answered refuses =
+    let same : ◌≡◌ {A = Result (List Bool) SliceRefusal} (Err other) (Err refusal) = same_answer threshold per samples (Err other) (Err refusal) least answered.refused refuses in
     let one : other ≡ refusal = cc in
     ap (λ (r : SliceRefusal). Err r) one
 

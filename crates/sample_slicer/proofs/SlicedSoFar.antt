@@ -33,14 +33,20 @@ here_was threshold per samples group place level stands pure =
     let size : per ≡ place + per - place = omega arith in
     subst (λ n. IsPure threshold level (take n (drop place samples))) size (subst (λ at. IsPure threshold level (take per (drop at samples))) (sym stands) pure)
 
+-- at a place a whole group begins, with all its samples on one side
+pub record PureGroup (threshold per : ℕ) (samples : List ℕ) (place : ℕ) (level : Bool) : Type 0 where
+  pub whole : place + per ≤ length samples
+  pub pure : IsPure threshold level (slice_range samples place (place + per))
+
 -- one more group
-pub sliced_more : (threshold per : ℕ) (samples : List ℕ) (levels : List Bool) (place : ℕ) (level : Bool) → 1 ≤ per → SlicedTo threshold per samples levels place → place + per ≤ length samples → IsPure threshold level (slice_range samples place (place + per)) → SlicedTo threshold per samples (levels ++ level ∷ []) (place + per)
-sliced_more threshold per samples levels place level least so_far room pure =
+pub sliced_more : (threshold per : ℕ) (samples : List ℕ) (levels : List Bool) (place : ℕ) (level : Bool) → 1 ≤ per → SlicedTo threshold per samples levels place → PureGroup threshold per samples place level
+    → SlicedTo threshold per samples (levels ++ level ∷ []) (place + per)
+sliced_more threshold per samples levels place level least so_far next =
     let count : length (levels ++ level ∷ []) ≡ suc (length levels) = length-append levels (level ∷ []) ∙ omega arith in
-    let here : IsPure threshold level (group_of samples per (length levels)) = here_is threshold per samples (length levels) place level so_far.stands pure in
+    let here : IsPure threshold level (group_of samples per (length levels)) = here_is threshold per samples (length levels) place level so_far.stands next.pure in
     record {
       stands = rw (count, suc-mul) (omega (arith, so_far.stands));
-      within = room;
+      within = next.whole;
       few = rw count (omega (arith, so_far.few));
       each = λ group wanted e. ⊎_elim
           (λ h. so_far.each group wanted h)

@@ -74,7 +74,7 @@ goes (suc left) threshold per samples levels place least so_far few =
         | inr mixed ↦ (Err (Mixed place), mixed_here threshold per samples levels place so_far room mixed)
         | inl found ↦
             goes left threshold per samples (levels ++ found.0 ∷ []) (place + per) least
-            (sliced_more threshold per samples levels place found.0 least so_far room found.1) (omega arith)
+            (sliced_more threshold per samples levels place found.0 least so_far (record { whole = room; pure = found.1 })) (omega arith)
       ]
     ]
 

@@ -43,5 +43,5 @@ happening_filled (happenings.Choice (choices.Raw levels)) is = one_more 0 (binar
 pub air_shape : (field kind : List ℕ) (rest : List (List ℕ)) (known : AirKind) (happening : Happening) → field ≢ [] → kind ≡ air_word known
     → IsHappeningText known rest happening → HasShape keywords.Air (field ∷ kind ∷ rest)
 air_shape field kind rest known happening filled is text =
-    let count = rw (← text.spelling, text.same_kind) at (happening_filled happening text.is) in
+    let count = rw (← text.spelling, text.same_kind) at (happening_filled happening text.in_range) in
     (filled, known, is, count)

@@ -55,6 +55,10 @@ below_decided Has each (suc bound) = elim (each bound) [
 abbrev pub Spelled : {A V : Type 0} → (V → A) → (V → Type 0) → A → Type 0
 Spelled spelling May text = (value : _) × May value × (text ≡ spelling value)
 
+-- of each text, whether it spells a value
+abbrev pub EachDecided : {A V : Type 0} → (V → A) → (V → Type 0) → Type 0
+EachDecided spelling May = (text : _) → Decided (Spelled spelling May text)
+
 -- no limit is set
 abbrev pub Any : {V : Type 0} → V → Type 0
 Any value = Unit {0}
@@ -76,11 +80,10 @@ tail_same a b rest rest' same = cc
 abbrev pub Behind : {A V W : Type 0} → (V → A) → (V → Type 0) → (W → List A) → (W → Type 0) → List A → Type 0
 Behind {V = V} {W = W} one May others Might texts = Spelled (λ (value : V × W). one value.0 ∷ others value.1) (λ value. May value.0 × Might value.1) texts
 
-pub behind_decided : {A V W : Type 0} (one : V → A) (May : V → Type 0) (others : W → List A) (Might : W → Type 0)
-    → ((text : A) → Decided (Spelled one May text)) → ((texts : List A) → Decided (Spelled others Might texts))
-    → (texts : List A) → Decided (Behind one May others Might texts)
-behind_decided one May others Might first rest [] = inr (λ some. let same = some.2 in cc)
-behind_decided one May others Might first rest (text ∷ texts) = elim (first text) [
+pub behind_decided : {A V W : Type 0} {one : V → A} {May : V → Type 0} {others : W → List A} {Might : W → Type 0}
+    → EachDecided one May → EachDecided others Might → (texts : List A) → Decided (Behind one May others Might texts)
+behind_decided first rest [] = inr (λ some. let same = some.2 in cc)
+behind_decided {one = one} {others = others} first rest (text ∷ texts) = elim (first text) [
   | inl found ↦ elim (rest texts) [
     | inl more ↦ inl ((found.0, more.0), (found.1, more.1), ap₂ (λ x xs. x ∷ xs) found.2 more.2)
     | inr none ↦ inr (λ some. none (some.0.1, some.1.1, tail_same text (one some.0.0) texts (others some.0.1) some.2))

@@ -220,7 +220,7 @@ digit_decided digit = elim (number_decided digit 48) [
 pub bit_decided : (field : List ℕ) → Decided (Spelled flag_text Any field)
 bit_decided field =
     same_answer {A = Behind binary_digit Any (λ (_ : Unit {0}). []) Any field} (λ found. (found.0.0, tt, found.2))
-    (λ found. ((found.0, tt), (tt, tt), found.2)) (behind_decided binary_digit Any (λ _. []) Any digit_decided nothing_decided field)
+    (λ found. ((found.0, tt), (tt, tt), found.2)) (behind_decided digit_decided nothing_decided field)
 
 no_first_digit : (digit : ℕ) (digits : List ℕ) → (¬ Spelled binary_digit Any digit) → (bits : List Bool) → digit ∷ digits ≡ map binary_digit bits → ⊥
 no_first_digit digit digits none [] is = cc

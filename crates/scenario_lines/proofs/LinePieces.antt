@@ -4,9 +4,9 @@ use Rattle.std.proofs.lemmas.List.{append_assoc}
 use Rattle.text_fields.specs.Lines.{line_with, space}
 
 -- after three fields, the last of them in two pieces
-pub three_fields : {s r q : List ℕ} (start a b c : List ℕ) → s ≡ start ++ space ∷ a → r ≡ s ++ space ∷ b → q ≡ r ++ space ∷ [] →
-    q ++ c ≡ start ++ space ∷ line_with (a ∷ b ∷ c ∷ [])
-three_fields start a b c f g h = rw (h, g, f) (simp append_assoc)
+pub three_fields : {s r : List ℕ} (start a b c : List ℕ) → s ≡ start ++ space ∷ a → r ≡ s ++ space ∷ b →
+    (r ++ space ∷ []) ++ c ≡ start ++ space ∷ line_with (a ∷ b ∷ c ∷ [])
+three_fields start a b c f g = rw (g, f) (simp append_assoc)
 
 -- after the front of a line and the fields behind it, with the end of the line
 pub whole_line : {s : List ℕ} (start front fields end : List ℕ) → s ≡ start ++ front

@@ -30,13 +30,14 @@ use Rattle.scenario_lines.specs.declared.line.Happening.TheVariants as happening
 use Rattle.scenario_lines.specs.declared.line.Line.{Line}
 use Rattle.scenario_lines.specs.declared.line.Line.TheVariants as lines
 use Rattle.scenario_lines.specs.Names.{air_kind, air_word, event_kind, event_word, op_kind, op_word, several_text, version_text}
+use Rattle.text_fields.specs.NamedFields.{SpellBehind, Vocabulary, spelled_fields}
 use Rattle.text_fields.specs.WordLists.{IsWordList}
 use Rattle.value_text.specs.ValueText.{password_text}
 use Rattle.scenario_lines.specs.TagForm.{IsTagForm, tag_of}
 use Rattle.scenario_lines.specs.LineForm.{HasForm, IsEvent, IsHappening, IsLinkForm, IsPlace, IsRound, IsSelection, most_level, most_nanoseconds}
-use Rattle.scenario_lines.specs.Spelling.{event_fields, happening_fields, link_fields, op_fields, other_fields, round_fields, select_fields, tag_fields, keyword_of}
+use Rattle.scenario_lines.specs.Spelling.{air_vocabulary, event_vocabulary, link_fields, op_vocabulary, other_fields, round_fields, select_fields, tag_fields, keyword_of}
 use Rattle.scenario_lines.specs.Reading.{IsEventText, IsHappeningText, IsOpText}
-use Rattle.scenario_lines.proofs.Decisions.{Any, Decided, Spelled, behind_decided, nothing_decided, only_decided, same_answer, text_decided}
+use Rattle.scenario_lines.proofs.Decisions.{Any, Decided, EachDecided, Spelled, behind_decided as then, nothing_decided, only_decided, same_answer, text_decided}
 use Rattle.scenario_lines.proofs.FieldsDecided.{IsLasting, IsWithin, any_bank_decided, bank_decided, bit_decided, bits_decided, code_decided, decimal_decided, flag_decided, lasting_decided, locks_decided, password_decided, payload_decided, rule_decided, sel_decided, several_decided, side_decided, tried, version_decided, word_decided, words_decided}
 use Rattle.scenario_lines.proofs.ToldLines.{same_fields}
 use Rattle.scenario_lines.proofs.ToldNames.{air_word_told, event_word_told, op_word_told}
@@ -59,35 +60,28 @@ the word any = word
 
 -- a whole list of fields is of its form and range, or is not
 abbrev FieldsDecided : {V : Type 0} → (V → List (List ℕ)) → (V → Type 0) → Type 0
-FieldsDecided fields May = (others : List (List ℕ)) → Decided (Spelled fields May others)
-
--- behind a field that is decided, fields that are
-then : {V W : Type 0} {one : V → List ℕ} {May : V → Type 0} {others : W → List (List ℕ)} {Might : W → Type 0}
-    → ((field : List ℕ) → Decided (Spelled one May field)) → FieldsDecided others Might → FieldsDecided (with one others) (Both May Might)
-then {one = one} {May = May} {others = others} {Might = Might} first rest = behind_decided one May others Might first rest
+FieldsDecided fields May = EachDecided fields May
 
 end : FieldsDecided nothing Any
 end = nothing_decided
 
--- a value of this kind has these fields
-abbrev OfKind : {K V : Type 0} → (V → K) → (V → List (List ℕ)) → (V → Type 0) → K → List (List ℕ) → Type 0
-OfKind kind_of fields_of May kind fields = (value : _) × (kind_of value ≡ kind) × (fields ≡ fields_of value) × May value
+-- whether behind the name of a kind fields spell a value of it
+abbrev BehindDecided : {K V : Type 0} → Vocabulary K V → (V → Type 0) → Type 0
+BehindDecided words May = (kind : _) (fields : List (List ℕ)) → Decided ((value : _) × SpellBehind words May kind fields value)
 
--- the word for its kind, and behind it the fields of a value of this kind
-behind_kind_decided : {K V : Type 0} (word_for : K → List ℕ) (kind_of : V → K) (fields_of : V → List (List ℕ)) (May : V → Type 0)
-    → ((one other : K) → word_for one ≡ word_for other → one ≡ other) → ((field : List ℕ) → Decided (Spelled word_for Any field))
-    → ((kind : K) (fields : List (List ℕ)) → Decided (OfKind kind_of fields_of May kind fields))
-    → FieldsDecided (λ (value : V). word_for (kind_of value) ∷ fields_of value) May
-behind_kind_decided word_for kind_of fields_of May told kind_decided behind [] = inr (λ some. let same = some.2 in cc)
-behind_kind_decided word_for kind_of fields_of May told kind_decided behind (field ∷ fields) = elim (kind_decided field) [
+-- the name of a kind, and behind it the fields of a value of this kind
+behind_kind_decided : {K V : Type 0} (words : Vocabulary K V) (May : V → Type 0) → ((one other : K) → words.name one ≡ words.name other → one ≡ other)
+    → EachDecided words.name Any → BehindDecided words May → FieldsDecided (spelled_fields words) May
+behind_kind_decided words May told kind_decided behind [] = inr (λ some. let same = some.2 in cc)
+behind_kind_decided words May told kind_decided behind (field ∷ fields) = elim (kind_decided field) [
   | inl known ↦ elim (behind known.0 fields) [
-    | inl found ↦ inl (found.0, found.3, ap₂ (λ x xs. x ∷ xs) (known.2 ∙ ap word_for (sym found.1)) found.2)
+    | inl found ↦ inl (found.0, found.1.in_range, ap₂ (λ x xs. x ∷ xs) (known.2 ∙ ap words.name (sym found.1.same_kind)) found.1.spelling)
     | inr never ↦ inr (λ some.
-        let same = same_fields field (word_for (kind_of some.0)) fields (fields_of some.0) some.2 in
-        never (some.0, told (kind_of some.0) known.0 (sym same.0 ∙ known.2), same.1, some.1))
+        let same = same_fields field (words.name (words.kind some.0)) fields (words.others some.0) some.2 in
+        never (some.0, record { same_kind = told (words.kind some.0) known.0 (sym same.0 ∙ known.2); in_range = some.1; spelling = same.1 }))
   ]
   | inr unknown ↦ inr (λ some.
-      unknown (kind_of some.0, tt, (same_fields field (word_for (kind_of some.0)) fields (fields_of some.0) some.2).0))
+      unknown (words.kind some.0, tt, (same_fields field (words.name (words.kind some.0)) fields (words.others some.0) some.2).0))
 ]
 
 word : (text : List ℕ) → (field : List ℕ) → Decided (Spelled (the text) Any field)
@@ -96,49 +90,62 @@ word text = only_decided text_decided text
 number : (least most : ℕ) → (field : List ℕ) → Decided (Spelled decimal (IsWithin least most) field)
 number = decimal_decided
 
--- the same lists of fields, by other names
-named : {V W : Type 0} {fields : V → List (List ℕ)} {May : V → Type 0} {others : W → List (List ℕ)} {Might : W → Type 0} → (to : V → W)
-    → ((value : V) → May value → Might (to value) × (fields value ≡ others (to value))) → (from : W → V)
-    → ((value : W) → Might value → May (from value) × (others value ≡ fields (from value))) → FieldsDecided fields May → FieldsDecided others Might
-named to there from back decided texts =
-    same_answer (λ found. let both = there found.0 found.1 in (to found.0, both.0, found.2 ∙ both.1))
-    (λ found. let both = back found.0 found.1 in (from found.0, both.0, found.2 ∙ both.1)) (decided texts)
+-- the same lists of fields, by other names: each value of the one spelling has one of the other
+record Renames {V W : Type 0} (fields : V → List (List ℕ)) (May : V → Type 0) (others : W → List (List ℕ)) (Might : W → Type 0) : Type 0 where
+  pub to : V → W
+  pub there : (value : V) → May value → Might (to value) × (fields value ≡ others (to value))
+  pub from : W → V
+  pub back : (value : W) → Might value → May (from value) × (others value ≡ fields (from value))
+
+named : {V W : Type 0} {fields : V → List (List ℕ)} {May : V → Type 0} {others : W → List (List ℕ)} {Might : W → Type 0} → FieldsDecided fields May
+    → Renames fields May others Might → FieldsDecided others Might
+named decided by texts =
+    same_answer (λ found. let both = by.there found.0 found.1 in (by.to found.0, both.0, found.2 ∙ both.1))
+    (λ found. let both = by.back found.0 found.1 in (by.from found.0, both.0, found.2 ∙ both.1)) (decided texts)
 
 link_decided : FieldsDecided link_fields IsLinkForm
 link_decided =
-    named (λ v. record { tari = v.0; rtcal = v.1.0; trcal = v.1.1.0; pw = v.1.1.1.0; dr = v.1.1.1.1.0; code = v.1.1.1.1.1.0; trext = v.1.1.1.1.1.1.0 })
-    (λ v may. (record { tari = may.0.1; rtcal = may.1.0.1; trcal = may.1.1.0.1; pw = may.1.1.1.0.1 }, refl))
-    (λ link. (link.tari, (link.rtcal, (link.trcal, (link.pw, (link.dr, (link.code, (link.trext, tt))))))))
-    (λ link form. (((omega arith, form.tari), ((omega arith, form.rtcal), ((omega arith, form.trcal), ((omega arith, form.pw), (tt, (tt, (tt, tt))))))), refl))
+    named
     (then (number 0 most_nanoseconds) (then (number 0 most_nanoseconds) (then (number 0 most_nanoseconds) (then (number 0 most_nanoseconds)
     (then bit_decided (then code_decided (then bit_decided end)))))))
+    (record {
+      to = λ v. record { tari = v.0; rtcal = v.1.0; trcal = v.1.1.0; pw = v.1.1.1.0; dr = v.1.1.1.1.0; code = v.1.1.1.1.1.0; trext = v.1.1.1.1.1.1.0 };
+      there = λ v may. (record { tari = may.0.1; rtcal = may.1.0.1; trcal = may.1.1.0.1; pw = may.1.1.1.0.1 }, refl);
+      from = λ link. (link.tari, (link.rtcal, (link.trcal, (link.pw, (link.dr, (link.code, (link.trext, tt)))))));
+      back = λ link form. (((omega arith, form.tari), ((omega arith, form.rtcal), ((omega arith, form.trcal), ((omega arith, form.pw), (tt, (tt, (tt, tt))))))), refl);
+    })
 
 tag_decided : FieldsDecided tag_fields IsTagForm
 tag_decided =
-    named (λ v. tag_of v.0 v.1.0 v.1.1.0 v.1.1.1.0 v.1.1.1.1.0 v.1.1.1.1.1.0 v.1.1.1.1.1.1.0)
-    (λ v may. (
-      record {
-        kill = may.0;
-        access = may.1.0;
-        epc = may.1.1.1.0;
-        tid = may.1.1.1.1.0;
-        user = may.1.1.1.1.1.0;
-        words = may.1.1.1.1.1.1.0;
-      },
-      refl,
-    ))
-    (λ tag. (tag.image.kill, (tag.image.access, (tag.locks, (tag.image.epc, (tag.image.tid, (tag.image.user, (tag.words, tt))))))))
-    (λ tag form. ((form.kill, (form.access, (tt, (form.epc, (form.tid, (form.user, (form.words, tt))))))), refl))
+    named
     (then password_decided (then password_decided (then locks_decided (then (words_decided 1 32) (then (words_decided 2 16)
     (then (words_decided 0 512) (then (words_decided 1 256) end)))))))
+    (record {
+      to = λ v. tag_of v.0 v.1.0 v.1.1.0 v.1.1.1.0 v.1.1.1.1.0 v.1.1.1.1.1.0 v.1.1.1.1.1.1.0;
+      there = λ v may. (
+        record {
+          kill = may.0;
+          access = may.1.0;
+          epc = may.1.1.1.0;
+          tid = may.1.1.1.1.0;
+          user = may.1.1.1.1.1.0;
+          words = may.1.1.1.1.1.1.0;
+        },
+        refl,
+      );
+      from = λ tag. (tag.image.kill, (tag.image.access, (tag.locks, (tag.image.epc, (tag.image.tid, (tag.image.user, (tag.words, tt)))))));
+      back = λ tag form. ((form.kill, (form.access, (tt, (form.epc, (form.tid, (form.user, (form.words, tt))))))), refl);
+    })
 
 select_decided : FieldsDecided select_fields IsSelection
 select_decided =
-    named (λ v. record { target = v.0; action = v.1.0; bank = v.1.1.0; pointer = v.1.1.1.0; mask = v.1.1.1.1.0 })
-    (λ v may. (record { action = may.1.0.1; pointer = may.1.1.1.0.1; mask = may.1.1.1.1.0.1 }, refl))
-    (λ selection. (selection.target, (selection.action, (selection.bank, (selection.pointer, (selection.mask, tt))))))
-    (λ selection form. ((tt, ((omega arith, form.action), (tt, ((omega arith, form.pointer), ((omega arith, form.mask), tt))))), refl))
-    (then flag_decided (then (number 0 7) (then bank_decided (then (number 0 268435455) (then (bits_decided 0 255) end)))))
+    named (then flag_decided (then (number 0 7) (then bank_decided (then (number 0 268435455) (then (bits_decided 0 255) end)))))
+    (record {
+      to = λ v. record { target = v.0; action = v.1.0; bank = v.1.1.0; pointer = v.1.1.1.0; mask = v.1.1.1.1.0 };
+      there = λ v may. (record { action = may.1.0.1; pointer = may.1.1.1.0.1; mask = may.1.1.1.1.0.1 }, refl);
+      from = λ selection. (selection.target, (selection.action, (selection.bank, (selection.pointer, (selection.mask, tt)))));
+      back = λ selection form. ((tt, ((omega arith, form.action), (tt, ((omega arith, form.pointer), ((omega arith, form.mask), tt))))), refl);
+    })
 
 -- how many tags, and the tag of which they are copies
 copies_decided : FieldsDecided (with decimal tag_fields) (Both (IsWithin 2 most_tags) IsTagForm)
@@ -150,23 +157,25 @@ round_text round = round_fields round.0 round.1
 
 round_decided : FieldsDecided round_text (λ round. IsRound round.0 round.1)
 round_decided =
-    named (λ v. (
-      v.1.1.1.1.0.0,
-      record { sel = v.0; session = v.1.0; target = v.1.1.0; q = v.1.1.1.0; rule = v.1.1.1.1.0.1; limit = v.1.1.1.1.1.0 },
-    ))
-    (λ v may. (
-      record {
-        legal = record { session = may.1.0.1; q = may.1.1.1.0.1; rule = may.1.1.1.1.0.0; limit = may.1.1.1.1.1.0 };
-        named = may.0;
-        spelled = may.1.1.1.1.0.1;
-      },
-      refl,
-    ))
-    (λ round. let spec = round.1 in (spec.sel, (spec.session, (spec.target, (spec.q, ((round.0, spec.rule), (spec.limit, tt)))))))
-    (λ round is.
-    let legal = is.legal in
-    ((is.named, ((omega arith, legal.session), (tt, ((omega arith, legal.q), ((legal.rule, is.spelled), (legal.limit, tt)))))), refl))
-    (then sel_decided (then (number 0 3) (then side_decided (then (number 0 15) (then rule_decided (then (number 1 70000) end))))))
+    named (then sel_decided (then (number 0 3) (then side_decided (then (number 0 15) (then rule_decided (then (number 1 70000) end))))))
+    (record {
+      to = λ v. (
+        v.1.1.1.1.0.0,
+        record { sel = v.0; session = v.1.0; target = v.1.1.0; q = v.1.1.1.0; rule = v.1.1.1.1.0.1; limit = v.1.1.1.1.1.0 },
+      );
+      there = λ v may. (
+        record {
+          legal = record { session = may.1.0.1; q = may.1.1.1.0.1; rule = may.1.1.1.1.0.0; limit = may.1.1.1.1.1.0 };
+          named = may.0;
+          spelled = may.1.1.1.1.0.1;
+        },
+        refl,
+      );
+      from = λ round. let spec = round.1 in (spec.sel, (spec.session, (spec.target, (spec.q, ((round.0, spec.rule), (spec.limit, tt))))));
+      back = λ round is.
+          let legal = is.legal in
+          ((is.named, ((omega arith, legal.session), (tt, ((omega arith, legal.q), ((legal.rule, is.spelled), (legal.limit, tt)))))), refl);
+    })
 
 -- the kind of an event
 no_event_kind : (field : List ℕ) → field ≢ event_word event_kinds.Timeout → field ≢ event_word event_kinds.Off → field ≢ event_word event_kinds.On
@@ -200,30 +209,34 @@ air_kind_decided field = elim (event_kind_decided field) [
 
 -- one number
 one_number : (most : ℕ) → FieldsDecided (λ (n : ℕ). decimal n ∷ []) (λ n. n ≤ most)
-one_number most = named (λ v. v.0) (λ v may. (may.0.1, refl)) (λ n. (n, tt)) (λ n is. (((omega arith, is), tt), refl)) (then (number 0 most) end)
+one_number most =
+    named (then (number 0 most) end)
+    (record { to = λ v. v.0; there = λ v may. (may.0.1, refl); from = λ n. (n, tt); back = λ n is. (((omega arith, is), tt), refl) })
 
 one_place : FieldsDecided (λ (n : ℕ). decimal n ∷ []) IsPlace
 one_place = one_number 4095
 
 -- the levels of one stream
 one_stream : FieldsDecided (λ (levels : List Bool). binary levels ∷ []) HasStreamLength
-one_stream = named (λ v. v.0) (λ v may. (may.0, refl)) (λ levels. (levels, tt)) (λ levels is. ((is, tt), refl)) (then (bits_decided 1 longest_stream) end)
+one_stream =
+    named (then (bits_decided 1 longest_stream) end)
+    (record { to = λ v. v.0; there = λ v may. (may.0, refl); from = λ levels. (levels, tt); back = λ levels is. ((is, tt), refl) })
 
 -- what stands behind the kind of an event
 abbrev HasEvent : EventKind → List (List ℕ) → Type 0
-HasEvent kind fields = (event : Event) × (tag : ℕ) × IsEventText kind fields event tag
+HasEvent kind fields = (event : Event × ℕ) × IsEventText kind fields event.0 event.1
 
 place_behind : (kind : EventKind) (fields : List (List ℕ)) → kind ≢ event_kinds.Expire → (event : Event) (tag : ℕ) → IsEventText kind fields event tag
     → Spelled (λ (n : ℕ). decimal n ∷ []) IsPlace fields
-place_behind kind fields other events.Timeout tag text = (tag, text.is.place, text.spelling)
-place_behind kind fields other events.Off tag text = (tag, text.is.place, text.spelling)
-place_behind kind fields other events.On tag text = (tag, text.is.place, text.spelling)
+place_behind kind fields other events.Timeout tag text = (tag, text.in_range.place, text.spelling)
+place_behind kind fields other events.Off tag text = (tag, text.in_range.place, text.spelling)
+place_behind kind fields other events.On tag text = (tag, text.in_range.place, text.spelling)
 place_behind kind fields other (events.Expire flag) tag text = absurd (other (sym text.same_kind))
 
 flag_behind : (fields : List (List ℕ)) (event : Event) (tag : ℕ) → IsEventText event_kinds.Expire fields event tag
     → Spelled (with flag_word (with decimal nothing)) (Both IsLasting (Both (IsWithin 0 4095) Any)) fields
 flag_behind fields (events.Expire flag) tag text =
-    ((flag, (tag, tt)), (λ same. text.is.expires (ap events.Expire same), ((omega arith, text.is.place), tt)), text.spelling)
+    ((flag, (tag, tt)), (λ same. text.in_range.expires (ap events.Expire same), ((omega arith, text.in_range.place), tt)), text.spelling)
 flag_behind fields events.Timeout tag text = let kind = text.same_kind in cc
 flag_behind fields events.Off tag text = let kind = text.same_kind in cc
 flag_behind fields events.On tag text = let kind = text.same_kind in cc
@@ -234,42 +247,31 @@ same_flag flag other same = cc
 event_behind : (kind : EventKind) (fields : List (List ℕ)) → Decided (HasEvent kind fields)
 event_behind event_kinds.Timeout fields =
     same_answer (λ found. (
-      events.Timeout,
-      found.0,
-      record { same_kind = refl; spelling = found.2; is = record { expires = λ same. cc; place = found.1 } },
-    )) (λ some. place_behind event_kinds.Timeout fields (λ same. cc) some.0 some.1 some.2) (one_place fields)
+      (events.Timeout, found.0),
+      record { same_kind = refl; spelling = found.2; in_range = record { expires = λ same. cc; place = found.1 } },
+    )) (λ some. place_behind event_kinds.Timeout fields (λ same. cc) some.0.0 some.0.1 some.1) (one_place fields)
 event_behind event_kinds.Off fields =
     same_answer (λ found. (
-      events.Off,
-      found.0,
-      record { same_kind = refl; spelling = found.2; is = record { expires = λ same. cc; place = found.1 } },
-    )) (λ some. place_behind event_kinds.Off fields (λ same. cc) some.0 some.1 some.2) (one_place fields)
+      (events.Off, found.0),
+      record { same_kind = refl; spelling = found.2; in_range = record { expires = λ same. cc; place = found.1 } },
+    )) (λ some. place_behind event_kinds.Off fields (λ same. cc) some.0.0 some.0.1 some.1) (one_place fields)
 event_behind event_kinds.On fields =
     same_answer (λ found. (
-      events.On,
-      found.0,
-      record { same_kind = refl; spelling = found.2; is = record { expires = λ same. cc; place = found.1 } },
-    )) (λ some. place_behind event_kinds.On fields (λ same. cc) some.0 some.1 some.2) (one_place fields)
+      (events.On, found.0),
+      record { same_kind = refl; spelling = found.2; in_range = record { expires = λ same. cc; place = found.1 } },
+    )) (λ some. place_behind event_kinds.On fields (λ same. cc) some.0.0 some.0.1 some.1) (one_place fields)
 event_behind event_kinds.Expire fields =
     same_answer (λ found. (
-      events.Expire found.0.0,
-      found.0.1.0,
+      (events.Expire found.0.0, found.0.1.0),
       record {
         same_kind = refl;
         spelling = found.2;
-        is = record { expires = λ same. found.1.0 (same_flag found.0.0 flags.S0 same); place = found.1.1.0.1 };
+        in_range = record { expires = λ same. found.1.0 (same_flag found.0.0 flags.S0 same); place = found.1.1.0.1 };
       },
-    )) (λ some. flag_behind fields some.0 some.1 some.2) (then lasting_decided (then (number 0 4095) end) fields)
+    )) (λ some. flag_behind fields some.0.0 some.0.1 some.1) (then lasting_decided (then (number 0 4095) end) fields)
 
--- an event and its tag, with the word for its kind
-abbrev event_text : Event × ℕ → List (List ℕ)
-event_text event = event_word (event_kind event.0) ∷ event_fields event.0 event.1
-
-event_decided : FieldsDecided event_text (λ event. IsEvent event.0 event.1)
-event_decided = behind_kind_decided event_word (λ event. event_kind event.0) (λ event. event_fields event.0 event.1) (λ event. IsEvent event.0 event.1)
-    event_word_told event_kind_decided
-    (λ kind fields. same_answer (λ has. ((has.0, has.1), has.2.same_kind, has.2.spelling, has.2.is))
-    (λ some. (some.0.0, some.0.1, record { same_kind = some.1; spelling = some.2; is = some.3 })) (event_behind kind fields))
+event_decided : FieldsDecided (spelled_fields event_vocabulary) (λ event. IsEvent event.0 event.1)
+event_decided = behind_kind_decided event_vocabulary (λ event. IsEvent event.0 event.1) event_word_told event_kind_decided event_behind
 
 -- the kind of an operation
 record IsNoOpKind (field : List ℕ) : Type 0 where
@@ -321,46 +323,46 @@ at_place decided = then any_bank_decided (then (number 0 268435455) (then decide
 
 read_there : (fields : List (List ℕ)) → HasOp op_kinds.Read fields → Spelled (placed decimal) (IsPlaced (IsWithin 0 255)) fields
 read_there fields (ops.Read bank pointer count, text) =
-    ((bank, (pointer, (count, tt))), (tt, ((omega arith, omega (arith, text.is.0)), ((omega arith, text.is.1), tt))), text.spelling)
+    ((bank, (pointer, (count, tt))), (tt, ((omega arith, omega (arith, text.in_range.0)), ((omega arith, text.in_range.1), tt))), text.spelling)
 read_there fields (op, text) = let is = text.same_kind in cc
 
 write_there : (fields : List (List ℕ)) → HasOp op_kinds.Write fields → Spelled (placed hex_word) (IsPlaced (λ word. word < 2 ^ 16)) fields
 write_there fields (ops.Write bank pointer word, text) =
-    ((bank, (pointer, (word, tt))), (tt, ((omega arith, omega (arith, text.is.0)), (text.is.1, tt))), text.spelling)
+    ((bank, (pointer, (word, tt))), (tt, ((omega arith, omega (arith, text.in_range.0)), (text.in_range.1, tt))), text.spelling)
 write_there fields (op, text) = let is = text.same_kind in cc
 
 block_write_there : (fields : List (List ℕ)) → HasOp op_kinds.BlockWrite fields → Spelled (placed hex_words) (IsPlaced (IsWordList 1 255)) fields
 block_write_there fields (ops.BlockWrite bank pointer block, text) =
-    ((bank, (pointer, (block, tt))), (tt, ((omega arith, omega (arith, text.is.0)), (list_of_block block (text.is.1, text.is.2, text.is.3), tt))), text.spelling)
+    ((bank, (pointer, (block, tt))), (tt, ((omega arith, omega (arith, text.in_range.0)), (list_of_block block (text.in_range.1, text.in_range.2, text.in_range.3), tt))), text.spelling)
 block_write_there fields (op, text) = let is = text.same_kind in cc
 
 block_erase_there : (fields : List (List ℕ)) → HasOp op_kinds.BlockErase fields → Spelled (placed decimal) (IsPlaced (IsWithin 1 255)) fields
 block_erase_there fields (ops.BlockErase bank pointer count, text) =
-    ((bank, (pointer, (count, tt))), (tt, ((omega arith, omega (arith, text.is.0)), ((text.is.1, text.is.2), tt))), text.spelling)
+    ((bank, (pointer, (count, tt))), (tt, ((omega arith, omega (arith, text.in_range.0)), ((text.in_range.1, text.in_range.2), tt))), text.spelling)
 block_erase_there fields (op, text) = let is = text.same_kind in cc
 
 lock_there : (fields : List (List ℕ)) → HasOp op_kinds.Lock fields → Spelled (with payload_digits nothing) (Both (λ n. n < 1048576) Any) fields
-lock_there fields (ops.Lock payload, text) = ((payload, tt), (omega (arith, text.is), tt), text.spelling)
+lock_there fields (ops.Lock payload, text) = ((payload, tt), (omega (arith, text.in_range), tt), text.spelling)
 lock_there fields (op, text) = let is = text.same_kind in cc
 
 access_there : (fields : List (List ℕ)) → HasOp op_kinds.Access fields → Spelled (with password_text nothing) (Both (λ n. n < 2 ^ 32) Any) fields
-access_there fields (ops.Access password, text) = ((password, tt), (text.is, tt), text.spelling)
+access_there fields (ops.Access password, text) = ((password, tt), (text.in_range, tt), text.spelling)
 access_there fields (op, text) = let is = text.same_kind in cc
 
 kill_there : (fields : List (List ℕ)) → HasOp op_kinds.Kill fields → Spelled (with password_text nothing) (Both (λ n. n < 2 ^ 32) Any) fields
-kill_there fields (ops.Kill password, text) = ((password, tt), (text.is, tt), text.spelling)
+kill_there fields (ops.Kill password, text) = ((password, tt), (text.in_range, tt), text.spelling)
 kill_there fields (op, text) = let is = text.same_kind in cc
 
 op_behind : (kind : OpKind) (fields : List (List ℕ)) → Decided (HasOp kind fields)
 op_behind op_kinds.Read fields =
     same_answer (λ found. (
       ops.Read found.0.0 found.0.1.0 found.0.1.1.0,
-      record { same_kind = refl; spelling = found.2; is = (omega (arith, found.1.1.0.1), found.1.1.1.0.1) },
+      record { same_kind = refl; spelling = found.2; in_range = (omega (arith, found.1.1.0.1), found.1.1.1.0.1) },
     )) (read_there fields) (at_place (number 0 255) fields)
 op_behind op_kinds.Write fields =
     same_answer (λ found. (
       ops.Write found.0.0 found.0.1.0 found.0.1.1.0,
-      record { same_kind = refl; spelling = found.2; is = (omega (arith, found.1.1.0.1), found.1.1.1.0) },
+      record { same_kind = refl; spelling = found.2; in_range = (omega (arith, found.1.1.0.1), found.1.1.1.0) },
     )) (write_there fields) (at_place word_decided fields)
 op_behind op_kinds.BlockWrite fields =
     same_answer (λ found. (
@@ -368,7 +370,7 @@ op_behind op_kinds.BlockWrite fields =
       record {
         same_kind = refl;
         spelling = found.2;
-        is =
+        in_range =
             let block = block_of_list found.0.1.1.0 found.1.1.1.0 in
             (omega (arith, found.1.1.0.1), block.0, block.1, block.2);
       },
@@ -376,26 +378,20 @@ op_behind op_kinds.BlockWrite fields =
 op_behind op_kinds.BlockErase fields =
     same_answer (λ found. (
       ops.BlockErase found.0.0 found.0.1.0 found.0.1.1.0,
-      record { same_kind = refl; spelling = found.2; is = (omega (arith, found.1.1.0.1), found.1.1.1.0.0, found.1.1.1.0.1) },
+      record { same_kind = refl; spelling = found.2; in_range = (omega (arith, found.1.1.0.1), found.1.1.1.0.0, found.1.1.1.0.1) },
     )) (block_erase_there fields) (at_place (number 1 255) fields)
 op_behind op_kinds.Lock fields =
-    same_answer (λ found. (ops.Lock found.0.0, record { same_kind = refl; spelling = found.2; is = omega (arith, found.1.0) })) (lock_there fields)
+    same_answer (λ found. (ops.Lock found.0.0, record { same_kind = refl; spelling = found.2; in_range = omega (arith, found.1.0) })) (lock_there fields)
     (then payload_decided end fields)
 op_behind op_kinds.Access fields =
-    same_answer (λ found. (ops.Access found.0.0, record { same_kind = refl; spelling = found.2; is = found.1.0 })) (access_there fields)
+    same_answer (λ found. (ops.Access found.0.0, record { same_kind = refl; spelling = found.2; in_range = found.1.0 })) (access_there fields)
     (then password_decided end fields)
 op_behind op_kinds.Kill fields =
-    same_answer (λ found. (ops.Kill found.0.0, record { same_kind = refl; spelling = found.2; is = found.1.0 })) (kill_there fields)
+    same_answer (λ found. (ops.Kill found.0.0, record { same_kind = refl; spelling = found.2; in_range = found.1.0 })) (kill_there fields)
     (then password_decided end fields)
 
--- an operation, with the word for its kind
-abbrev op_text : Op → List (List ℕ)
-op_text op = op_word (op_kind op) ∷ op_fields op
-
-op_decided : FieldsDecided op_text IsLegalOp
-op_decided = behind_kind_decided op_word op_kind op_fields IsLegalOp op_word_told op_kind_decided
-    (λ kind fields. same_answer (λ has. (has.0, has.1.same_kind, has.1.spelling, has.1.is))
-    (λ some. (some.0, record { same_kind = some.1; spelling = some.2; is = some.3 })) (op_behind kind fields))
+op_decided : FieldsDecided (spelled_fields op_vocabulary) IsLegalOp
+op_decided = behind_kind_decided op_vocabulary IsLegalOp op_word_told op_kind_decided op_behind
 
 -- what stands behind the kind of an air line
 abbrev HasHappening : AirKind → List (List ℕ) → Type 0
@@ -406,7 +402,7 @@ same_event_kind kind other same = cc
 
 event_there : (kind : EventKind) (fields : List (List ℕ)) (happening : Happening) → IsHappeningText (airs.Event kind) fields happening → HasEvent kind fields
 event_there kind fields (happenings.Event event tag) text =
-    (event, tag, record { same_kind = same_event_kind (event_kind event) kind text.same_kind; spelling = text.spelling; is = text.is })
+    ((event, tag), record { same_kind = same_event_kind (event_kind event) kind text.same_kind; spelling = text.spelling; in_range = text.in_range })
 event_there kind fields (happenings.Miss tag) text = let is = text.same_kind in cc
 event_there kind fields (happenings.Choice (choices.Pick reply)) text = let is = text.same_kind in cc
 event_there kind fields (happenings.Choice choices.Silent) text = let is = text.same_kind in cc
@@ -414,7 +410,7 @@ event_there kind fields (happenings.Choice (choices.Break place)) text = let is 
 event_there kind fields (happenings.Choice (choices.Raw levels)) text = let is = text.same_kind in cc
 
 miss_there : (fields : List (List ℕ)) (happening : Happening) → IsHappeningText airs.Miss fields happening → Spelled (λ (n : ℕ). decimal n ∷ []) IsPlace fields
-miss_there fields (happenings.Miss tag) text = (tag, text.is, text.spelling)
+miss_there fields (happenings.Miss tag) text = (tag, text.in_range, text.spelling)
 miss_there fields (happenings.Event event tag) text = let is = text.same_kind in cc
 miss_there fields (happenings.Choice (choices.Pick reply)) text = let is = text.same_kind in cc
 miss_there fields (happenings.Choice choices.Silent) text = let is = text.same_kind in cc
@@ -422,7 +418,7 @@ miss_there fields (happenings.Choice (choices.Break place)) text = let is = text
 miss_there fields (happenings.Choice (choices.Raw levels)) text = let is = text.same_kind in cc
 
 pick_there : (fields : List (List ℕ)) (happening : Happening) → IsHappeningText airs.Pick fields happening → Spelled (λ (n : ℕ). decimal n ∷ []) IsPlace fields
-pick_there fields (happenings.Choice (choices.Pick reply)) text = (reply, text.is, text.spelling)
+pick_there fields (happenings.Choice (choices.Pick reply)) text = (reply, text.in_range, text.spelling)
 pick_there fields (happenings.Event event tag) text = let is = text.same_kind in cc
 pick_there fields (happenings.Miss tag) text = let is = text.same_kind in cc
 pick_there fields (happenings.Choice choices.Silent) text = let is = text.same_kind in cc
@@ -439,7 +435,7 @@ silent_there fields (happenings.Choice (choices.Raw levels)) text = let is = tex
 
 break_there : (fields : List (List ℕ)) (happening : Happening) → IsHappeningText airs.Break fields happening
     → Spelled (λ (n : ℕ). decimal n ∷ []) (λ n. n ≤ most_level) fields
-break_there fields (happenings.Choice (choices.Break place)) text = (place, text.is, text.spelling)
+break_there fields (happenings.Choice (choices.Break place)) text = (place, text.in_range, text.spelling)
 break_there fields (happenings.Event event tag) text = let is = text.same_kind in cc
 break_there fields (happenings.Miss tag) text = let is = text.same_kind in cc
 break_there fields (happenings.Choice (choices.Pick reply)) text = let is = text.same_kind in cc
@@ -448,7 +444,7 @@ break_there fields (happenings.Choice (choices.Raw levels)) text = let is = text
 
 raw_there : (fields : List (List ℕ)) (happening : Happening) → IsHappeningText airs.Raw fields happening
     → Spelled (λ (levels : List Bool). binary levels ∷ []) HasStreamLength fields
-raw_there fields (happenings.Choice (choices.Raw levels)) text = (levels, text.is, text.spelling)
+raw_there fields (happenings.Choice (choices.Raw levels)) text = (levels, text.in_range, text.spelling)
 raw_there fields (happenings.Event event tag) text = let is = text.same_kind in cc
 raw_there fields (happenings.Miss tag) text = let is = text.same_kind in cc
 raw_there fields (happenings.Choice (choices.Pick reply)) text = let is = text.same_kind in cc
@@ -458,35 +454,29 @@ raw_there fields (happenings.Choice (choices.Break place)) text = let is = text.
 happening_behind : (kind : AirKind) (fields : List (List ℕ)) → Decided (HasHappening kind fields)
 happening_behind (airs.Event kind) fields =
     same_answer (λ found. (
-      happenings.Event found.0 found.1,
-      record { same_kind = ap airs.Event found.2.same_kind; spelling = found.2.spelling; is = found.2.is },
+      happenings.Event found.0.0 found.0.1,
+      record { same_kind = ap airs.Event found.1.same_kind; spelling = found.1.spelling; in_range = found.1.in_range },
     )) (λ some. event_there kind fields some.0 some.1) (event_behind kind fields)
 happening_behind airs.Miss fields =
-    same_answer (λ found. (happenings.Miss found.0, record { same_kind = refl; spelling = found.2; is = found.1 }))
+    same_answer (λ found. (happenings.Miss found.0, record { same_kind = refl; spelling = found.2; in_range = found.1 }))
     (λ some. miss_there fields some.0 some.1) (one_place fields)
 happening_behind airs.Pick fields =
-    same_answer (λ found. (happenings.Choice (choices.Pick found.0), record { same_kind = refl; spelling = found.2; is = found.1 }))
+    same_answer (λ found. (happenings.Choice (choices.Pick found.0), record { same_kind = refl; spelling = found.2; in_range = found.1 }))
     (λ some. pick_there fields some.0 some.1) (one_place fields)
 happening_behind airs.Silent fields =
-    same_answer (λ found. (happenings.Choice choices.Silent, record { same_kind = refl; spelling = found.2; is = tt }))
+    same_answer (λ found. (happenings.Choice choices.Silent, record { same_kind = refl; spelling = found.2; in_range = tt }))
     (λ some. silent_there fields some.0 some.1) (end fields)
 happening_behind airs.Break fields =
-    same_answer (λ found. (happenings.Choice (choices.Break found.0), record { same_kind = refl; spelling = found.2; is = found.1 }))
+    same_answer (λ found. (happenings.Choice (choices.Break found.0), record { same_kind = refl; spelling = found.2; in_range = found.1 }))
     (λ some. break_there fields some.0 some.1) (one_number most_level fields)
 happening_behind airs.Raw fields =
-    same_answer (λ found. (happenings.Choice (choices.Raw found.0), record { same_kind = refl; spelling = found.2; is = found.1 }))
+    same_answer (λ found. (happenings.Choice (choices.Raw found.0), record { same_kind = refl; spelling = found.2; in_range = found.1 }))
     (λ some. raw_there fields some.0 some.1) (one_stream fields)
 
--- what is said of an exchange, with the word for its kind
-abbrev happening_text : Happening → List (List ℕ)
-happening_text happening = air_word (air_kind happening) ∷ happening_fields happening
+happening_decided : FieldsDecided (spelled_fields air_vocabulary) IsHappening
+happening_decided = behind_kind_decided air_vocabulary IsHappening air_word_told air_kind_decided happening_behind
 
-happening_decided : FieldsDecided happening_text IsHappening
-happening_decided = behind_kind_decided air_word air_kind happening_fields IsHappening air_word_told air_kind_decided
-    (λ kind fields. same_answer (λ has. (has.0, has.1.same_kind, has.1.spelling, has.1.is))
-    (λ some. (some.0, record { same_kind = some.1; spelling = some.2; is = some.3 })) (happening_behind kind fields))
-
-air_decided : FieldsDecided (with decimal happening_text) (Both (IsWithin 1 1000000) IsHappening)
+air_decided : FieldsDecided (with decimal (spelled_fields air_vocabulary)) (Both (IsWithin 1 1000000) IsHappening)
 air_decided = then (number 1 1000000) happening_decided
 
 -- behind this first field the fields are of their forms
@@ -514,7 +504,7 @@ tag_there : (others : List (List ℕ)) → FormedBehind keywords.Tag others → 
 tag_there others (lines.Tag tag, form, same, is) = (tag, form, is)
 tag_there others (line, form, same, is) = cc
 
-air_there : (others : List (List ℕ)) → FormedBehind keywords.Air others → Spelled (with decimal happening_text) (Both (IsWithin 1 1000000) IsHappening) others
+air_there : (others : List (List ℕ)) → FormedBehind keywords.Air others → Spelled (with decimal (spelled_fields air_vocabulary)) (Both (IsWithin 1 1000000) IsHappening) others
 air_there others (lines.Air exchange happening, form, same, is) = ((exchange, happening), form, is)
 air_there others (line, form, same, is) = cc
 
@@ -526,7 +516,7 @@ nak_there : (others : List (List ℕ)) → FormedBehind keywords.Nak others → 
 nak_there others (lines.Nak, form, same, is) = (tt, tt, is)
 nak_there others (line, form, same, is) = cc
 
-event_line_there : (others : List (List ℕ)) → FormedBehind keywords.Event others → Spelled event_text (λ event. IsEvent event.0 event.1) others
+event_line_there : (others : List (List ℕ)) → FormedBehind keywords.Event others → Spelled (spelled_fields event_vocabulary) (λ event. IsEvent event.0 event.1) others
 event_line_there others (lines.Event event tag, form, same, is) = ((event, tag), form, is)
 event_line_there others (line, form, same, is) = cc
 
@@ -538,7 +528,7 @@ only_there : (others : List (List ℕ)) → FormedBehind keywords.Only others �
 only_there others (lines.Only epc, form, same, is) = ((epc, tt), (form, tt), is)
 only_there others (line, form, same, is) = cc
 
-op_there : (others : List (List ℕ)) → FormedBehind keywords.Op others → Spelled op_text IsLegalOp others
+op_there : (others : List (List ℕ)) → FormedBehind keywords.Op others → Spelled (spelled_fields op_vocabulary) IsLegalOp others
 op_there others (lines.Op op, form, same, is) = (op, form, is)
 op_there others (line, form, same, is) = cc
 

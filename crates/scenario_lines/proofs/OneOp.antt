@@ -8,10 +8,9 @@ use Rattle.scenario_lines.specs.declared.first_fields.OpKind.{OpKind}
 use Rattle.scenario_lines.specs.Reading.{IsOpText}
 use Rattle.scenario_lines.proofs.ToldLines.{op_told}
 
--- at a place, with this last field
-pub one_op : {kind : OpKind} {last last' : List ℕ} (bank : Bank) (pointer : ℕ) (one other : Op) → last ≡ last'
-    → IsOpText kind (bank_word bank ∷ decimal pointer ∷ last' ∷ []) one → IsOpText kind (bank_word bank ∷ decimal pointer ∷ last ∷ []) other
-    → one ≡ other
-one_op bank pointer one other lasts text text' =
-    op_told one other text.is text'.is (text.same_kind ∙ sym text'.same_kind)
-    (sym text.spelling ∙ ap (λ (field : List ℕ). bank_word bank ∷ decimal pointer ∷ field ∷ []) (sym lasts) ∙ text'.spelling)
+-- a field behind a bank and a pointer, by another spelling
+pub at_place : (bank : Bank) (pointer : ℕ) {last last' : List ℕ} → last ≡ last' → bank_word bank ∷ decimal pointer ∷ last ∷ [] ≡ bank_word bank ∷ decimal pointer ∷ last' ∷ []
+at_place bank pointer same = ap (λ (field : List ℕ). bank_word bank ∷ decimal pointer ∷ field ∷ []) same
+
+pub one_op : {kind : OpKind} {fields : List (List ℕ)} (one other : Op) → IsOpText kind fields one → IsOpText kind fields other → one ≡ other
+one_op one other text text' = op_told one other text.in_range text'.in_range (text.same_kind ∙ sym text'.same_kind) (sym text.spelling ∙ text'.spelling)

@@ -16,10 +16,10 @@ use Rattle.scenario_lines.specs.declared.fault.LineFault.TheVariants.{Word as Wo
 use Rattle.scenario_lines.specs.declared.tag.TagSpec.{TagSpec}
 use Rattle.scenario_lines.specs.TagForm.{IsTagForm, tag_of}
 use Rattle.scenario_lines.specs.LineForm.{IsLinkForm, IsCopyCount, IsEvent, IsHappening, IsExchange, IsRound}
-use Rattle.scenario_lines.specs.Spelling.{link_fields, tag_fields, copies_fields, round_fields, event_fields, happening_fields, op_fields}
+use Rattle.scenario_lines.specs.Spelling.{link_fields, tag_fields, copies_fields, round_fields, event_fields, event_vocabulary, happening_fields, air_vocabulary, op_fields, op_vocabulary}
 use Rattle.scenario_lines.specs.Names.{event_kind, event_word, event_field_count, op_kind, op_word, op_field_count, air_kind, air_word, air_field_count}
 use Rattle.scenario_lines.specs.LineFaults.{HasKnownKind, HasShape, BreaksLink, BreaksPc, BreaksPcOfCopies}
-use Rattle.text_fields.specs.NamedFields.{AreFilled}
+use Rattle.text_fields.specs.NamedFields.{AreFilled, SpellBehind}
 use Rattle.scenario_lines.specs.declared.first_fields.Keyword.TheVariants as keywords
 use Rattle.scenario_lines.specs.declared.first_fields.EventKind.{EventKind}
 use Rattle.scenario_lines.specs.declared.first_fields.OpKind.{OpKind}
@@ -88,10 +88,8 @@ abbrev pub MisreadsNumber : ℕ → List (List ℕ) → LineFault → Type 0
 MisreadsNumber most fields fault = Misreads (AreFilled 1) (λ (n : ℕ). decimal n ∷ []) (λ n. n ≤ most) fields fault
 
 -- behind the kind, these fields spell an event of it and the number of its tag
-pub record IsEventText (kind : EventKind) (fields : List (List ℕ)) (event : Event) (tag : ℕ) : Type 0 where
-  pub same_kind : event_kind event ≡ kind
-  pub spelling : fields ≡ event_fields event tag
-  pub is : IsEvent event tag
+abbrev pub IsEventText : EventKind → List (List ℕ) → Event → ℕ → Type 0
+IsEventText kind fields event tag = SpellBehind event_vocabulary (λ event. IsEvent event.0 event.1) kind fields (event, tag)
 
 -- the first reason for which fields behind the kind of an event spell none
 abbrev pub MisreadsEvent : EventKind → List (List ℕ) → LineFault → Type 0
@@ -101,10 +99,8 @@ MisreadsEvent kind fields Number =
 MisreadsEvent kind fields fault = ⊥
 
 -- behind the kind of an air line, these fields spell what it says
-pub record IsHappeningText (kind : AirKind) (fields : List (List ℕ)) (happening : Happening) : Type 0 where
-  pub same_kind : air_kind happening ≡ kind
-  pub spelling : fields ≡ happening_fields happening
-  pub is : IsHappening happening
+abbrev pub IsHappeningText : AirKind → List (List ℕ) → Happening → Type 0
+IsHappeningText kind fields happening = SpellBehind air_vocabulary IsHappening kind fields happening
 
 -- the first reason for which fields behind the kind of an air line say nothing
 abbrev pub MisreadsHappening : AirKind → List (List ℕ) → LineFault → Type 0
@@ -114,10 +110,8 @@ MisreadsHappening kind fields Number =
 MisreadsHappening kind fields fault = ⊥
 
 -- behind the kind, these fields spell an operation of it
-pub record IsOpText (kind : OpKind) (fields : List (List ℕ)) (op : Op) : Type 0 where
-  pub same_kind : op_kind op ≡ kind
-  pub spelling : fields ≡ op_fields op
-  pub is : IsLegalOp op
+abbrev pub IsOpText : OpKind → List (List ℕ) → Op → Type 0
+IsOpText kind fields op = SpellBehind op_vocabulary IsLegalOp kind fields op
 
 -- the first reason for which fields behind the kind of an operation spell none
 abbrev pub MisreadsOp : OpKind → List (List ℕ) → LineFault → Type 0

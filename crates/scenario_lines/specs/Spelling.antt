@@ -2,6 +2,7 @@
 use Rattle.std.specs.Prelude.{ℕ, Bool, List, [], ◌∷◌}
 use Rattle.std.specs.Fmt.{decimal}
 use Rattle.text_fields.specs.Lines.{line_with}
+use Rattle.text_fields.specs.NamedFields.{Vocabulary}
 use Rattle.text_fields.specs.Binary.{binary, binary_digit}
 use Rattle.text_fields.specs.Hexadecimal.{hex_word, hex_words}
 use Rattle.text_fields.specs.CodeNames.{code_word}
@@ -16,6 +17,9 @@ use Rattle.pie_line.specs.Link.{LinkValue}
 use Rattle.q_round.specs.SpecValue.{SpecValue}
 use Rattle.scenario_lines.specs.declared.tag.TagSpec.{TagSpec}
 use Rattle.scenario_lines.specs.declared.version.Version.{Version}
+use Rattle.scenario_lines.specs.declared.first_fields.AirKind.{AirKind}
+use Rattle.scenario_lines.specs.declared.first_fields.EventKind.{EventKind}
+use Rattle.scenario_lines.specs.declared.first_fields.OpKind.{OpKind}
 use Rattle.scenario_lines.specs.declared.first_fields.Keyword.{Keyword}
 use Rattle.scenario_lines.specs.declared.first_fields.Keyword.TheVariants as keywords
 use Rattle.scenario_lines.specs.declared.line.Happening.{Happening}
@@ -23,7 +27,7 @@ use Rattle.scenario_lines.specs.declared.line.Happening.TheVariants as happening
 use Rattle.scenario_lines.specs.declared.line.Selection.{Selection}
 use Rattle.scenario_lines.specs.declared.line.Line.{Line}
 use Rattle.scenario_lines.specs.declared.line.Line.TheVariants as lines
-use Rattle.scenario_lines.specs.Names.{keyword_text, several_text, version_text, event_word, event_kind, air_word, air_kind, op_word, op_kind, rule_text, sel_text}
+use Rattle.scenario_lines.specs.Names.{keyword_text, several_text, version_text, event_word, event_kind, event_field_count, air_word, air_kind, air_field_count, op_word, op_kind, op_field_count, rule_text, sel_text}
 
 -- a flag, as one binary digit
 abbrev pub flag_text : Bool → List ℕ
@@ -75,6 +79,16 @@ op_fields (ops.BlockErase bank pointer count) = bank_word bank ∷ decimal point
 op_fields (ops.Lock payload) = payload_digits payload ∷ []
 op_fields (ops.Access password) = password_text password ∷ []
 op_fields (ops.Kill password) = password_text password ∷ []
+
+-- events with their tags, what air lines say, and operations, as what may be spelled
+abbrev pub event_vocabulary : Vocabulary EventKind (Event × ℕ)
+event_vocabulary = record { name = event_word; count = event_field_count; kind = λ event. event_kind event.0; others = λ event. event_fields event.0 event.1 }
+
+abbrev pub air_vocabulary : Vocabulary AirKind Happening
+air_vocabulary = record { name = air_word; count = air_field_count; kind = air_kind; others = happening_fields }
+
+abbrev pub op_vocabulary : Vocabulary OpKind Op
+op_vocabulary = record { name = op_word; count = op_field_count; kind = op_kind; others = op_fields }
 
 -- the first field of a line
 abbrev pub keyword_of : Line → Keyword

@@ -1,7 +1,7 @@
 -- What a scenario has settled behind some lines says the same of the next line as those lines do.
 use Rattle.std.proofs.Common.{◌≡◌, ◌≢◌, ℕ, zero, suc, ◌+◌, ◌<◌, ◌≤◌, ◌==◌, ◌↔◌, Bool, true, false, List, [], ◌∷◌, ◌++◌, length, filter, Option, Some, None, if◌then◌else◌, refl, sym, ◌∙◌, ap, subst, arith, append_assoc, append-nil}
 use Rattle.std.proofs.lemmas.Bool.{eqb-true, eqb-false}
-use Rattle.std.proofs.lemmas.List.{length-append}
+use Rattle.std.proofs.lemmas.List.{length-append, nil_from_length}
 use Rattle.std.proofs.lemmas.List.Elements.{filter-append}
 use Rattle.std.specs.List.{AllByRecursion}
 use Rattle.access_ops.specs.declared.OpList.{OpList}
@@ -21,14 +21,15 @@ use Rattle.scenario_lines.specs.declared.line.Line.TheVariants as lines
 use Rattle.scenario_text.specs.declared.fault.Fault.{Fault}
 use Rattle.scenario_text.specs.declared.fault.Fault.TheVariants as faults
 use Rattle.scenario.specs.declared.values.Step.{Step}
+use Rattle.scenario.specs.declared.values.Step.TheVariants as steps
 use Rattle.scenario.specs.Limits.{most_tags_of, most_air_lines, most_ops, most_steps}
 use Rattle.scenario_text.specs.Draft.{DraftValue, HeadValue, new_draft, draft_after, tag_count}
-use Rattle.scenario_text.specs.Standing.{Standing, start, begun, first_head, linked, second_head, within, ended, after, Follows, Leads, HasRoom, IsOfVersion, MayCopy, NamesTag}
-use Rattle.scenario_text.specs.AirLines.{at_exchange, with_said, with_happening, MayFollow, KeepsOrder, ChoosesOnce}
-use Rattle.scenario_text.specs.StepLines.{with_last, steps_of}
+use Rattle.scenario_text.specs.Standing.{Standing, start, begun, first_head, head_size, linked, second_head, within, ended, after, Follows, Leads, HasRoom, MayStand, IsOfVersion, MayCopy, NamesTag}
+use Rattle.scenario_text.specs.AirLines.{AirLinesValue, at_exchange, with_said, with_happening, MayFollow, KeepsOrder, ChoosesOnce}
+use Rattle.scenario_text.specs.StepLines.{IsBareRound, StepLinesValue, steps_of, with_last, with_step}
 use Rattle.scenario_text.specs.Faults.{DisagreesBy}
 use Rattle.scenario_text.proofs.Counts.{tags_more}
-use Rattle.scenario_text.specs.LinesBefore.{is_air, is_step, tags_by, tags_in, version_in, airs_in, steps_in, ops_behind, IsFullBefore, turn_of, ComesBefore, ChoosesOther, KeepsOrderBehind, ChoosesFirst, DisagreesWith}
+use Rattle.scenario_text.specs.LinesBefore.{is_air, is_step, tags_by, tags_in, version_in, airs_in, steps_in, ops_behind, EndsInRound, IsFullBefore, IsNoEnd, IsRoundLine, MayStandBehind, turn_of, ComesBefore, ChoosesOther, KeepsOrderBehind, ChoosesFirst, DisagreesWith}
 
 -- lists with one more
 
@@ -204,6 +205,74 @@ airs-next before last next latest said later told =
       chosen = λ exchange all same. choice-of no_entry said next exchange (sym same) refl (all-last (ChoosesOther exchange) before line all);
     }
 
+-- what is said of rounds
+
+through : {A B C : Type 0} → A ↔ B → B ↔ C → A ↔ C
+through first second = (λ a. second.0 (first.0 a), λ c. first.1 (second.1 c))
+
+-- the last line is the one that is put behind the others
+ends-push : (before : List Line) (line : Line) → IsRoundLine line ↔ EndsInRound (before ++ line ∷ [])
+ends-push [] line = (λ ends. ends, λ ends. ends)
+ends-push (first ∷ []) line = (λ ends. ends, λ ends. ends)
+ends-push (first ∷ next ∷ before) line = ends-push (next ∷ before) line
+
+-- the last step is a round exactly where the lines say so
+abbrev TellsRound : List Line → StepLinesValue → Type 0
+TellsRound before said = (said.round ≢ None) ↔ EndsInRound (filter is_step before)
+
+-- a line that is no step changes nothing of that
+round-kept : (before : List Line) (line : Line) (said grows : StepLinesValue) → filter is_step (line ∷ []) ≡ [] → grows.round ≡ said.round
+    → TellsRound before said → TellsRound (before ++ line ∷ []) grows
+round-kept before line said grows none same told =
+    let steps : filter is_step (before ++ line ∷ []) ≡ filter is_step before =
+    filter-append is_step before (line ∷ []) ∙ ap (λ (list : List Line). filter is_step before ++ list) none ∙ append-nil (filter is_step before) in
+    subst (λ (list : List Line). (grows.round ≢ None) ↔ EndsInRound list) (sym steps)
+    (subst (λ (round : Option SpecValue). (round ≢ None) ↔ EndsInRound (filter is_step before)) (sym same) told)
+
+-- ... and a step is the last one then
+round-next : (before : List Line) (line : Line) (grows : StepLinesValue) → filter is_step (line ∷ []) ≡ line ∷ [] → (grows.round ≢ None) ↔ IsRoundLine line
+    → TellsRound (before ++ line ∷ []) grows
+round-next before line grows one told =
+    let steps : filter is_step (before ++ line ∷ []) ≡ filter is_step before ++ line ∷ [] =
+    filter-append is_step before (line ∷ []) ∙ ap (λ (list : List Line). filter is_step before ++ list) one in
+    subst (λ (list : List Line). (grows.round ≢ None) ↔ EndsInRound list) (sym steps) (through told (ends-push (filter is_step before) line))
+
+-- no steps, no round
+no-round : (closed : List Step) (round : Option SpecValue) (operations : OpList) → with_last closed round operations ≡ [] → round ≡ None
+no-round closed None operations none = refl
+no-round closed (Some spec) operations none = absurd (not-none closed (steps.Round spec operations) none)
+
+some-step : (spec : SpecValue) → Some spec ≢ None
+some-step spec same = cc
+
+some-epc : (epc : List ℕ) → Some epc ≢ None
+some-epc epc same = cc
+
+-- behind a line, these steps are told of by the lines as those before it were
+record TellsRounds (line : Line) (said grows : StepLinesValue) : Type 0 where
+  round : (before : List Line) → TellsRound before said → TellsRound (before ++ line ∷ []) grows
+  bare : IsBareRound grows ↔ IsRoundLine line
+
+-- a line of the operations of the last round
+rounds-kept : (line : Line) (said grows : StepLinesValue) → filter is_step (line ∷ []) ≡ [] → grows.round ≡ said.round → (¬ IsBareRound grows) → (¬ IsRoundLine line)
+    → TellsRounds line said grows
+rounds-kept line said grows none same no_bare other = record {
+  round = λ before told. round-kept before line said grows none same told;
+  bare = (λ bare. absurd (no_bare bare), λ round. absurd (other round));
+}
+
+-- a line before all steps
+rounds-before : (line : Line) (said : StepLinesValue) → filter is_step (line ∷ []) ≡ [] → steps_of said ≡ [] → (¬ IsRoundLine line) → TellsRounds line said said
+rounds-before line said none no_steps other =
+    rounds-kept line said said none refl (λ bare. bare.round (no-round said.closed said.round said.operations no_steps)) other
+
+-- a step that is no round
+rounds-step : (line : Line) (said : StepLinesValue) (step : Step) → filter is_step (line ∷ []) ≡ line ∷ [] → (¬ IsRoundLine line) → TellsRounds line said (with_step said step)
+rounds-step line said step one other = record {
+  round = λ before told. round-next before line (with_step said step) one (λ some. absurd (some refl), λ round. absurd (other round));
+  bare = (λ bare. absurd (bare.round refl), λ round. absurd (other round));
+}
+
 -- What a draft tells of the next line, and what the lines before it do.
 record Tells (before : List Line) (draft : DraftValue) : Type 0 where
   behind : List Line
@@ -213,6 +282,10 @@ record Tells (before : List Line) (draft : DraftValue) : Type 0 where
   steps : length (steps_of draft.steps) ≡ steps_in before
   ops : length draft.steps.operations.ops ≡ ops_behind 0 before
   exchanges : TellsAirs before draft.air.exchange draft.air.latest
+  goes_on : AllByRecursion IsNoEnd before
+  long : head_size draft.head.version ≤ length before
+  round : TellsRound before draft.steps
+  bare : IsBareRound draft.steps ↔ EndsInRound before
 
 length-push : {A : Type 0} (xs : List A) (x : A) → length (xs ++ x ∷ []) ≡ length xs + 1
 length-push [] x = refl
@@ -230,6 +303,8 @@ record Adds (line : Line) (draft grows : DraftValue) : Type 0 where
   airs : grows.air.count ≡ draft.air.count + airs_one line
   steps : length (steps_of grows.steps) ≡ length (steps_of draft.steps) + steps_one line
   ops : length grows.steps.operations.ops ≡ ops_behind (length draft.steps.operations.ops) (line ∷ [])
+  goes_on : IsNoEnd line
+  rounds : TellsRounds line draft.steps grows.steps
 
 tells-more : (before : List Line) (draft : DraftValue) (line : Line) (grows : DraftValue) → Tells before draft → Adds line draft grows
     → TellsAirs (before ++ line ∷ []) grows.air.exchange grows.air.latest → Tells (before ++ line ∷ []) grows
@@ -242,12 +317,24 @@ tells-more before draft line grows told adds exchanges = record {
   steps = omega (arith, adds.steps, told.steps, steps-push before line);
   ops = adds.ops ∙ ap (λ count. ops_behind count (line ∷ [])) told.ops ∙ sym (ops-push 0 before line);
   exchanges = exchanges;
+  goes_on = all-push IsNoEnd before line told.goes_on adds.goes_on;
+  long = rw adds.head (omega (arith, told.long, length-append before (line ∷ [])));
+  round = adds.rounds.round before told.round;
+  bare = through adds.rounds.bare (ends-push before line);
 }
 
 -- an air line more
-adds-air : (draft : DraftValue) (exchange : ℕ) (said : Happening) (closed : List (ℕ × Entry)) (number : ℕ) (latest : Entry)
-    → Adds (lines.Air exchange said) draft (record draft { air = record { count = draft.air.count + 1; closed = closed; exchange = number; latest = latest } })
-adds-air draft exchange said closed number latest = record { head = refl; tags = omega arith; airs = refl; steps = omega arith; ops = refl }
+adds-air : (draft : DraftValue) (exchange : ℕ) (said : Happening) (air : AirLinesValue) → air.count ≡ draft.air.count + 1 → steps_of draft.steps ≡ []
+    → Adds (lines.Air exchange said) draft (record draft { air = air })
+adds-air draft exchange said air count no_steps = record {
+  head = refl;
+  tags = omega arith;
+  airs = count;
+  steps = omega arith;
+  ops = refl;
+  goes_on = tt;
+  rounds = rounds-before (lines.Air exchange said) draft.steps refl no_steps (λ round. round);
+}
 
 above-not : (last next : ℕ) → last ≤ next → next ≢ last → last < next
 above-not zero zero above differs = absurd (differs refl)
@@ -256,19 +343,20 @@ above-not (suc last) zero above differs = absurd (omega (arith, above))
 above-not (suc last) (suc next) above differs =
     let less = above-not last next (omega (arith, above)) (λ same. differs (ap suc same)) in omega (arith, less)
 
-air-draft_after : (before : List Line) (draft : DraftValue) (exchange : ℕ) (said : Happening) (same : Bool) → (exchange == draft.air.exchange) ≡ same → draft.air.exchange ≤ exchange → Tells before draft
+air-draft_after : (before : List Line) (draft : DraftValue) (exchange : ℕ) (said : Happening) (same : Bool) → (exchange == draft.air.exchange) ≡ same → draft.air.exchange ≤ exchange → steps_of draft.steps ≡ []
+    → Tells before draft
     → let counted = record draft.air { count = draft.air.count + 1 } in
     Tells (before ++ lines.Air exchange said ∷ []) (record draft { air = if same then with_said counted said else with_said (at_exchange counted exchange) said })
-air-draft_after before draft exchange said true is above told =
+air-draft_after before draft exchange said true is above no_steps told =
     let counted = record draft.air { count = draft.air.count + 1 } in
-    tells-more before draft (lines.Air exchange said) (record draft { air = with_said counted said }) told (adds-air draft exchange said _ _ _)
+    tells-more before draft (lines.Air exchange said) (record draft { air = with_said counted said }) told (adds-air draft exchange said (with_said counted said) refl no_steps)
     (subst (λ (n : ℕ). TellsAirs (before ++ lines.Air n said ∷ []) draft.air.exchange (with_happening draft.air.latest said)) (sym (eqb-true exchange draft.air.exchange is))
     (airs-same before draft.air.exchange draft.air.latest said told.exchanges))
-air-draft_after before draft exchange said false is above told =
+air-draft_after before draft exchange said false is above no_steps told =
     let counted = record draft.air { count = draft.air.count + 1 } in
     let differs : exchange ≢ draft.air.exchange = eqb-false exchange draft.air.exchange is in
     tells-more before draft (lines.Air exchange said) (record draft { air = with_said (at_exchange counted exchange) said }) told
-    (adds-air draft exchange said _ _ _)
+    (adds-air draft exchange said (with_said (at_exchange counted exchange) said) refl no_steps)
     (airs-next before draft.air.exchange exchange draft.air.latest said (above-not draft.air.exchange exchange above differs) told.exchanges)
 
 -- the same of any place in a scenario
@@ -277,7 +365,7 @@ Stands before start = before ≡ []
 Stands before (begun version) = before ≡ lines.Version version ∷ []
 Stands before (linked link) = before ≡ lines.Version Two ∷ lines.Link link ∷ []
 Stands before (within draft) = Tells before draft
-Stands before (ended draft) = Unit {0}
+Stands before (ended draft) = ¬ AllByRecursion IsNoEnd before
 
 -- one line more
 tells-one : (before : List Line) (draft : DraftValue) (line : Line) → Follows (within draft) line → Tells before draft → Stands (before ++ line ∷ []) (after (within draft) line)
@@ -287,74 +375,79 @@ tells-one before draft (lines.Default several) follows told = absurd follows.sta
 tells-one before draft (lines.Tag tag) follows told =
     let line = lines.Tag tag in
     tells-more before draft line (draft_after draft line) told
-    (record { head = refl; tags = tags_more draft.groups _ (record { count = 1; spec = tag }) refl; airs = omega arith; steps = omega arith; ops = refl })
+    (record { head = refl; tags = tags_more draft.groups _ (record { count = 1; spec = tag }) refl; airs = omega arith; steps = omega arith; ops = refl; goes_on = tt; rounds = rounds-before line draft.steps refl follows.stands.1 (λ round. round) })
     (airs-kept before draft.air.exchange draft.air.latest line (λ exchange happening. tt) (λ exchange. tt) told.exchanges)
 tells-one before draft (lines.Copies count tag) follows told =
     let line = lines.Copies count tag in
     tells-more before draft line (draft_after draft line) told
-    (record { head = refl; tags = tags_more draft.groups _ (record { count = count; spec = tag }) refl; airs = omega arith; steps = omega arith; ops = refl })
+    (record { head = refl; tags = tags_more draft.groups _ (record { count = count; spec = tag }) refl; airs = omega arith; steps = omega arith; ops = refl; goes_on = tt; rounds = rounds-before line draft.steps refl follows.stands.2 (λ round. round) })
     (airs-kept before draft.air.exchange draft.air.latest line (λ exchange happening. tt) (λ exchange. tt) told.exchanges)
-tells-one before draft (lines.Air exchange said) follows told = air-draft_after before draft exchange said (exchange == draft.air.exchange) refl follows.agrees.order.0 told
+tells-one before draft (lines.Air exchange said) follows told = air-draft_after before draft exchange said (exchange == draft.air.exchange) refl follows.agrees.order.0 follows.stands told
 tells-one before draft (lines.Select selection) follows told =
     let line = lines.Select selection in
     tells-more before draft line (draft_after draft line) told
-    (record { head = refl; tags = omega arith; airs = omega arith; steps = length-push (steps_of draft.steps) _; ops = refl })
+    (record { head = refl; tags = omega arith; airs = omega arith; steps = length-push (steps_of draft.steps) _; ops = refl; goes_on = tt; rounds = rounds-step line draft.steps _ refl (λ round. round) })
     (airs-kept before draft.air.exchange draft.air.latest line (λ exchange happening. tt) (λ exchange. tt) told.exchanges)
 tells-one before draft lines.Nak follows told =
     let line = lines.Nak in
     tells-more before draft line (draft_after draft line) told
-    (record { head = refl; tags = omega arith; airs = omega arith; steps = length-push (steps_of draft.steps) _; ops = refl })
+    (record { head = refl; tags = omega arith; airs = omega arith; steps = length-push (steps_of draft.steps) _; ops = refl; goes_on = tt; rounds = rounds-step line draft.steps _ refl (λ round. round) })
     (airs-kept before draft.air.exchange draft.air.latest line (λ exchange happening. tt) (λ exchange. tt) told.exchanges)
 tells-one before draft (lines.Event event tag) follows told =
     let line = lines.Event event tag in
     tells-more before draft line (draft_after draft line) told
-    (record { head = refl; tags = omega arith; airs = omega arith; steps = length-push (steps_of draft.steps) _; ops = refl })
+    (record { head = refl; tags = omega arith; airs = omega arith; steps = length-push (steps_of draft.steps) _; ops = refl; goes_on = tt; rounds = rounds-step line draft.steps _ refl (λ round. round) })
     (airs-kept before draft.air.exchange draft.air.latest line (λ exchange happening. tt) (λ exchange. tt) told.exchanges)
 tells-one before draft (lines.Round version spec) follows told =
     let line = lines.Round version spec in
-    tells-more before draft line (draft_after draft line) told
-    (record { head = refl; tags = omega arith; airs = omega arith; steps = length-push (steps_of draft.steps) _; ops = refl })
-    (airs-kept before draft.air.exchange draft.air.latest line (λ exchange happening. tt) (λ exchange. tt) told.exchanges)
-tells-one before draft (lines.Only epc) follows told =
-    let line = lines.Only epc in
-    let operations : OpList = record { only = Some epc; ops = draft.steps.operations.ops } in
-    tells-more before draft line (draft_after draft line) told
+    let grows = draft_after draft line in
+    tells-more before draft line grows told
     (record {
       head = refl;
       tags = omega arith;
       airs = omega arith;
-      steps = omega (arith, last-same draft.steps.closed draft.steps.round operations draft.steps.operations);
+      steps = length-push (steps_of draft.steps) _;
       ops = refl;
+      goes_on = tt;
+      rounds = record {
+        round = λ lines told_round. round-next lines line grows.steps refl (λ some. tt, λ any. some-step spec);
+        bare = (λ is_bare. tt, λ any. record { round = some-step spec; only = refl; ops = refl });
+      };
+    })
+    (airs-kept before draft.air.exchange draft.air.latest line (λ exchange happening. tt) (λ exchange. tt) told.exchanges)
+tells-one before draft (lines.Only epc) follows told =
+    let line = lines.Only epc in
+    let grows = draft_after draft line in
+    tells-more before draft line grows told
+    (record {
+      head = refl;
+      tags = omega arith;
+      airs = omega arith;
+      steps = omega (arith, last-same draft.steps.closed draft.steps.round grows.steps.operations draft.steps.operations);
+      ops = refl;
+      goes_on = tt;
+      rounds = rounds-kept line draft.steps grows.steps refl refl (λ is_bare. some-epc epc is_bare.only) (λ round. round);
     })
     (airs-kept before draft.air.exchange draft.air.latest line (λ exchange happening. tt) (λ exchange. tt) told.exchanges)
 tells-one before draft (lines.Op op) follows told =
     let line = lines.Op op in
-    let operations : OpList = record { only = draft.steps.operations.only; ops = draft.steps.operations.ops ++ op ∷ [] } in
-    tells-more before draft line (draft_after draft line) told
+    let grows = draft_after draft line in
+    tells-more before draft line grows told
     (record {
       head = refl;
       tags = omega arith;
       airs = omega arith;
-      steps = omega (arith, last-same draft.steps.closed draft.steps.round operations draft.steps.operations);
+      steps = omega (arith, last-same draft.steps.closed draft.steps.round grows.steps.operations draft.steps.operations);
       ops = length-push draft.steps.operations.ops op;
+      goes_on = tt;
+      rounds = rounds-kept line draft.steps grows.steps refl refl (λ is_bare. not-none draft.steps.operations.ops op is_bare.ops) (λ round. round);
     })
     (airs-kept before draft.air.exchange draft.air.latest line (λ exchange happening. tt) (λ exchange. tt) told.exchanges)
-tells-one before draft lines.End follows told = tt
+tells-one before draft lines.End follows told = λ all. all-last IsNoEnd before lines.End all
 
 stands-first : (before : List Line) (line : Line) → Follows start line → before ≡ [] → Stands (before ++ line ∷ []) (after start line)
 stands-first before (lines.Version version) follows none = ap (λ (b : List Line). b ++ lines.Version version ∷ []) none
-stands-first before (lines.Link link) follows none = absurd follows.stands
-stands-first before (lines.Default several) follows none = absurd follows.stands
-stands-first before (lines.Tag tag) follows none = absurd follows.stands
-stands-first before (lines.Copies count tag) follows none = absurd follows.stands
-stands-first before (lines.Air exchange happening) follows none = absurd follows.stands
-stands-first before (lines.Select selection) follows none = absurd follows.stands
-stands-first before lines.Nak follows none = absurd follows.stands
-stands-first before (lines.Event event tag) follows none = absurd follows.stands
-stands-first before (lines.Round version spec) follows none = absurd follows.stands
-stands-first before (lines.Only epc) follows none = absurd follows.stands
-stands-first before (lines.Op op) follows none = absurd follows.stands
-stands-first before lines.End follows none = absurd follows.stands
+stands-first before line follows none = absurd follows.stands
 
 -- behind the head nothing is settled
 record IsHead (before : List Line) (version : Version) : Type 0 where
@@ -366,6 +459,10 @@ record IsHead (before : List Line) (version : Version) : Type 0 where
   ops : ops_behind 0 before ≡ 0
   order : (exchange : ℕ) (happening : Happening) → AllByRecursion (ComesBefore exchange happening) before
   once : (exchange : ℕ) → AllByRecursion (ChoosesOther exchange) before
+  goes_on : AllByRecursion IsNoEnd before
+  long : head_size version ≤ length before
+  no_round : ¬ EndsInRound (filter is_step before)
+  no_last : ¬ EndsInRound before
 
 tells-none : (before : List Line) (head : HeadValue) → IsHead before head.version → Tells before (new_draft head)
 tells-none before head is = record {
@@ -382,6 +479,10 @@ tells-none before head is = record {
     once = λ exchange above none. is.once exchange;
     chosen = λ exchange all same. refl;
   };
+  goes_on = is.goes_on;
+  long = is.long;
+  round = (λ some. absurd (some refl), λ ends. absurd (is.no_round ends));
+  bare = (λ bare. absurd (bare.round refl), λ ends. absurd (is.no_last ends));
 }
 
 first-head-lines : (link : _) → IsHead (lines.Version One ∷ lines.Link link ∷ []) One
@@ -394,6 +495,10 @@ first-head-lines link = record {
   ops = refl;
   order = λ exchange happening. (tt, (tt, tt));
   once = λ exchange. (tt, (tt, tt));
+  goes_on = (tt, (tt, tt));
+  long = omega arith;
+  no_round = λ ends. ends;
+  no_last = λ ends. ends;
 }
 
 second-head-lines : (link : _) (several : _) → IsHead (lines.Version Two ∷ lines.Link link ∷ lines.Default several ∷ []) Two
@@ -406,44 +511,26 @@ second-head-lines link several = record {
   ops = refl;
   order = λ exchange happening. (tt, (tt, (tt, tt)));
   once = λ exchange. (tt, (tt, (tt, tt)));
+  goes_on = (tt, (tt, (tt, tt)));
+  long = omega arith;
+  no_round = λ ends. ends;
+  no_last = λ ends. ends;
 }
 
 stands-second : (before : List Line) (version : Version) (line : Line) → Follows (begun version) line → before ≡ lines.Version version ∷ []
     → Stands (before ++ line ∷ []) (after (begun version) line)
-stands-second before version (lines.Version other) follows is = absurd follows.stands
 stands-second before One (lines.Link link) follows is =
     subst (λ (b : List Line). Tells (b ++ lines.Link link ∷ []) (new_draft (first_head link))) (sym is)
     (tells-none _ (first_head link) (first-head-lines link))
 stands-second before Two (lines.Link link) follows is = ap (λ (b : List Line). b ++ lines.Link link ∷ []) is
-stands-second before version (lines.Default several) follows is = absurd follows.stands
-stands-second before version (lines.Tag tag) follows is = absurd follows.stands
-stands-second before version (lines.Copies count tag) follows is = absurd follows.stands
-stands-second before version (lines.Air exchange happening) follows is = absurd follows.stands
-stands-second before version (lines.Select selection) follows is = absurd follows.stands
-stands-second before version lines.Nak follows is = absurd follows.stands
-stands-second before version (lines.Event event tag) follows is = absurd follows.stands
-stands-second before version (lines.Round other spec) follows is = absurd follows.stands
-stands-second before version (lines.Only epc) follows is = absurd follows.stands
-stands-second before version (lines.Op op) follows is = absurd follows.stands
-stands-second before version lines.End follows is = absurd follows.stands
+stands-second before version line follows is = absurd follows.stands
 
 stands-third : (before : List Line) (link : _) (line : Line) → Follows (linked link) line → before ≡ lines.Version Two ∷ lines.Link link ∷ []
     → Stands (before ++ line ∷ []) (after (linked link) line)
-stands-third before link (lines.Version version) follows is = absurd follows.stands
-stands-third before link (lines.Link other) follows is = absurd follows.stands
 stands-third before link (lines.Default several) follows is =
     subst (λ (b : List Line). Tells (b ++ lines.Default several ∷ []) (new_draft (second_head link several))) (sym is)
     (tells-none _ (second_head link several) (second-head-lines link several))
-stands-third before link (lines.Tag tag) follows is = absurd follows.stands
-stands-third before link (lines.Copies count tag) follows is = absurd follows.stands
-stands-third before link (lines.Air exchange happening) follows is = absurd follows.stands
-stands-third before link (lines.Select selection) follows is = absurd follows.stands
-stands-third before link lines.Nak follows is = absurd follows.stands
-stands-third before link (lines.Event event tag) follows is = absurd follows.stands
-stands-third before link (lines.Round version spec) follows is = absurd follows.stands
-stands-third before link (lines.Only epc) follows is = absurd follows.stands
-stands-third before link (lines.Op op) follows is = absurd follows.stands
-stands-third before link lines.End follows is = absurd follows.stands
+stands-third before link line follows is = absurd follows.stands
 
 stands-one : (before : List Line) (from : Standing) (line : Line) → Follows from line → Stands before from → Stands (before ++ line ∷ []) (after from line)
 stands-one before start line follows stands = stands-first before line follows stands
@@ -460,6 +547,30 @@ stands-behind before (line ∷ said) from to leads stands =
 
 tells : (said : List Line) (draft : DraftValue) → Leads start said (within draft) → Tells said draft
 tells said draft leads = stands-behind [] said start (within draft) leads refl
+
+-- a head has two lines at least
+head-long : (version : Version) → 2 ≤ head_size version
+head-long One = omega arith
+head-long Two = omega arith
+
+-- Which line may stand behind these lines: at the head it is by their number alone.
+stand-first : (keyword : Keyword) → MayStand start keyword ↔ MayStandBehind [] keyword
+stand-first keywords.Version = (λ may. record { goes_on = tt; place = refl; order = tt }, λ may. tt)
+stand-first keywords.Link = (λ may. absurd may, λ may. absurd (omega (arith, may.place)))
+stand-first keywords.Default = (λ may. absurd may, λ may. absurd (omega (arith, may.place.1)))
+stand-first keyword = (λ may. absurd may, λ may. absurd (omega (arith, may.place)))
+
+stand-second : (version : Version) (keyword : Keyword) → MayStand (begun version) keyword ↔ MayStandBehind (lines.Version version ∷ []) keyword
+stand-second version keywords.Version = (λ may. absurd may, λ may. absurd (omega (arith, may.place)))
+stand-second version keywords.Link = (λ may. record { goes_on = (tt, tt); place = refl; order = tt }, λ may. tt)
+stand-second version keywords.Default = (λ may. absurd may, λ may. absurd (omega (arith, may.place.1)))
+stand-second version keyword = (λ may. absurd may, λ may. absurd (omega (arith, head-long version, may.place)))
+
+stand-third : (link : _) (keyword : Keyword) → MayStand (linked link) keyword ↔ MayStandBehind (lines.Version Two ∷ lines.Link link ∷ []) keyword
+stand-third link keywords.Version = (λ may. absurd may, λ may. absurd (omega (arith, may.place)))
+stand-third link keywords.Link = (λ may. absurd may, λ may. absurd (omega (arith, may.place)))
+stand-third link keywords.Default = (λ may. record { goes_on = (tt, (tt, tt)); place = (refl, refl); order = tt }, λ may. tt)
+stand-third link keyword = (λ may. absurd may, λ may. absurd (omega (arith, may.place)))
 
 -- there is room exactly where the lines before are not full
 less-or-not : (count most : ℕ) → (¬ (most ≤ count)) → count < most
@@ -478,6 +589,56 @@ always value = (λ any none. none, λ any. value)
 -- the version is that of the first line
 version-told : (said : List Line) (draft : DraftValue) → Tells said draft → version_in said ≡ draft.head.version
 version-told said draft told = ap version_in told.first
+
+-- behind the head
+no-steps : (said : List Line) (draft : DraftValue) → Tells said draft → (steps_of draft.steps ≡ []) ↔ (steps_in said ≡ 0)
+no-steps said draft told = (λ none. sym told.steps ∙ ap length none, λ none. nil_from_length (steps_of draft.steps) (told.steps ∙ none))
+
+no-airs : (said : List Line) (draft : DraftValue) → Tells said draft → (draft.air.count ≡ 0) ↔ (airs_in said ≡ 0)
+no-airs said draft told = (λ none. sym told.airs ∙ none, λ none. told.airs ∙ none)
+
+stand-within : (said : List Line) (draft : DraftValue) (keyword : Keyword) → Tells said draft → MayStand (within draft) keyword ↔ MayStandBehind said keyword
+stand-within said draft keywords.Version told = (λ may. absurd may, λ may. absurd (omega (arith, told.long, head-long draft.head.version, may.place)))
+stand-within said draft keywords.Link told = (λ may. absurd may, λ may. absurd (omega (arith, told.long, head-long draft.head.version, may.place)))
+stand-within said draft keywords.Default told = (
+  λ may. absurd may,
+  λ may.
+      let three : head_size draft.head.version ≡ 3 = ap head_size (sym (version-told said draft told) ∙ may.place.0) in
+      absurd (omega (arith, told.long, three, may.place.1)),
+)
+stand-within said draft keywords.Tag told =
+    let airs = no-airs said draft told in
+    let steps = no-steps said draft told in (
+      λ may. record { goes_on = told.goes_on; place = rw (version-told said draft told) told.long; order = (airs.0 may.0, steps.0 may.1) },
+      λ may. (airs.1 may.order.0, steps.1 may.order.1),
+    )
+stand-within said draft keywords.Copies told =
+    let version = version-told said draft told in
+    let airs = no-airs said draft told in
+    let steps = no-steps said draft told in (
+      λ may. record { goes_on = told.goes_on; place = rw version told.long; order = (version ∙ may.0, airs.0 may.1, steps.0 may.2) },
+      λ may. (sym version ∙ may.order.0, airs.1 may.order.1, steps.1 may.order.2),
+    )
+stand-within said draft keywords.Air told =
+    let steps = no-steps said draft told in
+    (λ may. record { goes_on = told.goes_on; place = rw (version-told said draft told) told.long; order = steps.0 may }, λ may. steps.1 may.order)
+stand-within said draft keywords.Only told =
+    (λ may. record { goes_on = told.goes_on; place = rw (version-told said draft told) told.long; order = told.bare.0 may }, λ may. told.bare.1 may.order)
+stand-within said draft keywords.Op told =
+    (λ may. record { goes_on = told.goes_on; place = rw (version-told said draft told) told.long; order = told.round.0 may }, λ may. told.round.1 may.order)
+stand-within said draft keyword told = (λ may. record { goes_on = told.goes_on; place = rw (version-told said draft told) told.long; order = tt }, λ may. tt)
+
+may-stand-here : (said : List Line) (standing : Standing) (keyword : Keyword) → Stands said standing → MayStand standing keyword ↔ MayStandBehind said keyword
+may-stand-here said start keyword stands = subst (λ (list : List Line). MayStand start keyword ↔ MayStandBehind list keyword) (sym stands) (stand-first keyword)
+may-stand-here said (begun version) keyword stands =
+    subst (λ (list : List Line). MayStand (begun version) keyword ↔ MayStandBehind list keyword) (sym stands) (stand-second version keyword)
+may-stand-here said (linked link) keyword stands =
+    subst (λ (list : List Line). MayStand (linked link) keyword ↔ MayStandBehind list keyword) (sym stands) (stand-third link keyword)
+may-stand-here said (within draft) keyword stands = stand-within said draft keyword stands
+may-stand-here said (ended draft) keyword stands = (λ may. absurd may, λ may. absurd (stands may.goes_on))
+
+pub may-stand : (said : List Line) (standing : Standing) (keyword : Keyword) → Leads start said standing → MayStand standing keyword ↔ MayStandBehind said keyword
+may-stand said standing keyword leads = may-stand-here said standing keyword (stands-behind [] said start standing leads refl)
 
 room-for-tags : (said : List Line) (draft : DraftValue) → Tells said draft
     → (tag_count draft < most_tags_of draft.head.version) ↔ (¬ (most_tags_of (version_in said) ≤ tags_in said))

@@ -34,12 +34,12 @@ faulty_line bytes number fault first = record {
 }
 
 -- at one place
-faulty_there : {said said' : List Line} {line line' : List ℕ} {behind behind' : List (List ℕ)} {to to' : Standing} (fault : Fault)
-    → IsOnePlace said said' line line' behind behind' to to' → IsFaultyBefore behind to line fault → IsFaultyBefore behind' to' line' fault
-faulty_there {line' = line'} {behind = behind} {behind' = behind'} {to = to} {to' = to'} fault place faulty =
-    subst (λ (list : List (List ℕ)). IsFaultyBefore list to' line' fault) place.behind_is
-    (subst (λ (s : Standing). IsFaultyBefore behind s line' fault) place.standing
-    (subst (λ (l : List ℕ). IsFaultyBefore behind to l fault) place.line_is faulty))
+faulty_there : {from : Standing} {said said' : List Line} (one : LineBehind from said) (other : LineBehind from said') (fault : Fault)
+    → IsOnePlace one other → IsFaultyBefore one.behind one.to one.line fault → IsFaultyBefore other.behind other.to other.line fault
+faulty_there one other fault place faulty =
+    subst (λ (list : List (List ℕ)). IsFaultyBefore list other.to other.line fault) place.behind_is
+    (subst (λ (s : Standing). IsFaultyBefore one.behind s other.line fault) place.standing
+    (subst (λ (l : List ℕ). IsFaultyBefore one.behind one.to l fault) place.line_is faulty))
 
 same_number : (bytes : List ℕ) (one other : ℕ) (fault reason : Fault) (first : IsFirstFault bytes one fault) (second : IsFirstFault bytes other reason)
     → first.settles.said ≡ second.settles.said → one ≡ other
@@ -52,10 +52,12 @@ pub one_fault : LineLaws → (bytes : List ℕ) (one other : ℕ) (fault reason 
     → (one ≡ other) × (fault ≡ reason)
 one_fault laws bytes one other fault reason first second =
     let same = sym (fault_cut bytes one fault first) ∙ fault_cut bytes other reason second in
-    elim (compare laws start first.settles.said second.settles.said (faulty_line bytes one fault first) (faulty_line bytes other reason second) same) [
+    let place_of_one = faulty_line bytes one fault first in
+    let place_of_other = faulty_line bytes other reason second in
+    elim (compare laws start first.settles.said second.settles.said place_of_one place_of_other same) [
       | inl place ↦ (
         same_number bytes one other fault reason first second place.lines,
-        one_reason laws second.behind second.standing second.line fault reason (faulty_there fault place first.faulty) second.faulty,
+        one_reason laws second.behind second.standing second.line fault reason (faulty_there place_of_one place_of_other fault place first.faulty) second.faulty,
       )
       | inr (inl goes) ↦ absurd (not_faulty laws first.behind first.standing first.line fault goes first.faulty)
       | inr (inr goes) ↦ absurd (not_faulty laws second.behind second.standing second.line reason goes second.faulty)
@@ -71,9 +73,10 @@ pub scenario_is_not_faulty : LineLaws → (scenario : Scenario) (number : ℕ) (
 scenario_is_not_faulty laws scenario number fault is first =
     let said = scenario_is_said scenario is in
     let same = sym (fault_cut (scenario_text scenario) number fault first) ∙ lines_said laws start (ended said.draft) (scenario_lines scenario) said.leads in
-    elim (compare laws start first.settles.said (scenario_lines scenario) (faulty_line (scenario_text scenario) number fault first)
-    (record { line = []; behind = []; to = ended said.draft; leads = said.leads }) same) [
-      | inl place ↦ end_is_not_faulty said.draft fault (faulty_there fault place first.faulty)
+    let faulty = faulty_line (scenario_text scenario) number fault first in
+    let end : LineBehind start (scenario_lines scenario) = record { line = []; behind = []; to = ended said.draft; leads = said.leads } in
+    elim (compare laws start first.settles.said (scenario_lines scenario) faulty end same) [
+      | inl place ↦ end_is_not_faulty said.draft fault (faulty_there faulty end fault place first.faulty)
       | inr (inl goes) ↦ not_faulty laws first.behind first.standing first.line fault goes first.faulty
       | inr (inr goes) ↦ goes.follows.stands
     ]

@@ -13,30 +13,6 @@ pub record GoesOn (standing : Standing) (line : List ℕ) (behind : List (List �
   pub follows : Follows standing next
   pub more : behind ≢ []
 
--- the two places are one
-pub record IsOnePlace (said said' : List Line) (line line' : List ℕ) (behind behind' : List (List ℕ)) (to to' : Standing) : Type 0 where
-  pub lines : said ≡ said'
-  pub line_is : line ≡ line'
-  pub behind_is : behind ≡ behind'
-  pub standing : to ≡ to'
-
-pub some_behind : (front behind : List (List ℕ)) (line : List ℕ) → front ++ line ∷ behind ≢ []
-some_behind [] behind line none = cc
-some_behind (first ∷ front) behind line none = cc
-
--- where one place comes before the other, the text goes on there
-goes_on : {from : Standing} (to : Standing) (next : Line) (line : List ℕ) (behind others : List (List ℕ)) → from ≡ to → Follows from next
-    → line ∷ behind ≡ line_text next ∷ others → others ≢ [] → GoesOn to line behind
-goes_on to next line behind others leads follows same some =
-    let text : line ≡ line_text next = cc in
-    let rest : behind ≡ others = cc in
-    record {
-      next = next;
-      text = text;
-      follows = subst (λ (s : Standing). Follows s next) leads follows;
-      more = λ none. some (sym rest ∙ none);
-    }
-
 -- a line of a text behind these lines, and what stands behind it
 pub record LineBehind (from : Standing) (said : List Line) : Type 0 where
   pub line : List ℕ
@@ -44,18 +20,41 @@ pub record LineBehind (from : Standing) (said : List Line) : Type 0 where
   pub to : Standing
   pub leads : Leads from said to
 
+-- the two places are one
+pub record IsOnePlace {from : Standing} {said said' : List Line} (one : LineBehind from said) (other : LineBehind from said') : Type 0 where
+  pub lines : said ≡ said'
+  pub line_is : one.line ≡ other.line
+  pub behind_is : one.behind ≡ other.behind
+  pub standing : one.to ≡ other.to
+
+pub some_behind : (front behind : List (List ℕ)) (line : List ℕ) → front ++ line ∷ behind ≢ []
+some_behind [] behind line none = cc
+some_behind (first ∷ front) behind line none = cc
+
+-- where one place comes before the other, the text goes on there
+goes_on : {from : Standing} (one : LineBehind from []) (next : Line) (others : List (List ℕ)) → Follows from next
+    → one.line ∷ one.behind ≡ line_text next ∷ others → others ≢ [] → GoesOn one.to one.line one.behind
+goes_on one next others follows same some =
+    let text : one.line ≡ line_text next = cc in
+    let rest : one.behind ≡ others = cc in
+    record {
+      next = next;
+      text = text;
+      follows = subst (λ (s : Standing). Follows s next) one.leads follows;
+      more = λ none. some (sym rest ∙ none);
+    }
+
 -- two places are one, or the text goes on at one of them
 pub compare : LineLaws → (from : Standing) (said said' : List Line) (one : LineBehind from said) (other : LineBehind from said')
     → map line_text said ++ one.line ∷ one.behind ≡ map line_text said' ++ other.line ∷ other.behind
-    → IsOnePlace said said' one.line other.line one.behind other.behind one.to other.to ⊎ GoesOn one.to one.line one.behind
-    ⊎ GoesOn other.to other.line other.behind
+    → IsOnePlace one other ⊎ GoesOn one.to one.line one.behind ⊎ GoesOn other.to other.line other.behind
 compare laws from [] [] one other same =
     inl (record { lines = refl; line_is = cc; behind_is = cc; standing = sym one.leads ∙ other.leads })
 compare laws from [] (next ∷ said') one other same =
-    inr (inl (goes_on one.to next one.line one.behind (map line_text said' ++ other.line ∷ other.behind) one.leads other.leads.0 same
+    inr (inl (goes_on one next (map line_text said' ++ other.line ∷ other.behind) other.leads.0 same
     (some_behind (map line_text said') other.behind other.line)))
 compare laws from (next ∷ said) [] one other same =
-    inr (inr (goes_on other.to next other.line other.behind (map line_text said ++ one.line ∷ one.behind) other.leads one.leads.0 (sym same)
+    inr (inr (goes_on other next (map line_text said ++ one.line ∷ one.behind) one.leads.0 (sym same)
     (some_behind (map line_text said) one.behind one.line)))
 compare laws from (next ∷ said) (next' ∷ said') one other same =
     let text : line_text next ≡ line_text next' = cc in

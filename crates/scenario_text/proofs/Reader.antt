@@ -99,45 +99,12 @@ size_op draft op some =
 -- each line is one more
 after_count : (from : Standing) (line : Line) → Follows from line → lines_before (after from line) ≡ lines_before from + 1
 after_count start (lines.Version version) follows = refl
-after_count start (lines.Link link) follows = absurd follows.stands
-after_count start (lines.Default several) follows = absurd follows.stands
-after_count start (lines.Tag tag) follows = absurd follows.stands
-after_count start (lines.Copies count tag) follows = absurd follows.stands
-after_count start (lines.Air number happening) follows = absurd follows.stands
-after_count start (lines.Select selection) follows = absurd follows.stands
-after_count start lines.Nak follows = absurd follows.stands
-after_count start (lines.Event event tag) follows = absurd follows.stands
-after_count start (lines.Round version spec) follows = absurd follows.stands
-after_count start (lines.Only epc) follows = absurd follows.stands
-after_count start (lines.Op op) follows = absurd follows.stands
-after_count start lines.End follows = absurd follows.stands
-after_count (begun version) (lines.Version other) follows = absurd follows.stands
+after_count start line follows = absurd follows.stands
 after_count (begun One) (lines.Link link) follows = refl
 after_count (begun Two) (lines.Link link) follows = refl
-after_count (begun version) (lines.Default several) follows = absurd follows.stands
-after_count (begun version) (lines.Tag tag) follows = absurd follows.stands
-after_count (begun version) (lines.Copies count tag) follows = absurd follows.stands
-after_count (begun version) (lines.Air number happening) follows = absurd follows.stands
-after_count (begun version) (lines.Select selection) follows = absurd follows.stands
-after_count (begun version) lines.Nak follows = absurd follows.stands
-after_count (begun version) (lines.Event event tag) follows = absurd follows.stands
-after_count (begun version) (lines.Round other spec) follows = absurd follows.stands
-after_count (begun version) (lines.Only epc) follows = absurd follows.stands
-after_count (begun version) (lines.Op op) follows = absurd follows.stands
-after_count (begun version) lines.End follows = absurd follows.stands
-after_count (linked link) (lines.Version version) follows = absurd follows.stands
-after_count (linked link) (lines.Link other) follows = absurd follows.stands
+after_count (begun version) line follows = absurd follows.stands
 after_count (linked link) (lines.Default several) follows = refl
-after_count (linked link) (lines.Tag tag) follows = absurd follows.stands
-after_count (linked link) (lines.Copies count tag) follows = absurd follows.stands
-after_count (linked link) (lines.Air number happening) follows = absurd follows.stands
-after_count (linked link) (lines.Select selection) follows = absurd follows.stands
-after_count (linked link) lines.Nak follows = absurd follows.stands
-after_count (linked link) (lines.Event event tag) follows = absurd follows.stands
-after_count (linked link) (lines.Round version spec) follows = absurd follows.stands
-after_count (linked link) (lines.Only epc) follows = absurd follows.stands
-after_count (linked link) (lines.Op op) follows = absurd follows.stands
-after_count (linked link) lines.End follows = absurd follows.stands
+after_count (linked link) line follows = absurd follows.stands
 after_count (within draft) (lines.Version version) follows = absurd follows.stands
 after_count (within draft) (lines.Link link) follows = absurd follows.stands
 after_count (within draft) (lines.Default several) follows = absurd follows.stands
@@ -165,9 +132,14 @@ said_more text rest line behind said next cut first same =
     ∙ sym (append_assoc (map line_text said) (line_text next ∷ []) (lines_of behind))
     ∙ ap (λ (list : List (List ℕ)). list ++ lines_of behind) (sym (map-append line_text said (next ∷ [])))
 
+-- a text is read up to what is left, and says the rest of it there where it says something
+pub record IsRead (text rest : List ℕ) (standing : Standing) : Type 0 where
+  pub so_far : SoFar text rest standing
+  pub still_says : StillSays text rest standing
+
 -- nothing is read yet
-pub read_none : (text : List ℕ) → SoFar text text start
-read_none text = record { said = []; cut = refl; leads = refl }
+pub read_none : (text : List ℕ) → IsRead text text start
+read_none text = record { so_far = record { said = []; cut = refl; leads = refl }; still_says = λ whole last left. (whole, left) }
 
 -- the next line of a text that is read up to there, and what stands behind it
 pub record NextLine (text : List ℕ) (from : Standing) : Type 0 where
@@ -175,15 +147,14 @@ pub record NextLine (text : List ℕ) (from : Standing) : Type 0 where
   pub line : List ℕ
   pub behind : List ℕ
   pub first : lines_of rest ≡ line ∷ lines_of behind
-  pub so_far : SoFar text rest from
-  pub still_says : StillSays text rest from
+  pub read : IsRead text rest from
 
 -- one line more is read
 pub read_more : (text : List ℕ) (from to : Standing) (next : NextLine text from) → LeadsBy next.line from to → SoFar text next.behind to
 read_more text from to next by = record {
-  said = next.so_far.said ++ by.said ∷ [];
-  cut = said_more text next.rest next.line next.behind next.so_far.said by.said next.so_far.cut next.first (text_spelled next.line by.said by.spelling);
-  leads = leads_one start from to next.so_far.said by.said next.so_far.leads by.follows by.leads;
+  said = next.read.so_far.said ++ by.said ∷ [];
+  cut = said_more text next.rest next.line next.behind next.read.so_far.said by.said next.read.so_far.cut next.first (text_spelled next.line by.said by.spelling);
+  leads = leads_one start from to next.read.so_far.said by.said next.read.so_far.leads by.follows by.leads;
 }
 
 -- the first of the lines that are left
@@ -222,7 +193,7 @@ ended_left draft last (next ∷ todo) leads = absurd leads.0.stands
 left_here : LineLaws → (text : List ℕ) (from : Standing) (next : NextLine text from) (last : DraftValue) (whole : List Line)
     → AreLeft text start whole last → NextLeft next.line next.behind from last
 left_here laws text from next last whole left =
-    let here = next.still_says whole last left in
+    let here = next.read.still_says whole last left in
     next_left laws next.rest next.line next.behind from last here.0 next.first here.1
 
 pub says_more : LineLaws → (text : List ℕ) (from to : Standing) (next : NextLine text from)
@@ -255,13 +226,13 @@ place_here text rest standing so_far =
 pub fault_here : (text : List ℕ) (progress : Progress) (next : NextLine text (standing_of progress)) (number : ℕ) (fault : Fault)
     → number ≡ 1 + lines_before (standing_of progress) → IsFaultyHere (standing_of progress) next.line fault → IsFirstFault text number fault
 fault_here text progress next number fault count faulty = record {
-  before = map line_text next.so_far.said;
+  before = map line_text next.read.so_far.said;
   line = next.line;
   behind = lines_of next.behind;
   standing = standing_of progress;
-  cut = next.so_far.cut ∙ ap (λ (list : List (List ℕ)). map line_text next.so_far.said ++ list) next.first;
-  settles = record { said = next.so_far.said; spelling = refl; leads = next.so_far.leads };
-  place = count ∙ place_here text next.rest (standing_of progress) next.so_far;
+  cut = next.read.so_far.cut ∙ ap (λ (list : List (List ℕ)). map line_text next.read.so_far.said ++ list) next.first;
+  settles = record { said = next.read.so_far.said; spelling = refl; leads = next.read.so_far.leads };
+  place = count ∙ place_here text next.rest (standing_of progress) next.read.so_far;
   faulty = faulty_before (lines_of next.behind) progress next.line fault (some_line next.behind) faulty;
 }
 
@@ -286,11 +257,11 @@ takes_as line old taken as_this new same takes = subst (λ (t : Taken). Takes ol
 pub leads_as : (standing : Standing) (taken as_this : Taken) (new : Progress) → taken ≡ as_this → LeadsTo standing taken new → LeadsTo standing as_this new
 leads_as standing taken as_this new same leads = subst (λ (t : Taken). LeadsTo standing t new) same leads
 
--- ... where it is the end of a draft
-pub ends_draft : (line : List ℕ) (old : Standing) (taken : Taken) (new : Progress) (draft : DraftValue) → taken ≡ TakenEnd → new ≡ Within draft
-    → Takes old line taken new → LeadsBy line old (ended draft)
-ends_draft line old taken new draft end is takes =
-    subst (λ (p : Progress). Takes old line TakenEnd p) is (takes_as line old taken TakenEnd new end takes)
+-- ... where it is the end of a draft: all up to there is read
+pub end_read : (text : List ℕ) (from : Standing) (next : NextLine text from) (taken : Taken) (new : Progress) (draft : DraftValue) → taken ≡ TakenEnd
+    → new ≡ Within draft → Takes from next.line taken new → SoFar text next.behind (ended draft)
+end_read text from next taken new draft end is takes =
+    read_more text from (ended draft) next (subst (λ (p : Progress). Takes from next.line TakenEnd p) is (takes_as next.line from taken TakenEnd new end takes))
 
 pub leads_end : (standing : Standing) (taken : Taken) (new : Progress) (draft : DraftValue) → taken ≡ TakenEnd → new ≡ Within draft
     → LeadsTo standing taken new → standing ≡ ended draft

@@ -28,35 +28,13 @@ record AgreesElse (draft : DraftValue) (line : Line) : Type 0 where
 
 -- a line that is of another version is a round, which nothing else is asked of
 another_version : (draft : DraftValue) (line : Line) → (¬ IsOfVersion draft.head.version line) → MayCopy (tag_count draft) line × AgreesElse draft line
-another_version draft (lines.Version other) never = absurd (never tt)
-another_version draft (lines.Link link) never = absurd (never tt)
-another_version draft (lines.Default several) never = absurd (never tt)
-another_version draft (lines.Tag tag) never = absurd (never tt)
-another_version draft (lines.Copies count tag) never = absurd (never tt)
-another_version draft (lines.Air exchange happening) never = absurd (never tt)
-another_version draft (lines.Select selection) never = absurd (never tt)
-another_version draft lines.Nak never = absurd (never tt)
-another_version draft (lines.Event event tag) never = absurd (never tt)
 another_version draft (lines.Round other spec) never = (tt, record { names = tt; order = tt; once = tt })
-another_version draft (lines.Only epc) never = absurd (never tt)
-another_version draft (lines.Op op) never = absurd (never tt)
-another_version draft lines.End never = absurd (never tt)
+another_version draft line never = absurd (never tt)
 
 -- a line that may not copy is one of copies, which nothing else is asked of
 no_copies : (draft : DraftValue) (line : Line) → (¬ MayCopy (tag_count draft) line) → AgreesElse draft line
-no_copies draft (lines.Version version) never = absurd (never tt)
-no_copies draft (lines.Link link) never = absurd (never tt)
-no_copies draft (lines.Default several) never = absurd (never tt)
-no_copies draft (lines.Tag tag) never = absurd (never tt)
 no_copies draft (lines.Copies count tag) never = record { names = tt; order = tt; once = tt }
-no_copies draft (lines.Air exchange happening) never = absurd (never tt)
-no_copies draft (lines.Select selection) never = absurd (never tt)
-no_copies draft lines.Nak never = absurd (never tt)
-no_copies draft (lines.Event event tag) never = absurd (never tt)
-no_copies draft (lines.Round other spec) never = absurd (never tt)
-no_copies draft (lines.Only epc) never = absurd (never tt)
-no_copies draft (lines.Op op) never = absurd (never tt)
-no_copies draft lines.End never = absurd (never tt)
+no_copies draft line never = absurd (never tt)
 
 -- the reason for which a line doesn't agree with the lines before it, with all that is known then
 data Disagreement (draft : DraftValue) (line : Line) (fault : Fault) : Type 0 where

@@ -1,10 +1,9 @@
 -- What a line does to the reader of a scenario.
-use Rattle.std.proofs.Common.{◌≡◌, ◌≢◌, inl, inr, ℕ, List, Result, Ok, Err, IfErr, ap, arith, get_or, refl, subst, sym, ◌∙◌}
+use Rattle.std.proofs.Common.{◌≡◌, ◌≢◌, inl, inr, ℕ, List, Result, Ok, Err, IfErr, ap, refl, subst, sym, ◌∙◌}
 use Rattle.std.specs.Prelude.{IsErrAnd}
 use Rattle.scenario_lines.specs.declared.line.Line.{Line}
 use Rattle.scenario_lines.specs.declared.line.Line.TheVariants as lines
 use Rattle.scenario_lines.specs.declared.version.Version.{Version as TextVersion}
-use Rattle.scenario_lines.specs.declared.version.Version.TheVariants.{One, Two}
 use Rattle.scenario_lines.specs.LineFaults.{IsFaultyLine, SpellsLine}
 use Rattle.scenario_lines.specs.declared.fault.LineFault.{LineFault}
 use Rattle.scenario_lines.specs.declared.fault.LineFault.TheVariants as line_faults
@@ -104,31 +103,10 @@ no_disagreement_here (ended draft) line fault agrees disagrees = disagrees
 -- the first line is a version
 pub version_alone : (said : Line) → MayStand start (keyword_of said) → (version : TextVersion) × (said ≡ lines.Version version)
 version_alone (lines.Version version) stands = (version, refl)
-version_alone (lines.Link link) stands = absurd stands
-version_alone (lines.Default several) stands = absurd stands
-version_alone (lines.Tag tag) stands = absurd stands
-version_alone (lines.Copies count tag) stands = absurd stands
-version_alone (lines.Air exchange happening) stands = absurd stands
-version_alone (lines.Select selection) stands = absurd stands
-version_alone lines.Nak stands = absurd stands
-version_alone (lines.Event event tag) stands = absurd stands
-version_alone (lines.Round version spec) stands = absurd stands
-version_alone (lines.Only epc) stands = absurd stands
-version_alone (lines.Op op) stands = absurd stands
-version_alone lines.End stands = absurd stands
+version_alone line stands = absurd stands
 
 pub version_follows : (version : TextVersion) → Follows start (lines.Version version)
 version_follows version = record { is = record { form = tt; coherent = tt }; stands = tt; room = tt; agrees = tt }
-
--- a first line that is the text of a version spells it
-first_spells : (line : List ℕ) (version : TextVersion) → line ≡ line_text (lines.Version version) → SpellsLine (fields_of line) (lines.Version version)
-first_spells line One is = record { spelling = ap fields_of is; is = record { form = tt; coherent = tt } }
-first_spells line Two is = record { spelling = ap fields_of is; is = record { form = tt; coherent = tt } }
-
--- ... and may stand there
-pub first_said : (line : List ℕ) (version : TextVersion) → line ≡ line_text (lines.Version version)
-    → SpellsLine (fields_of line) (lines.Version version) × Follows start (lines.Version version)
-first_said line version is = (first_spells line version is, version_follows version)
 
 -- a first line that spells what may stand there is the text of a version
 pub first_is_version : (line : List ℕ) (said : Line) → SpellsLine (fields_of line) said → Follows start said
@@ -137,24 +115,7 @@ first_is_version line said spells follows =
     let version = version_alone said follows.stands in
     (version.0, version.1, text_spelled line said spells ∙ ap line_text version.1)
 
--- the last digits of the two first lines differ
-other_digits : ◌≡◌ {A = ℕ} 49 50 → ⊥
-other_digits same = omega (arith, same)
-
-same_version : (one other : TextVersion) → line_text (lines.Version one) ≡ line_text (lines.Version other) → lines.Version one ≡ lines.Version other
-same_version One One same = refl
-same_version One Two same = absurd (other_digits (ap (λ (text : List ℕ). get_or text 5 0) same))
-same_version Two One same = absurd (other_digits (sym (ap (λ (text : List ℕ). get_or text 5 0) same)))
-same_version Two Two same = refl
-
--- the first line, read as a version, is what it spells
-pub first_is_read : (line : List ℕ) (said : Line) (version : TextVersion) → line ≡ line_text (lines.Version version) → SpellsLine (fields_of line) said
-    → Follows start said → lines.Version version ≡ said
-first_is_read line said version is spells follows =
-    let first = first_is_version line said spells follows in
-    same_version version first.0 (sym is ∙ first.2) ∙ sym first.1
-
--- ... and where it is faulty, it spells nothing that may stand there
+-- where the first line is faulty, it spells nothing that may stand there
 pub first_not_read : {A : Type 0} (line : List ℕ) (said : Line) (fault : Fault) → IsFaultyHere start line fault → SpellsLine (fields_of line) said
     → Follows start said → A
 first_not_read line said fault faulty spells follows =

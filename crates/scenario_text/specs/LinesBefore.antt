@@ -5,7 +5,7 @@ use Rattle.std.specs.List.{AllByRecursion}
 use Rattle.scenario_lines.specs.declared.first_fields.Keyword.{Keyword}
 use Rattle.scenario_lines.specs.declared.first_fields.Keyword.TheVariants as keywords
 use Rattle.scenario_lines.specs.declared.version.Version.{Version}
-use Rattle.scenario_lines.specs.declared.version.Version.TheVariants.{One}
+use Rattle.scenario_lines.specs.declared.version.Version.TheVariants.{One, Two}
 use Rattle.scenario_lines.specs.declared.fault.LineFault.TheVariants as line_faults
 use Rattle.scenario_lines.specs.declared.line.Happening.{Happening}
 use Rattle.scenario_lines.specs.declared.line.Happening.TheVariants as happenings
@@ -14,7 +14,7 @@ use Rattle.scenario_lines.specs.declared.line.Line.TheVariants as lines
 use Rattle.scenario_text.specs.declared.fault.Fault.{Fault}
 use Rattle.scenario_text.specs.declared.fault.Fault.TheVariants.{Line as LineReason, Copies, Tag, Order, Twice}
 use Rattle.scenario.specs.Limits.{most_tags_of, most_air_lines, most_ops, most_steps}
-use Rattle.scenario_text.specs.Standing.{IsOfVersion, MayCopy, NamesTag}
+use Rattle.scenario_text.specs.Standing.{IsOfVersion, MayCopy, NamesTag, head_size}
 
 -- the version that the first line names
 abbrev pub version_in : List Line → Version
@@ -73,6 +73,45 @@ IsFullBefore before keywords.Event = most_steps ≤ steps_in before
 IsFullBefore before keywords.Round = most_steps ≤ steps_in before
 IsFullBefore before keywords.Op = most_ops ≤ ops_behind 0 before
 IsFullBefore before keyword = ⊥
+
+-- the line is a round
+abbrev pub IsRoundLine : Line → Type 0
+IsRoundLine (lines.Round version spec) = Unit {0}
+IsRoundLine line = ⊥
+
+-- the last of the lines is one
+abbrev pub EndsInRound : List Line → Type 0
+EndsInRound [] = ⊥
+EndsInRound (line ∷ []) = IsRoundLine line
+EndsInRound (line ∷ next ∷ more) = EndsInRound (next ∷ more)
+
+-- the line is another than the end
+abbrev pub IsNoEnd : Line → Type 0
+IsNoEnd lines.End = ⊥
+IsNoEnd line = Unit {0}
+
+-- the version is the first line, the link the second and the default of version 2 the third; the others come behind these
+abbrev pub ComesAsLine : List Line → Keyword → Type 0
+ComesAsLine before keywords.Version = length before ≡ 0
+ComesAsLine before keywords.Link = length before ≡ 1
+ComesAsLine before keywords.Default = (version_in before ≡ Two) × (length before ≡ 2)
+ComesAsLine before keyword = head_size (version_in before) ≤ length before
+
+-- Tags come before air lines and steps, and copies in version 2 alone; air lines come before steps. `only` comes right behind a
+-- round, and an operation where the last step is a round.
+abbrev pub ComesInOrder : List Line → Keyword → Type 0
+ComesInOrder before keywords.Tag = (airs_in before ≡ 0) × (steps_in before ≡ 0)
+ComesInOrder before keywords.Copies = (version_in before ≡ Two) × (airs_in before ≡ 0) × (steps_in before ≡ 0)
+ComesInOrder before keywords.Air = steps_in before ≡ 0
+ComesInOrder before keywords.Only = EndsInRound before
+ComesInOrder before keywords.Op = EndsInRound (filter is_step before)
+ComesInOrder before keyword = Unit {0}
+
+-- a line of this kind may stand behind the lines
+pub record MayStandBehind (before : List Line) (keyword : Keyword) : Type 0 where
+  pub goes_on : AllByRecursion IsNoEnd before
+  pub place : ComesAsLine before keyword
+  pub order : ComesInOrder before keyword
 
 -- of one exchange events come first, then misses, and the choice last
 abbrev pub turn_of : Happening → ℕ

@@ -9,10 +9,10 @@ ghost use Rattle.scenario.specs.ScenarioText.{scenario_lines, scenario_text, IsT
 ghost use Rattle.scenario.specs.Limits.{IsScenario};
 ghost use Rattle.scenario_text.specs.LineLaws.{LineLaws};
 ghost use Rattle.scenario_text.specs.Faults.{DisagreesBy, IsFirstFault};
-ghost use Rattle.scenario_text.specs.LinesBefore.{DisagreesWith, IsFullBefore};
+ghost use Rattle.scenario_text.specs.LinesBefore.{DisagreesWith, IsFullBefore, MayStandBehind};
 ghost use Rattle.scenario_text.specs.Beginnings.{BeginsScenario, FirstLinesBegin};
 ghost use Rattle.scenario_text.specs.Draft.{DraftValue, scenario_of};
-ghost use Rattle.scenario_text.specs.Standing.{HasRoom, IsSaid, Leads, ended, Standing, start, within};
+ghost use Rattle.scenario_text.specs.Standing.{HasRoom, IsSaid, Leads, MayStand, ended, Standing, start, within};
 
 use scenario_lines::{
     lines_are_field_texts, lines_are_told_apart, lines_begin_or_are_faulty,
@@ -93,10 +93,15 @@ pub fn faulty_lines_begin_no_text()
     line_laws();
 }
 
-/// The reasons `limit`, `tag`, `order` and `twice`, said of the lines before a line: there are as many lines of
-/// its kind already as there may be; its tag has no line among them; an earlier air line is of a later exchange,
-/// or says of the same one what has to stand behind; an earlier line is a choice for the same exchange.
+/// The reasons `word`, `limit`, `copies`, `tag`, `order` and `twice`, and `number` of a round of the other version,
+/// said of the lines before a line: a line of its kind may not stand behind them; there are as many tags, or
+/// lines of its kind, already as there may be; the copies have no EPC to differ in, or with the tags before them
+/// are too many; its tag has no line among them; an earlier air line is of a later exchange, or says of the same
+/// one what has to stand behind; an earlier line is a choice for the same exchange; the first line names the
+/// other version.
 pub fn reasons_tell_of_lines_before()
+    ensures word { (said : List Line) (standing : Standing) (keyword : Keyword) → Leads start said standing
+        → MayStand standing keyword ↔ MayStandBehind said keyword }
     ensures limit { (said : List Line) (draft : DraftValue) (keyword : Keyword) → Leads start said (within draft)
         → HasRoom (within draft) keyword ↔ (¬ IsFullBefore said keyword) }
     ensures disagrees { (said : List Line) (draft : DraftValue) (line : Line) (fault : Fault) → Leads start said (within draft)

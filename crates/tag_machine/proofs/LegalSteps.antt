@@ -297,10 +297,12 @@ accessed rn brought acts (SecuredState held) body before given = heeded_or rn br
 accessed rn brought acts KilledState body before given = before
 accessed rn brought acts UnpoweredState body before given = before
 
-uncovered : (level : Level) (held : Held) (body : BodyValue) (covered : ℕ) (cover : Option ℕ) (acts : Held → ℕ → Outcome) → IsLegalHeld held → IsLegalBody body → (covered < 2 ^ 16) × IsWordOrNone cover → ((bare : Held) (value : ℕ) → IsLegalHeld bare → value < 2 ^ 16 → Leaves (acts bare value)) → Leaves (uncover level held body covered cover acts)
-uncovered level held body covered None acts of_held of_body small given = held_tag level held body of_held of_body
-uncovered level held body covered (Some cover) acts of_held of_body small given =
-    given _ _ (with_cover held None of_held tt) (xor_of_16 covered cover small.0 small.1)
+uncovered : (level : Level) (held : Held) (body : BodyValue) (covered : ℕ) (acts : Held → ℕ → Outcome) → IsLegalHeld held → IsLegalBody body → covered < 2 ^ 16 → ((bare : Held) (value : ℕ) → IsLegalHeld bare → value < 2 ^ 16 → Leaves (acts bare value)) → Leaves (uncover level held body covered held.cover acts)
+uncovered level held body covered acts of_held of_body small given =
+    (elim held.cover as (λ (cover : Option ℕ). IsWordOrNone cover → Leaves (uncover level held body covered cover acts)) [
+      | None ↦ λ word. held_tag level held body of_held of_body
+      | Some cover ↦ λ word. given _ _ (with_cover held None of_held tt) (xor_of_16 covered cover small word)
+    ]) of_held.cover
 
 memory_after : (level : Level) (held : Held) (body : BodyValue) (change : Result Banks ErrorCode) → IsLegalHeld held → IsLegalBody body → IfOk change AreSound → Leaves (memory_outcome level held body change)
 memory_after level held body (Ok memory) of_held of_body sound = held_tag level held (record body { memory = memory }) of_held (with_memory body memory of_body sound)
@@ -337,7 +339,7 @@ after_req_rn rn UnpoweredState body before = before
 written : (bank : Bank) (pointer covered : ℕ) (level : Level) (held : Held) (body : BodyValue) → covered < 2 ^ 16 → IsLegalHeld held → IsLegalBody body → Leaves (write_outcome bank pointer covered level held body)
 written bank pointer covered level held body small of_held of_body =
     let change = λ (word : ℕ). banks_after_write body.memory body.locks level bank pointer (word ∷ []) in
-    uncovered level held body covered held.cover (λ bare word. memory_outcome level bare body (change word)) of_held of_body (small, of_held.cover)
+    uncovered level held body covered (λ bare word. memory_outcome level bare body (change word)) of_held of_body small
     (λ bare word of_bare of_word.
     memory_after level bare body (change word) of_bare of_body
     (written_sound body.memory body.locks level bank pointer (word ∷ []) (sound_of body of_body)
@@ -385,7 +387,7 @@ after_half : (password : Password) (covered rn : ℕ) (state : StateValue) (body
 after_half password covered rn state body small before =
     accessed rn (Some password) (password_outcome password covered) state body before
     (λ level held of_held.
-    uncovered level held body covered held.cover (λ bare value. half_outcome password level bare.half value bare body) of_held before.body (small, of_held.cover)
+    uncovered level held body covered (λ bare value. half_outcome password level bare.half value bare body) of_held before.body small
     (λ bare value of_bare of_value. half_taken password level bare.half value bare body of_value of_bare before.body))
 
 pub step_keeps : (command : Command) (state : StateValue) (body : BodyValue) → IsLegalCommand command → IsLegalAt state body → IsLegalTag (step command state body).tag

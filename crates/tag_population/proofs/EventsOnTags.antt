@@ -40,21 +40,21 @@ befallen_tags number befallen (suc at) event (tag ∷ tags) d below is =
     let rest = befallen_tags (number + 1) befallen at event tags d (omega arith) (omega arith) in
     rw (first, ← rest) refl
 
-pub befallen_at : (befallen : ℕ) (event : Event) (seats tags : List TagValue) (old new d : TagValue) → befallen < length tags → seats ≡ tags
-    → old ≡ get_or seats befallen d → new ≡ tag_after_event event old.state old.body → slice_set seats befallen new ≡ tags_after_event 0 event befallen tags
-befallen_at befallen event seats tags old new d below same at is =
-    rw (same, is, at, same) (befallen_tags 0 befallen befallen event tags d below (omega arith))
+pub befallen_at : (befallen : ℕ) (event : Event) (tags : List TagValue) (old new d : TagValue) → befallen < length tags
+    → old ≡ get_or tags befallen d → new ≡ tag_after_event event old.state old.body → slice_set tags befallen new ≡ tags_after_event 0 event befallen tags
+befallen_at befallen event tags old new d below at is =
+    rw (is, at) (befallen_tags 0 befallen befallen event tags d below (omega arith))
 
 pub length-tags_after_event : (number befallen : ℕ) (event : Event) (tags : List TagValue) → length (tags_after_event number event befallen tags) ≡ length tags
 length-tags_after_event number befallen event [] = refl
 length-tags_after_event number befallen event (tag ∷ tags) = ap (λ n. suc n) (length-tags_after_event (number + 1) befallen event tags)
 
 -- one event more befell its tag
-pub befallen_next : (events : List (Event × ℕ)) (at : ℕ) (event d : Event × ℕ) (before after end : List TagValue) → at < length events
-    → event ≡ get_or events at d → tags_after_events 0 (drop at events) before ≡ end → after ≡ tags_after_event 0 event.0 event.1 before
+pub befallen_next : (events : List (Event × ℕ)) (at : ℕ) (d : Event × ℕ) (before after end : List TagValue) → at < length events
+    → tags_after_events 0 (drop at events) before ≡ end → after ≡ tags_after_event 0 (get_or events at d).0 (get_or events at d).1 before
     → tags_after_events 0 (drop (at + 1) events) after ≡ end
-befallen_next events at event d before after end below is so_far step =
-    let rest : drop at events ≡ event ∷ drop (at + 1) events = rw (drop-cons events at d below, ← is, add-one at) refl in
+befallen_next events at d before after end below so_far step =
+    let rest : drop at events ≡ get_or events at d ∷ drop (at + 1) events = rw (drop-cons events at d below, add-one at) refl in
     rw step (sym (ap (λ (l : List (Event × ℕ)). tags_after_events 0 l before) rest) ∙ so_far)
 
 -- all events befell their tags
@@ -80,11 +80,10 @@ pub length-seated : (seats : List TagValue) (tags more : List AnyTag) → seats 
 length-seated seats tags more same =
     omega (arith, ap (λ (l : List TagValue). length l) same, length-append seats (map tag_value_of more), length-map more tag_value_of, length-map tags tag_value_of)
 
-pub seated_next : (seats after : List TagValue) (tag : TagValue) (next : AnyTag) (more rest tags : List AnyTag) → seats ++ map tag_value_of more ≡ map tag_value_of tags
-    → more ≡ next ∷ rest → tag ≡ tag_value_of next → after ≡ seats ++ tag ∷ [] → after ++ map tag_value_of rest ≡ map tag_value_of tags
-seated_next seats after tag next more rest tags same is tag_is after_is =
+pub seated_next : (seats after : List TagValue) (next : AnyTag) (more rest tags : List AnyTag) → seats ++ map tag_value_of more ≡ map tag_value_of tags
+    → more ≡ next ∷ rest → after ≡ seats ++ tag_value_of next ∷ [] → after ++ map tag_value_of rest ≡ map tag_value_of tags
+seated_next seats after next more rest tags same is after_is =
     ap (λ (l : List TagValue). l ++ map tag_value_of rest) after_is
-    ∙ append_assoc seats (tag ∷ []) (map tag_value_of rest)
-    ∙ ap (λ (t : TagValue). seats ++ (t ∷ map tag_value_of rest)) tag_is
+    ∙ append_assoc seats (tag_value_of next ∷ []) (map tag_value_of rest)
     ∙ ap (λ (l : List AnyTag). seats ++ map tag_value_of l) (sym is)
     ∙ same

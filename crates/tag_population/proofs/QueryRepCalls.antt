@@ -26,41 +26,16 @@ use Rattle.tag_population.specs.declared.waiting.Participation.{Participation}
 use Rattle.tag_population.specs.declared.waiting.Participation.TheVariants.{Waits, Called}
 
 -- a tag that isn't called stays as it is at a command that doesn't reach all
-stays_in : (F : StateValue → BodyValue → Outcome) → ((body : BodyValue) → F ReadyState body ≡ silent ReadyState body)
-    → ((session q slot : ℕ) (body : BodyValue) → F (ArbitrateState session q slot) body ≡ silent (ArbitrateState session q slot) body)
-    → ((body : BodyValue) → F KilledState body ≡ silent KilledState body) → ((body : BodyValue) → F UnpoweredState body ≡ silent UnpoweredState body)
-    → (state : StateValue) (body : BodyValue) → is_called (participation_in state) ≡ false → F state body ≡ silent state body
-stays_in F ready arbitrate killed unpowered ReadyState body none = ready body
-stays_in F ready arbitrate killed unpowered (ArbitrateState session q slot) body none = arbitrate session q slot body
-stays_in F ready arbitrate killed unpowered (ReplyState session q rn) body none = absurd (cc)
-stays_in F ready arbitrate killed unpowered (AcknowledgedState session q rn) body none = absurd (cc)
-stays_in F ready arbitrate killed unpowered (OpenState held) body none = absurd (cc)
-stays_in F ready arbitrate killed unpowered (SecuredState held) body none = absurd (cc)
-stays_in F ready arbitrate killed unpowered KilledState body none = killed body
-stays_in F ready arbitrate killed unpowered UnpoweredState body none = unpowered body
-
 stays : (command : Command) (state : StateValue) (body : BodyValue) → reaches_waiting command ≡ false → is_called (participation_in state) ≡ false → step command state body ≡ silent state body
 stays (commands.QueryRep session) state body some none = absurd (cc)
-stays (commands.Ack rn) state body some none = stays_in (λ s b. step (commands.Ack rn) s b) (λ b. refl) (λ session q slot b. refl) (λ b. refl) (λ b. refl) state body none
 stays (commands.Query dr line_code trext sel session target q) state body some none = absurd (cc)
 stays (commands.QueryAdjust session updn) state body some none = absurd (cc)
 stays (commands.Select target action bank pointer mask) state body some none = absurd (cc)
-stays commands.Nak state body some none = stays_in (λ s b. step commands.Nak s b) (λ b. refl) (λ session q slot b. refl) (λ b. refl) (λ b. refl) state body none
-stays (commands.ReqRn rn) state body some none = stays_in (λ s b. step (commands.ReqRn rn) s b) (λ b. refl) (λ session q slot b. refl) (λ b. refl) (λ b. refl) state body none
-stays (commands.Read bank pointer count rn) state body some none =
-    stays_in (λ s b. step (commands.Read bank pointer count rn) s b) (λ b. refl) (λ session q slot b. refl) (λ b. refl) (λ b. refl) state body none
-stays (commands.Write bank pointer covered rn) state body some none =
-    stays_in (λ s b. step (commands.Write bank pointer covered rn) s b) (λ b. refl) (λ session q slot b. refl) (λ b. refl) (λ b. refl) state body none
-stays (commands.Kill covered rn) state body some none =
-    stays_in (λ s b. step (commands.Kill covered rn) s b) (λ b. refl) (λ session q slot b. refl) (λ b. refl) (λ b. refl) state body none
-stays (commands.Lock payload rn) state body some none =
-    stays_in (λ s b. step (commands.Lock payload rn) s b) (λ b. refl) (λ session q slot b. refl) (λ b. refl) (λ b. refl) state body none
-stays (commands.Access covered rn) state body some none =
-    stays_in (λ s b. step (commands.Access covered rn) s b) (λ b. refl) (λ session q slot b. refl) (λ b. refl) (λ b. refl) state body none
-stays (commands.BlockWrite bank pointer words rn) state body some none =
-    stays_in (λ s b. step (commands.BlockWrite bank pointer words rn) s b) (λ b. refl) (λ session q slot b. refl) (λ b. refl) (λ b. refl) state body none
-stays (commands.BlockErase bank pointer count rn) state body some none =
-    stays_in (λ s b. step (commands.BlockErase bank pointer count rn) s b) (λ b. refl) (λ session q slot b. refl) (λ b. refl) (λ b. refl) state body none
+stays command (ReplyState session q rn) body some none = absurd (cc)
+stays command (AcknowledgedState session q rn) body some none = absurd (cc)
+stays command (OpenState held) body some none = absurd (cc)
+stays command (SecuredState held) body some none = absurd (cc)
+stays command state body some none = refl
 
 bool_cases : (b : Bool) → (b ≡ true) ⊎ (b ≡ false)
 bool_cases true = inl refl
@@ -246,23 +221,31 @@ counted_at session [] number = refl
 counted_at session (participation ∷ participations) zero = refl
 counted_at session (participation ∷ participations) (suc number) = counted_at session participations number
 
--- what is known once the tags are called that a QueryRep has to reach
+-- the tags are called that a QueryRep has to reach: first those that miss it, then those whose slot comes next
 pub record RepCalls (session : ℕ) (entry : Entry) (participations : List (Option Participation)) (seats : List TagValue) (called : List (Option Participation)) (seated : List TagValue) : Type 0 where
   pub middle : List (Option Participation)
+  pub between : List TagValue
+  pub steps : ℕ
+  pub stepped : ℕ
+  pub last : ℕ
   pub rest : AreAtRest participations seats
-  pub tags : tags_of called seated ≡ tags_of participations seats
-  pub whole : length called ≡ length seated
-  pub seats_whole : length seated ≡ length seats
-  pub legal : AreLegalTags seated
   pub missed : (number : ℕ) → IsMissedCalled session (is_missed number entry) (participation_at participations number) (participation_at middle number)
+  pub first : CallsTags participations seats steps middle between stepped
   pub due : (number : ℕ) → IsDueCalled session (participation_at middle number) (participation_at called number)
+  pub second : CallsTags middle between stepped called seated last
+
+rep_whole : (session : ℕ) (entry : Entry) (participations : List (Option Participation)) (seats : List TagValue) (called : List (Option Participation)) (seated : List TagValue)
+    → RepCalls session entry participations seats called seated → length called ≡ length seated
+rep_whole session entry participations seats called seated calls =
+    calls.second.whole ∙ calls.first.whole ∙ calls.rest.whole ∙ sym (calls.second.seats_whole ∙ calls.first.seats_whole)
 
 rep_at : (session : ℕ) (entry : Entry) (participations : List (Option Participation)) (seats : List TagValue) (called : List (Option Participation)) (seated : List TagValue)
     → RepCalls session entry participations seats called seated → (k : ℕ) → k < length seated
     → IsRep session (is_missed k entry) (participation_at called k) (tag_seated (participation_at called k) (get_or seated k no_tag))
 rep_at session entry participations seats called seated calls k below =
+    let whole = rep_whole session entry participations seats called seated calls in
     let tag : get_or (tags_of participations seats) k no_tag ≡ tag_seated (participation_at called k) (get_or seated k no_tag) =
-    ap (λ (l : List TagValue). get_or l k no_tag) (sym calls.tags) ∙ tag_at called seated k no_tag calls.whole below in
+    ap (λ (l : List TagValue). get_or l k no_tag) (sym (calls.second.tags ∙ calls.first.tags)) ∙ tag_at called seated k no_tag whole below in
     let start : participation_at participations k ≡ participation_in (tag_seated (participation_at called k) (get_or seated k no_tag)).state =
     ap (λ (l : List (Option Participation)). participation_at l k) calls.rest.settled ∙ participation_of_tag (tags_of participations seats) k ∙ ap (λ (t : TagValue). participation_in t.state) tag in
     rep_from session (is_missed k entry) (participation_at participations k) (participation_at calls.middle k) (participation_at called k) (tag_seated (participation_at called k) (get_or seated k no_tag)) start
@@ -273,22 +256,23 @@ pub rep_called_for : (session : ℕ) (entry : Entry) (participations : List (Opt
     → AreCalledFor (commands.QueryRep session) entry (tags_of participations seats) (map (counted_down session) called) seated
 rep_called_for session entry participations seats called seated calls =
     let counted : List (Option Participation) = map (counted_down session) called in
-    let whole : length counted ≡ length seated = length-map called (counted_down session) ∙ calls.whole in
+    let same = rep_whole session entry participations seats called seated calls in
+    let whole : length counted ≡ length seated = length-map called (counted_down session) ∙ same in
     record {
       outcomes =
-          rep_outcomes 0 session entry called seated calls.whole
+          rep_outcomes 0 session entry called seated same
           (λ k below. subst (λ n. IsRep session (is_missed n entry) (participation_at called k) (tag_seated (participation_at called k) (get_or seated k no_tag))) (sym (zero-sum k))
           (rep_at session entry participations seats called seated calls k below))
-          ∙ ap (λ (l : List TagValue). hearing_from 0 (commands.QueryRep session) entry l) calls.tags;
+          ∙ ap (λ (l : List TagValue). hearing_from 0 (commands.QueryRep session) entry l) (calls.second.tags ∙ calls.first.tags);
       whole = whole;
-      few = rw calls.seats_whole calls.rest.few;
-      legal = calls.legal;
+      few = rw (calls.second.seats_whole, calls.first.seats_whole) calls.rest.few;
+      legal = calls.second.legal (calls.first.legal calls.rest.legal);
       uncalled = λ number apart.
           elim (cases_lt number (length seated)) [
             | inl within ↦
                 counted_at session called number
                 ∙ rep_settled session (is_missed number entry) (participation_at called number) (get_or seated number no_tag) (rep_at session entry participations seats called seated calls number within)
-                (λ same. apart (counted_at session called number ∙ same))
+                (λ is. apart (counted_at session called number ∙ is))
                 ∙ ap (λ (t : TagValue). participation_in t.state)
                 (sym (tag_at counted seated number no_tag whole within ∙ ap (λ (s : Option Participation). tag_seated s (get_or seated number no_tag)) (counted_at session called number)))
             | inr past ↦ past_settled counted seated number whole past
@@ -339,20 +323,24 @@ answers_next session (SecuredState held) body is = absurd (cc)
 answers_next session KilledState body is = absurd (cc)
 answers_next session UnpoweredState body is = absurd (cc)
 
-waits_called : (session slot : ℕ) → Some Called ≡ Some (Waits session slot) → ⊥
-waits_called session slot same = cc
-
-called_busy : (number session : ℕ) (entry : Entry) (start middle participation : Option Participation) (tag : TagValue) → start ≡ participation_in tag.state
-    → IsMissedCalled session (is_missed number entry) start middle → IsDueCalled session middle participation → participation ≡ Some Called → is_busy number (commands.QueryRep session) entry tag ≡ true
-called_busy number session entry start middle participation tag is (inl missed) (inr due) called =
-    or_third (is_missed number entry) (is_beyond_arbitrate tag.state) (is_some (step (commands.QueryRep session) tag.state tag.body).answer)
-    (answers_next session tag.state tag.body (sym is ∙ sym missed.0 ∙ due.1))
-called_busy number session entry start middle participation tag is (inr missed) (inr due) called = absurd (waits_called session 1 (sym missed.0 ∙ due.1))
-called_busy number session entry start middle participation tag is (inr missed) (inl due) called =
-    or_first (is_missed number entry) (is_beyond_arbitrate tag.state) (is_some (step (commands.QueryRep session) tag.state tag.body).answer) missed.1
-called_busy number session entry start middle participation tag is (inl missed) (inl due) called =
-    or_second (is_missed number entry) (is_beyond_arbitrate tag.state) (is_some (step (commands.QueryRep session) tag.state tag.body).answer)
-    (beyond_called tag.state (sym is ∙ sym missed.0 ∙ sym due.0 ∙ called))
+called_busy : (session : ℕ) (entry : Entry) (participations : List (Option Participation)) (seats : List TagValue) (called : List (Option Participation)) (seated : List TagValue)
+    → RepCalls session entry participations seats called seated → (k : ℕ) → participation_at called k ≡ Some Called
+    → is_busy k (commands.QueryRep session) entry (get_or (tags_of participations seats) k no_tag) ≡ true
+called_busy session entry participations seats called seated calls k here =
+    let tag : TagValue = get_or (tags_of participations seats) k no_tag in
+    let start : participation_at participations k ≡ participation_in tag.state =
+    ap (λ (l : List (Option Participation)). participation_at l k) calls.rest.settled ∙ participation_of_tag (tags_of participations seats) k in
+    let misses : Bool = is_missed k entry in
+    let beyond : Bool = is_beyond_arbitrate tag.state in
+    let answers : Bool = is_some (step (commands.QueryRep session) tag.state tag.body).answer in
+    elim (calls.missed k) [
+      | inr missed ↦ or_first misses beyond answers missed.1
+      | inl missed ↦
+          elim (calls.due k) [
+            | inr due ↦ or_third misses beyond answers (answers_next session tag.state tag.body (sym start ∙ sym missed.0 ∙ due.1))
+            | inl due ↦ or_second misses beyond answers (beyond_called tag.state (sym start ∙ sym missed.0 ∙ sym due.0 ∙ here))
+          ]
+    ]
 
 one_busy : (participation : Option Participation) (busy : Bool) → (participation ≡ Some Called → busy ≡ true) → (if is_called participation then 1 else 0) ≤ (if busy then 1 else 0)
 one_busy None busy is = omega arith
@@ -389,25 +377,9 @@ pub rep_bound : (session : ℕ) (entry : Entry) (participations : List (Option P
     → called_in (map (counted_down session) called) ≤ busy_from 0 (commands.QueryRep session) entry (tags_of participations seats)
 rep_bound session entry participations seats called seated calls =
     let same : length called ≡ length (tags_of participations seats) =
-    calls.whole ∙ calls.seats_whole ∙ sym (length-tags_of participations seats calls.rest.whole) in
+    calls.second.whole ∙ calls.first.whole ∙ calls.rest.whole ∙ sym (length-tags_of participations seats calls.rest.whole) in
     rw (called_counted session called)
     (busy_most 0 (commands.QueryRep session) entry called (tags_of participations seats) same
     (λ k below is.
     subst (λ n. is_busy n (commands.QueryRep session) entry (get_or (tags_of participations seats) k no_tag) ≡ true) (sym (zero-sum k))
-    (called_busy k session entry (participation_at participations k) (participation_at calls.middle k) (participation_at called k) (get_or (tags_of participations seats) k no_tag)
-    (ap (λ (l : List (Option Participation)). participation_at l k) calls.rest.settled ∙ participation_of_tag (tags_of participations seats) k) (calls.missed k) (calls.due k) is)))
-
-pub rep_calls : (session : ℕ) (entry : Entry) (participations middle called : List (Option Participation)) (seats between seated : List TagValue) (steps stepped last : ℕ) → AreAtRest participations seats
-    → ((number : ℕ) → IsMissedCalled session (is_missed number entry) (participation_at participations number) (participation_at middle number)) → CallsTags participations seats steps middle between stepped
-    → ((number : ℕ) → IsDueCalled session (participation_at middle number) (participation_at called number)) → CallsTags middle between stepped called seated last
-    → RepCalls session entry participations seats called seated
-rep_calls session entry participations middle called seats between seated steps stepped last rest missed first due second = record {
-  middle = middle;
-  rest = rest;
-  tags = second.tags ∙ first.tags;
-  whole = second.whole ∙ first.whole ∙ rest.whole ∙ sym (second.seats_whole ∙ first.seats_whole);
-  seats_whole = second.seats_whole ∙ first.seats_whole;
-  legal = second.legal (first.legal rest.legal);
-  missed = missed;
-  due = due;
-}
+    (called_busy session entry participations seats called seated calls k is)))

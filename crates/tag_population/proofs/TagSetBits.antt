@@ -170,16 +170,19 @@ word_within filled words at is below one =
       | inr past ↦ absurd (one_not_zero (bit_at filled at) one ((is at below).1 (get_or_past words at 0 past)))
     ]
 
-pub first_word : (filled : ℕ) (words : List ℕ) (from at word bit : ℕ) → (length words * 64 ≡ most_tags) × IsFilled filled words → IsNextOne filled from (Some at) → word ≡ get_or words at word
-    → IsNextOne word 0 (Some bit) → IsNextIn words (from * 64) (Some (at * 64 + bit))
-first_word filled words from at word bit is next read low =
+-- a word that a place of the set has, read at that place
+pub word_there : (filled : ℕ) (words : List ℕ) (at word : ℕ) → IsFilled filled words → at < 64 → bit_at filled at ≡ 1 → word ≡ get_or words at word → word ≡ get_or words at 0
+word_there filled words at word is below one read = read ∙ get_or_default_zero words at word (word_within filled words at is below one)
+
+pub first_word : (filled : ℕ) (words : List ℕ) (from at bit : ℕ) → (length words * 64 ≡ most_tags) × IsFilled filled words → IsNextOne filled from (Some at)
+    → IsNextOne (get_or words at 0) 0 (Some bit) → IsNextIn words (from * 64) (Some (at * 64 + bit))
+first_word filled words from at bit is next low =
     let within = word_within filled words at is.1 next.1 next.2 in
-    let same : word ≡ get_or words at 0 = read ∙ get_or_default_zero words at word within in
     let there : (at * 64 + bit) / 64 ≡ at = omega (arith, low.1) in
     let place : (at * 64 + bit) % 64 ≡ bit = omega (arith, low.1) in (
       omega (arith, next.0),
       omega (arith, low.1, within, is.0),
-      bit_in words (at * 64 + bit) at there ∙ ap (λ n. bit_at n ((at * 64 + bit) % 64)) (sym same) ∙ ap (λ n. bit_at word n) place ∙ low.2,
+      bit_in words (at * 64 + bit) at there ∙ ap (λ n. bit_at (get_or words at 0) n) place ∙ low.2,
       λ number first last.
           elim (cases_lt number (at * 64)) [
             | inl less ↦
@@ -187,7 +190,7 @@ first_word filled words from at word bit is next read low =
                 empty_word filled words (number / 64) (number % 64) is.1 below (next.3 (number / 64) (omega (arith, first)) (omega (arith, less)))
             | inr more ↦
                 let here : number / 64 ≡ at = omega (arith, more, last, low.1) in
-                bit_in words number at here ∙ ap (λ n. bit_at n (number % 64)) (sym same) ∙ low.3 (number % 64) (omega arith) (omega (arith, here, last))
+                bit_in words number at here ∙ low.3 (number % 64) (omega arith) (omega (arith, here, last))
           ],
     )
 
@@ -224,19 +227,24 @@ pub record FilledBelow (words numbers : List ℕ) (index : ℕ) : Type 0 where
 pub filled_none : (words numbers : List ℕ) → HasNone words → FilledBelow words numbers 0
 filled_none words numbers none = record { only = λ number one. absurd (one_not_zero (bit_of words number) one (none number)); there = λ at below. absurd (omega (arith, below)) }
 
-pub filled_more : (words after numbers : List ℕ) (index number : ℕ) → FilledBelow words numbers index → index < length numbers → number ≡ get_or numbers index 0 → IsIn after number
-    → ((other : ℕ) → other ≢ number → bit_of after other ≡ bit_of words other) → FilledBelow after numbers (index + 1)
-filled_more words after numbers index number so_far within is one others = record {
+-- a set with one number more
+pub record HasMore (words after : List ℕ) (number : ℕ) : Type 0 where
+  pub there : IsIn after number
+  pub others : (other : ℕ) → other ≢ number → bit_of after other ≡ bit_of words other
+
+pub filled_more : (words after numbers : List ℕ) (index number : ℕ) → FilledBelow words numbers index → index < length numbers → number ≡ get_or numbers index 0 → HasMore words after number
+    → FilledBelow after numbers (index + 1)
+filled_more words after numbers index number so_far within is more = record {
   only = λ other in_it.
       elim (eqb_tells other number) [
         | inl same ↦ number_there numbers index other within (sym is ∙ sym same.1)
-        | inr apart ↦ so_far.only other (sym (others other apart.1) ∙ in_it)
+        | inr apart ↦ so_far.only other (sym (more.others other apart.1) ∙ in_it)
       ];
   there = λ at below.
       elim (eqb_tells (get_or numbers at 0) number) [
-        | inl same ↦ ap (λ n. bit_of after n) same.1 ∙ one
+        | inl same ↦ ap (λ n. bit_of after n) same.1 ∙ more.there
         | inr apart ↦
-            others (get_or numbers at 0) apart.1
+            more.others (get_or numbers at 0) apart.1
             ∙ so_far.there at
             (elim (cases_lt at index) [
               | inl less ↦ less

@@ -164,7 +164,7 @@ befalls_tags b =
     ∙ ap (λ (s : Option Participation). set (tags_of b.called b.seated) b.number (tag_seated s b.new)) b.participation_is
     ∙ ap (λ (t : TagValue). set (tags_of b.called b.seated) b.number t) (seated_as_is b.new)
     ∙ ap (λ (l : List TagValue). set l b.number b.new) tags
-    ∙ befallen_at b.number b.event (tags_of b.participations b.items) (tags_of b.participations b.items) b.seat b.new no_tag (rw (length-tags_of b.participations b.items b.rest.whole) b.within) refl seat_at b.new_is
+    ∙ befallen_at b.number b.event (tags_of b.participations b.items) b.seat b.new no_tag (rw (length-tags_of b.participations b.items b.rest.whole) b.within) seat_at b.new_is
 
 pub befalls_rest : (b : Befalls) → AreAtRest b.after (set (take b.len (b.seated ++ drop (length b.seated) b.items)) b.number b.new)
 befalls_rest b =

@@ -1,12 +1,12 @@
 -- Tags in their seats: a tag that waits for its slot has the slot counter that is told of it, in place of the one in its seat.
-use Rattle.std.proofs.Common.{◌≡◌, ◌≢◌, ℕ, ◌+◌, ◌≤◌, ◌⊎◌, Bool, true, false, List, [], ◌∷◌, length, map, Option, Some, None, get_or, if◌then◌else◌}
+use Rattle.std.proofs.Common.{◌≡◌, ◌≢◌, ℕ, ◌+◌, ◌*◌, ◌≤◌, ◌⊎◌, Bool, true, false, List, [], ◌∷◌, length, map, Option, Some, None, get_or, if◌then◌else◌}
 use Rattle.std.specs.Prelude.{slice_set}
 use Rattle.air_events.specs.TagNumbers.{most_tags}
 use Rattle.air_events.specs.declared.Entry.{Entry}
 use Rattle.command_grammar.specs.declared.commands.Command.{Command}
 use Rattle.tag_machine.specs.TagValue.{StateValue, ReadyState, ArbitrateState, ReplyState, AcknowledgedState, OpenState, SecuredState, KilledState, UnpoweredState, TagValue}
 use Rattle.tag_machine.specs.Answers.{Outcome, silent}
-use Rattle.tag_machine.specs.Exchange.{AreLegalTags, outcome_unless, is_missed}
+use Rattle.tag_machine.specs.Exchange.{AreLegalTags, outcome_unless, is_missed, tags_after}
 use Rattle.tag_population.specs.Hearing.{hearing_from}
 use Rattle.tag_population.specs.Seats.{no_tag}
 use Rattle.tag_population.specs.Waiting.{participation_at, is_called, waits_in, AreSlots}
@@ -111,3 +111,9 @@ pub record AreCalledFor (command : Command) (entry : Entry) (tags : List TagValu
   pub few : length seats ≤ most_tags
   pub legal : AreLegalTags seats
   pub uncalled : AreUncalledSettled participations (tags_of participations seats)
+
+-- tags at rest heard a command, with two steps at most for each: they are as it leaves them, and at rest again
+pub record HearsAtRest (command : Command) (entry : Entry) (participations : List (Option Participation)) (seats : List TagValue) (steps : ℕ) (after : List (Option Participation)) (seated : List TagValue) (stepped : ℕ) : Type 0 where
+  pub tags : tags_of after seated ≡ tags_after (hearing_from 0 command entry (tags_of participations seats))
+  pub counted : stepped ≤ steps + 2 * length seats
+  pub rest : AreAtRest after seated

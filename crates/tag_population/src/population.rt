@@ -10,7 +10,7 @@ ghost use Rattle.tag_machine.specs.TagValue.{BodyValue, IsLegalTag, StateValue};
 ghost use Rattle.tag_machine.specs.Exchange.{AreLegalTags, IsQueryRep, busy_from, is_missed, replies_from, tags_after, tags_after_event};
 ghost use Rattle.tag_population.specs.Hearing.{hearing_from, tags_after_events};
 ghost use Rattle.tag_population.specs.Lent.{KeepsPopulation};
-ghost use Rattle.tag_population.specs.Seated.{AreAtRest, AreCalledFor, AreUncalledSettled, CallsTags, IsDueCalled, IsMissedCalled, called_in, outcomes_called, seats_written_back, participation_in, participations_of, steps_back, tags_of};
+ghost use Rattle.tag_population.specs.Seated.{AreAtRest, AreCalledFor, AreUncalledSettled, CallsTags, HearsAtRest, IsDueCalled, IsMissedCalled, called_in, outcomes_called, seats_written_back, participation_in, participations_of, steps_back, tags_of};
 ghost use Rattle.tag_population.specs.TagSets.{IsSetOf};
 ghost use Rattle.tag_population.specs.Waiting.{participation_at};
 
@@ -239,11 +239,9 @@ fn hear_at_rest<A: AnswerTaker, L: Ledger>(
     requires room { reply_room ≤ room.old.capacity }
     requires begun { A.took answers.old [] answers.old }
     requires missed { All (λ tag. tag < length seats.old) entry.now.missed }
-    ensures tags { tags_of waiting.new seats.new ≡ tags_after (hearing_from 0 command.now entry.now (tags_of waiting.old seats.old)) }
+    ensures heard { HearsAtRest command.now entry.now waiting.old seats.old steps.old waiting.new seats.new steps.new }
     ensures replies { A.took answers.old (replies_from 0 (hearing_from 0 command.now entry.now (tags_of waiting.old seats.old))) answers.new }
-    ensures counted { steps.new ≤ steps.old + 2 * length seats.old }
     ensures bound { IsQueryRep command.now → steps.new ≤ steps.old + 2 * busy_from 0 command.now entry.now (tags_of waiting.old seats.old) }
-    ensures rest { AreAtRest waiting.new seats.new }
     ensures room { reply_room ≤ room.new.capacity }
 {
     if let Command::QueryRep { session } = command {
@@ -329,10 +327,8 @@ fn hear_all<A: AnswerTaker, L: Ledger>(
     requires rest { AreAtRest waiting.old seats.old }
     requires room { reply_room ≤ room.old.capacity }
     requires begun { A.took answers.old [] answers.old }
-    ensures tags { tags_of waiting.new seats.new ≡ tags_after (hearing_from 0 command.now entry.now (tags_of waiting.old seats.old)) }
+    ensures heard { HearsAtRest command.now entry.now waiting.old seats.old steps.old waiting.new seats.new steps.new }
     ensures replies { A.took answers.old (replies_from 0 (hearing_from 0 command.now entry.now (tags_of waiting.old seats.old))) answers.new }
-    ensures counted { steps.new ≤ steps.old + 2 * length seats.old }
-    ensures rest { AreAtRest waiting.new seats.new }
     ensures room { reply_room ≤ room.new.capacity }
 {
     for at in 0..seats.len() {

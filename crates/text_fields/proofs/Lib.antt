@@ -2,4 +2,5 @@ mod UpperHexadecimal
 pub mod DecimalDigits
 pub mod EachByte
 pub mod HexText
+pub mod WantedFields
 pub mod WordDigits

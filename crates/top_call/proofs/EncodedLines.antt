@@ -3,22 +3,22 @@ use Rattle.std.proofs.Common.{◌≡◌, ℕ, ◌+◌, List, [], ◌∷◌, ◌+
 use Rattle.std.specs.Prelude.{IsErrOf}
 use Rattle.air_io.specs.Flow.{FaultsRose}
 use Rattle.air_io.specs.laws.Flow.{Adds-nothing}
-use Rattle.text_fields.specs.Lines.{Lacks, line_feed, lines_of}
+use Rattle.text_fields.specs.Lines.{lines_of}
 use Rattle.checked_lines.specs.Answered.{AddsLineFor, AnswersTo}
-use Rattle.checked_lines.specs.laws.AnsweredLines.{answers_all, answers_more, answers_none, answers_rest, line_asks}
+use Rattle.checked_lines.specs.laws.AnsweredLines.{WholeLine, answers_all, answers_more, answers_none, answers_rest, line_asks}
 use Rattle.checked_lines.specs.laws.OneLine.{HaveAnswers}
 use Rattle.encode_lines.specs.EncodeLines.{Encodes, EncodesLine, IsGrammatical, encode_rules, written_line}
 use Rattle.encode_lines.specs.Request.{AsksForRequest}
 use Rattle.encode_lines.specs.Written.{AreWritten}
 use Rattle.encode_lines.specs.declared.request.Request.{Request}
 use Rattle.top_call.specs.Job.{Defines}
-use Rattle.top_call.specs.Outcome.{AddsWhole, AddsFront, EndsSo}
-use Rattle.top_call.specs.UnwrittenBytes.{Sends, Loses}
+use Rattle.top_call.specs.Outcome.{AddsFront}
+use Rattle.top_call.specs.UnwrittenBytes.{Loses}
 use Rattle.top_call.specs.declared.ending.Wrote.{Wrote}
 use Rattle.top_call.specs.declared.ending.WriteEnd.{WriteEnd}
 use Rattle.top_call.specs.declared.ending.WriteEnd.TheVariants.{Fault, OutOfMemory}
 use Rattle.top_call.specs.words.Encoded.{encode_job}
-use Rattle.top_call.proofs.Waits.{loses_last, loses_later, sends_whole}
+use Rattle.top_call.proofs.SinkChanges.{SinkChange, EndsWith}
 
 -- what the law of requests says
 abbrev pub HaveLines : Type 0
@@ -47,14 +47,10 @@ nothing_left [] rest same = cc
 nothing_left (line ∷ []) rest same = cc
 nothing_left (line ∷ next ∷ lines) rest same = cc
 
--- all was written at last
-pub all_written : (input rest text page : List ℕ) (written written' written'' : Option (List ℕ)) → EncodesTo input rest text → lines_of rest ≡ rest ∷ [] → Sends text page written written'
-    → Sends page [] written' written'' → AddsWhole (Encodes input) written written''
-all_written input rest text page written written' written'' so_far one sends last = record {
-  text = text;
-  named = answers_all encode_rules input rest text so_far.number so_far.so_far (nothing_left so_far.others.1.lines rest (sym so_far.others.1.cut ∙ one));
-  added = sends_whole text page written written' written'' sends last;
-}
+-- the lines so far are all, where none is left
+pub encodes_all : (input rest text : List ℕ) → EncodesTo input rest text → lines_of rest ≡ rest ∷ [] → Encodes input text
+encodes_all input rest text so_far one =
+    answers_all encode_rules input rest text so_far.number so_far.so_far (nothing_left so_far.others.1.lines rest (sym so_far.others.1.cut ∙ one))
 
 -- there is a line for a line that asks for something
 line_for : HaveLines → (line : List ℕ) → (request : Request) × AsksForRequest line request → (piece : List ℕ) × EncodesLine line [] piece
@@ -70,22 +66,22 @@ unmade_line have line page written asks =
     (found.0, found.1, record { sent = []; lost = page ++ found.0; all = refl; added = Adds-nothing written })
 
 -- one more line
-pub encodes_more : (input rest line behind text written : List ℕ) → EncodesTo input rest text → rest ≡ line ++ line_feed ∷ behind → Lacks line_feed line → lines_of rest ≡ line ∷ lines_of behind
-    → EncodesLine line [] written → EncodesTo input behind (text ++ written)
-encodes_more input rest line behind text written so_far split lacks lines adds =
-    let here : AddsLineFor encode_rules line text (text ++ written) = record {
+pub encodes_more : (input rest text written : List ℕ) → EncodesTo input rest text → (next : WholeLine rest) → lines_of rest ≡ next.line ∷ lines_of next.behind
+    → EncodesLine next.line [] written → EncodesTo input next.behind (text ++ written)
+encodes_more input rest text written so_far next lines adds =
+    let here : AddsLineFor encode_rules next.line text (text ++ written) = record {
       request = adds.request;
       asks = adds.asks;
       adds = record { answer = adds.adds.answer; right = adds.adds.right; line = ap (λ (bytes : List ℕ). text ++ bytes) adds.adds.line };
     } in
     record {
       number = so_far.number + 1;
-      so_far = answers_more encode_rules input rest line behind text (text ++ written) so_far.number so_far.so_far split lacks here;
-      others = (line_asks encode_rules rest line behind so_far.others lines).1;
+      so_far = answers_more encode_rules input rest text (text ++ written) so_far.number next so_far.so_far here;
+      others = (line_asks encode_rules rest next.line next.behind so_far.others lines).1;
     }
 
 -- what was written before the end is a front of the whole text
-front_of_lines : HaveLines → (input rest text : List ℕ) (written written' : Option (List ℕ)) → EncodesTo input rest text → Loses text written written' → AddsFront (Encodes input) written written'
+pub front_of_lines : HaveLines → (input rest text : List ℕ) (written written' : Option (List ℕ)) → EncodesTo input rest text → Loses text written written' → AddsFront (Encodes input) written written'
 front_of_lines have input rest text written written' so_far loses =
     let tail = answers_rest encode_rules (have_answers have) input rest text so_far.number so_far.so_far so_far.others in
     let whole : text ++ tail.0 ≡ loses.sent ++ (loses.lost ++ tail.0) = ap (λ (t : List ℕ). t ++ tail.0) loses.all ∙ append_assoc loses.sent loses.lost tail.0 in
@@ -101,26 +97,14 @@ pub unstarted : HaveLines → (input : List ℕ) (written : Option (List ℕ)) �
 unstarted have input written asks =
     front_of_lines have input input [] written written (encodes_none input asks) (record { sent = []; lost = []; all = refl; added = Adds-nothing written })
 
--- a line was lost, maybe with a part of it written
-pub lost_line : HaveLines → (input rest line behind text page : List ℕ) (written written' written'' : Option (List ℕ)) → EncodesTo input rest text → rest ≡ line ++ line_feed ∷ behind → Lacks line_feed line
-    → lines_of rest ≡ line ∷ lines_of behind → Sends text page written written' → (piece : List ℕ) × EncodesLine line [] piece × Loses (page ++ piece) written' written''
-    → AddsFront (Encodes input) written written''
-lost_line have input rest line behind text page written written' written'' so_far split lacks lines sends lost =
-    front_of_lines have input behind (text ++ lost.0) written written'' (encodes_more input rest line behind text lost.0 so_far split lacks lines lost.1)
-    (loses_later text page lost.0 written written' written'' sends lost.2)
-
-pub last_lost : HaveLines → (input rest text page : List ℕ) (written written' written'' : Option (List ℕ)) → EncodesTo input rest text → Sends text page written written' → Loses page written' written''
-    → AddsFront (Encodes input) written written''
-last_lost have input rest text page written written' written'' so_far sends loses =
-    front_of_lines have input rest text written written'' so_far (loses_last text page written written' written'' sends loses)
-
 defined_front : (input : List ℕ) (written written' : Option (List ℕ)) → AddsFront (Encodes input) written written' → AddsFront (Defines encode_job input) written written'
 defined_front input written written' front = record { front = front.front; rest = front.rest; named = inl front.named; added = front.added }
 
 -- the writing ended where a write failed, or for want of memory
-pub encode_failed : (input : List ℕ) (written written' : Option (List ℕ)) (writes writes' : ℕ) (why : WriteEnd) (end : Result Wrote WriteEnd) → end ≡ Err why
-    → (IsErrOf {T = Unit {0}} (Err why) Fault → FaultsRose writes writes') → AddsFront (Encodes input) written written' → EndsSo encode_job input written written' writes writes' end
-encode_failed input written written' writes writes' Fault end is rose front =
-    subst (EndsSo encode_job input written written' writes writes') (sym is) (rose refl, defined_front input written written' front)
-encode_failed input written written' writes writes' OutOfMemory end is rose front =
-    subst (EndsSo encode_job input written written' writes writes') (sym is) (inr (defined_front input written written' front))
+pub encode_failed : (input : List ℕ) (sink : SinkChange) (why : WriteEnd) (end : Result Wrote WriteEnd) → end ≡ Err why
+    → (IsErrOf {T = Unit {0}} (Err why) Fault → FaultsRose sink.writes sink.writes') → (IsErrOf {T = Unit {0}} (Err why) OutOfMemory → sink.writes' ≡ sink.writes)
+    → AddsFront (Encodes input) sink.written sink.written' → EndsWith encode_job input sink end
+encode_failed input sink Fault end is rose steady front =
+    subst (EndsWith encode_job input sink) (sym is) (rose refl, defined_front input sink.written sink.written' front)
+encode_failed input sink OutOfMemory end is rose steady front =
+    subst (EndsWith encode_job input sink) (sym is) (steady refl, inr (defined_front input sink.written sink.written' front))

@@ -43,74 +43,100 @@ not_over told left' bytes reads over few =
     let front = front_read told left' bytes reads in
     omega (arith, over, few, ap length front.1, length-append bytes front.0)
 
--- so the input of a word, which is all that was told, has no fault line where the grammar allows it
-not_bad : (job : Job) (input : Bool) → job.input ≡ input → IsLawful job → (told : List ℕ) (left' : Option (List ℕ)) (bytes text : List ℕ)
-    → TakesInput input (Some told) left' bytes → job.allows told → job.refuses bytes text → ⊥
-not_bad job true is lawful told left' bytes text taken allowed refused =
-    lawful.not_refused bytes text (subst job.allows (all_read told left' bytes taken.reads taken.end) allowed) refused
-not_bad job false is lawful told left' bytes text taken allowed refused = lawful.unread is bytes text refused
+-- what a word took of its input is all of it,
+taken_all : (input : Bool) → input ≡ true → (told : List ℕ) (left' : Option (List ℕ)) (bytes : List ℕ) → TakesInput input (Some told) left' bytes → told ≡ bytes
+taken_all true reads told left' bytes taken = all_read told left' bytes taken.reads taken.end
+taken_all false reads told left' bytes taken = absurd (cc)
 
--- an input within the limit that the grammar allows ends so, or memory ran out
-pub completes : (job : Job) → IsLawful job → (told : List ℕ) (left' written written' : Option (List ℕ)) (reads reads' writes writes' : ℕ) (untouched : Type 0) (status : Status)
-    → Tells job (Some told) left' written written' reads reads' writes writes' untouched status → length told ≤ input_limit → job.allows told
-    → ¬ FaultsRose reads reads' → ¬ FaultsRose writes writes' → (status ≡ Done) ⊎ (status ≡ OutOfMemory)
-completes job lawful told left' written written' reads reads' writes writes' untouched Done tells few allowed no_read no_write = inl refl
-completes job lawful told left' written written' reads reads' writes writes' untouched OutOfMemory tells few allowed no_read no_write = inr refl
-completes job lawful told left' written written' reads reads' writes writes' untouched BadWords tells few allowed no_read no_write = absurd tells
-completes job lawful told left' written written' reads reads' writes writes' untouched ReadFault tells few allowed no_read no_write = absurd (no_read tells.0)
-completes job lawful told left' written written' reads reads' writes writes' untouched WriteFault tells few allowed no_read no_write = absurd (no_write tells.0)
-completes job lawful told left' written written' reads reads' writes writes' untouched TooLong tells few allowed no_read no_write =
-    absurd (not_over told left' tells.0.bytes tells.0.reads tells.0.over few)
-completes job lawful told left' written written' reads reads' writes writes' untouched BadInput tells few allowed no_read no_write =
-    absurd (not_bad job job.input refl lawful told left' tells.bytes tells.adds.text tells.taken allowed tells.adds.named)
-
--- no text is written for what was told where that has a fault line
-not_both : (job : Job) (input : Bool) → job.input ≡ input → IsLawful job → (told : List ℕ) (left' : Option (List ℕ)) (bytes one other : List ℕ)
-    → TakesInput input (Some told) left' bytes → job.writes bytes one → job.refuses told other → ⊥
-not_both job true is lawful told left' bytes one other taken writes refused =
-    lawful.not_refused told other (lawful.allowed told one (subst (λ b. job.writes b one) (sym (all_read told left' bytes taken.reads taken.end)) writes)) refused
-not_both job false is lawful told left' bytes one other taken writes refused = lawful.unread is told other refused
-
--- an input within the limit that has a fault line ends so, or memory ran out
-pub refuses : (job : Job) → IsLawful job → (told text : List ℕ) (left' written written' : Option (List ℕ)) (reads reads' writes writes' : ℕ) (untouched : Type 0) (status : Status)
-    → Tells job (Some told) left' written written' reads reads' writes writes' untouched status → length told ≤ input_limit → job.refuses told text
-    → ¬ FaultsRose reads reads' → ¬ FaultsRose writes writes' → (status ≡ BadInput) ⊎ (status ≡ OutOfMemory)
-refuses job lawful told text left' written written' reads reads' writes writes' untouched BadInput tells few refused no_read no_write = inl refl
-refuses job lawful told text left' written written' reads reads' writes writes' untouched OutOfMemory tells few refused no_read no_write = inr refl
-refuses job lawful told text left' written written' reads reads' writes writes' untouched BadWords tells few refused no_read no_write = absurd tells
-refuses job lawful told text left' written written' reads reads' writes writes' untouched ReadFault tells few refused no_read no_write = absurd (no_read tells.0)
-refuses job lawful told text left' written written' reads reads' writes writes' untouched WriteFault tells few refused no_read no_write = absurd (no_write tells.0)
-refuses job lawful told text left' written written' reads reads' writes writes' untouched TooLong tells few refused no_read no_write =
-    absurd (not_over told left' tells.0.bytes tells.0.reads tells.0.over few)
-refuses job lawful told text left' written written' reads reads' writes writes' untouched Done tells few refused no_read no_write =
-    absurd (not_both job job.input refl lawful told left' tells.bytes tells.adds.text text tells.taken tells.adds.named refused)
-
--- what a word took of its input is all of it, and within the limit
+-- and within the limit
 taken_within : (input : Bool) → input ≡ true → (told : List ℕ) (left' : Option (List ℕ)) (bytes : List ℕ) → TakesInput input (Some told) left' bytes → length told ≤ input_limit
 taken_within true reads told left' bytes taken = omega (arith, ap length (all_read told left' bytes taken.reads taken.end), taken.limit)
 taken_within false reads told left' bytes taken = absurd (cc)
 
+true_or_false : (b : Bool) → (b ≡ true) ⊎ (b ≡ false)
+true_or_false true = inl refl
+true_or_false false = inr refl
+
+-- so it has no fault line where the grammar allows what was told,
+not_bad : (job : Job) → IsLawful job → (told : List ℕ) (left' : Option (List ℕ)) (bytes text : List ℕ) → TakesInput job.input (Some told) left' bytes → job.allows told
+    → job.refuses bytes text → ⊥
+not_bad job lawful told left' bytes text taken allowed refused =
+    elim (true_or_false job.input) [
+      | inl has ↦ lawful.not_refused bytes text (subst job.allows (taken_all job.input has told left' bytes taken) allowed) refused
+      | inr none ↦ lawful.unread none bytes text refused
+    ]
+
+-- and what was told has none where the grammar allows it
+not_told_bad : (job : Job) → IsLawful job → (told : List ℕ) (left' : Option (List ℕ)) (bytes text : List ℕ) → TakesInput job.input (Some told) left' bytes → job.allows bytes
+    → job.refuses told text → ⊥
+not_told_bad job lawful told left' bytes text taken allowed refused =
+    elim (true_or_false job.input) [
+      | inl has ↦ lawful.not_refused told text (subst job.allows (sym (taken_all job.input has told left' bytes taken)) allowed) refused
+      | inr none ↦ lawful.unread none told text refused
+    ]
+
+-- the devices of a word: what its source told, what it tells then, what its sink had written and has written then, how many faults
+-- each had met and has met then, and that the sink is untouched
+pub record Devices : Type 1 where
+  pub told : List ℕ
+  pub left' : Option (List ℕ)
+  pub written : Option (List ℕ)
+  pub written' : Option (List ℕ)
+  pub reads : ℕ
+  pub reads' : ℕ
+  pub writes : ℕ
+  pub writes' : ℕ
+  pub untouched : Type 0
+
+-- what a status says of them
+abbrev pub TellsOf : Job → Devices → Status → Type 0
+TellsOf job of status = Tells job (Some of.told) of.left' of.written of.written' of.reads of.reads' of.writes of.writes' of.untouched status
+
+-- no read and no write failed
+pub record NoneFailed (of : Devices) : Type 0 where
+  pub read : ¬ FaultsRose of.reads of.reads'
+  pub write : ¬ FaultsRose of.writes of.writes'
+
+-- an input within the limit that the grammar allows ends so, or memory ran out
+pub completes : (job : Job) → IsLawful job → (of : Devices) (status : Status) → TellsOf job of status → length of.told ≤ input_limit → job.allows of.told → NoneFailed of
+    → (status ≡ Done) ⊎ (status ≡ OutOfMemory)
+completes job lawful of Done tells few allowed none = inl refl
+completes job lawful of OutOfMemory tells few allowed none = inr refl
+completes job lawful of BadWords tells few allowed none = absurd tells
+completes job lawful of ReadFault tells few allowed none = absurd (none.read tells.0)
+completes job lawful of WriteFault tells few allowed none = absurd (none.write tells.0)
+completes job lawful of TooLong tells few allowed none = absurd (not_over of.told of.left' tells.0.bytes tells.0.reads tells.0.over few)
+completes job lawful of BadInput tells few allowed none = absurd (not_bad job lawful of.told of.left' tells.bytes tells.adds.text tells.taken allowed tells.adds.named)
+
+-- an input within the limit that has a fault line ends so, or memory ran out
+pub refuses : (job : Job) → IsLawful job → (of : Devices) (text : List ℕ) (status : Status) → TellsOf job of status → length of.told ≤ input_limit → job.refuses of.told text
+    → NoneFailed of → (status ≡ BadInput) ⊎ (status ≡ OutOfMemory)
+refuses job lawful of text BadInput tells few refused none = inl refl
+refuses job lawful of text OutOfMemory tells few refused none = inr refl
+refuses job lawful of text BadWords tells few refused none = absurd tells
+refuses job lawful of text ReadFault tells few refused none = absurd (none.read tells.0)
+refuses job lawful of text WriteFault tells few refused none = absurd (none.write tells.0)
+refuses job lawful of text TooLong tells few refused none = absurd (not_over of.told of.left' tells.0.bytes tells.0.reads tells.0.over few)
+refuses job lawful of text Done tells few refused none =
+    absurd (not_told_bad job lawful of.told of.left' tells.bytes text tells.taken (lawful.allowed tells.bytes tells.adds.text tells.adds.named) refused)
+
 -- an input over the limit ends so, or memory ran out
-pub passes_limit : (job : Job) → job.input ≡ true → (told : List ℕ) (left' written written' : Option (List ℕ)) (reads reads' writes writes' : ℕ) (untouched : Type 0) (status : Status)
-    → Tells job (Some told) left' written written' reads reads' writes writes' untouched status → input_limit < length told → ¬ FaultsRose reads reads'
+pub passes_limit : (job : Job) → job.input ≡ true → (of : Devices) (status : Status) → TellsOf job of status → input_limit < length of.told → ¬ FaultsRose of.reads of.reads'
     → (status ≡ TooLong) ⊎ (status ≡ OutOfMemory)
-passes_limit job has told left' written written' reads reads' writes writes' untouched TooLong tells many no_read = inl refl
-passes_limit job has told left' written written' reads reads' writes writes' untouched OutOfMemory tells many no_read = inr refl
-passes_limit job has told left' written written' reads reads' writes writes' untouched BadWords tells many no_read = absurd tells
-passes_limit job has told left' written written' reads reads' writes writes' untouched ReadFault tells many no_read = absurd (no_read tells.0)
-passes_limit job has told left' written written' reads reads' writes writes' untouched WriteFault tells many no_read =
-    absurd (omega (arith, many, taken_within job.input has told left' tells.1.bytes tells.1.taken))
-passes_limit job has told left' written written' reads reads' writes writes' untouched Done tells many no_read =
-    absurd (omega (arith, many, taken_within job.input has told left' tells.bytes tells.taken))
-passes_limit job has told left' written written' reads reads' writes writes' untouched BadInput tells many no_read =
-    absurd (omega (arith, many, taken_within job.input has told left' tells.bytes tells.taken))
+passes_limit job has of TooLong tells many no_read = inl refl
+passes_limit job has of OutOfMemory tells many no_read = inr refl
+passes_limit job has of BadWords tells many no_read = absurd tells
+passes_limit job has of ReadFault tells many no_read = absurd (no_read tells.0)
+passes_limit job has of WriteFault tells many no_read = absurd (omega (arith, many, taken_within job.input has of.told of.left' tells.1.bytes tells.1.taken))
+passes_limit job has of Done tells many no_read = absurd (omega (arith, many, taken_within job.input has of.told of.left' tells.bytes tells.taken))
+passes_limit job has of BadInput tells many no_read = absurd (omega (arith, many, taken_within job.input has of.told of.left' tells.bytes tells.taken))
 
 -- a count that stands at 0 did not rise
 pub none_rose : FaultsRose 0 0 → ⊥
 none_rose rose = let last = rose.larger_or_last refl in absurd (omega (arith, last))
 
 -- what is written keeps the promises of its word, and each part of them
-pub keeps : (job : Job) (T : List ℕ → List ℕ → Type 0) → ((bytes text : List ℕ) → job.promises bytes text → T bytes text) → IsLawful job
+pub keeps : (job : Job) (T : List ℕ → List ℕ → Type 0) (part : (bytes text : List ℕ) → job.promises bytes text → T bytes text) → IsLawful job
     → (left left' written written' : Option (List ℕ)) → WritesWhole job job.writes left left' written written' → WritesWhole job T left left' written written'
 keeps job T part lawful left left' written written' whole = record {
   bytes = whole.bytes;

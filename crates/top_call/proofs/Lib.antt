@@ -1,9 +1,12 @@
+pub mod AuditEnds
 pub mod Ends
 pub mod RunEnds
 pub mod UpgradeEnds
+pub mod PortalEnds
 pub mod ProbeEnds
 pub mod NamedLines
 pub mod EncodedLines
 pub mod Waits
 pub mod ToldForms
 pub mod SummaryLines
+pub mod SinkChanges

@@ -1,5 +1,5 @@
 -- The lines before a place of the input, with their names.
-use Rattle.std.proofs.Common.{◌≡◌, ◌≢◌, ℕ, ◌+◌, ◌≤◌, List, [], ◌∷◌, ◌++◌, length, refl, sym, ◌∙◌, ap, subst, arith, append_assoc, length-append, Option, Result, Err, inl, inr}
+use Rattle.std.proofs.Common.{◌≡◌, ℕ, ◌+◌, ◌≤◌, List, [], ◌∷◌, ◌++◌, length, refl, sym, ◌∙◌, ap, subst, arith, append_assoc, length-append, Option, Result, Err, inl, inr}
 use Rattle.std.specs.List.{AllZip, flat_map}
 use Rattle.std.proofs.lemmas.List.{append_cancel_right, append-nil}
 use Rattle.text_fields.specs.Lines.{lines_of, line_feed, text_with}
@@ -8,7 +8,7 @@ use Rattle.epc_sgtin.specs.SgtinValue.{SgtinValue}
 use Rattle.sgtin_text.specs.SgtinText.{name_line}
 use Rattle.report_lines.specs.Names.{IsNamed, HasName, BecomesLines, AreWithNames}
 use Rattle.top_call.specs.Job.{Defines}
-use Rattle.top_call.specs.Outcome.{AddsWhole, AddsFront, EndsSo}
+use Rattle.top_call.specs.Outcome.{AddsFront, EndsSo}
 use Rattle.top_call.specs.UnwrittenBytes.{Sends, Loses}
 use Rattle.top_call.specs.declared.ending.Wrote.{Wrote}
 use Rattle.top_call.specs.declared.ending.WriteEnd.{WriteEnd}
@@ -19,7 +19,6 @@ use Rattle.top_call.specs.words.Named.{IsOfLines, AddsNames, IsCutAt, RefusesCut
 use Rattle.checked_lines.specs.declared.fault.FaultReason.TheVariants.{End}
 use Rattle.text_fields.specs.laws.LineLaws.{some_line}
 use Rattle.text_fields.specs.laws.ListLaws.{flat_map_push, zip_push}
-use Rattle.top_call.proofs.Waits.{sends_whole, loses_later, loses_last}
 
 -- two ways to cut a last line off agree
 last_agrees : (before : List (List ℕ)) (last : List ℕ) (before' : List (List ℕ)) (last' : List ℕ) → before ++ last ∷ [] ≡ before' ++ last' ∷ [] → (before ≡ before') × (last ≡ last')
@@ -152,24 +151,6 @@ front_of_names become input rest text written written' so_far loses =
       added = loses.added;
     }
 
--- one more line was lost with its name
-pub lost_line : BecomeSome → (input rest line behind text page : List ℕ) (written written' written'' : Option (List ℕ)) → NamesTo input rest text → lines_of rest ≡ line ∷ lines_of behind
-    → Sends text page written written' → (lines : List (List ℕ)) × BecomesLines line lines × Loses (page ++ text_with lines) written' written'' → AddsFront (AddsNames input) written written''
-lost_line become input rest line behind text page written written' written'' so_far split sends lost =
-    front_of_names become input behind (text ++ text_with lost.0) written written'' (names_more input rest line behind text lost.0 so_far split lost.1)
-    (loses_later text page (text_with lost.0) written written' written'' sends lost.2)
-
--- the page was written at last, or lost
-pub all_written : (input rest text page : List ℕ) (written written' written'' : Option (List ℕ)) → NamesTo input rest text → lines_of rest ≡ rest ∷ [] → Sends text page written written'
-    → Sends page [] written' written'' → AddsWhole (AddsNames input) written written''
-all_written input rest text page written written' written'' so_far one sends last =
-    record { text = text; named = names_all input rest text so_far one; added = sends_whole text page written written' written'' sends last }
-
-pub last_lost : BecomeSome → (input rest text page : List ℕ) (written written' written'' : Option (List ℕ)) → NamesTo input rest text → Sends text page written written' → Loses page written' written''
-    → AddsFront (AddsNames input) written written''
-last_lost become input rest text page written written' written'' so_far sends loses =
-    front_of_names become input rest text written written'' so_far (loses_last text page written written' written'' sends loses)
-
 -- the text of a line and its name, and that of a line alone
 two_lines : (line name : List ℕ) → line ++ ((line_feed ∷ name) ++ line_feed ∷ []) ≡ text_with (line ∷ name ∷ [])
 two_lines line name = simp (append_assoc, append-nil)
@@ -177,29 +158,35 @@ two_lines line name = simp (append_assoc, append-nil)
 one_line : (line : List ℕ) → line ++ line_feed ∷ [] ≡ text_with (line ∷ [])
 one_line line = simp append-nil
 
--- a line that has a name waits with it, or is lost with it
-pub named_sent : (line piece page waits : List ℕ) (sgtin : SgtinValue) (written written' : Option (List ℕ)) → IsNamed line sgtin → piece ≡ (line_feed ∷ name_line sgtin) ++ line_feed ∷ []
-    → Sends (page ++ (line ++ piece)) waits written written' → (lines : List (List ℕ)) × BecomesLines line lines × Sends (page ++ text_with lines) waits written written'
-named_sent line piece page waits sgtin written written' is piece_is sends =
-    let text : line ++ piece ≡ text_with (line ∷ name_line sgtin ∷ []) = ap (λ (p : List ℕ). line ++ p) piece_is ∙ two_lines line (name_line sgtin) in
-    (line ∷ name_line sgtin ∷ [], inl (sgtin, is, refl), subst (λ (t : List ℕ). Sends (page ++ t) waits written written') text sends)
+-- a line becomes lines whose text is these bytes
+pub record BecomesBytes (line bytes : List ℕ) : Type 0 where
+  pub lines : List (List ℕ)
+  pub becomes : BecomesLines line lines
+  pub is : bytes ≡ text_with lines
 
-pub named_lost : (line piece page : List ℕ) (sgtin : SgtinValue) (written written' : Option (List ℕ)) → IsNamed line sgtin → piece ≡ (line_feed ∷ name_line sgtin) ++ line_feed ∷ []
-    → Loses (page ++ (line ++ piece)) written written' → (lines : List (List ℕ)) × BecomesLines line lines × Loses (page ++ text_with lines) written written'
-named_lost line piece page sgtin written written' is piece_is loses =
-    let text : line ++ piece ≡ text_with (line ∷ name_line sgtin ∷ []) = ap (λ (p : List ℕ). line ++ p) piece_is ∙ two_lines line (name_line sgtin) in
-    (line ∷ name_line sgtin ∷ [], inl (sgtin, is, refl), subst (λ (t : List ℕ). Loses (page ++ t) written written') text loses)
+-- a line that has a name becomes itself and the line of the name
+pub named_becomes : (line piece : List ℕ) (sgtin : SgtinValue) → IsNamed line sgtin → piece ≡ (line_feed ∷ name_line sgtin) ++ line_feed ∷ [] → BecomesBytes line (line ++ piece)
+named_becomes line piece sgtin is piece_is = record {
+  lines = line ∷ name_line sgtin ∷ [];
+  becomes = inl (sgtin, is, refl);
+  is = ap (λ (p : List ℕ). line ++ p) piece_is ∙ two_lines line (name_line sgtin);
+}
 
--- and so is a line that has none
-pub plain_sent : (line page waits : List ℕ) (written written' : Option (List ℕ)) → ¬ HasName line → Sends (page ++ (line ++ line_feed ∷ [])) waits written written'
+-- and one that has none itself alone
+pub plain_becomes : (line : List ℕ) → ¬ HasName line → BecomesBytes line (line ++ line_feed ∷ [])
+plain_becomes line none = record { lines = line ∷ []; becomes = inr (none, refl); is = one_line line }
+
+-- it waits,
+pub becomes_sent : (line bytes page waits : List ℕ) (written written' : Option (List ℕ)) → BecomesBytes line bytes → Sends (page ++ bytes) waits written written'
     → (lines : List (List ℕ)) × BecomesLines line lines × Sends (page ++ text_with lines) waits written written'
-plain_sent line page waits written written' none sends =
-    (line ∷ [], inr (none, refl), subst (λ (t : List ℕ). Sends (page ++ t) waits written written') (one_line line) sends)
+becomes_sent line bytes page waits written written' becomes sends =
+    (becomes.lines, becomes.becomes, subst (λ (t : List ℕ). Sends (page ++ t) waits written written') becomes.is sends)
 
-pub plain_lost : (line page : List ℕ) (written written' : Option (List ℕ)) → ¬ HasName line → Loses (page ++ (line ++ line_feed ∷ [])) written written'
+-- or is lost
+pub becomes_lost : (line bytes page : List ℕ) (written written' : Option (List ℕ)) → BecomesBytes line bytes → Loses (page ++ bytes) written written'
     → (lines : List (List ℕ)) × BecomesLines line lines × Loses (page ++ text_with lines) written written'
-plain_lost line page written written' none loses =
-    (line ∷ [], inr (none, refl), subst (λ (t : List ℕ). Loses (page ++ t) written written') (one_line line) loses)
+becomes_lost line bytes page written written' becomes loses =
+    (becomes.lines, becomes.becomes, subst (λ (t : List ℕ). Loses (page ++ t) written written') becomes.is loses)
 
 -- the writing of names ended where a write failed
 pub names_failed : (bytes : List ℕ) (written written' : Option (List ℕ)) (writes writes' : ℕ) (end : Result Wrote WriteEnd) → end ≡ Err Fault → FaultsRose writes writes'

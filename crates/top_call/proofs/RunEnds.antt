@@ -15,7 +15,8 @@ use Rattle.runs.specs.Report.{report_text_of}
 use Rattle.report_lines.specs.declared.mode.PlayFault.TheVariants as plays
 use Rattle.top_call.specs.words.Reported.{Reports, RefusesScenario, run_job}
 use Rattle.top_call.specs.Job.{Defines}
-use Rattle.top_call.specs.Outcome.{AddsFront, EndsSo}
+use Rattle.top_call.specs.Outcome.{AddsFront}
+use Rattle.top_call.proofs.SinkChanges.{SinkChange, EndsWith}
 use Rattle.top_call.specs.Ending.{end_of_play}
 use Rattle.top_call.specs.declared.ending.Wrote.{Wrote}
 use Rattle.top_call.specs.declared.ending.WriteEnd.{WriteEnd}
@@ -63,11 +64,16 @@ front_of_report mode bytes scenario written written' legal spelled part = record
   added = part.3;
 }
 
+-- what a run that was cut off with this fault left in the sink
+pub record LeavesPart (mode : Mode) (scenario : Scenario) (sink : SinkChange) (fault : PlayFault) : Type 0 where
+  pub rose : IsErrOf {T = Unit {0}} (Err fault) plays.Write → FaultsRose sink.writes sink.writes'
+  pub steady : IsErrOf {T = Unit {0}} (Err fault) plays.OutOfMemory → sink.writes' ≡ sink.writes
+  pub part : AddsPart mode scenario sink.written sink.written'
+
 -- the writing of a report ended where its run was cut off
-pub play_failed : (mode : Mode) (bytes : List ℕ) (scenario : Scenario) (written written' : Option (List ℕ)) (writes writes' : ℕ) (fault : PlayFault) (end : Result Wrote WriteEnd)
-    → end ≡ Err (end_of_play fault) → IsScenario scenario → bytes ≡ scenario_text scenario → (IsErrOf {T = Unit {0}} (Err fault) plays.Write → FaultsRose writes writes') → AddsPart mode scenario written written'
-    → EndsSo (run_job mode) bytes written written' writes writes' end
-play_failed mode bytes scenario written written' writes writes' plays.Write end is legal spelled rose part =
-    subst (EndsSo (run_job mode) bytes written written' writes writes') (sym is) (rose refl, front_of_report mode bytes scenario written written' legal spelled part)
-play_failed mode bytes scenario written written' writes writes' plays.OutOfMemory end is legal spelled rose part =
-    subst (EndsSo (run_job mode) bytes written written' writes writes') (sym is) (inr (front_of_report mode bytes scenario written written' legal spelled part))
+pub play_failed : (mode : Mode) (bytes : List ℕ) (text : IsText bytes) (sink : SinkChange) (fault : PlayFault) (end : Result Wrote WriteEnd) → end ≡ Err (end_of_play fault)
+    → LeavesPart mode text.0 sink fault → EndsWith (run_job mode) bytes sink end
+play_failed mode bytes text sink plays.Write end is left =
+    subst (EndsWith (run_job mode) bytes sink) (sym is) (left.rose refl, front_of_report mode bytes text.0 sink.written sink.written' text.1 text.2 left.part)
+play_failed mode bytes text sink plays.OutOfMemory end is left =
+    subst (EndsWith (run_job mode) bytes sink) (sym is) (left.steady refl, inr (front_of_report mode bytes text.0 sink.written sink.written' text.1 text.2 left.part))

@@ -1,5 +1,5 @@
 -- The texts of `upgrade`, by the laws of scenarios.
-use Rattle.std.proofs.Common.{◌≡◌, ◌↔◌, ℕ, List, refl, sym, ◌∙◌, ap}
+use Rattle.std.proofs.Common.{◌≡◌, ℕ, List, sym, ◌∙◌, ap}
 use Rattle.report_lines.specs.declared.mode.Mode.{Mode}
 use Rattle.runs.specs.Report.{report_text_of}
 use Rattle.scenario.specs.declared.values.Scenario.{Scenario}

@@ -5,7 +5,7 @@ use Rattle.std.specs.Global.{Global}
 use Rattle.std.specs.String.{string_bytes}
 use Rattle.report_lines.specs.declared.mode.Mode.TheVariants.{Plain, Trace, Json, Exchanges, Vcd}
 use Rattle.top_call.specs.declared.forms.Form.{Form}
-use Rattle.top_call.specs.declared.forms.Form.TheVariants.{Decode, Encode, Run, Upgrade, Names, Probe, Gen}
+use Rattle.top_call.specs.declared.forms.Form.TheVariants.{Decode, Encode, Run, Upgrade, Portals, Names, Probe, Audit, Gen}
 use Rattle.made_scenario.specs.Made.{most_made_tags}
 
 -- the bytes of each word
@@ -22,14 +22,14 @@ words_of (Run Json) = codes "run" ∷ codes "json" ∷ []
 words_of (Run Exchanges) = codes "run" ∷ codes "exchanges" ∷ []
 words_of (Run Vcd) = codes "run" ∷ codes "vcd" ∷ []
 words_of Upgrade = codes "upgrade" ∷ []
+words_of Portals = codes "portals" ∷ []
 words_of Names = codes "names" ∷ []
 words_of Probe = codes "probe" ∷ []
+words_of Audit = codes "audit" ∷ []
 words_of (Gen seed tags) = codes "gen" ∷ decimal seed ∷ decimal tags ∷ []
 
--- the numbers of a form are in their ranges, and its mode is one that the program offers
+-- the numbers of a form are in their ranges
 abbrev pub IsForm : Form → Type 0
-IsForm (Run Exchanges) = ⊥
-IsForm (Run Vcd) = ⊥
 IsForm (Gen seed tags) = (seed < 2 ^ 64) × (tags ≤ most_made_tags)
 IsForm form = Unit {0}
 

@@ -1,11 +1,13 @@
 -- Profile: what the words of each form do.
 use Rattle.top_call.specs.Job.{Job}
 use Rattle.top_call.specs.declared.forms.Form.{Form}
-use Rattle.top_call.specs.declared.forms.Form.TheVariants.{Decode, Encode, Run, Upgrade, Names, Probe, Gen}
+use Rattle.top_call.specs.declared.forms.Form.TheVariants.{Decode, Encode, Run, Upgrade, Portals, Names, Probe, Audit, Gen}
+use Rattle.top_call.specs.words.Audited.{audit_job}
 use Rattle.top_call.specs.words.Decoded.{decode_job}
 use Rattle.top_call.specs.words.Encoded.{encode_job}
 use Rattle.top_call.specs.words.Reported.{run_job}
 use Rattle.top_call.specs.words.Upgraded.{upgrade_job}
+use Rattle.top_call.specs.words.Compared.{portals_job}
 use Rattle.top_call.specs.words.Named.{names_job}
 use Rattle.top_call.specs.words.Probed.{probe_job}
 use Rattle.top_call.specs.words.Generated.{gen_job}
@@ -15,6 +17,8 @@ job_of Decode = decode_job
 job_of Encode = encode_job
 job_of (Run mode) = run_job mode
 job_of Upgrade = upgrade_job
+job_of Portals = portals_job
 job_of Names = names_job
 job_of Probe = probe_job
+job_of Audit = audit_job
 job_of (Gen seed tags) = gen_job seed tags

@@ -70,15 +70,16 @@ pub record ReadsTooMuch (old new : Option (List ℕ)) : Type 0 where
   pub over : length bytes ≡ input_limit + 1
 
 -- What the end of a word's writing for these bytes says: of what was written and is written, and of the count of the
--- sink's faults before and after.
+-- sink's faults before and after. Where there was no memory, no write failed.
 abbrev pub EndsSo : Job → (bytes : List ℕ) → (written written' : Option (List ℕ)) → (writes writes' : ℕ) → Result Wrote WriteEnd → Type 0
 EndsSo job bytes written written' writes writes' (Ok Text) = AddsWhole (job.writes bytes) written written'
 EndsSo job bytes written written' writes writes' (Ok FaultLine) = AddsWhole (job.refuses bytes) written written'
 EndsSo job bytes written written' writes writes' (Err ends.Fault) = FaultsRose writes writes' × AddsFront (Defines job bytes) written written'
-EndsSo job bytes written written' writes writes' (Err ends.OutOfMemory) = (written' ≡ written) ⊎ AddsFront (Defines job bytes) written written'
+EndsSo job bytes written written' writes writes' (Err ends.OutOfMemory) = (writes' ≡ writes) × ((written' ≡ written) ⊎ AddsFront (Defines job bytes) written written')
 
 -- What a status says of a word: of what was left and is left of the source, of what was written and is written, of the
--- two counts of faults before and after, and of the fact that the sink is untouched.
+-- two counts of faults before and after, and of the fact that the sink is untouched. Where there was no memory, no read and
+-- no write failed.
 abbrev pub Tells : Job → (left left' written written' : Option (List ℕ)) → (reads reads' writes writes' : ℕ) → (untouched : Type 0) → Status → Type 0
 Tells job left left' written written' reads reads' writes writes' untouched Done = WritesWhole job job.writes left left' written written'
 Tells job left left' written written' reads reads' writes writes' untouched BadInput = WritesWhole job job.refuses left left' written written'
@@ -86,7 +87,7 @@ Tells job left left' written written' reads reads' writes writes' untouched Read
 Tells job left left' written written' reads reads' writes writes' untouched WriteFault = FaultsRose writes writes' × WritesFront job left left' written written'
 Tells job left left' written written' reads reads' writes writes' untouched TooLong = ReadsTooMuch left left' × untouched
 Tells job left left' written written' reads reads' writes writes' untouched OutOfMemory =
-    (ReadsWithin left left' × (written' ≡ written)) ⊎ WritesFront job left left' written written'
+    (reads' ≡ reads) × (writes' ≡ writes) × ((ReadsWithin left left' × (written' ≡ written)) ⊎ WritesFront job left left' written written')
 Tells job left left' written written' reads reads' writes writes' untouched BadWords = ⊥
 
 -- the status of an end of the writing

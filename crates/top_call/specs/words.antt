@@ -1,4 +1,5 @@
 -- What each word of the command line does.
+pub mod Audited
 pub mod Decoded
 pub mod Encoded
 pub mod Reported
@@ -6,3 +7,4 @@ pub mod Named
 pub mod Probed
 pub mod Generated
 pub mod Upgraded
+pub mod Compared

@@ -17,14 +17,18 @@ pub enum Form {
     Decode,
     /// The word `encode`: write for each line of the input the one that `decode` reads.
     Encode,
-    /// The word `run`, and `trace` or `json` behind it for another report: run the scenario of the input, and report.
+    /// The word `run`, and `trace`, `json`, `exchanges` or `vcd` behind it for another report: run the scenario of the input, and report.
     Run(Mode),
     /// The word `upgrade`: write the scenario of the input as the text of version 2.
     Upgrade,
     /// The word `probe`: do to the tag of the input what it says, line by line, and tell what the tag answers and what it is.
     Probe,
+    /// The word `portals`: compare two portals that share the tags of the scenario of the input with each of them alone.
+    Portals,
     /// The word `names`: copy lines, and add its name behind each line that has one.
     Names,
+    /// The word `audit`: say whether the trace behind the scenario of the input is one of it, and else which line can't be.
+    Audit,
     /// The word `gen` and two numbers: make the scenario of a seed with so many tags, run it, and write its
     /// summary. Nothing is read.
     Gen {
@@ -80,13 +84,21 @@ pub fn form_of(words: &[String]) -> Option<Form>
         [word] if is_word(word.as_str(), "encode") => Some(Form::Encode),
         [word] if is_word(word.as_str(), "run") => Some(Form::Run(Mode::Plain)),
         [word] if is_word(word.as_str(), "upgrade") => Some(Form::Upgrade),
+        [word] if is_word(word.as_str(), "portals") => Some(Form::Portals),
         [word] if is_word(word.as_str(), "names") => Some(Form::Names),
         [word] if is_word(word.as_str(), "probe") => Some(Form::Probe),
+        [word] if is_word(word.as_str(), "audit") => Some(Form::Audit),
         [word, mode] if is_word(word.as_str(), "run") && is_word(mode.as_str(), "trace") => {
             Some(Form::Run(Mode::Trace))
         }
         [word, mode] if is_word(word.as_str(), "run") && is_word(mode.as_str(), "json") => {
             Some(Form::Run(Mode::Json))
+        }
+        [word, mode] if is_word(word.as_str(), "run") && is_word(mode.as_str(), "exchanges") => {
+            Some(Form::Run(Mode::Exchanges))
+        }
+        [word, mode] if is_word(word.as_str(), "run") && is_word(mode.as_str(), "vcd") => {
+            Some(Form::Run(Mode::Vcd))
         }
         [word, seed, tags] if is_word(word.as_str(), "gen") => {
             made_form(seed.as_str(), tags.as_str())

@@ -6,10 +6,12 @@ ghost use Rattle.top_call.specs.Job.{Defines, IsLawful};
 ghost use Rattle.top_call.specs.Jobs.{job_of};
 
 use crate::forms::Form;
+use crate::words::audit::audit_is_lawful;
 use crate::words::decode::decode_is_lawful;
 use crate::words::encode::encode_is_lawful;
 use crate::words::generate::gen_is_lawful;
 use crate::words::names::names_are_lawful;
+use crate::words::portals::portals_are_lawful;
 use crate::words::probe::probe_is_lawful;
 use crate::words::run::run_is_lawful;
 use crate::words::upgrade::upgrade_is_lawful;
@@ -27,8 +29,10 @@ pub fn jobs_are_lawful()
     encode_is_lawful();
     run_is_lawful();
     upgrade_is_lawful();
+    portals_are_lawful();
     names_are_lawful();
     probe_is_lawful();
+    audit_is_lawful();
     gen_is_lawful();
 }
 

@@ -6,13 +6,13 @@ ghost use Rattle.top_call.specs.Form.{texts, AskFor, HasForm, IsForm};
 ghost use Rattle.top_call.specs.Jobs.{job_of};
 ghost use Rattle.top_call.specs.Outcome.{input_limit, WritesWhole, WritesFront, ReadsWithin, ReadsTooMuch, SpeaksOfNoInput, Tells};
 ghost use Rattle.top_call.specs.words.Generated.{CountsEveryTag, gen_job};
-ghost use Rattle.top_call.specs.words.Reported.{SaysHeadline, SaysInventory, run_job};
+ghost use Rattle.top_call.specs.words.Reported.{IsOwnTrace, SaysHeadline, SaysInventory, run_job};
 ghost use Rattle.report_lines.specs.declared.mode.Mode.{Mode};
 
 use crate::forms::{Form, form_of};
 use crate::laws::jobs_are_lawful;
 use crate::status::Status;
-use crate::words::{decode, encode, generate, names, probe, run, upgrade};
+use crate::words::{audit, decode, encode, generate, names, portals, probe, run, upgrade};
 use air_io::{Sink, Source, SureSink, SureSource};
 use std::alloc::Global;
 
@@ -53,6 +53,9 @@ pub fn gen2run<I: Source, O: Sink>(
         → WritesWhole (run_job mode) (SaysInventory mode) (I.left input.old) (I.left input.new) (O.written output.old) (O.written output.new))
         × ((seed tags : ℕ) → AskFor (texts words.now) (Form.Gen seed tags) → result ≡ Status.Done
         → WritesWhole (gen_job seed tags) (λ bytes text. CountsEveryTag seed tags text) (I.left input.old) (I.left input.new) (O.written output.old) (O.written output.new)) }
+    // Done, of a trace: where no step of the scenario is an event, the trace is audited.
+    ensures own_trace { AskFor (texts words.now) (Form.Run Mode.Trace) → result ≡ Status.Done
+        → WritesWhole (run_job Mode.Trace) IsOwnTrace (I.left input.old) (I.left input.new) (O.written output.old) (O.written output.new) }
     // BadInput: what was added is the one fault line of the bytes read.
     ensures bad_input { (form : Form) → AskFor (texts words.now) form → result ≡ Status.BadInput
         → WritesWhole (job_of form) (job_of form).refuses (I.left input.old) (I.left input.new) (O.written output.old) (O.written output.new) }
@@ -73,6 +76,11 @@ pub fn gen2run<I: Source, O: Sink>(
     ensures out_of_memory { (form : Form) → AskFor (texts words.now) form → result ≡ Status.OutOfMemory
         → (ReadsWithin (I.left input.old) (I.left input.new) × (O.written output.new ≡ O.written output.old))
         ⊎ WritesFront (job_of form) (I.left input.old) (I.left input.new) (O.written output.old) (O.written output.new) }
+    // OutOfMemory comes only where no device failed.
+    ensures memory_alone { result ≡ Status.OutOfMemory
+        → (I.faults input.new ≡ I.faults input.old) × (O.faults output.new ≡ O.faults output.old) }
+    // Under `names` memory is taken for the input alone, so that OutOfMemory leaves the sink as it was.
+    ensures names_memory { AskFor (texts words.now) Form.Names → result ≡ Status.OutOfMemory → output.new ≡ output.old }
 
     // Input within the limit that the form's grammar allows gives Done, unless a device fails or memory runs out.
     ensures complete { (form : Form) → AskFor (texts words.now) form → (bytes : List ℕ) → I.left input.old ≡ Some bytes
@@ -117,14 +125,17 @@ fn answer<I: Source, O: Sink>(alloc: Global, form: Form, input: &mut I, output: 
     ensures tells { Tells (job_of form) (I.left input.old) (I.left input.new) (O.written output.old) (O.written output.new)
         (I.faults input.old) (I.faults input.new) (O.faults output.old) (O.faults output.new) (output.new ≡ output.old) result }
     ensures unread { (job_of form).input ≡ false → (input.new ≡ input.old) × SpeaksOfNoInput result }
+    ensures names_memory { form ≡ Form.Names → result ≡ Status.OutOfMemory → output.new ≡ output.old }
 {
     match form {
         Form::Decode => decode::answer(alloc, input, output),
         Form::Encode => encode::answer(alloc, input, output),
         Form::Run(mode) => run::answer(alloc, mode, input, output),
         Form::Upgrade => upgrade::answer(alloc, input, output),
+        Form::Portals => portals::answer(alloc, input, output),
         Form::Names => names::answer(alloc, input, output),
         Form::Probe => probe::answer(alloc, input, output),
+        Form::Audit => audit::answer(alloc, input, output),
         Form::Gen { seed, tags } => generate::answer(alloc, seed, tags, input, output),
     }
 }

@@ -1,10 +1,12 @@
 //! The words of the command line: each a file that answers it, by its job.
 
+pub mod audit;
 pub mod decode;
 pub mod encode;
 pub mod generate;
 pub mod names;
 mod page;
+pub mod portals;
 pub mod probe;
 pub mod run;
 pub mod upgrade;

@@ -4,7 +4,7 @@ ghost use Rattle.air_channel.specs.Air.{NamesTags};
 ghost use Rattle.air_model.specs.Channel.{HasFewLevels};
 
 use crate::worlds::{FIRST, SECOND, numbered_tags, scenario_of};
-use air_channel::{Air, Got};
+use air_channel::{Air, Got, Unheard};
 use air_events::{Choice, Entry, EntryCursor, LONGEST_STREAM, empty_entry};
 use air_world::set_up;
 use bit_strings::{Bits, Code, QValue, Session};
@@ -74,7 +74,7 @@ fn exchange_counted<L: Ledger>(blank: Blank, air: &mut Air, command: &Command, e
     requires few { HasFewLevels entry.now.choice }
 {
     let mut steps = Steps::<L>::new(blank);
-    air.exchange(command, entry, &mut steps)
+    air.exchange(command, entry, &mut Unheard, &mut steps)
 }
 
 /// One exchange, with a counter of steps of its own; none where the entry names a tag that is not there, or has too many levels.

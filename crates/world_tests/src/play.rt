@@ -13,6 +13,16 @@ const REPORT: &str = "list 1 1 0800 1234\n\
                       tag 0 ready BAAA0 0000000000 0000000000000000 ED3A08001234 E2000001 -\n\
                       done\n";
 
+/// What a dump begins with, before the first exchange.
+const DUMP_HEAD: &str =
+    "$comment intervals and levels as played; the gaps between them are drawn $end\n\
+                         $timescale 1 ns $end\n$scope module gen2 $end\n\
+                         $var wire 1 r reader $end\n$var wire 1 t tag $end\n\
+                         $var real 64 e exchange $end\n$var real 64 n replies $end\n\
+                         $var string 1 c command $end\n$var string 1 g reply $end\n\
+                         $upscope $end\n$enddefinitions $end\n\
+                         #0\n$dumpvars\n1r\nzt\nr0 e\nr0 n\ns- c\ns- g\n$end\n";
+
 /// Three Selects, and a tag in a later slot.
 const SELECTS: &[&str] = &[
     "tag 00000000 00000000 0000000000 08001234 E2000001 - 0001\n",
@@ -31,29 +41,44 @@ fn sink_failing_at(alloc: Global, number: u64) -> Option<MemSink> {
     MemSink::new(alloc, 20_000, numbers).ok()
 }
 
-/// Plays the scenario of these lines, where the write of this number fails.
-fn played(alloc: Global, lines: &[&str], failing: u64) -> Option<Played> {
+/// Plays the scenario of these lines, and reports it in a mode, where the write of this number fails.
+fn played(alloc: Global, lines: &[&str], mode: Mode, failing: u64) -> Option<Played> {
     let mut sink = sink_failing_at(alloc, failing)?;
     let scenario = scenario_of(alloc, lines)?;
     let mut air = set_up(alloc, &scenario).ok()?;
-    let ended = play(alloc, &scenario, &mut air, Mode::Plain, &mut sink);
+    let ended = play(alloc, &scenario, &mut air, mode, &mut sink);
     Some((ended, air.exchanges(), sink))
 }
 
-/// The number of the write that fails, how the run of one tag ends, and what is written: a report is written line by line.
-const WRITES: &[(u64, Result<(), PlayFault>, &str)] = &[
-    (0, Ok(()), REPORT),
-    (1, Err(PlayFault::Write), ""),
+/// The mode, the number of the write that fails, how the run of one tag ends, and what is written: a report is written line by line, and
+/// a dump exchange by exchange.
+const WRITES: &[(Mode, u64, Result<(), PlayFault>, &str)] = &[
+    (Mode::Plain, 0, Ok(()), REPORT),
+    (Mode::Plain, 1, Err(PlayFault::Write), ""),
     (
+        Mode::Plain,
         3,
         Err(PlayFault::Write),
         "list 1 1 0800 1234\nround 1 quiet 2\n",
     ),
+    (
+        Mode::Exchanges,
+        3,
+        Err(PlayFault::Write),
+        "exchange 1 query 1 fm0 0 00 0 a 0\nanswer 1 0 plain rn16 A1B2\n",
+    ),
+    (Mode::Vcd, 2, Err(PlayFault::Write), DUMP_HEAD),
 ];
 
 /// Whether the run of one tag ends so, and this is written, where the write of this number fails.
-fn writes(alloc: Global, failing: u64, wanted: Result<(), PlayFault>, text: &str) -> bool {
-    match played(alloc, ONE_TAG, failing) {
+fn writes(
+    alloc: Global,
+    mode: Mode,
+    failing: u64,
+    wanted: Result<(), PlayFault>,
+    text: &str,
+) -> bool {
+    match played(alloc, ONE_TAG, mode, failing) {
         Some((ended, _, sink)) => ended == wanted && sink.as_slice() == text.as_bytes(),
         None => false,
     }
@@ -61,8 +86,11 @@ fn writes(alloc: Global, failing: u64, wanted: Result<(), PlayFault>, text: &str
 
 #[test]
 fn reports_are_written_line_by_line(rt: HostRuntime) {
-    for &(failing, ended, text) in WRITES {
-        assert!(rt; writes(rt.alloc(), failing, ended, text), "{failing}");
+    for &(mode, failing, ended, text) in WRITES {
+        assert!(rt;
+            writes(rt.alloc(), mode, failing, ended, text),
+            "{mode:?} {failing}"
+        );
     }
 }
 
@@ -71,7 +99,7 @@ const COUNTED: &[(&[&str], u64)] = &[(ONE_TAG, 3), (LISTED_TWICE, 13), (SELECTS,
 
 /// How many exchanges there are in the run of these lines.
 fn exchanges(alloc: Global, lines: &[&str]) -> Option<u64> {
-    let (_, counted, _) = played(alloc, lines, 0)?;
+    let (_, counted, _) = played(alloc, lines, Mode::Plain, 0)?;
     Some(counted)
 }
 

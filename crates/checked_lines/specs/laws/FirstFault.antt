@@ -1,6 +1,6 @@
 -- A text has one first faulty line at most, and none where each line asks for something.
-use Rattle.std.proofs.Common.{◌≡◌, ℕ, ◌+◌, ◌≤◌, List, [], ◌∷◌, ◌++◌, length, refl, sym, ◌∙◌, ap, subst, suc, arith, append_assoc}
-use Rattle.std.specs.Prelude.{All}
+use Rattle.std.proofs.Common.{◌≡◌, ℕ, ◌+◌, ◌≤◌, List, [], ◌∷◌, ◌++◌, length, refl, sym, ◌∙◌, ap, subst, inl, inr, arith, append_assoc}
+use Rattle.std.specs.Prelude.{All, ◌⊎◌}
 use Rattle.std.specs.List.{AllZip}
 use Rattle.std.proofs.lemmas.List.Elements.{All-head, All-tail}
 use Rattle.text_fields.specs.FaultLine.{fault_line}
@@ -9,7 +9,7 @@ use Rattle.text_fields.specs.laws.LineLaws.{pieces_between-cut}
 use Rattle.checked_lines.specs.LineRules.{LineRules, AskForSome, IsFaultyBefore, IsFirstFault, IsFaultText, reason_word}
 use Rattle.checked_lines.specs.declared.fault.FaultReason.{FaultReason}
 use Rattle.checked_lines.specs.declared.fault.FaultyLine.{FaultyLine}
-use Rattle.checked_lines.specs.laws.OneLine.{TellLines}
+use Rattle.checked_lines.specs.laws.OneLine.{AsksForSome, TellLines}
 
 -- the lines of a text that begins with whole lines
 pub lines_behind : (before : List (List ℕ)) (rest : List ℕ) → All (Lacks line_feed) before → lines_of (text_with before ++ rest) ≡ before ++ lines_of rest
@@ -29,74 +29,78 @@ faulty_inside : {R A : Type 0} (rules : LineRules R A) (more : List (List ℕ)) 
 faulty_inside rules [] last behind line reason faulty = faulty
 faulty_inside rules (next ∷ more) last behind line reason faulty = faulty
 
--- a line has one first reason
-same_reason_before : {R A : Type 0} (rules : LineRules R A) → TellLines rules → (behind : List (List ℕ)) (line : List ℕ) (one other : FaultReason)
-    → IsFaultyBefore rules behind line one → IsFaultyBefore rules behind line other → one ≡ other
-same_reason_before rules tell [] line one other left right = left.1 ∙ sym right.1
-same_reason_before rules tell (next ∷ behind) line one other left right = tell.one_reason (fields_of line) one other left right
+-- the line is faulty, with these lines behind it
+abbrev FaultHere : {R A : Type 0} → LineRules R A → List ℕ → List (List ℕ) → Type 0
+FaultHere rules line behind = (reason : FaultReason) × IsFaultyBefore rules behind line reason
 
--- no line before the first faulty one is faulty
-asked_before : {R A : Type 0} (rules : LineRules R A) → TellLines rules → (asked : List R) (line : List ℕ) (more : List (List ℕ)) (last : List ℕ) (behind behind' : List (List ℕ)) (first : List ℕ)
-    (reason : FaultReason) → AllZip rules.asks (line ∷ more) asked → first ∷ behind ≡ line ∷ (more ++ last ∷ behind') → IsFaultyBefore rules behind first reason → ⊥
-asked_before rules tell [] line more last behind behind' first reason asks cut faulty = asks
-asked_before rules tell (r ∷ asked) line more last behind behind' first reason asks cut faulty =
-    let lines : first ≡ line = cc in
-    let rest : behind ≡ more ++ last ∷ behind' = cc in
-    let here : IsFaultyBefore rules (more ++ last ∷ behind') first reason = subst (λ all. IsFaultyBefore rules all first reason) rest faulty in
-    tell.not_faulty line r reason asks.0 (subst (λ each. rules.is_faulty (fields_of each) reason) lines (faulty_inside rules more last behind' first reason here))
+-- one of the lines is faulty, and those before it ask for something
+abbrev FaultIn : {R A : Type 0} → LineRules R A → List (List ℕ) → Type 0
+FaultIn rules [] = ⊥
+FaultIn rules (line ∷ behind) = FaultHere rules line behind ⊎ (AsksForSome rules line × FaultIn rules behind)
 
--- lines have one first faulty line, with one first reason
-same_place : {R A : Type 0} (rules : LineRules R A) → TellLines rules → (before before' : List (List ℕ)) (asked asked' : List R) (line line' : List ℕ) (behind behind' : List (List ℕ)) (one other : FaultReason)
-    → AllZip rules.asks before asked → AllZip rules.asks before' asked' → before ++ line ∷ behind ≡ before' ++ line' ∷ behind'
-    → IsFaultyBefore rules behind line one → IsFaultyBefore rules behind' line' other → (length before ≡ length before') × (one ≡ other)
-same_place rules tell [] [] asked asked' line line' behind behind' one other asks asks' cut faulty faulty' =
-    let lines : line' ≡ line = cc in
-    let rest : behind' ≡ behind = cc in
-    let here : IsFaultyBefore rules behind line' other = subst (λ all. IsFaultyBefore rules all line' other) rest faulty' in
-    (refl, same_reason_before rules tell behind line one other faulty (subst (λ each. IsFaultyBefore rules behind each other) lines here))
-same_place rules tell [] (l ∷ before') asked asked' line line' behind behind' one other asks asks' cut faulty faulty' =
-    absurd (asked_before rules tell asked' l before' line' behind behind' line one asks' cut faulty)
-same_place rules tell (l ∷ before) [] asked asked' line line' behind behind' one other asks asks' cut faulty faulty' =
-    absurd (asked_before rules tell asked l before line behind' behind line' other asks (sym cut) faulty')
-same_place rules tell (l ∷ before) (m ∷ before') [] asked' line line' behind behind' one other asks asks' cut faulty faulty' = absurd asks
-same_place rules tell (l ∷ before) (m ∷ before') (r ∷ asked) [] line line' behind behind' one other asks asks' cut faulty faulty' = absurd asks'
-same_place rules tell (l ∷ before) (m ∷ before') (r ∷ asked) (s ∷ asked') line line' behind behind' one other asks asks' cut faulty faulty' =
-    let rest : before ++ line ∷ behind ≡ before' ++ line' ∷ behind' = cc in
-    let both = same_place rules tell before before' asked asked' line line' behind behind' one other asks.1 asks'.1 rest faulty faulty' in
-    (ap suc both.0, both.1)
+-- its number, counted from 1, and its reason
+abbrev fault_in : {R A : Type 0} (rules : LineRules R A) (lines : List (List ℕ)) → FaultIn rules lines → FaultyLine
+fault_in rules [] fault = absurd fault
+fault_in rules (line ∷ behind) (inl here) = record { line = 1; reason = here.0 }
+fault_in rules (line ∷ behind) (inr later) =
+    let fault = fault_in rules behind later.1 in
+    record { line = fault.line + 1; reason = fault.reason }
 
-same_fault_line : (one other : FaultyLine) → one.line ≡ other.line → one.reason ≡ other.reason
-    → fault_line one.line (reason_word one.reason) ≡ fault_line other.line (reason_word other.reason)
-same_fault_line one other lines reasons = rw (lines, reasons) refl
+module _ {R A : Type 0} (rules : LineRules R A) where
+  -- the first faulty line of bytes is one of their lines
+  fault_behind : (before : List (List ℕ)) (asked : List R) (line : List ℕ) (behind : List (List ℕ)) (here : FaultHere rules line behind) → AllZip rules.asks before asked
+      → (it : FaultIn rules (before ++ line ∷ behind)) × (fault_in rules (before ++ line ∷ behind) it ≡ record { line = length before + 1; reason = here.0 })
+  fault_behind [] asked line behind here asks = (inl here, refl)
+  fault_behind (l ∷ before) [] line behind here asks = absurd asks
+  fault_behind (l ∷ before) (r ∷ asked) line behind here asks =
+      let later = fault_behind before asked line behind here asks.1 in
+      let number : length before + 1 + 1 ≡ length (l ∷ before) + 1 = omega arith in (
+        inr ((r, asks.0), later.0),
+        ap (λ (fault : FaultyLine). let next : FaultyLine = record { line = fault.line + 1; reason = fault.reason } in next) later.1
+            ∙ ap (λ n. let next : FaultyLine = record { line = n; reason = here.0 } in next) number,
+      )
 
--- bytes have one fault line
-pub same_refused : {R A : Type 0} (rules : LineRules R A) → TellLines rules → (bytes one other : List ℕ) → IsFaultText rules bytes one → IsFaultText rules bytes other → one ≡ other
-same_refused rules tell bytes one other left right =
-    let mine = left.first in
-    let yours = right.first in
-    let both = same_place rules tell mine.before yours.before mine.asked yours.asked mine.line yours.line mine.behind yours.behind left.fault.reason right.fault.reason
-    mine.spelled yours.spelled (sym mine.cut ∙ yours.cut) mine.faulty yours.faulty in
-    left.line ∙ same_fault_line left.fault right.fault (mine.number ∙ ap (λ n. n + 1) both.0 ∙ sym yours.number) both.1 ∙ sym right.line
+  first_in : (bytes : List ℕ) (fault : FaultyLine) → IsFirstFault rules bytes fault → (it : FaultIn rules (lines_of bytes)) × (fault_in rules (lines_of bytes) it ≡ fault)
+  first_in bytes fault first =
+      let there = fault_behind first.before first.asked first.line first.behind (fault.reason, first.faulty) first.spelled in
+      rw first.cut (there.0, there.1 ∙ ap (λ n. let it : FaultyLine = record { line = n; reason = fault.reason } in it) (sym first.number))
 
--- a line that asks for something stands in no faulty place
-clash : {R A : Type 0} (rules : LineRules R A) → TellLines rules → (lines : List (List ℕ)) (asked : List R) (before : List (List ℕ)) (line : List ℕ) (behind : List (List ℕ)) (reason : FaultReason)
-    → AllZip rules.asks lines asked → lines ++ [] ∷ [] ≡ before ++ line ∷ behind → IsFaultyBefore rules behind line reason → ⊥
-clash rules tell [] [] [] line [] reason each cut faulty = let e : line ≡ [] = cc in faulty.0 e
-clash rules tell [] [] [] line (next ∷ more) reason each cut faulty = cc
-clash rules tell [] [] (b ∷ []) line behind reason each cut faulty = cc
-clash rules tell [] [] (b ∷ c ∷ before) line behind reason each cut faulty = cc
-clash rules tell [] (r ∷ asked) before line behind reason each cut faulty = each
-clash rules tell (l ∷ lines) [] before line behind reason each cut faulty = each
-clash rules tell (l ∷ []) (r ∷ asked) [] line [] reason each cut faulty = cc
-clash rules tell (l ∷ m ∷ lines) (r ∷ asked) [] line [] reason each cut faulty = cc
-clash rules tell (l ∷ lines) (r ∷ asked) [] line (next ∷ more) reason each cut faulty =
-    let e : line ≡ l = cc in
-    tell.not_faulty l r reason each.0 (subst (λ x. rules.is_faulty (fields_of x) reason) e faulty)
-clash rules tell (l ∷ lines) (r ∷ asked) (b ∷ before) line behind reason each cut faulty =
-    let e : lines ++ [] ∷ [] ≡ before ++ line ∷ behind = cc in
-    clash rules tell lines asked before line behind reason each.1 e faulty
+module _ {R A : Type 0} (rules : LineRules R A) (tell : TellLines rules) where
+  -- a line has one first reason
+  one_reason : (line : List ℕ) (behind : List (List ℕ)) (one other : FaultHere rules line behind) → one.0 ≡ other.0
+  one_reason line [] one other = one.1.1 ∙ sym other.1.1
+  one_reason line (next ∷ behind) one other = tell.one_reason (fields_of line) one.0 other.0 one.1 other.1
 
--- bytes of which each line asks for something have no faulty line
-pub asked_not_faulty : {R A : Type 0} (rules : LineRules R A) → TellLines rules → (bytes : List ℕ) (fault : FaultyLine) → AskForSome rules bytes → IsFirstFault rules bytes fault → ⊥
-asked_not_faulty rules tell bytes fault asks first =
-    clash rules tell asks.1.lines asks.0 first.before first.line first.behind fault.reason asks.1.each (sym asks.1.cut ∙ first.cut) first.faulty
+  -- a line before a faulty one isn't faulty
+  asks_before : (line : List ℕ) (behind : List (List ℕ)) → FaultHere rules line behind → AsksForSome rules line → ¬ FaultIn rules behind
+  asks_before line [] here asks later = later
+  asks_before line (next ∷ behind) here asks later = tell.not_faulty line asks.0 here.0 asks.1 here.1
+
+  -- lines have one first faulty line, with one first reason
+  one_fault : (lines : List (List ℕ)) (one other : FaultIn rules lines) → fault_in rules lines one ≡ fault_in rules lines other
+  one_fault [] one other = absurd one
+  one_fault (line ∷ behind) (inl here) (inl here') = ap (λ reason. let it : FaultyLine = record { line = 1; reason = reason } in it) (one_reason line behind here here')
+  one_fault (line ∷ behind) (inl here) (inr later) = absurd (asks_before line behind here later.0 later.1)
+  one_fault (line ∷ behind) (inr later) (inl here) = absurd (asks_before line behind here later.0 later.1)
+  one_fault (line ∷ behind) (inr later) (inr later') =
+      ap (λ (fault : FaultyLine). let next : FaultyLine = record { line = fault.line + 1; reason = fault.reason } in next) (one_fault behind later.1 later'.1)
+
+  -- bytes have one fault line
+  pub same_refused : (bytes one other : List ℕ) → IsFaultText rules bytes one → IsFaultText rules bytes other → one ≡ other
+  same_refused bytes one other left right =
+      let mine = first_in rules bytes left.fault left.first in
+      let yours = first_in rules bytes right.fault right.first in
+      let same : left.fault ≡ right.fault = sym mine.1 ∙ one_fault (lines_of bytes) mine.0 yours.0 ∙ yours.1 in
+      left.line ∙ ap (λ (fault : FaultyLine). fault_line fault.line (reason_word fault.reason)) same ∙ sym right.line
+
+  -- lines that ask for something, with nothing behind the last line feed, have no faulty one
+  none_in : (lines : List (List ℕ)) (asked : List R) → AllZip rules.asks lines asked → ¬ FaultIn rules (lines ++ [] ∷ [])
+  none_in [] asked asks (inl here) = here.1.0 refl
+  none_in [] asked asks (inr later) = later.1
+  none_in (line ∷ lines) [] asks fault = asks
+  none_in (line ∷ lines) (request ∷ asked) asks (inl here) = tell.not_faulty line request here.0 asks.0 (faulty_inside rules lines [] [] line here.0 here.1)
+  none_in (line ∷ lines) (request ∷ asked) asks (inr later) = none_in lines asked asks.1 later.1
+
+  -- bytes of which each line asks for something have no faulty line
+  pub asked_not_faulty : (bytes : List ℕ) (fault : FaultyLine) → AskForSome rules bytes → IsFirstFault rules bytes fault → ⊥
+  asked_not_faulty bytes fault asks first = none_in asks.1.lines asks.0 asks.1.each (subst (λ lines. FaultIn rules lines) asks.1.cut (first_in rules bytes fault first).0)

@@ -14,9 +14,19 @@ pub record TellLines {R A : Type 0} (rules : LineRules R A) : Type 0 where
 abbrev pub HaveOneAnswer : {R A : Type 0} → LineRules R A → Type 0
 HaveOneAnswer {R} {A} rules = (line : List ℕ) (request : R) (one other : A) → rules.asks line request → rules.answers request one → rules.answers request other → one ≡ other
 
+-- the answer is one to what the line asks for
+pub record IsAnswered {R A : Type 0} (rules : LineRules R A) (line : List ℕ) (answer : A) : Type 0 where
+  pub request : R
+  pub asks : rules.asks line request
+  pub right : rules.answers request answer
+
+-- the line asks for something
+abbrev pub AsksForSome : {R A : Type 0} → LineRules R A → List ℕ → Type 0
+AsksForSome {R} rules line = (request : R) × rules.asks line request
+
 -- what the line does or is
 abbrev pub AsksOrIsFaulty : {R A : Type 0} → LineRules R A → List ℕ → Type 0
-AsksOrIsFaulty {R} rules line = ((request : R) × rules.asks line request) ⊎ ((reason : FaultReason) × rules.is_faulty (fields_of line) reason)
+AsksOrIsFaulty rules line = AsksForSome rules line ⊎ ((reason : FaultReason) × rules.is_faulty (fields_of line) reason)
 
 -- what a line asks for has an answer
 abbrev pub HaveAnswers : {R A : Type 0} → LineRules R A → Type 0

@@ -12,9 +12,13 @@ use Rattle.command_grammar.specs.reading.FieldStages.{number_from, mask_from, st
 use Rattle.command_grammar.specs.reading.FieldRanges.{IsFront, IsSmall}
 use Rattle.command_grammar.proofs.reading.FieldStages.{small_digit}
 
+-- behind these bits one reader reads as the other
+abbrev pub GoesOnAs : {X : Type 0} → (List Bool → X) → (List Bool → X) → List Bool → Type 0
+GoesOnAs before now bits = (rest : List Bool) → before (bits ++ rest) ≡ now rest
+
 -- what was read before a run, behind some bits of it, and behind one more
-pub run_more : {X : Type 0} (before now next : List Bool → X) (bits : List Bool) (i : ℕ) → i < length bits → ((rest : List Bool) → before (take i bits ++ rest) ≡ now rest) → ((rest : List Bool) → now (get_or bits i false ∷ rest) ≡ next rest)
-    → (rest : List Bool) → before (take (i + 1) bits ++ rest) ≡ next rest
+pub run_more : {X : Type 0} (before now next : List Bool → X) (bits : List Bool) (i : ℕ) → i < length bits → GoesOnAs before now (take i bits) → GoesOnAs now next (get_or bits i false ∷ [])
+    → GoesOnAs before next (take (i + 1) bits)
 run_more before now next bits i inside so_far step rest =
     ap before (ap (λ (l : List Bool). l ++ rest) (take_more bits i false inside) ∙ append_assoc (take i bits) (get_or bits i false ∷ []) rest)
     ∙ so_far (get_or bits i false ∷ rest) ∙ step rest

@@ -1,6 +1,6 @@
 -- The commands one by one: the fields of each are read in order, and each is read again.
 use Rattle.std.proofs.Common.{◌≡◌, ℕ, zero, suc, ◌^◌, ◌<◌, ◌≤◌, Bool, false, List, [], ◌∷◌, ◌++◌, length, Ok, refl, sym, ap, subst, arith}
-use Rattle.std.specs.Prelude.{Option, Some, None, ◌==◌}
+use Rattle.std.specs.Prelude.{Some, None, ◌==◌}
 use Rattle.std.specs.List.{AllByRecursion}
 use Rattle.std.proofs.lemmas.Bool.Decides.{nat_tests}
 use Rattle.bit_strings.specs.Numbers.{field_of}
@@ -11,7 +11,6 @@ use Rattle.command_grammar.specs.declared.commands.Command.{Command}
 use Rattle.command_grammar.specs.declared.commands.Command.TheVariants as commands
 use Rattle.command_grammar.specs.declared.kinds.CommandKind.{CommandKind}
 use Rattle.command_grammar.specs.declared.kinds.CommandKind.TheVariants as kinds
-use Rattle.command_grammar.specs.declared.refusal.Reason.{Reason}
 use Rattle.command_grammar.specs.declared.refusal.Reason.TheVariants as reasons
 use Rattle.command_fields.specs.declared.choices.UpDn.TheVariants as updns
 use Rattle.command_fields.specs.declared.choices.Sel.TheVariants as sels
@@ -20,15 +19,14 @@ use Rattle.command_fields.specs.declared.choices.Bank.TheVariants as banks
 use Rattle.command_fields.specs.declared.choices.MaskBank.TheVariants as mask_banks
 use Rattle.command_fields.specs.declared.choices.FlagName.TheVariants as flags
 use Rattle.bit_strings.specs.declared.code.Code.TheVariants as lines_of
-use Rattle.command_grammar.specs.Commands.{Part, code_field, code_of, plain_field, named_field, with_crc16, IsWord, bits_of_m, bits_of_sel, bits_of_query_target, bits_of_updn, bits_of_select_target, bits_of_mask_bank, bits_of_bank}
-use Rattle.command_grammar.specs.reading.Readers.{Reading, ◌>>=◌, bit_at, bits_at, field_at, choice_at, count_at, words_at, ebv_at, exactly_at, m_values, sel_values, query_target_values, updn_values, select_target_values, mask_bank_values, bank_values, kind_values, query_rep_at, ack_at, query_at, query_adjust_at, select_at, req_rn_at, read_at, write_at, kill_at, lock_at, access_at, block_write_at, block_erase_at, fields_at}
-use Rattle.command_grammar.proofs.reading.Readers.{Reads}
-use Rattle.command_grammar.proofs.reading.ExactFields.{reads_exactly}
-use Rattle.command_grammar.proofs.reading.NumberFields.{IsNumber, reads_bit, reads_bits, reads_field, reads_count}
-use Rattle.command_grammar.proofs.reading.WordFields.{AreWords, reads_words, some_words}
-use Rattle.command_grammar.proofs.reading.EbvFields.{IsPointer, reads_ebv}
-use Rattle.command_grammar.proofs.reading.NamedFields.{reads_kind, reads_m, reads_sel, reads_query_target, reads_updn, reads_select_target, reads_mask_bank, reads_bank}
-use Rattle.command_grammar.proofs.reading.FieldsInOrder.{part, ReadsOn, reads_whole, reads_field_then, reads_crc5_then, reads_crc16_then}
+use Rattle.command_grammar.specs.Commands.{Part, code_field, code_of, plain_field, named_field, with_crc16, IsWord, bits_of_select_target, bits_of_mask_bank, bits_of_bank}
+use Rattle.command_grammar.specs.reading.Readers.{Reading, ◌>>=◌, bits_at, field_at, choice_at, count_at, words_at, ebv_at, kind_values, query_rep_at, ack_at, query_at, query_adjust_at, select_at, req_rn_at, read_at, write_at, kill_at, lock_at, access_at, block_write_at, block_erase_at, fields_at}
+use Rattle.command_grammar.proofs.reading.ExactFields.{exact_field}
+use Rattle.command_grammar.proofs.reading.NumberFields.{bit_field, bits_field, count_field, number_field}
+use Rattle.command_grammar.proofs.reading.WordFields.{some_words, words_field}
+use Rattle.command_grammar.proofs.reading.EbvFields.{pointer_field}
+use Rattle.command_grammar.proofs.reading.NamedFields.{kind_field, m_field, sel_field, query_target_field, updn_field, select_target_field, mask_bank_field, bank_field}
+use Rattle.command_grammar.proofs.reading.FieldsInOrder.{part, ReadsOn, reads_whole, reads_field_then, same_then, reads_crc5_then, reads_crc16_then}
 
 positive : (width : ℕ) → 0 < 2 ^ width
 positive zero = omega arith
@@ -36,42 +34,36 @@ positive (suc width) = omega (arith, positive width)
 
 -- ---- a field and then the others, by its kind
 
-same_then : {A : Type 0} (pre : List Part) (name : Option Reason) (s : A → List Bool) (r : List Bool → Reading A) (k : A × List Bool → List Bool → Reading Command) (value : A)
-    → Reads (λ value bits. bits ≡ s value) name r → ((value : A) → ReadsOn (pre ++ part name (s value) ∷ []) (λ whole rest. k (value, rest) whole)) → ReadsOn pre (λ whole bits. r bits >>= λ x. k x whole)
-same_then {A} pre name s r k value reads second =
-    reads_field_then pre name (λ (value : A) bits. bits ≡ s value) r k reads
-    (λ value bits h. subst (λ (l : List Bool). ReadsOn (pre ++ part name l ∷ []) (λ whole rest. k (value, rest) whole)) (sym h) (second value)) value (s value) refl
-
 number_then : (width : ℕ) (pre : List Part) (k : ℕ × List Bool → List Bool → Reading Command)
     → ((value : ℕ) → value < 2 ^ width → ReadsOn (pre ++ part None (field_of value width) ∷ []) (λ whole rest. k (value, rest) whole)) → ReadsOn pre (λ whole bits. field_at width bits >>= λ x. k x whole)
 number_then width pre k second =
-    reads_field_then pre None (IsNumber width) (field_at width) k (reads_field width None)
-    (λ value bits h. subst (λ (l : List Bool). ReadsOn (pre ++ part None l ∷ []) (λ whole rest. k (value, rest) whole)) (sym h.1) (second value h.0)) 0 (field_of 0 width) (positive width, refl)
+    reads_field_then pre (number_field width None) k
+    (λ value bits h. subst (λ (l : List Bool). ReadsOn (pre ++ part None l ∷ []) (λ whole rest. k (value, rest) whole)) (sym h.1) (second value h.0)) (record { value = 0; bits = field_of 0 width; spelled = (positive width, refl) })
 
 pointer_then : (pre : List Part) (k : ℕ × List Bool → List Bool → Reading Command)
     → ((value : ℕ) → value < 2 ^ 28 → ReadsOn (pre ++ part (Some reasons.Ebv) (ebv_of value) ∷ []) (λ whole rest. k (value, rest) whole)) → ReadsOn pre (λ whole bits. ebv_at bits >>= λ x. k x whole)
 pointer_then pre k second =
-    reads_field_then pre (Some reasons.Ebv) IsPointer ebv_at k reads_ebv
-    (λ value bits h. subst (λ (l : List Bool). ReadsOn (pre ++ part (Some reasons.Ebv) l ∷ []) (λ whole rest. k (value, rest) whole)) (sym h.1) (second value h.0)) 0 (ebv_of 0) (omega arith, refl)
+    reads_field_then pre pointer_field k
+    (λ value bits h. subst (λ (l : List Bool). ReadsOn (pre ++ part (Some reasons.Ebv) l ∷ []) (λ whole rest. k (value, rest) whole)) (sym h.1) (second value h.0)) (record { value = 0; bits = ebv_of 0; spelled = (omega arith, refl) })
 
 count_then : (pre : List Part) (k : ℕ × List Bool → List Bool → Reading Command)
     → ((value : ℕ) → value < 2 ^ 8 → (value == 0) ≡ false → ReadsOn (pre ++ part (Some reasons.Count) (field_of value 8) ∷ []) (λ whole rest. k (value, rest) whole)) → ReadsOn pre (λ whole bits. count_at bits >>= λ x. k x whole)
 count_then pre k second =
-    reads_field_then pre (Some reasons.Count) (λ value bits. IsNumber 8 value bits × ((value == 0) ≡ false)) count_at k reads_count
-    (λ value bits h. subst (λ (l : List Bool). ReadsOn (pre ++ part (Some reasons.Count) l ∷ []) (λ whole rest. k (value, rest) whole)) (sym h.0.1) (second value h.0.0 h.1)) 1 (field_of 1 8) ((omega arith, refl), refl)
+    reads_field_then pre count_field k
+    (λ value bits h. subst (λ (l : List Bool). ReadsOn (pre ++ part (Some reasons.Count) l ∷ []) (λ whole rest. k (value, rest) whole)) (sym h.0.1) (second value h.0.0 h.1)) (record { value = 1; bits = field_of 1 8; spelled = ((omega arith, refl), refl) })
 
 mask_then : (width : ℕ) (pre : List Part) (k : List Bool × List Bool → List Bool → Reading Command)
     → ((value : List Bool) → length value ≡ width → ReadsOn (pre ++ part None value ∷ []) (λ whole rest. k (value, rest) whole)) → (some : List Bool) → length some ≡ width → ReadsOn pre (λ whole bits. bits_at width bits >>= λ x. k x whole)
 mask_then width pre k second some wide =
-    reads_field_then pre None (λ value bits. (length value ≡ width) × (bits ≡ value)) (bits_at width) k (reads_bits width None)
-    (λ value bits h. subst (λ (l : List Bool). ReadsOn (pre ++ part None l ∷ []) (λ whole rest. k (value, rest) whole)) (sym h.1) (second value h.0)) some some (wide, refl)
+    reads_field_then pre (bits_field width None) k
+    (λ value bits h. subst (λ (l : List Bool). ReadsOn (pre ++ part None l ∷ []) (λ whole rest. k (value, rest) whole)) (sym h.1) (second value h.0)) (record { value = some; bits = some; spelled = (wide, refl) })
 
 words_then : (count : ℕ) (pre : List Part) (k : List ℕ × List Bool → List Bool → Reading Command)
     → ((value : List ℕ) → length value ≡ count → AllByRecursion IsWord value → ReadsOn (pre ++ part None (bits_of_words value) ∷ []) (λ whole rest. k (value, rest) whole)) → ReadsOn pre (λ whole bits. words_at count bits >>= λ x. k x whole)
 words_then count pre k second =
     let w = some_words count in
-    reads_field_then pre None (AreWords count) (words_at count) k (reads_words count None)
-    (λ value bits h. subst (λ (l : List Bool). ReadsOn (pre ++ part None l ∷ []) (λ whole rest. k (value, rest) whole)) (sym h.2) (second value h.0 h.1)) w.0 w.1 w.2
+    reads_field_then pre (words_field count) k
+    (λ value bits h. subst (λ (l : List Bool). ReadsOn (pre ++ part None l ∷ []) (λ whole rest. k (value, rest) whole)) (sym h.2) (second value h.0 h.1)) (record { value = w.0; bits = w.1; spelled = w.2 })
 
 -- ---- the fields of each command
 
@@ -90,12 +82,12 @@ req_rn_reads = number_then 16 _ _ (λ rn small. reads_crc16_then _ _ (reads_whol
 query_reads : ReadsOn (code_field kinds.Query) (λ whole bits. query_at whole bits)
 unfolding query_at
 query_reads =
-    same_then _ None (λ bit. bit ∷ []) bit_at _ false (reads_bit None) (λ dr.
-    same_then _ None bits_of_m (choice_at m_values reasons.Code) _ lines_of.Fm0 reads_m (λ m.
-    same_then _ None (λ bit. bit ∷ []) bit_at _ false (reads_bit None) (λ trext.
-    same_then _ None bits_of_sel (choice_at sel_values reasons.Code) _ sels.Sl reads_sel (λ sel.
+    same_then _ bit_field _ false (λ dr.
+    same_then _ m_field _ lines_of.Fm0 (λ m.
+    same_then _ bit_field _ false (λ trext.
+    same_then _ sel_field _ sels.Sl (λ sel.
     number_then 2 _ _ (λ session small.
-    same_then _ None bits_of_query_target (choice_at query_target_values reasons.Code) _ side.A reads_query_target (λ target.
+    same_then _ query_target_field _ side.A (λ target.
     number_then 4 _ _ (λ q small_q.
     reads_crc5_then _ _ (reads_whole _ (commands.Query dr m trext sel session target q) (omega arith, omega arith) refl))))))))
 
@@ -103,19 +95,19 @@ query_adjust_reads : ReadsOn (code_field kinds.QueryAdjust) (λ whole bits. quer
 unfolding query_adjust_at
 query_adjust_reads =
     number_then 2 _ _ (λ session small.
-    same_then _ (Some reasons.UpDn) bits_of_updn (choice_at updn_values reasons.UpDn) _ updns.Up reads_updn (λ updn.
+    same_then _ updn_field _ updns.Up (λ updn.
     reads_whole _ (commands.QueryAdjust session updn) (omega arith) refl))
 
 select_reads : ReadsOn (code_field kinds.Select) (λ whole bits. select_at whole bits)
 unfolding select_at
 select_reads =
-    same_then _ (Some reasons.Target) bits_of_select_target (choice_at select_target_values reasons.Target) _ flags.Sl reads_select_target (λ target.
+    same_then _ select_target_field _ flags.Sl (λ target.
     number_then 3 _ _ (λ action small.
-    same_then _ (Some reasons.Bank) bits_of_mask_bank (choice_at mask_bank_values reasons.Bank) _ mask_banks.Epc reads_mask_bank (λ bank.
+    same_then _ mask_bank_field _ mask_banks.Epc (λ bank.
     pointer_then _ _ (λ pointer small_pointer.
     number_then 8 _ _ (λ width small_width.
     mask_then width _ _ (λ mask wide.
-    same_then {A = Unit {0}} _ (Some reasons.Truncate) (λ value. false ∷ []) (exactly_at (false ∷ []) reasons.Truncate) _ tt (reads_exactly reasons.Truncate (false ∷ [])) (λ truncate.
+    same_then _ (exact_field reasons.Truncate (false ∷ [])) _ tt (λ truncate.
     reads_crc16_then _ _ (reads_whole _ (commands.Select target action bank pointer mask) (omega arith, small_pointer, omega arith)
     (ap (λ n. with_crc16 (code_field kinds.Select ++ named_field reasons.Target (bits_of_select_target target) ++ plain_field (field_of action 3) ++ named_field reasons.Bank (bits_of_mask_bank bank)
     ++ named_field reasons.Ebv (ebv_of pointer) ++ plain_field (field_of n 8) ++ plain_field mask ++ named_field reasons.Truncate (false ∷ []))) wide))))
@@ -127,7 +119,7 @@ nak_reads = reads_whole _ commands.Nak tt refl
 read_reads : ReadsOn (code_field kinds.Read) (λ whole bits. read_at whole bits)
 unfolding read_at
 read_reads =
-    same_then _ None bits_of_bank (choice_at bank_values reasons.Code) _ banks.Epc reads_bank (λ bank.
+    same_then _ bank_field _ banks.Epc (λ bank.
     pointer_then _ _ (λ pointer small_pointer.
     number_then 8 _ _ (λ count small.
     number_then 16 _ _ (λ rn small_rn.
@@ -136,7 +128,7 @@ read_reads =
 write_reads : ReadsOn (code_field kinds.Write) (λ whole bits. write_at whole bits)
 unfolding write_at
 write_reads =
-    same_then _ None bits_of_bank (choice_at bank_values reasons.Code) _ banks.Epc reads_bank (λ bank.
+    same_then _ bank_field _ banks.Epc (λ bank.
     pointer_then _ _ (λ pointer small_pointer.
     number_then 16 _ _ (λ covered small.
     number_then 16 _ _ (λ rn small_rn.
@@ -146,7 +138,7 @@ kill_reads : ReadsOn (code_field kinds.Kill) (λ whole bits. kill_at whole bits)
 unfolding kill_at
 kill_reads =
     number_then 16 _ _ (λ covered small.
-    same_then {A = Unit {0}} _ (Some reasons.KillBits) (λ value. false ∷ false ∷ false ∷ []) (exactly_at (false ∷ false ∷ false ∷ []) reasons.KillBits) _ tt (reads_exactly reasons.KillBits (false ∷ false ∷ false ∷ [])) (λ zeros.
+    same_then _ (exact_field reasons.KillBits (false ∷ false ∷ false ∷ [])) _ tt (λ zeros.
     number_then 16 _ _ (λ rn small_rn.
     reads_crc16_then _ _ (reads_whole _ (commands.Kill covered rn) (small, small_rn) refl))))
 
@@ -170,7 +162,7 @@ some_of n e = grind (arith, nat_tests)
 block_write_reads : ReadsOn (code_field kinds.BlockWrite) (λ whole bits. block_write_at whole bits)
 unfolding block_write_at
 block_write_reads =
-    same_then _ None bits_of_bank (choice_at bank_values reasons.Code) _ banks.Epc reads_bank (λ bank.
+    same_then _ bank_field _ banks.Epc (λ bank.
     pointer_then _ _ (λ pointer small_pointer.
     count_then _ _ (λ count small some.
     words_then count _ _ (λ words many all.
@@ -183,7 +175,7 @@ block_write_reads =
 block_erase_reads : ReadsOn (code_field kinds.BlockErase) (λ whole bits. block_erase_at whole bits)
 unfolding block_erase_at
 block_erase_reads =
-    same_then _ None bits_of_bank (choice_at bank_values reasons.Code) _ banks.Epc reads_bank (λ bank.
+    same_then _ bank_field _ banks.Epc (λ bank.
     pointer_then _ _ (λ pointer small_pointer.
     count_then _ _ (λ count small some.
     number_then 16 _ _ (λ rn small_rn.
@@ -211,4 +203,4 @@ abbrev pub reading : List Bool → List Bool → Reading Command
 reading whole bits = choice_at kind_values reasons.Code bits >>= λ kind. fields_at kind.0 whole kind.1
 
 pub reads_command : ReadsOn [] reading
-reads_command = same_then [] (Some reasons.Code) code_of (choice_at kind_values reasons.Code) (λ kind whole. fields_at kind.0 whole kind.1) kinds.Nak reads_kind each_reads
+reads_command = same_then [] kind_field (λ kind whole. fields_at kind.0 whole kind.1) kinds.Nak each_reads

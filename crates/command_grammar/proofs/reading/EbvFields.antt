@@ -12,8 +12,8 @@ use Rattle.command_grammar.specs.reading.Readers.{Block, ◌>>=◌, bit_at, fiel
 use Rattle.command_grammar.specs.declared.refusal.Reason.{Reason}
 use Rattle.command_grammar.specs.declared.refusal.Reason.TheVariants as reasons
 use Rattle.command_grammar.proofs.reading.ExactFields.{reads_exactly}
-use Rattle.command_grammar.proofs.reading.Readers.{Reads, Pair, reads_then, reads_as, reads_map, reads_nothing, reads_but}
-use Rattle.command_grammar.proofs.reading.NumberFields.{IsNumber, reads_bit, reads_field, no_name, is_zero}
+use Rattle.command_grammar.proofs.reading.Readers.{FieldKind, Reads, Pair, reads_then, reads_as, reads_map, reads_nothing, reads_but}
+use Rattle.command_grammar.proofs.reading.NumberFields.{IsNumber, number_field, reads_bit, reads_field, is_zero}
 
 -- ---- one block
 
@@ -41,8 +41,8 @@ reads_block value name =
     reads_as (Pair (λ more l. l ≡ more ∷ []) (Digit value)) (IsBlock value) name (block_at value) (join_block value)
     (λ block bits h. record { first = block.more; front = block.more ∷ []; back = field_of h.0 7; left = refl; right = (h.0, ap (block_of block.more) (sym h.2), (h.1, refl)); whole = h.3 })
     (reads_then (λ more l. l ≡ more ∷ []) (Digit value) name bit_at (λ more bits. field_at 7 bits >>= λ digit. Ok (block_of more (value * 128 + digit.0), digit.1)) (reads_bit name)
-    (λ more front h. reads_map (IsNumber 7) (Digit value more) name (field_at 7) (λ bits. field_at 7 bits >>= λ digit. Ok (block_of more (value * 128 + digit.0), digit.1)) (λ digit. block_of more (value * 128 + digit)) (λ bits. refl)
-    (λ digit bits h. (digit, refl, h)) (λ block bits h. (h.0, h.2, h.1)) (reads_field 7 name))
+    (λ more front h. reads_map (number_field 7 name) (Digit value more) (λ bits. field_at 7 bits >>= λ digit. Ok (block_of more (value * 128 + digit.0), digit.1)) (λ digit. block_of more (value * 128 + digit)) (λ bits. refl)
+    (λ digit bits h. (digit, refl, h)) (λ block bits h. (h.0, h.2, h.1)))
     (λ more front h. (block_of more (value * 128 + 0), field_of 0 7, (0, refl, (omega arith, refl)))))
 
 -- only says that another follows
@@ -71,12 +71,16 @@ nothing_bits value block bits h e =
 
 reads_block_within : (value : ℕ) → Reads (IsTelling value) (Some reasons.Ebv) (block_within_at value)
 unfolding block_within_at field_of
-reads_block_within value =
-    reads_but (IsBlock value) reasons.Ebv (block_at value) says_nothing (true ∷ field_of 0 6) false (block_of true (value * 128 + 1)) true []
-    (λ bits left other e. no_name ((reads_block value None).bad bits left other e).0)
-    (nothing_bits value)
-    (1, omega arith, refl, refl) (not_zero (value * 128 + 1) (λ none. omega arith))
-    (reads_block value None)
+reads_block_within value = reads_but (record { Spells = IsBlock value; name = None; read = block_at value; reads = reads_block value None }) reasons.Ebv says_nothing refl (record {
+  front = true ∷ field_of 0 6;
+  bit = false;
+  only = nothing_bits value;
+  value = block_of true (value * 128 + 1);
+  next = true;
+  more = [];
+  spelled = (1, omega arith, refl, refl);
+  kept = not_zero (value * 128 + 1) (λ none. omega arith);
+})
 
 abbrev IsLast : ℕ → List Bool → Type 0
 IsLast digit bits = (digit < 2 ^ 7) × (bits ≡ false ∷ field_of digit 7)
@@ -119,8 +123,8 @@ reads_behind others false value reads = reads_nothing value (Some reasons.Ebv)
 reads_blocks : (others value : ℕ) → Reads (Blocks others value) (Some reasons.Ebv) (blocks_at others value)
 unfolding blocks_at
 reads_blocks zero value =
-    reads_map IsLast (Blocks zero value) (Some reasons.Ebv) last_digit_at (blocks_at zero value) (λ digit. value * 128 + digit) (λ bits. refl)
-    (λ digit bits h. (digit, refl, h)) (λ number bits h. (h.0, h.2, sym h.1)) reads_last_digit
+    reads_map (record { Spells = IsLast; name = Some reasons.Ebv; read = last_digit_at; reads = reads_last_digit }) (Blocks zero value) (blocks_at zero value) (λ digit. value * 128 + digit) (λ bits. refl)
+    (λ digit bits h. (digit, refl, h)) (λ number bits h. (h.0, h.2, sym h.1))
 reads_blocks (suc others) value =
     reads_then (IsTelling value) (λ block. Behind (Blocks others) block.more block.number) (Some reasons.Ebv) (block_within_at value) (λ block bits. cond block.more (blocks_at others block.number bits) (Ok (block.number, bits))) (reads_block_within value)
     (λ block front h. reads_behind others block.more block.number (reads_blocks others block.number)) (λ block front h. some_behind others block.more block.number)
@@ -163,18 +167,22 @@ open_shortest : (d : List Bool) (ds : List (List Bool)) → 0 < length ds → va
 open_shortest d [] some says = absurd (omega arith)
 open_shortest d (e ∷ ds) some says = says
 
-before_others : (others value so_far number digit : ℕ) (bits back : List Bool) → so_far ≡ value * 128 + digit → digit < 2 ^ 7 → so_far ≢ 0 → bits ≡ true ∷ field_of digit 7 ++ back → Spelled others so_far number back → Spelled (suc others) value number bits
-before_others others value so_far number digit bits back same small says whole s =
+before_others : (others value number : ℕ) (block : Block) (front back : List Bool) → IsTelling value block front → block.more ≡ true → Spelled others block.number number back → Spelled (suc others) value number (front ++ back)
+before_others others value number block front back telling another s =
+    let is_block : IsBlock value block front = telling.0 in
+    let digit : ℕ = is_block.0 in
+    let same : block.number ≡ value * 128 + digit = is_block.2 in
+    let says : block.number ≢ 0 = zero_says block.number (sym (ap (λ (b : Bool). b && (block.number == 0)) another) ∙ telling.1) in
     let d : List Bool = field_of digit 7 in
-    let is : value_of d ≡ digit = value_of-field digit 7 small in
+    let is : value_of d ≡ digit = value_of-field digit 7 is_block.1 in
     record {
       digits = d ∷ s.digits;
       sevens = cons digit s.digits s.sevens;
       some = omega arith;
       few = omega (arith, s.few);
       shortest = λ none. open_shortest d s.digits s.some (λ zero_digit. says (omega (arith, same, none, is, zero_digit)));
-      number_is = placed value so_far digit number (length s.digits) (number_of_digits s.digits) (value_of d) same is s.number_is;
-      spelled = whole ∙ ap (λ (l : List Bool). true ∷ d ++ l) s.spelled ∙ sym (open_blocks_of d s.digits s.some);
+      number_is = placed value block.number digit number (length s.digits) (number_of_digits s.digits) (value_of d) same is s.number_is;
+      spelled = ap (λ (l : List Bool). l ++ back) is_block.3 ∙ ap (λ (b : Bool). b ∷ d ++ back) another ∙ ap (λ (l : List Bool). true ∷ d ++ l) s.spelled ∙ sym (open_blocks_of d s.digits s.some);
     }
   where
     placed : (value so_far digit number places rest d : ℕ) → so_far ≡ value * 128 + digit → d ≡ digit → number ≡ so_far * 128 ^ places + rest → number ≡ value * 128 ^ suc places + (d * 128 ^ places + rest)
@@ -187,17 +195,14 @@ spelled_blocks (suc others) value number bits p = by p.first.more refl p.right (
     block : IsBlock value p.first p.front
     block = p.left.0
 
-    bits_are : (more : Bool) → p.first.more ≡ more → bits ≡ (more ∷ field_of block.0 7) ++ p.back
-    bits_are more same = p.whole ∙ ap (λ (l : List Bool). l ++ p.back) (block.3 ∙ ap (λ (b : Bool). b ∷ field_of block.0 7) same)
+    bits_are : p.first.more ≡ false → bits ≡ (false ∷ field_of block.0 7) ++ p.back
+    bits_are same = p.whole ∙ ap (λ (l : List Bool). l ++ p.back) (block.3 ∙ ap (λ (b : Bool). b ∷ field_of block.0 7) same)
 
     by : (more : Bool) → p.first.more ≡ more → Behind (Blocks others) more p.first.number number p.back → (Blocks others p.first.number number p.back → Spelled others p.first.number number p.back) → Spelled (suc others) value number bits
-    by true same h others_are =
-        before_others others value p.first.number number block.0 bits p.back block.2 block.1
-        (zero_says p.first.number (sym (ap (λ (b : Bool). b && (p.first.number == 0)) same) ∙ p.left.1)) (bits_are true same)
-        (others_are h)
+    by true same h others_are = rw p.whole (before_others others value number p.first p.front p.back p.left same (others_are h))
     by false same h others_are =
         alone (suc others) value number block.0 bits (h.0 ∙ block.2) block.1
-        (bits_are false same ∙ ap (λ (l : List Bool). (false ∷ field_of block.0 7) ++ l) h.1 ∙ append-nil (false ∷ field_of block.0 7))
+        (bits_are same ∙ ap (λ (l : List Bool). (false ∷ field_of block.0 7) ++ l) h.1 ∙ append-nil (false ∷ field_of block.0 7))
 
 seven_bits : (digit : List Bool) → length digit ≡ 7 → digit ≡ field_of (value_of digit) 7
 seven_bits digit seven = sym (field_of-value_of digit) ∙ ap (λ n. field_of (value_of digit) n) seven
@@ -256,3 +261,6 @@ reads_ebv =
     (λ number bits h. let ebv = to_ebv number bits h in (below-ebv number bits ebv, same-ebv number bits ebv))
     (λ number bits h. from_ebv number bits (rw h.1 (IsEbv-ebv_of number h.0)))
     (reads_blocks 3 0)
+
+abbrev pub pointer_field : FieldKind ℕ
+pointer_field = record { Spells = IsPointer; name = Some reasons.Ebv; read = ebv_at; reads = reads_ebv }

@@ -3,7 +3,7 @@ use Rattle.std.proofs.Common.{◌≡◌, ℕ, ◌+◌, Bool, true, false, List, 
 use Rattle.std.specs.Prelude.{Some}
 use Rattle.command_grammar.specs.declared.refusal.Reason.{Reason}
 use Rattle.command_grammar.specs.reading.Readers.{Short, Bad, exactly_at}
-use Rattle.command_grammar.proofs.reading.Readers.{Reads, Stuck}
+use Rattle.command_grammar.proofs.reading.Readers.{Reads, SpelledField, Stuck}
 
 module _ (reason : Reason) where
   exactly-again : (wanted rest : List Bool) → exactly_at wanted reason (wanted ++ rest) ≡ Ok (tt, rest)
@@ -73,3 +73,6 @@ module _ (reason : Reason) where
     short = λ bits e. let f = exactly-short wanted bits e in (tt, f.0, f.1);
     bad = λ bits left other e. let f = exactly-wrong wanted bits left other e in (ap (λ (r : Reason). Some r) f.0, f.1);
   }
+
+  abbrev pub exact_field : List Bool → SpelledField (Unit {0})
+  exact_field wanted = record { spell = λ value. wanted; name = Some reason; read = exactly_at wanted reason; reads = reads_exactly wanted }

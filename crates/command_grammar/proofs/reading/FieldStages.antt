@@ -136,11 +136,11 @@ kept v r = r >>= λ x. Ok (v, x.1)
 
 pub known_bad : (reason : Reason) (number : NumberFront) (v : Fields) (bit : Bool) (rest : List Bool) → not (beq bit (number.value / 2 ^ number.behind % 2 == 1)) ≡ true → stage_from (stages.Known reason number) v (bit ∷ rest) ≡ Err (Bad (length rest + 1) reason)
 known_bad reason number v bit rest test =
-    ap (kept v) (exactly-bad number.value (suc number.behind) number.behind reason (bit ∷ rest) bit rest (omega arith) refl (other_bits bit (number.value / 2 ^ number.behind % 2 == 1) test))
+    ap (kept v) (exactly-bad number.value number.behind reason bit rest (other_bits bit (number.value / 2 ^ number.behind % 2 == 1) test))
 
 known_next : (reason : Reason) (number : NumberFront) (v : Fields) (bit : Bool) (rest : List Bool) → not (beq bit (number.value / 2 ^ number.behind % 2 == 1)) ≡ false → stage_from (stages.Known reason number) v (bit ∷ rest) ≡ kept v (exactly_at (field_of number.value number.behind) reason rest)
 known_next reason number v bit rest test =
-    ap (kept v) (exactly-more number.value (suc number.behind) number.behind reason (bit ∷ rest) bit rest (omega arith) refl (same_bits bit (number.value / 2 ^ number.behind % 2 == 1) test))
+    ap (kept v) (exactly-more number.value number.behind reason bit rest (same_bits bit (number.value / 2 ^ number.behind % 2 == 1) test))
 
 pub known_last : (reason : Reason) (number : NumberFront) (v : Fields) (bit : Bool) (rest : List Bool) → not (beq bit (number.value / 2 ^ number.behind % 2 == 1)) ≡ false → number.behind ≡ 0 → stage_from (stages.Known reason number) v (bit ∷ rest) ≡ Ok (v, rest)
 known_last reason number v bit rest test nothing = known_next reason number v bit rest test ∙ ap (kept v) (exactly-none number.value number.behind reason rest nothing)

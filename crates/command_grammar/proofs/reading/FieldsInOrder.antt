@@ -9,8 +9,8 @@ use Rattle.command_grammar.specs.declared.refusal.Reason.{Reason}
 use Rattle.command_grammar.specs.declared.refusal.Reason.TheVariants as reasons
 use Rattle.command_grammar.specs.reading.Readers.{Short, Bad, Reading, ◌>>=◌, exactly_at, before, crc5_at, crc16_at}
 use Rattle.command_grammar.specs.Commands.{Part, bits_of, parts_of, spelling_of, IsLegalCommand, IsInField}
-use Rattle.command_grammar.proofs.reading.Readers.{Reads, bind_ok, bind_err, bind_to, bind_fails, at_first, at_second}
-use Rattle.command_grammar.proofs.reading.ExactFields.{reads_exactly}
+use Rattle.command_grammar.proofs.reading.Readers.{FieldKind, FieldValue, SpelledField, kind_of, bind_ok, bind_err, bind_to, bind_fails, at_first, at_second}
+use Rattle.command_grammar.proofs.reading.ExactFields.{exact_field}
 
 abbrev pub part : Option Reason → List Bool → Part
 part name bits = record { name = name; bits = bits }
@@ -101,43 +101,43 @@ longer_front (x ∷ a) b (y ∷ c) d same less =
     (f.0, cc, f.2)
 
 -- no bits of one value begin those of another
-none_longer : {A : Type 0} (R : A → List Bool → Type 0) (name : Option Reason) (r : List Bool → Reading A) (value other : A) (bits more : List Bool) → Reads R name r → R value (bits ++ more) → R other bits → more ≡ []
-none_longer {A} R name r value other bits more reads long short =
-    let first : r (bits ++ more) ≡ Ok (value, []) = ap r (sym (append-nil (bits ++ more))) ∙ reads.again value (bits ++ more) [] long in
-    let pair : ◌≡◌ {A = A × List Bool} (other, more) (value, []) = ok_pair (other, more) (value, []) (sym (reads.again other bits more short) ∙ first) in
+none_longer : {A : Type 0} (field : FieldKind A) (value other : A) (bits more : List Bool) → field.Spells value (bits ++ more) → field.Spells other bits → more ≡ []
+none_longer {A} field value other bits more long short =
+    let first : field.read (bits ++ more) ≡ Ok (value, []) = ap field.read (sym (append-nil (bits ++ more))) ∙ field.reads.again value (bits ++ more) [] long in
+    let pair : ◌≡◌ {A = A × List Bool} (other, more) (value, []) = ok_pair (other, more) (value, []) (sym (field.reads.again other bits more short) ∙ first) in
     ap (λ (p : A × List Bool). p.1) pair
   where
     ok_pair : (x y : A × List Bool) → ◌≡◌ {A = Reading A} (Ok x) (Ok y) → x ≡ y
     ok_pair x y e = cc
 
 -- a field, and then the others
-pub reads_field_then : {A : Type 0} (pre : List Part) (name : Option Reason) (R : A → List Bool → Type 0) (r : List Bool → Reading A) (k : A × List Bool → List Bool → Reading Command)
-    → Reads R name r → ((value : A) (bits : List Bool) → R value bits → ReadsOn (pre ++ part name bits ∷ []) (λ whole rest. k (value, rest) whole)) → (value : A) (bits : List Bool) → R value bits
-    → ReadsOn pre (λ whole bits. r bits >>= λ x. k x whole)
-reads_field_then {A} pre name R r k first second some_value some_bits some = record {
+pub reads_field_then : {A : Type 0} (pre : List Part) (field : FieldKind A) (k : A × List Bool → List Bool → Reading Command)
+    → ((value : A) (bits : List Bool) → field.Spells value bits → ReadsOn (pre ++ part field.name bits ∷ []) (λ whole rest. k (value, rest) whole)) → FieldValue field
+    → ReadsOn pre (λ whole bits. field.read bits >>= λ x. k x whole)
+reads_field_then {A} pre field k second some = record {
   live =
-      let s = (second some_value some_bits some).live in
-      (s.0, part name some_bits ∷ s.1, s.2, s.3 ∙ append_assoc pre (part name some_bits ∷ []) s.1);
+      let s = (second some.value some.bits some.spelled).live in
+      (s.0, part field.name some.bits ∷ s.1, s.2, s.3 ∙ append_assoc pre (part field.name some.bits ∷ []) s.1);
   found = λ bits command rest e.
-      let b = bind_ok (r bits) (λ x. k x (bits_of pre ++ bits)) (command, rest) e in
-      let f = first.found bits b.0.0 b.0.1 b.1 in
+      let b = bind_ok (field.read bits) (λ x. k x (bits_of pre ++ bits)) (command, rest) e in
+      let f = field.reads.found bits b.0.0 b.0.1 b.1 in
       let whole = whole_is bits f.0 b.0.1 f.2 in
       let g = (second b.0.0 f.0 f.1).found b.0.1 command rest (ap (λ (w : List Bool). k b.0 w) (sym whole) ∙ b.2) in
       (g.0, whole ∙ g.1);
-  short = λ bits e. elim (bind_err (r bits) (λ x. k x (bits_of pre ++ bits)) Short e) [
+  short = λ bits e. elim (bind_err (field.read bits) (λ x. k x (bits_of pre ++ bits)) Short e) [
     | at_first h ↦
-        let f = first.short bits h in
+        let f = field.reads.short bits h in
         let s = (second f.0 (bits ++ f.1) f.2).live in
         (s.0, f.1 ++ bits_of s.1, s.2, spelled s.0 (bits ++ f.1) s.1 s.3 ∙ regroup (bits_of pre) bits f.1 (bits_of s.1))
     | at_second x h e2 ↦
-        let f = first.found bits x.0 x.1 h in
+        let f = field.reads.found bits x.0 x.1 h in
         let whole = whole_is bits f.0 x.1 f.2 in
         let g = (second x.0 f.0 f.1).short x.1 (ap (λ (w : List Bool). k x w) (sym whole) ∙ e2) in
         (g.0, g.1, g.2, g.3 ∙ ap (λ (w : List Bool). w ++ g.1) (sym whole))
   ];
-  bad = λ bits left reason e. elim (bind_err (r bits) (λ x. k x (bits_of pre ++ bits)) (Bad left reason) e) [
+  bad = λ bits left reason e. elim (bind_err (field.read bits) (λ x. k x (bits_of pre ++ bits)) (Bad left reason) e) [
     | at_first h ↦
-        let f = first.bad bits left reason h in
+        let f = field.reads.bad bits left reason h in
         let w = f.1 in
         let s = (second w.value (w.front ++ w.next ∷ w.more) w.spelled).live in
         record {
@@ -152,17 +152,17 @@ reads_field_then {A} pre name R r k first second some_value some_bits some = rec
           begins = spelled s.0 (w.front ++ w.next ∷ w.more) s.1 s.3 ∙ regroup (bits_of pre) w.front (w.next ∷ w.more) (bits_of s.1);
           stands = record {
             before = pre;
-            field = part name (w.front ++ w.next ∷ w.more);
+            field = part field.name (w.front ++ w.next ∷ w.more);
             behind = s.1;
             whole = s.3;
             name = f.0;
             from = omega arith;
             upto = omega (arith, length-append w.front (w.next ∷ w.more));
           };
-          stays = λ l. bind_fails (r (w.front ++ w.bit ∷ l)) (λ x. k x (bits_of pre ++ (w.front ++ w.bit ∷ l))) (Bad (length l + 1) reason) (w.stays l);
+          stays = λ l. bind_fails (field.read (w.front ++ w.bit ∷ l)) (λ x. k x (bits_of pre ++ (w.front ++ w.bit ∷ l))) (Bad (length l + 1) reason) (w.stays l);
         }
     | at_second x h e2 ↦
-        let f = first.found bits x.0 x.1 h in
+        let f = field.reads.found bits x.0 x.1 h in
         let whole = whole_is bits f.0 x.1 f.2 in
         let w = (second x.0 f.0 f.1).bad x.1 left reason (ap (λ (t : List Bool). k x t) (sym whole) ∙ e2) in
         record {
@@ -174,44 +174,44 @@ reads_field_then {A} pre name R r k first second some_value some_bits some = rec
           command = w.command;
           legal = w.legal;
           more = w.more;
-          begins = w.begins ∙ ap (λ (l : List Bool). l ++ w.more) (sym (bits_of-more pre name f.0 w.front));
+          begins = w.begins ∙ ap (λ (l : List Bool). l ++ w.more) (sym (bits_of-more pre field.name f.0 w.front));
           stands = subst (λ (n : ℕ). IsInField (parts_of w.command) n reason) (place_is f.0 w.front) w.stands;
           stays = λ l.
-              let e3 : r ((f.0 ++ w.front) ++ w.bit ∷ l) ≡ Ok (x.0, w.front ++ w.bit ∷ l) = ap r (append_assoc f.0 w.front (w.bit ∷ l)) ∙ first.again x.0 f.0 (w.front ++ w.bit ∷ l) f.1 in
-              let t : bits_of pre ++ ((f.0 ++ w.front) ++ w.bit ∷ l) ≡ bits_of (pre ++ part name f.0 ∷ []) ++ (w.front ++ w.bit ∷ l) =
-              ap (λ (m : List Bool). bits_of pre ++ m) (append_assoc f.0 w.front (w.bit ∷ l)) ∙ bits_of-more pre name f.0 (w.front ++ w.bit ∷ l) in
-              bind_to (r ((f.0 ++ w.front) ++ w.bit ∷ l)) (λ y. k y (bits_of pre ++ ((f.0 ++ w.front) ++ w.bit ∷ l))) (x.0, w.front ++ w.bit ∷ l) e3
+              let e3 : field.read ((f.0 ++ w.front) ++ w.bit ∷ l) ≡ Ok (x.0, w.front ++ w.bit ∷ l) = ap field.read (append_assoc f.0 w.front (w.bit ∷ l)) ∙ field.reads.again x.0 f.0 (w.front ++ w.bit ∷ l) f.1 in
+              let t : bits_of pre ++ ((f.0 ++ w.front) ++ w.bit ∷ l) ≡ bits_of (pre ++ part field.name f.0 ∷ []) ++ (w.front ++ w.bit ∷ l) =
+              ap (λ (m : List Bool). bits_of pre ++ m) (append_assoc f.0 w.front (w.bit ∷ l)) ∙ bits_of-more pre field.name f.0 (w.front ++ w.bit ∷ l) in
+              bind_to (field.read ((f.0 ++ w.front) ++ w.bit ∷ l)) (λ y. k y (bits_of pre ++ ((f.0 ++ w.front) ++ w.bit ∷ l))) (x.0, w.front ++ w.bit ∷ l) e3
               ∙ ap (λ (m : List Bool). k (x.0, w.front ++ w.bit ∷ l) m) t ∙ w.stays l;
         }
   ];
   fields = λ bits command rest e.
-      let b = bind_ok (r bits) (λ x. k x (bits_of pre ++ bits)) (command, rest) e in
-      let f = first.found bits b.0.0 b.0.1 b.1 in
+      let b = bind_ok (field.read bits) (λ x. k x (bits_of pre ++ bits)) (command, rest) e in
+      let f = field.reads.found bits b.0.0 b.0.1 b.1 in
       let g = (second b.0.0 f.0 f.1).fields b.0.1 command rest (ap (λ (w : List Bool). k b.0 w) (sym (whole_is bits f.0 b.0.1 f.2)) ∙ b.2) in
-      (part name f.0 ∷ g.0, g.1 ∙ append_assoc pre (part name f.0 ∷ []) g.0);
+      (part field.name f.0 ∷ g.0, g.1 ∙ append_assoc pre (part field.name f.0 ∷ []) g.0);
   named = λ front bit reason stopped back command rest e.
-      let b = bind_ok (r (front ++ back)) (λ x. k x (bits_of pre ++ (front ++ back))) (command, rest) e in
-      let f = first.found (front ++ back) b.0.0 b.0.1 b.1 in
-      let goes_on : k b.0 (bits_of (pre ++ part name f.0 ∷ []) ++ b.0.1) ≡ Ok (command, rest) = ap (λ (w : List Bool). k b.0 w) (sym (whole_is (front ++ back) f.0 b.0.1 f.2)) ∙ b.2 in
+      let b = bind_ok (field.read (front ++ back)) (λ x. k x (bits_of pre ++ (front ++ back))) (command, rest) e in
+      let f = field.reads.found (front ++ back) b.0.0 b.0.1 b.1 in
+      let goes_on : k b.0 (bits_of (pre ++ part field.name f.0 ∷ []) ++ b.0.1) ≡ Ok (command, rest) = ap (λ (w : List Bool). k b.0 w) (sym (whole_is (front ++ back) f.0 b.0.1 f.2)) ∙ b.2 in
       elim (cases_lt (length front) (length f.0)) [
         | inl inside ↦
             let g = (second b.0.0 f.0 f.1).fields b.0.1 command rest goes_on in
             let longer = longer_front f.0 b.0.1 front back (sym f.2) (omega (arith, inside)) in
             record {
               before = pre;
-              field = part name f.0;
+              field = part field.name f.0;
               behind = g.0;
               whole = g.1;
-              name = elim (bind_err (r (front ++ bit ∷ [])) (λ x. k x (bits_of pre ++ (front ++ bit ∷ []))) (Bad 1 reason) stopped) [
-                | at_first h ↦ (first.bad (front ++ bit ∷ []) 1 reason h).0
+              name = elim (bind_err (field.read (front ++ bit ∷ [])) (λ x. k x (bits_of pre ++ (front ++ bit ∷ []))) (Bad 1 reason) stopped) [
+                | at_first h ↦ (field.reads.bad (front ++ bit ∷ []) 1 reason h).0
                 | at_second x h k-stopped ↦
-                    let o = first.found (front ++ bit ∷ []) x.0 x.1 h in
+                    let o = field.reads.found (front ++ bit ∷ []) x.0 x.1 h in
                     let w = (second x.0 o.0 o.1).bad x.1 1 reason (ap (λ (t : List Bool). k x t) (sym (whole_is (front ++ bit ∷ []) o.0 x.1 o.2)) ∙ k-stopped) in
                     let less : length o.0 ≤ length front =
                     omega (arith, ap (λ (l : List Bool). length l) o.2, ap (λ (l : List Bool). length l) w.split, length-append o.0 x.1, length-append front (bit ∷ []), length-append w.front (w.bit ∷ w.back)) in
                     let shorter = longer_front front (bit ∷ []) o.0 x.1 o.2 less in
                     let whole : f.0 ≡ o.0 ++ (shorter.0 ++ longer.0) = longer.1 ∙ ap (λ (l : List Bool). l ++ longer.0) shorter.1 ∙ append_assoc o.0 shorter.0 longer.0 in
-                    let none : shorter.0 ++ longer.0 ≡ [] = none_longer R name r b.0.0 x.0 o.0 (shorter.0 ++ longer.0) first (subst (λ (l : List Bool). R b.0.0 l) whole f.1) o.1 in
+                    let none : shorter.0 ++ longer.0 ≡ [] = none_longer field b.0.0 x.0 o.0 (shorter.0 ++ longer.0) (subst (λ (l : List Bool). field.Spells b.0.0 l) whole f.1) o.1 in
                     absurd (omega (arith, inside, less, ap (λ (l : List Bool). length l) (whole ∙ ap (λ (l : List Bool). o.0 ++ l) none ∙ append-nil o.0)))
               ];
               from = omega arith;
@@ -220,26 +220,34 @@ reads_field_then {A} pre name R r k first second some_value some_bits some = rec
         | inr behind ↦
             let longer = longer_front front back f.0 b.0.1 f.2 behind in
             let split : front ++ bit ∷ [] ≡ f.0 ++ (longer.0 ++ bit ∷ []) = ap (λ (l : List Bool). l ++ bit ∷ []) longer.1 ∙ append_assoc f.0 longer.0 (bit ∷ []) in
-            let again : r (front ++ bit ∷ []) ≡ Ok (b.0.0, longer.0 ++ bit ∷ []) = ap r split ∙ first.again b.0.0 f.0 (longer.0 ++ bit ∷ []) f.1 in
+            let again : field.read (front ++ bit ∷ []) ≡ Ok (b.0.0, longer.0 ++ bit ∷ []) = ap field.read split ∙ field.reads.again b.0.0 f.0 (longer.0 ++ bit ∷ []) f.1 in
             subst (λ (n : ℕ). IsInField (parts_of command) n reason) (place_is f.0 longer.0 ∙ ap (λ (l : List Bool). length (bits_of pre) + length l) (sym longer.1)) ((second b.0.0 f.0 f.1).named longer.0 bit reason
             (ap (λ (w : List Bool). k (b.0.0, longer.0 ++ bit ∷ []) w) (sym (whole_is (front ++ bit ∷ []) f.0 (longer.0 ++ bit ∷ []) split))
-            ∙ sym (bind_to (r (front ++ bit ∷ [])) (λ x. k x (bits_of pre ++ (front ++ bit ∷ []))) (b.0.0, longer.0 ++ bit ∷ []) again) ∙ stopped)
-            back command rest (subst (λ (t : List Bool). k (b.0.0, t) (bits_of (pre ++ part name f.0 ∷ []) ++ t) ≡ Ok (command, rest)) longer.2 goes_on))
+            ∙ sym (bind_to (field.read (front ++ bit ∷ [])) (λ x. k x (bits_of pre ++ (front ++ bit ∷ []))) (b.0.0, longer.0 ++ bit ∷ []) again) ∙ stopped)
+            back command rest (subst (λ (t : List Bool). k (b.0.0, t) (bits_of (pre ++ part field.name f.0 ∷ []) ++ t) ≡ Ok (command, rest)) longer.2 goes_on))
       ];
 } where
-  whole_is : (bits front rest : List Bool) → bits ≡ front ++ rest → bits_of pre ++ bits ≡ bits_of (pre ++ part name front ∷ []) ++ rest
-  whole_is bits front rest e = ap (λ (l : List Bool). bits_of pre ++ l) e ∙ bits_of-more pre name front rest
+  whole_is : (bits front rest : List Bool) → bits ≡ front ++ rest → bits_of pre ++ bits ≡ bits_of (pre ++ part field.name front ∷ []) ++ rest
+  whole_is bits front rest e = ap (λ (l : List Bool). bits_of pre ++ l) e ∙ bits_of-more pre field.name front rest
 
   -- a place behind the field
-  place_is : (front rest : List Bool) → length (bits_of (pre ++ part name front ∷ [])) + length rest ≡ length (bits_of pre) + length (front ++ rest)
+  place_is : (front rest : List Bool) → length (bits_of (pre ++ part field.name front ∷ [])) + length rest ≡ length (bits_of pre) + length (front ++ rest)
   place_is front rest =
-      omega (arith, ap (λ (l : List Bool). length l) (bits_of-append pre (part name front ∷ [])), length-append (bits_of pre) (front ++ []), length-append front [], length-append front rest)
+      omega (arith, ap (λ (l : List Bool). length l) (bits_of-append pre (part field.name front ∷ [])), length-append (bits_of pre) (front ++ []), length-append front [], length-append front rest)
 
-  spelled : (command : Command) (bits : List Bool) (more : List Part) → parts_of command ≡ (pre ++ part name bits ∷ []) ++ more → spelling_of command ≡ bits_of pre ++ (bits ++ bits_of more)
-  spelled command bits more e = ap bits_of e ∙ bits_of-append (pre ++ part name bits ∷ []) more ∙ sym (bits_of-more pre name bits (bits_of more))
+  spelled : (command : Command) (bits : List Bool) (more : List Part) → parts_of command ≡ (pre ++ part field.name bits ∷ []) ++ more → spelling_of command ≡ bits_of pre ++ (bits ++ bits_of more)
+  spelled command bits more e = ap bits_of e ∙ bits_of-append (pre ++ part field.name bits ∷ []) more ∙ sym (bits_of-more pre field.name bits (bits_of more))
 
   regroup : (a b c d : List Bool) → a ++ ((b ++ c) ++ d) ≡ (a ++ b) ++ (c ++ d)
   regroup a b c d = ap (λ (l : List Bool). a ++ l) (append_assoc b c d) ∙ sym (append_assoc a b (c ++ d))
+
+-- ... one whose value decides the bits
+pub same_then : {A : Type 0} (pre : List Part) (field : SpelledField A) (k : A × List Bool → List Bool → Reading Command) (some : A)
+    → ((value : A) → ReadsOn (pre ++ part field.name (field.spell value) ∷ []) (λ whole rest. k (value, rest) whole)) → ReadsOn pre (λ whole bits. field.read bits >>= λ x. k x whole)
+same_then {A} pre field k some second =
+    reads_field_then pre (kind_of field) k
+    (λ value bits h. subst (λ (l : List Bool). ReadsOn (pre ++ part field.name l ∷ []) (λ whole rest. k (value, rest) whole)) (sym h) (second value))
+    (record { value = some; bits = field.spell some; spelled = refl })
 
 -- ---- a command is read again
 
@@ -250,16 +258,21 @@ pub record Goes (pre more : List Part) (read : List Bool → List Bool → Readi
 pub goes_whole : (pre : List Part) (command : Command) → Goes pre [] (λ whole bits. Ok (command, bits)) command
 goes_whole pre command = record { to = λ rest. refl }
 
-pub goes_then : {A : Type 0} (pre more : List Part) (name other : Option Reason) (R : A → List Bool → Type 0) (r : List Bool → Reading A) (k : A × List Bool → List Bool → Reading Command) (command : Command) (value : A) (bits : List Bool)
-    → Reads R other r → R value bits → Goes (pre ++ part name bits ∷ []) more (λ whole rest. k (value, rest) whole) command → Goes pre (part name bits ∷ more) (λ whole bits. r bits >>= λ x. k x whole) command
-goes_then pre more name other R r k command value bits reads h goes = record {
+pub goes_then : {A : Type 0} (pre more : List Part) (field : FieldKind A) (k : A × List Bool → List Bool → Reading Command) (command : Command) (it : FieldValue field)
+    → Goes (pre ++ part field.name it.bits ∷ []) more (λ whole rest. k (it.value, rest) whole) command → Goes pre (part field.name it.bits ∷ more) (λ whole bits. field.read bits >>= λ x. k x whole) command
+goes_then pre more field k command it goes = record {
   to = λ rest.
-      let e : r ((bits ++ bits_of more) ++ rest) ≡ Ok (value, bits_of more ++ rest) = ap r (append_assoc bits (bits_of more) rest) ∙ reads.again value bits (bits_of more ++ rest) h in
-      let t : bits_of pre ++ ((bits ++ bits_of more) ++ rest) ≡ bits_of (pre ++ part name bits ∷ []) ++ (bits_of more ++ rest) =
-      ap (λ (m : List Bool). bits_of pre ++ m) (append_assoc bits (bits_of more) rest) ∙ bits_of-more pre name bits (bits_of more ++ rest) in
-      bind_to (r ((bits ++ bits_of more) ++ rest)) (λ y. k y (bits_of pre ++ ((bits ++ bits_of more) ++ rest))) (value, bits_of more ++ rest) e
-      ∙ ap (λ (m : List Bool). k (value, bits_of more ++ rest) m) t ∙ goes.to rest;
+      let bits : List Bool = it.bits in
+      let e : field.read ((bits ++ bits_of more) ++ rest) ≡ Ok (it.value, bits_of more ++ rest) = ap field.read (append_assoc bits (bits_of more) rest) ∙ field.reads.again it.value bits (bits_of more ++ rest) it.spelled in
+      let t : bits_of pre ++ ((bits ++ bits_of more) ++ rest) ≡ bits_of (pre ++ part field.name bits ∷ []) ++ (bits_of more ++ rest) =
+      ap (λ (m : List Bool). bits_of pre ++ m) (append_assoc bits (bits_of more) rest) ∙ bits_of-more pre field.name bits (bits_of more ++ rest) in
+      bind_to (field.read ((bits ++ bits_of more) ++ rest)) (λ y. k y (bits_of pre ++ ((bits ++ bits_of more) ++ rest))) (it.value, bits_of more ++ rest) e
+      ∙ ap (λ (m : List Bool). k (it.value, bits_of more ++ rest) m) t ∙ goes.to rest;
 }
+
+pub goes_same : {A : Type 0} (pre more : List Part) (field : SpelledField A) (k : A × List Bool → List Bool → Reading Command) (command : Command) (value : A)
+    → Goes (pre ++ part field.name (field.spell value) ∷ []) more (λ whole rest. k (value, rest) whole) command → Goes pre (part field.name (field.spell value) ∷ more) (λ whole bits. field.read bits >>= λ x. k x whole) command
+goes_same pre more field k command value goes = goes_then pre more (kind_of field) k command (record { value = value; bits = field.spell value; spelled = refl }) goes
 
 -- ---- check numbers
 
@@ -279,16 +292,14 @@ pub reads_crc5_then : (pre : List Part) (k : Unit {0} × List Bool → List Bool
 reads_crc5_then pre k second =
     reads_same pre (λ whole bits. exactly_at (crc5_of (bits_of pre)) reasons.Crc5 bits >>= λ x. k x whole) (λ whole bits. crc5_at whole bits >>= λ x. k x whole)
     (λ bits. ap (λ (r : Reading (Unit {0})). r >>= λ x. k x (bits_of pre ++ bits)) (check5 (bits_of pre) bits))
-    (reads_field_then {A = Unit {0}} pre (Some reasons.Crc5) (λ value bits. bits ≡ crc5_of (bits_of pre)) (exactly_at (crc5_of (bits_of pre)) reasons.Crc5) k (reads_exactly reasons.Crc5 (crc5_of (bits_of pre)))
-    (λ value bits h. subst (λ (l : List Bool). ReadsOn (pre ++ part (Some reasons.Crc5) l ∷ []) (λ whole rest. k (tt, rest) whole)) (sym h) second) tt (crc5_of (bits_of pre)) refl)
+    (same_then pre (exact_field reasons.Crc5 (crc5_of (bits_of pre))) k tt (λ value. second))
 
 pub reads_crc16_then : (pre : List Part) (k : Unit {0} × List Bool → List Bool → Reading Command) → ReadsOn (pre ++ part (Some reasons.Crc16) (crc16_of (bits_of pre)) ∷ []) (λ whole rest. k (tt, rest) whole)
     → ReadsOn pre (λ whole bits. crc16_at whole bits >>= λ x. k x whole)
 reads_crc16_then pre k second =
     reads_same pre (λ whole bits. exactly_at (crc16_of (bits_of pre)) reasons.Crc16 bits >>= λ x. k x whole) (λ whole bits. crc16_at whole bits >>= λ x. k x whole)
     (λ bits. ap (λ (r : Reading (Unit {0})). r >>= λ x. k x (bits_of pre ++ bits)) (check16 (bits_of pre) bits))
-    (reads_field_then {A = Unit {0}} pre (Some reasons.Crc16) (λ value bits. bits ≡ crc16_of (bits_of pre)) (exactly_at (crc16_of (bits_of pre)) reasons.Crc16) k (reads_exactly reasons.Crc16 (crc16_of (bits_of pre)))
-    (λ value bits h. subst (λ (l : List Bool). ReadsOn (pre ++ part (Some reasons.Crc16) l ∷ []) (λ whole rest. k (tt, rest) whole)) (sym h) second) tt (crc16_of (bits_of pre)) refl)
+    (same_then pre (exact_field reasons.Crc16 (crc16_of (bits_of pre))) k tt (λ value. second))
 
 pub goes_crc5 : (pre more : List Part) (k : Unit {0} × List Bool → List Bool → Reading Command) (command : Command) → Goes (pre ++ part (Some reasons.Crc5) (crc5_of (bits_of pre)) ∷ []) more (λ whole rest. k (tt, rest) whole) command
     → Goes pre (part (Some reasons.Crc5) (crc5_of (bits_of pre)) ∷ more) (λ whole bits. crc5_at whole bits >>= λ x. k x whole) command
@@ -296,7 +307,7 @@ goes_crc5 pre more k command goes = record {
   to = λ rest.
       let all : List Bool = bits_of (part (Some reasons.Crc5) (crc5_of (bits_of pre)) ∷ more) ++ rest in
       ap (λ (r : Reading (Unit {0})). r >>= λ x. k x (bits_of pre ++ all)) (check5 (bits_of pre) all)
-      ∙ (goes_then {A = Unit {0}} pre more (Some reasons.Crc5) (Some reasons.Crc5) (λ value bits. bits ≡ crc5_of (bits_of pre)) (exactly_at (crc5_of (bits_of pre)) reasons.Crc5) k command tt (crc5_of (bits_of pre)) (reads_exactly reasons.Crc5 (crc5_of (bits_of pre))) refl goes).to rest;
+      ∙ (goes_same pre more (exact_field reasons.Crc5 (crc5_of (bits_of pre))) k command tt goes).to rest;
 }
 
 pub goes_crc16 : (pre more : List Part) (k : Unit {0} × List Bool → List Bool → Reading Command) (command : Command) → Goes (pre ++ part (Some reasons.Crc16) (crc16_of (bits_of pre)) ∷ []) more (λ whole rest. k (tt, rest) whole) command
@@ -305,5 +316,5 @@ goes_crc16 pre more k command goes = record {
   to = λ rest.
       let all : List Bool = bits_of (part (Some reasons.Crc16) (crc16_of (bits_of pre)) ∷ more) ++ rest in
       ap (λ (r : Reading (Unit {0})). r >>= λ x. k x (bits_of pre ++ all)) (check16 (bits_of pre) all)
-      ∙ (goes_then {A = Unit {0}} pre more (Some reasons.Crc16) (Some reasons.Crc16) (λ value bits. bits ≡ crc16_of (bits_of pre)) (exactly_at (crc16_of (bits_of pre)) reasons.Crc16) k command tt (crc16_of (bits_of pre)) (reads_exactly reasons.Crc16 (crc16_of (bits_of pre))) refl goes).to rest;
+      ∙ (goes_same pre more (exact_field reasons.Crc16 (crc16_of (bits_of pre))) k command tt goes).to rest;
 }

@@ -1,12 +1,12 @@
 -- The bits of a number are read one by one, and no others.
-use Rattle.std.proofs.Common.{◌≡◌, ℕ, ◌+◌, ◌/◌, ◌%◌, ◌^◌, Bool, true, false, List, length, Ok, Err, refl, sym}
+use Rattle.std.proofs.Common.{◌≡◌, ℕ, suc, ◌+◌, ◌/◌, ◌%◌, ◌^◌, Bool, true, false, List, ◌∷◌, length, Ok, Err, refl, sym, arith}
 use Rattle.std.specs.Prelude.{◌==◌, not}
 use mathlib.Core.Bool.{beq}
 use Rattle.bit_strings.specs.Numbers.{field_of}
 use Rattle.bit_strings.specs.laws.Numbers.{field_of-more, field_of-none}
 use Rattle.gen2_crc.specs.Crc.{differ}
 use Rattle.command_grammar.specs.declared.refusal.Reason.{Reason}
-use Rattle.command_grammar.specs.reading.Readers.{Bad, bit_at, exactly_at}
+use Rattle.command_grammar.specs.reading.Readers.{Bad, exactly_at}
 
 -- ---- exact bits
 
@@ -23,16 +23,16 @@ other_differ false true other = refl
 other_differ false false other = absurd (other refl)
 
 -- the next bit is the wanted one
-pub exactly-more : (value width places : ℕ) (reason : Reason) (bits : List Bool) (next : Bool) (rest : List Bool) → width ≡ places + 1 → bit_at bits ≡ Ok (next, rest) → next ≡ (value / 2 ^ places % 2 == 1)
-    → exactly_at (field_of value width) reason bits ≡ exactly_at (field_of value places) reason rest
-exactly-more value width places reason bits next rest same read wanted =
-    rw (field_of-more value width places same, read, same_differ (value / 2 ^ places % 2 == 1) next (sym wanted)) refl
+pub exactly-more : (value places : ℕ) (reason : Reason) (next : Bool) (rest : List Bool) → next ≡ (value / 2 ^ places % 2 == 1)
+    → exactly_at (field_of value (suc places)) reason (next ∷ rest) ≡ exactly_at (field_of value places) reason rest
+exactly-more value places reason next rest wanted =
+    rw (field_of-more value (suc places) places (omega arith), same_differ (value / 2 ^ places % 2 == 1) next (sym wanted)) refl
 
 -- ... or another
-pub exactly-bad : (value width places : ℕ) (reason : Reason) (bits : List Bool) (next : Bool) (rest : List Bool) → width ≡ places + 1 → bit_at bits ≡ Ok (next, rest) → ¬ (next ≡ (value / 2 ^ places % 2 == 1))
-    → exactly_at (field_of value width) reason bits ≡ Err (Bad (length rest + 1) reason)
-exactly-bad value width places reason bits next rest same read other =
-    rw (field_of-more value width places same, read, other_differ (value / 2 ^ places % 2 == 1) next (λ h. other (sym h))) refl
+pub exactly-bad : (value places : ℕ) (reason : Reason) (next : Bool) (rest : List Bool) → ¬ (next ≡ (value / 2 ^ places % 2 == 1))
+    → exactly_at (field_of value (suc places)) reason (next ∷ rest) ≡ Err (Bad (length rest + 1) reason)
+exactly-bad value places reason next rest other =
+    rw (field_of-more value (suc places) places (omega arith), other_differ (value / 2 ^ places % 2 == 1) next (λ h. other (sym h))) refl
 
 pub exactly-none : (value width : ℕ) (reason : Reason) (bits : List Bool) → width ≡ 0 → exactly_at (field_of value width) reason bits ≡ Ok (tt, bits)
 exactly-none value width reason bits none = rw (field_of-none value width none) refl

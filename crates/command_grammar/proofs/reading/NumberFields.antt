@@ -9,7 +9,7 @@ use Rattle.bit_strings.specs.laws.Numbers.{length-field_of, value_of-field, fiel
 use Rattle.command_grammar.specs.declared.refusal.Reason.{Reason}
 use Rattle.command_grammar.specs.declared.refusal.Reason.TheVariants as reasons
 use Rattle.command_grammar.specs.reading.Readers.{Stop, Short, Bad, Reading, ◌>>=◌, bit_at, bits_at, field_at, count_at}
-use Rattle.command_grammar.proofs.reading.Readers.{Reads, Stuck, reads_map, reads_but}
+use Rattle.command_grammar.proofs.reading.Readers.{FieldKind, Reads, SpelledField, Stuck, reads_map, reads_but}
 
 -- ---- one bit
 
@@ -33,6 +33,9 @@ reads_bit name = record {
   bit-bad : (bits : List Bool) (left : ℕ) (reason : Reason) → bit_at bits ≡ Err (Bad left reason) → (name ≡ Some reason) × Stuck (λ value l. l ≡ value ∷ []) bit_at bits left reason
   bit-bad [] left reason e = absurd cc
   bit-bad (bit ∷ bits) left reason e = absurd cc
+
+abbrev pub bit_field : SpelledField Bool
+bit_field = record { spell = λ value. value ∷ []; name = None; read = bit_at; reads = reads_bit None }
 
 -- ---- so many bits
 
@@ -85,10 +88,10 @@ reads_bits width name = record {
   length_front : (bits : List Bool) (width : ℕ) → width ≤ length bits → length (take width bits) ≡ width
   length_front bits width long = omega (arith, length-take width bits)
 
--- ---- a number
+abbrev pub bits_field : ℕ → Option Reason → FieldKind (List Bool)
+bits_field width name = record { Spells = λ value bits. (length value ≡ width) × (bits ≡ value); name = name; read = bits_at width; reads = reads_bits width name }
 
-pub no_name : {other : Reason} → ◌≡◌ {A = Option Reason} None (Some other) → ⊥
-no_name e = cc
+-- ---- a number
 
 abbrev reading : Reading (List Bool) → Reading (List Bool)
 reading r = r
@@ -108,22 +111,31 @@ IsNumber width value bits = (value < 2 ^ width) × (bits ≡ field_of value widt
 
 pub reads_field : (width : ℕ) (name : Option Reason) → Reads (IsNumber width) name (field_at width)
 reads_field width name =
-    reads_map (λ value bits. (length value ≡ width) × (bits ≡ value)) (IsNumber width) name (bits_at width) (field_at width) value_of
+    reads_map (bits_field width name) (IsNumber width) (field_at width) value_of
     (λ bits. as_number (ltb (length bits) width) (take width bits, drop width bits))
     (λ value bits h. (value_of-within value width (omega (arith, h.0)), h.1 ∙ sym (field_of-value_of value) ∙ ap (λ n. field_of (value_of value) n) h.0))
     (λ value bits h. (bits, ((ap length h.1 ∙ length-field_of value width), refl), ap value_of h.1 ∙ value_of-field value width h.0))
-    (reads_bits width name)
 
-pub field_never_bad : (width : ℕ) (bits : List Bool) (left : ℕ) (other : Reason) → field_at width bits ≡ Err (Bad left other) → ⊥
-field_never_bad width bits left other e = no_name ((reads_field width None).bad bits left other e).0
+abbrev pub number_field : ℕ → Option Reason → FieldKind ℕ
+number_field width name = record { Spells = IsNumber width; name = name; read = field_at width; reads = reads_field width name }
 
 -- ---- a number of words that is not 0
 
-pub reads_count : Reads (λ value bits. IsNumber 8 value bits × ((value == 0) ≡ false)) (Some reasons.Count) count_at
+abbrev pub IsCount : ℕ → List Bool → Type 0
+IsCount value bits = IsNumber 8 value bits × ((value == 0) ≡ false)
+
+pub reads_count : Reads IsCount (Some reasons.Count) count_at
 unfolding count_at field_of
-reads_count =
-    reads_but (IsNumber 8) reasons.Count (field_at 8) (λ n. n == 0) (field_of 0 7) false 1 true []
-    (field_never_bad 8)
-    (λ other bits h zero. h.1 ∙ ap (λ n. field_of n 8) (is_zero other zero))
-    (omega arith, refl) refl
-    (reads_field 8 None)
+reads_count = reads_but (number_field 8 None) reasons.Count (λ n. n == 0) refl (record {
+  front = field_of 0 7;
+  bit = false;
+  only = λ other bits h zero. h.1 ∙ ap (λ n. field_of n 8) (is_zero other zero);
+  value = 1;
+  next = true;
+  more = [];
+  spelled = (omega arith, refl);
+  kept = refl;
+})
+
+abbrev pub count_field : FieldKind ℕ
+count_field = record { Spells = IsCount; name = Some reasons.Count; read = count_at; reads = reads_count }

@@ -47,6 +47,29 @@ pub record Reads {A : Type 0} (R : A → List Bool → Type 0) (name : Option Re
   pub short : (bits : List Bool) → read bits ≡ Err Short → (value : A) × (more : List Bool) × R value (bits ++ more)
   pub bad : (bits : List Bool) (left : ℕ) (reason : Reason) → read bits ≡ Err (Bad left reason) → (name ≡ Some reason) × Stuck R read bits left reason
 
+-- a field of a command: which bits spell which value, the name of its refusals, and its reader
+pub record FieldKind (A : Type 0) : Type 1 where
+  pub Spells : A → List Bool → Type 0
+  pub name : Option Reason
+  pub read : List Bool → Reading A
+  pub reads : Reads Spells name read
+
+-- one whose value decides the bits
+pub record SpelledField (A : Type 0) : Type 0 where
+  pub spell : A → List Bool
+  pub name : Option Reason
+  pub read : List Bool → Reading A
+  pub reads : Reads (λ value bits. bits ≡ spell value) name read
+
+abbrev pub kind_of : {A : Type 0} → SpelledField A → FieldKind A
+kind_of field = record { Spells = λ value bits. bits ≡ field.spell value; name = field.name; read = field.read; reads = field.reads }
+
+-- a value of a field, as it is spelled
+pub record FieldValue {A : Type 0} (field : FieldKind A) : Type 0 where
+  pub value : A
+  pub bits : List Bool
+  pub spelled : field.Spells value bits
+
 -- the second field's relation behind the first's
 pub record Pair {A B : Type 0} (R : A → List Bool → Type 0) (S : A → B → List Bool → Type 0) (value : B) (bits : List Bool) : Type 0 where
   pub first : A
@@ -154,27 +177,27 @@ reads_as R S name read to from reads = record {
 }
 
 -- the value under another name
-pub reads_map : {A B : Type 0} (R : A → List Bool → Type 0) (S : B → List Bool → Type 0) (name : Option Reason) (read : List Bool → Reading A) (other : List Bool → Reading B) (f : A → B)
-    → ((bits : List Bool) → other bits ≡ (read bits >>= λ x. Ok (f x.0, x.1)))
-    → ((value : A) (bits : List Bool) → R value bits → S (f value) bits)
-    → ((value : B) (bits : List Bool) → S value bits → (first : A) × R first bits × (f first ≡ value))
-    → Reads R name read → Reads S name other
-reads_map {A} {B} R S name read other f same to from reads = record {
+pub reads_map : {A B : Type 0} (field : FieldKind A) (S : B → List Bool → Type 0) (other : List Bool → Reading B) (f : A → B)
+    → ((bits : List Bool) → other bits ≡ (field.read bits >>= λ x. Ok (f x.0, x.1)))
+    → ((value : A) (bits : List Bool) → field.Spells value bits → S (f value) bits)
+    → ((value : B) (bits : List Bool) → S value bits → (first : A) × field.Spells first bits × (f first ≡ value))
+    → Reads S field.name other
+reads_map {A} {B} field S other f same to from = record {
   again = λ value bits rest h.
       let w = from value bits h in
-      same (bits ++ rest) ∙ bind_to (read (bits ++ rest)) (λ x. Ok (f x.0, x.1)) (w.0, rest) (reads.again w.0 bits rest w.1) ∙ ap (λ (b : B). Ok (b, rest)) w.2;
+      same (bits ++ rest) ∙ bind_to (field.read (bits ++ rest)) (λ x. Ok (f x.0, x.1)) (w.0, rest) (field.reads.again w.0 bits rest w.1) ∙ ap (λ (b : B). Ok (b, rest)) w.2;
   found = λ bits value rest e.
-      let b = bind_ok (read bits) (λ x. Ok (f x.0, x.1)) (value, rest) (sym (same bits) ∙ e) in
-      let g = reads.found bits b.0.0 b.0.1 b.1 in
+      let b = bind_ok (field.read bits) (λ x. Ok (f x.0, x.1)) (value, rest) (sym (same bits) ∙ e) in
+      let g = field.reads.found bits b.0.0 b.0.1 b.1 in
       let pair : ◌≡◌ {A = B × List Bool} (f b.0.0, b.0.1) (value, rest) = pair_in (f b.0.0, b.0.1) (value, rest) b.2 in
       (g.0, subst (λ (v : B). S v g.0) (ap (λ (p : B × List Bool). p.0) pair) (to b.0.0 g.0 g.1), g.2 ∙ ap (λ (l : List Bool). g.0 ++ l) (ap (λ (p : B × List Bool). p.1) pair));
-  short = λ bits e. elim (bind_err (read bits) (λ x. Ok (f x.0, x.1)) Short (sym (same bits) ∙ e)) [
-    | at_first h ↦ let g = reads.short bits h in (f g.0, g.1, to g.0 (bits ++ g.1) g.2)
+  short = λ bits e. elim (bind_err (field.read bits) (λ x. Ok (f x.0, x.1)) Short (sym (same bits) ∙ e)) [
+    | at_first h ↦ let g = field.reads.short bits h in (f g.0, g.1, to g.0 (bits ++ g.1) g.2)
     | at_second x h k ↦ absurd (ok_not_err (f x.0, x.1) Short k)
   ];
-  bad = λ bits left reason e. elim (bind_err (read bits) (λ x. Ok (f x.0, x.1)) (Bad left reason) (sym (same bits) ∙ e)) [
+  bad = λ bits left reason e. elim (bind_err (field.read bits) (λ x. Ok (f x.0, x.1)) (Bad left reason) (sym (same bits) ∙ e)) [
     | at_first h ↦
-        let g = reads.bad bits left reason h in
+        let g = field.reads.bad bits left reason h in
         let w = g.1 in (
           g.0,
           record {
@@ -187,7 +210,7 @@ reads_map {A} {B} R S name read other f same to from reads = record {
             next = w.next;
             more = w.more;
             spelled = to w.value (w.front ++ w.next ∷ w.more) w.spelled;
-            stays = λ l. same (w.front ++ w.bit ∷ l) ∙ bind_fails (read (w.front ++ w.bit ∷ l)) (λ x. Ok (f x.0, x.1)) (Bad (length l + 1) reason) (w.stays l);
+            stays = λ l. same (w.front ++ w.bit ∷ l) ∙ bind_fails (field.read (w.front ++ w.bit ∷ l)) (λ x. Ok (f x.0, x.1)) (Bad (length l + 1) reason) (w.stays l);
           },
         )
     | at_second x h k ↦ absurd (ok_not_err (f x.0, x.1) (Bad left reason) k)
@@ -215,45 +238,52 @@ shorter (b ∷ bits) (a ∷ front) m ms bit e =
 abbrev pub checked : {A : Type 0} → (A → Bool) → Reason → A × List Bool → Reading A
 checked refuse reason x = cond (refuse x.0) (Err (Bad (length x.1 + 1) reason)) (Ok x)
 
--- What is refused where one value is: at the last of its bits, since the bits before begin others too.
-pub reads_but : {A : Type 0} (R : A → List Bool → Type 0) (reason : Reason) (read : List Bool → Reading A) (refuse : A → Bool) (front : List Bool) (bit : Bool) (value : A) (next : Bool) (more : List Bool)
-    → ((bits : List Bool) (left : ℕ) (other : Reason) → read bits ≡ Err (Bad left other) → ⊥)
-    → ((other : A) (bits : List Bool) → R other bits → refuse other ≡ true → bits ≡ front ++ bit ∷ [])
-    → R value (front ++ next ∷ more) → refuse value ≡ false
-    → Reads R None read
-    → Reads (λ other bits. R other bits × (refuse other ≡ false)) (Some reason) (λ bits. read bits >>= checked refuse reason)
-reads_but {A} R reason read refuse front bit value next more never only spelled kept reads = record {
-  again = λ other bits rest h. bind_to (read (bits ++ rest)) (checked refuse reason) (other, rest) (reads.again other bits rest h.0) ∙ rw h.1 refl;
+-- One value of a field is refused: at the last of its bits, since the bits before begin others too.
+pub record RefusesOne {A : Type 0} (field : FieldKind A) (refuse : A → Bool) : Type 0 where
+  pub front : List Bool
+  pub bit : Bool
+  pub only : (other : A) (bits : List Bool) → field.Spells other bits → refuse other ≡ true → bits ≡ front ++ bit ∷ []
+  pub value : A
+  pub next : Bool
+  pub more : List Bool
+  pub spelled : field.Spells value (front ++ next ∷ more)
+  pub kept : refuse value ≡ false
+
+-- What is refused of a field that is never refused itself.
+pub reads_but : {A : Type 0} (field : FieldKind A) (reason : Reason) (refuse : A → Bool) → field.name ≡ None → RefusesOne field refuse
+    → Reads (λ other bits. field.Spells other bits × (refuse other ≡ false)) (Some reason) (λ bits. field.read bits >>= checked refuse reason)
+reads_but {A} field reason refuse unnamed one = record {
+  again = λ other bits rest h. bind_to (field.read (bits ++ rest)) (checked refuse reason) (other, rest) (field.reads.again other bits rest h.0) ∙ rw h.1 refl;
   found = λ bits other rest e.
-      let b = bind_ok (read bits) (checked refuse reason) (other, rest) e in
-      let g = reads.found bits b.0.0 b.0.1 b.1 in
+      let b = bind_ok (field.read bits) (checked refuse reason) (other, rest) e in
+      let g = field.reads.found bits b.0.0 b.0.1 b.1 in
       let t = test_ok (refuse b.0.0) b.0 (other, rest) b.2 in
       let first : b.0.0 ≡ other = ap (λ (p : A × List Bool). p.0) t.1 in
-      (g.0, (subst (λ (v : A). R v g.0) first g.1, ap refuse (sym first) ∙ t.0), g.2 ∙ ap (λ (l : List Bool). g.0 ++ l) (ap (λ (p : A × List Bool). p.1) t.1));
-  short = λ bits e. elim (bind_err (read bits) (checked refuse reason) Short e) [
-    | at_first h ↦ let g = reads.short bits h in cut bits g.0 g.1 g.2 h (refuse g.0) refl
+      (g.0, (subst (λ (v : A). field.Spells v g.0) first g.1, ap refuse (sym first) ∙ t.0), g.2 ∙ ap (λ (l : List Bool). g.0 ++ l) (ap (λ (p : A × List Bool). p.1) t.1));
+  short = λ bits e. elim (bind_err (field.read bits) (checked refuse reason) Short e) [
+    | at_first h ↦ let g = field.reads.short bits h in cut bits g.0 g.1 g.2 h (refuse g.0) refl
     | at_second x h k ↦ absurd (test_short (refuse x.0) x k)
   ];
-  bad = λ bits left other e. elim (bind_err (read bits) (checked refuse reason) (Bad left other) e) [
-    | at_first h ↦ absurd (never bits left other h)
+  bad = λ bits left other e. elim (bind_err (field.read bits) (checked refuse reason) (Bad left other) e) [
+    | at_first h ↦ absurd (no_name (sym unnamed ∙ (field.reads.bad bits left other h).0))
     | at_second x h k ↦
-        let g = reads.found bits x.0 x.1 h in
+        let g = field.reads.found bits x.0 x.1 h in
         let t = test_bad (refuse x.0) x left other k in
-        let whole : g.0 ≡ front ++ bit ∷ [] = only x.0 g.0 g.1 t.0 in (
+        let whole : g.0 ≡ one.front ++ one.bit ∷ [] = one.only x.0 g.0 g.1 t.0 in (
           ap (λ (r : Reason). Some r) t.2,
           record {
-            front = front;
-            bit = bit;
+            front = one.front;
+            bit = one.bit;
             back = x.1;
-            split = g.2 ∙ ap (λ (l : List Bool). l ++ x.1) whole ∙ append_assoc front (bit ∷ []) x.1;
+            split = g.2 ∙ ap (λ (l : List Bool). l ++ x.1) whole ∙ append_assoc one.front (one.bit ∷ []) x.1;
             left_is = t.1;
-            value = value;
-            next = next;
-            more = more;
-            spelled = (spelled, kept);
+            value = one.value;
+            next = one.next;
+            more = one.more;
+            spelled = (one.spelled, one.kept);
             stays = λ l.
-                let e2 : read (front ++ bit ∷ l) ≡ Ok (x.0, l) = ap read (sym (append_assoc front (bit ∷ []) l)) ∙ ap (λ (p : List Bool). read (p ++ l)) (sym whole) ∙ reads.again x.0 g.0 l g.1 in
-                bind_to (read (front ++ bit ∷ l)) (checked refuse reason) (x.0, l) e2 ∙ rw (t.0, ← t.2) refl;
+                let e2 : field.read (one.front ++ one.bit ∷ l) ≡ Ok (x.0, l) = ap field.read (sym (append_assoc one.front (one.bit ∷ []) l)) ∙ ap (λ (p : List Bool). field.read (p ++ l)) (sym whole) ∙ field.reads.again x.0 g.0 l g.1 in
+                bind_to (field.read (one.front ++ one.bit ∷ l)) (checked refuse reason) (x.0, l) e2 ∙ rw (t.0, ← t.2) refl;
           },
         )
   ];
@@ -270,14 +300,17 @@ reads_but {A} R reason read refuse front bit value next more never only spelled 
   test_bad true x left other e = (refl, cc, cc)
   test_bad false x left other e = absurd cc
 
+  no_name : {other : Reason} → ◌≡◌ {A = Option Reason} None (Some other) → ⊥
+  no_name e = cc
+
   clash : {x : A × List Bool} → ◌≡◌ {A = Reading A} (Ok x) (Err Short) → ⊥
   clash e = cc
 
-  cut : (bits : List Bool) (other : A) (rest : List Bool) → R other (bits ++ rest) → read bits ≡ Err Short → (b : Bool) → refuse other ≡ b → (found : A) × (tail : List Bool) × (R found (bits ++ tail) × (refuse found ≡ false))
+  cut : (bits : List Bool) (other : A) (rest : List Bool) → field.Spells other (bits ++ rest) → field.read bits ≡ Err Short → (b : Bool) → refuse other ≡ b → (found : A) × (tail : List Bool) × (field.Spells found (bits ++ tail) × (refuse found ≡ false))
   cut bits other rest h e false kept_here = (other, rest, (h, kept_here))
   cut bits other [] h e true refused =
-      let whole : read bits ≡ Ok (other, []) = ap read (sym (append-nil bits) ∙ sym (append-nil (bits ++ []))) ∙ reads.again other (bits ++ []) [] h in
+      let whole : field.read bits ≡ Ok (other, []) = ap field.read (sym (append-nil bits) ∙ sym (append-nil (bits ++ []))) ∙ field.reads.again other (bits ++ []) [] h in
       absurd (clash (sym whole ∙ e))
   cut bits other (m ∷ ms) h e true refused =
-      let g = shorter bits front m ms bit (only other (bits ++ m ∷ ms) h refused) in
-      (value, g.0 ++ next ∷ more, (subst (λ (l : List Bool). R value l) (ap (λ (l : List Bool). l ++ next ∷ more) g.1 ∙ append_assoc bits g.0 (next ∷ more)) spelled, kept))
+      let g = shorter bits one.front m ms one.bit (one.only other (bits ++ m ∷ ms) h refused) in
+      (one.value, g.0 ++ one.next ∷ one.more, (subst (λ (l : List Bool). field.Spells one.value l) (ap (λ (l : List Bool). l ++ one.next ∷ one.more) g.1 ∙ append_assoc bits g.0 (one.next ∷ one.more)) one.spelled, one.kept))

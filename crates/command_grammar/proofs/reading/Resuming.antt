@@ -105,12 +105,12 @@ resumes_none kind behind v rest = goes (choice_at kind_values reasons.Code rest)
 
 -- ---- with more bits
 
-pub resumes_more : (kind next_kind : CommandKind) (position next_position : Position) (behind next_behind : List Field) (v next_v : Fields) (bits run_bits : List Bool) → Resumes kind position behind v bits
-    → ((rest : List Bool) → resume kind position behind v ((bits ++ run_bits) ++ rest) (run_bits ++ rest) ≡ resume next_kind next_position next_behind next_v ((bits ++ run_bits) ++ rest) rest)
-    → Resumes next_kind next_position next_behind next_v (bits ++ run_bits)
-resumes_more kind next_kind position next_position behind next_behind v next_v bits run_bits resumes step rest =
+pub resumes_more : (s : State) (position : Position) (v : Fields) (bits run_bits : List Bool) → StateStandsFor s bits
+    → ((rest : List Bool) → resume s.kind s.position s.behind.now s.fields ((bits ++ run_bits) ++ rest) (run_bits ++ rest) ≡ resume s.kind position s.behind.now v ((bits ++ run_bits) ++ rest) rest)
+    → Resumes s.kind position s.behind.now v (bits ++ run_bits)
+resumes_more s position v bits run_bits stands step rest =
     let same : (bits ++ run_bits) ++ rest ≡ bits ++ (run_bits ++ rest) = append_assoc bits run_bits rest in
-    ap all_of same ∙ resumes (run_bits ++ rest) ∙ ap (λ (whole : List Bool). resume kind position behind v whole (run_bits ++ rest)) (sym same) ∙ step rest
+    ap all_of same ∙ stands.reads (run_bits ++ rest) ∙ ap (λ (whole : List Bool). resume s.kind s.position s.behind.now s.fields whole (run_bits ++ rest)) (sym same) ∙ step rest
 
 -- ---- no state but the last ends with no bits
 
@@ -187,8 +187,8 @@ begins_field (field ∷ behind) default kind v whole bits stage some e =
 pub code_run : (s : State) (bits run_bits : List Bool) (front more : CodeFront) → s.position ≡ positions.Code front → ((rest : List Bool) → next_at (behind_code front) reasons.Code (run_bits ++ rest) ≡ next_at (behind_code more) reasons.Code rest) → StateStandsFor s bits
     → Resumes s.kind (positions.Code more) s.behind.now s.fields (bits ++ run_bits)
 code_run s bits run_bits front more here goes stands =
-    resumes_more s.kind s.kind (positions.Code front) (positions.Code more) s.behind.now s.behind.now s.fields s.fields bits run_bits (subst (λ (position : Position). Resumes s.kind position s.behind.now s.fields bits) here stands.reads)
-    (λ rest. ap (λ (r : Reading CommandKind). r >>= λ x. run (fields_of x.0) x.0 s.fields ((bits ++ run_bits) ++ rest) x.1) (goes rest))
+    resumes_more s (positions.Code more) s.fields bits run_bits stands
+    (λ rest. ap (λ (position : Position). resume s.kind position s.behind.now s.fields ((bits ++ run_bits) ++ rest) (run_bits ++ rest)) here ∙ ap (λ (r : Reading CommandKind). r >>= λ x. run (fields_of x.0) x.0 s.fields ((bits ++ run_bits) ++ rest) x.1) (goes rest))
 
 pub code_goes_on : (s : State) (bits : List Bool) (bit : Bool) (front more : CodeFront) → s.position ≡ positions.Code front → child (behind_code front) bit ≡ behind_code more → StateStandsFor s bits → Resumes s.kind (positions.Code more) s.behind.now s.fields (bits ++ bit ∷ [])
 code_goes_on s bits bit front more here e stands = code_run s bits (bit ∷ []) front more here (λ rest. code-more front more bit rest e) stands
@@ -197,8 +197,8 @@ code_goes_on s bits bit front more here e stands = code_run s bits (bit ∷ []) 
 pub stage_run : (s : State) (bits run_bits : List Bool) (stage more : Stage) (v : Fields) → s.position ≡ positions.Within stage → ((rest : List Bool) → stage_from stage s.fields (run_bits ++ rest) ≡ stage_from more v rest) → StateStandsFor s bits
     → Resumes s.kind (positions.Within more) s.behind.now v (bits ++ run_bits)
 stage_run s bits run_bits stage more v here goes stands =
-    resumes_more s.kind s.kind (positions.Within stage) (positions.Within more) s.behind.now s.behind.now s.fields v bits run_bits (subst (λ (position : Position). Resumes s.kind position s.behind.now s.fields bits) here stands.reads)
-    (λ rest. ap (λ (r : Reading Fields). r >>= λ x. run s.behind.now s.kind x.0 ((bits ++ run_bits) ++ rest) x.1) (goes rest))
+    resumes_more s (positions.Within more) v bits run_bits stands
+    (λ rest. ap (λ (position : Position). resume s.kind position s.behind.now s.fields ((bits ++ run_bits) ++ rest) (run_bits ++ rest)) here ∙ ap (λ (r : Reading Fields). r >>= λ x. run s.behind.now s.kind x.0 ((bits ++ run_bits) ++ rest) x.1) (goes rest))
 
 -- a refusal at a bit of a list
 pub refused_at : (bits : List Bool) (at : ℕ) (default : Bool) (place : ℕ) (reason : Reason) → at < length bits → place ≡ length (take at bits) → ((rest : List Bool) → all_of (take at bits ++ get_or bits at default ∷ rest) ≡ Err (Bad (length rest + 1) reason))

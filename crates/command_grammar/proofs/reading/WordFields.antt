@@ -1,13 +1,13 @@
 -- Words are read as they are spelled.
 use Rattle.std.proofs.Common.{◌≡◌, ℕ, zero, suc, ◌^◌, ◌<◌, Bool, List, [], ◌∷◌, ◌++◌, length, Ok, refl, sym, ap, subst, ◌∙◌, get_or, arith}
-use Rattle.std.specs.Prelude.{Option}
+use Rattle.std.specs.Prelude.{Option, None}
 use Rattle.std.specs.List.{AllByRecursion}
 use Rattle.bit_strings.specs.Numbers.{field_of}
 use Rattle.bit_strings.specs.Words.{bits_of_words}
 use Rattle.command_grammar.specs.Commands.{IsWord}
 use Rattle.command_grammar.specs.declared.refusal.Reason.{Reason}
 use Rattle.command_grammar.specs.reading.Readers.{◌>>=◌, field_at, words_at}
-use Rattle.command_grammar.proofs.reading.Readers.{Reads, Pair, reads_then, reads_as, reads_map, reads_nothing}
+use Rattle.command_grammar.proofs.reading.Readers.{FieldKind, Reads, Pair, reads_then, reads_as, reads_map, reads_nothing}
 use Rattle.command_grammar.proofs.reading.NumberFields.{IsNumber, reads_field}
 
 -- so many words
@@ -46,9 +46,12 @@ reads_words zero name =
 reads_words (suc count) name =
     reads_as (Pair (IsNumber 16) (Behind count)) (AreWords (suc count)) name (words_at (suc count)) (join_words count) (split_words count)
     (reads_then (IsNumber 16) (Behind count) name (field_at 16) (λ word bits. words_at count bits >>= λ words. Ok (word ∷ words.0, words.1)) (reads_field 16 name)
-    (λ word front h. reads_map (AreWords count) (Behind count word) name (words_at count) (λ bits. words_at count bits >>= λ words. Ok (word ∷ words.0, words.1)) (λ (words : List ℕ). word ∷ words) (λ bits. refl)
-    (λ words bits h. (words, refl, h)) (λ all bits h. (h.0, h.2, sym h.1)) (reads_words count name))
+    (λ word front h. reads_map (record { Spells = AreWords count; name = name; read = words_at count; reads = reads_words count name }) (Behind count word) (λ bits. words_at count bits >>= λ words. Ok (word ∷ words.0, words.1)) (λ (words : List ℕ). word ∷ words) (λ bits. refl)
+    (λ words bits h. (words, refl, h)) (λ all bits h. (h.0, h.2, sym h.1)))
     (λ word front h. let w = some_words count in (word ∷ w.0, w.1, (w.0, refl, w.2))))
+
+abbrev pub words_field : ℕ → FieldKind (List ℕ)
+words_field count = record { Spells = AreWords count; name = None; read = words_at count; reads = reads_words count None }
 
 -- numbers of 16 bits are words
 pub are_words : (numbers : List ℕ) → ((k : ℕ) → get_or numbers k 0 < 2 ^ 16) → AllByRecursion IsWord numbers

@@ -99,16 +99,17 @@ command_name_is kinds.Access = search (arith, before, IsFieldText-one) depth 16
 command_name_is kinds.BlockWrite = search (arith, before, IsFieldText-one) depth 24
 command_name_is kinds.BlockErase = search (arith, before, IsFieldText-one) depth 24
 
+-- each of the fields may stand as a field
 pub record Texts (fields : List (List ℕ)) : Type 0 where
   pub are : All IsFieldText fields
 
-no_more : Texts []
+pub no_more : Texts []
 no_more = record { are = All-nil IsFieldText }
 
-with : (field : List ℕ) (fields : List (List ℕ)) → IsFieldText field → Texts fields → Texts (field ∷ fields)
+pub with : (field : List ℕ) (fields : List (List ℕ)) → IsFieldText field → Texts fields → Texts (field ∷ fields)
 with field fields is texts = record { are = All-cons IsFieldText field fields is texts.are }
 
-only : (field : List ℕ) → IsFieldText field → Texts (field ∷ [])
+pub only : (field : List ℕ) → IsFieldText field → Texts (field ∷ [])
 only field is = with field [] is no_more
 
 -- the place of words in a bank, and two more fields

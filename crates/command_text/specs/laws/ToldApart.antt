@@ -32,7 +32,7 @@ use Rattle.command_grammar.specs.declared.commands.Command.TheVariants.{QueryRep
 use Rattle.command_text.specs.CommandText.{bank_word, command_kind, command_name, flag_word, mask_bank_word, other_command_fields, payload_digits, sel_word, side_word, updn_word}
 
 -- the letter at a place of two equal texts
-letter : (place : ℕ) (one other : List ℕ) → one ≡ other → get_or one place 0 ≡ get_or other place 0
+pub letter : (place : ℕ) (one other : List ℕ) → one ≡ other → get_or one place 0 ≡ get_or other place 0
 letter place one other same = ap (λ (text : List ℕ). get_or text place 0) same
 
 pub flag_told : (one other : FlagName) → flag_word one ≡ flag_word other → one ≡ other
@@ -130,20 +130,9 @@ command_name_told kinds.BlockWrite kinds.BlockWrite same = refl
 command_name_told kinds.BlockErase kinds.BlockErase same = refl
 command_name_told one other same = absurd (omega (arith, letter 0 _ _ same, letter 2 _ _ same, letter 5 _ _ same))
 
--- the parts of two equal lists of fields
-same_2 : (a b a' b' : List ℕ) → a ∷ b ∷ [] ≡ a' ∷ b' ∷ [] → (a ≡ a') × (b ≡ b')
-same_2 a b a' b' same = (cc, cc)
-
-same_4 : (a b c d a' b' c' d' : List ℕ) → a ∷ b ∷ c ∷ d ∷ [] ≡ a' ∷ b' ∷ c' ∷ d' ∷ [] → (a ≡ a') × (b ≡ b') × (c ≡ c') × (d ≡ d')
-same_4 a b c d a' b' c' d' same = (cc, cc, cc, cc)
-
-same_5 : (a b c d e a' b' c' d' e' : List ℕ) → a ∷ b ∷ c ∷ d ∷ e ∷ [] ≡ a' ∷ b' ∷ c' ∷ d' ∷ e' ∷ []
-    → (a ≡ a') × (b ≡ b') × (c ≡ c') × (d ≡ d') × (e ≡ e')
-same_5 a b c d e a' b' c' d' e' same = (cc, cc, cc, cc, cc)
-
-same_7 : (a b c d e f g a' b' c' d' e' f' g' : List ℕ) → a ∷ b ∷ c ∷ d ∷ e ∷ f ∷ g ∷ [] ≡ a' ∷ b' ∷ c' ∷ d' ∷ e' ∷ f' ∷ g' ∷ []
-    → (a ≡ a') × (b ≡ b') × (c ≡ c') × (d ≡ d') × (e ≡ e') × (f ≡ f') × (g ≡ g')
-same_7 a b c d e f g a' b' c' d' e' f' g' same = (cc, cc, cc, cc, cc, cc, cc)
+-- the field at a place of two equal lists of fields
+field : (place : ℕ) (one other : List (List ℕ)) → one ≡ other → get_or one place [] ≡ get_or other place []
+field place one other same = ap (λ (fields : List (List ℕ)). get_or fields place []) same
 
 -- two commands of one name with the same fields
 pub others_told : (one other : Command) → IsLegalCommand one → IsLegalCommand other → command_kind one ≡ command_kind other
@@ -152,72 +141,62 @@ others_told (QueryRep session) (QueryRep session') is is' kind same =
     ap QueryRep (decimal_told session session' (omega arith) (omega arith) (same_behind (decimal session) (decimal session') [] [] same).0)
 others_told (Ack rn) (Ack rn') is is' kind same = ap Ack (hex_word_told rn rn' is is' (same_behind (hex_word rn) (hex_word rn') [] [] same).0)
 others_told (Query dr code trext sel session target q) (Query dr' code' trext' sel' session' target' q') is is' kind same =
-    let fields = same_7 _ _ _ _ _ _ _ _ _ _ _ _ _ _ same in
-    let drs = bit_told dr dr' fields.0 in
-    let codes_same = code_told code code' fields.1 in
-    let trexts = bit_told trext trext' fields.2 in
-    let sels_same = sel_told sel sel' fields.3 in
-    let sessions = decimal_told session session' (omega (arith, is.0)) (omega (arith, is'.0)) fields.4 in
-    let targets = side_told target target' fields.5 in
-    let qs = decimal_told q q' (omega (arith, is.1)) (omega (arith, is'.1)) fields.6 in
+    let drs = bit_told dr dr' (field 0 _ _ same) in
+    let codes_same = code_told code code' (field 1 _ _ same) in
+    let trexts = bit_told trext trext' (field 2 _ _ same) in
+    let sels_same = sel_told sel sel' (field 3 _ _ same) in
+    let sessions = decimal_told session session' (omega (arith, is.0)) (omega (arith, is'.0)) (field 4 _ _ same) in
+    let targets = side_told target target' (field 5 _ _ same) in
+    let qs = decimal_told q q' (omega (arith, is.1)) (omega (arith, is'.1)) (field 6 _ _ same) in
     cc
 others_told (QueryAdjust session updn) (QueryAdjust session' updn') is is' kind same =
-    let fields = same_2 _ _ _ _ same in
-    let sessions = decimal_told session session' (omega arith) (omega arith) fields.0 in
-    let updns_same = updn_told updn updn' fields.1 in
+    let sessions = decimal_told session session' (omega arith) (omega arith) (field 0 _ _ same) in
+    let updns_same = updn_told updn updn' (field 1 _ _ same) in
     cc
 others_told (Select target action bank pointer mask) (Select target' action' bank' pointer' mask') is is' kind same =
-    let fields = same_5 _ _ _ _ _ _ _ _ _ _ same in
-    let targets = flag_told target target' fields.0 in
-    let actions = decimal_told action action' (omega (arith, is.0)) (omega (arith, is'.0)) fields.1 in
-    let banks_same = mask_bank_told bank bank' fields.2 in
-    let pointers = decimal_told pointer pointer' (omega (arith, is.1)) (omega (arith, is'.1)) fields.3 in
-    let masks = binary_told mask mask' fields.4 in
+    let targets = flag_told target target' (field 0 _ _ same) in
+    let actions = decimal_told action action' (omega (arith, is.0)) (omega (arith, is'.0)) (field 1 _ _ same) in
+    let banks_same = mask_bank_told bank bank' (field 2 _ _ same) in
+    let pointers = decimal_told pointer pointer' (omega (arith, is.1)) (omega (arith, is'.1)) (field 3 _ _ same) in
+    let masks = binary_told mask mask' (field 4 _ _ same) in
     cc
 others_told Nak Nak is is' kind same = refl
 others_told (ReqRn rn) (ReqRn rn') is is' kind same =
     ap ReqRn (hex_word_told rn rn' is is' (same_behind (hex_word rn) (hex_word rn') [] [] same).0)
 others_told (Read bank pointer count rn) (Read bank' pointer' count' rn') is is' kind same =
-    let fields = same_4 _ _ _ _ _ _ _ _ same in
-    let banks_same = bank_told bank bank' fields.0 in
-    let pointers = decimal_told pointer pointer' (omega (arith, is.0)) (omega (arith, is'.0)) fields.1 in
-    let counts = decimal_told count count' (omega (arith, is.1)) (omega (arith, is'.1)) fields.2 in
-    let rns = hex_word_told rn rn' is.2 is'.2 fields.3 in
+    let banks_same = bank_told bank bank' (field 0 _ _ same) in
+    let pointers = decimal_told pointer pointer' (omega (arith, is.0)) (omega (arith, is'.0)) (field 1 _ _ same) in
+    let counts = decimal_told count count' (omega (arith, is.1)) (omega (arith, is'.1)) (field 2 _ _ same) in
+    let rns = hex_word_told rn rn' is.2 is'.2 (field 3 _ _ same) in
     cc
 others_told (Write bank pointer covered rn) (Write bank' pointer' covered' rn') is is' kind same =
-    let fields = same_4 _ _ _ _ _ _ _ _ same in
-    let banks_same = bank_told bank bank' fields.0 in
-    let pointers = decimal_told pointer pointer' (omega (arith, is.0)) (omega (arith, is'.0)) fields.1 in
-    let words_same = hex_word_told covered covered' is.1 is'.1 fields.2 in
-    let rns = hex_word_told rn rn' is.2 is'.2 fields.3 in
+    let banks_same = bank_told bank bank' (field 0 _ _ same) in
+    let pointers = decimal_told pointer pointer' (omega (arith, is.0)) (omega (arith, is'.0)) (field 1 _ _ same) in
+    let words_same = hex_word_told covered covered' is.1 is'.1 (field 2 _ _ same) in
+    let rns = hex_word_told rn rn' is.2 is'.2 (field 3 _ _ same) in
     cc
 others_told (Kill covered rn) (Kill covered' rn') is is' kind same =
-    let fields = same_2 _ _ _ _ same in
-    let halves = hex_word_told covered covered' is.0 is'.0 fields.0 in
-    let rns = hex_word_told rn rn' is.1 is'.1 fields.1 in
+    let halves = hex_word_told covered covered' is.0 is'.0 (field 0 _ _ same) in
+    let rns = hex_word_told rn rn' is.1 is'.1 (field 1 _ _ same) in
     cc
 others_told (Lock payload rn) (Lock payload' rn') is is' kind same =
-    let fields = same_2 _ _ _ _ same in
-    let payloads = payload_told payload payload' (omega (arith, is.0)) (omega (arith, is'.0)) fields.0 in
-    let rns = hex_word_told rn rn' is.1 is'.1 fields.1 in
+    let payloads = payload_told payload payload' (omega (arith, is.0)) (omega (arith, is'.0)) (field 0 _ _ same) in
+    let rns = hex_word_told rn rn' is.1 is'.1 (field 1 _ _ same) in
     cc
 others_told (Access covered rn) (Access covered' rn') is is' kind same =
-    let fields = same_2 _ _ _ _ same in
-    let halves = hex_word_told covered covered' is.0 is'.0 fields.0 in
-    let rns = hex_word_told rn rn' is.1 is'.1 fields.1 in
+    let halves = hex_word_told covered covered' is.0 is'.0 (field 0 _ _ same) in
+    let rns = hex_word_told rn rn' is.1 is'.1 (field 1 _ _ same) in
     cc
 others_told (BlockWrite bank pointer words rn) (BlockWrite bank' pointer' words' rn') is is' kind same =
-    let fields = same_4 _ _ _ _ _ _ _ _ same in
-    let banks_same = bank_told bank bank' fields.0 in
-    let pointers = decimal_told pointer pointer' (omega (arith, is.0)) (omega (arith, is'.0)) fields.1 in
-    let blocks = hex_words_told words words' (list_of_block words (is.1, is.2, is.3)).small (list_of_block words' (is'.1, is'.2, is'.3)).small fields.2 in
-    let rns = hex_word_told rn rn' is.4 is'.4 fields.3 in
+    let banks_same = bank_told bank bank' (field 0 _ _ same) in
+    let pointers = decimal_told pointer pointer' (omega (arith, is.0)) (omega (arith, is'.0)) (field 1 _ _ same) in
+    let blocks = hex_words_told words words' (list_of_block words (is.1, is.2, is.3)).small (list_of_block words' (is'.1, is'.2, is'.3)).small (field 2 _ _ same) in
+    let rns = hex_word_told rn rn' is.4 is'.4 (field 3 _ _ same) in
     cc
 others_told (BlockErase bank pointer count rn) (BlockErase bank' pointer' count' rn') is is' kind same =
-    let fields = same_4 _ _ _ _ _ _ _ _ same in
-    let banks_same = bank_told bank bank' fields.0 in
-    let pointers = decimal_told pointer pointer' (omega (arith, is.0)) (omega (arith, is'.0)) fields.1 in
-    let counts = decimal_told count count' (omega (arith, is.2)) (omega (arith, is'.2)) fields.2 in
-    let rns = hex_word_told rn rn' is.3 is'.3 fields.3 in
+    let banks_same = bank_told bank bank' (field 0 _ _ same) in
+    let pointers = decimal_told pointer pointer' (omega (arith, is.0)) (omega (arith, is'.0)) (field 1 _ _ same) in
+    let counts = decimal_told count count' (omega (arith, is.2)) (omega (arith, is'.2)) (field 2 _ _ same) in
+    let rns = hex_word_told rn rn' is.3 is'.3 (field 3 _ _ same) in
     cc
 others_told one other is is' kind same = cc

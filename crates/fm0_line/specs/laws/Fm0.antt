@@ -3,7 +3,7 @@ use Rattle.std.specs.Prelude.{◌≡◌, ◌≢◌, zero, suc, Bool, true, false
 use Rattle.std.proofs.Common.{arith}
 use Rattle.line_code.specs.Table.{Context}
 use Rattle.line_code.specs.TableFacts.{IsEven, HasLead, TellsBits, RefusesFlips, HidesLead}
-use Rattle.line_code.specs.laws.Flips.{ShowsFlips, HasBreak, refuses_flips, hides_lead}
+use Rattle.line_code.specs.laws.Flips.{ShowsFlips, IsBreak, HasBreak, refuses_flips, hides_lead}
 use Rattle.fm0_line.specs.Fm0.{fm0, fm0_second, fm0_block, fm0_next, fm0_lead}
 
 pub fm0_even : IsEven fm0 2
@@ -54,26 +54,17 @@ no_violation c bit x e q =
     let inverts : not (fm0_second (not c.phase) bit) ≡ false = cc in
     not-self (fm0_second (not c.phase) bit) cc
 
+fm0_violates : IsBreak fm0 2 (true ∷ false ∷ []) (false ∷ false ∷ [])
+fm0_violates = record { first_whole = refl; second_whole = refl; breaks = no_violation }
+
 fm0_break : (trext : Bool) → HasBreak fm0 2 (fm0_lead trext)
 fm0_break false = record {
   before = 3;
-  first = true ∷ false ∷ [];
-  second = false ∷ false ∷ [];
-  after = true ∷ true ∷ [];
-  place = refl;
-  first_whole = refl;
-  second_whole = refl;
-  breaks = no_violation;
+  symbols = record { first = true ∷ false ∷ []; second = false ∷ false ∷ []; after = true ∷ true ∷ []; place = refl; is = fm0_violates };
 }
 fm0_break true = record {
   before = 15;
-  first = true ∷ false ∷ [];
-  second = false ∷ false ∷ [];
-  after = true ∷ true ∷ [];
-  place = refl;
-  first_whole = refl;
-  second_whole = refl;
-  breaks = no_violation;
+  symbols = record { first = true ∷ false ∷ []; second = false ∷ false ∷ []; after = true ∷ true ∷ []; place = refl; is = fm0_violates };
 }
 
 pub fm0_refuses_flips : RefusesFlips fm0

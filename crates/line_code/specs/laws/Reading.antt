@@ -5,7 +5,7 @@ use Rattle.bit_strings.specs.Family.{Begins, IsBadAt, IsShortAt}
 use Rattle.line_code.specs.Table.{Context, Table}
 use Rattle.line_code.specs.Stream.{blocks, IsStream, Streams}
 use Rattle.line_code.specs.States.{InsideValue, context_after, fits_of, LastIs, Reads}
-use Rattle.line_code.specs.TableFacts.{IsEven, TellsBits}
+use Rattle.line_code.specs.TableFacts.{IsEven, CodeTable}
 use Rattle.line_code.specs.laws.Streams.{blocks_split}
 use Rattle.line_code.specs.laws.Splits.{blocks-append, context_after-push, front_of, front_more}
 
@@ -16,16 +16,17 @@ pub record Rest (t : Table) (context : Context) (bits part more : List Bool) : T
   pub bits_are : all ++ true ∷ [] ≡ bits ++ others
   pub blocks_are : part ++ more ≡ blocks t context others
 
-pub rest_of : (t : Table) (chips : ℕ) → IsEven t chips → TellsBits t → (trext : Bool) (state : InsideValue) (levels bits more : List Bool)
-    → (r : Reads t trext state levels bits) → Streams t trext (levels ++ more) → Rest t state.context bits r.part more
-rest_of t chips even tells trext state levels bits more r (all, e) =
+pub rest_of : (code : CodeTable) (trext : Bool) (state : InsideValue) (levels bits more : List Bool)
+    → (r : Reads code.table trext state levels bits) → Streams code.table trext (levels ++ more) → Rest code.table state.context bits r.part more
+rest_of code trext state levels bits more r (all, e) =
+    let t = code.table in
     let lead = t.lead trext in
     let before = blocks t t.start bits in
     let joined : lead ++ (before ++ (r.part ++ more)) ≡ lead ++ blocks t t.start (all ++ true ∷ []) =
     sym (append_assoc lead before (r.part ++ more)) ∙ sym (append_assoc (lead ++ before) r.part more)
     ∙ ap (λ ls. ls ++ more) (append_assoc lead before r.part ∙ sym r.levels_are) ∙ e in
     let behind = append_cancel_left lead (before ++ (r.part ++ more)) (blocks t t.start (all ++ true ∷ [])) joined in
-    let split = blocks_split t chips even tells bits (all ++ true ∷ []) (r.part ++ more) t.start behind in
+    let split = blocks_split t code.chips code.even code.tells bits (all ++ true ∷ []) (r.part ++ more) t.start behind in
     record { all = all; others = split.0; bits_are = split.1; blocks_are = split.2 ∙ ap (λ c. blocks t c split.0) (sym r.context_is) }
 
 -- the levels begin a stream: that of the bits and a bit that still fits
@@ -50,17 +51,18 @@ reads_begins t trext state levels bits r =
     (more, (bits ++ bit ∷ [], stream))
 
 -- where the next level is that of no bit that still fits, the levels with it begin no stream
-pub reads_stops : (t : Table) (chips : ℕ) → IsEven t chips → TellsBits t → (trext : Bool) (state : InsideValue) (levels bits : List Bool) (level : Bool)
-    → Reads t trext state levels bits
-    → ((bit : Bool) → IsTrue (fits_of state bit) → slice_get (t.block state.context bit) state.place ≢ Some level)
-    → ¬ Begins (Streams t trext) (levels ++ level ∷ [])
-reads_stops t chips even tells trext state levels bits level r none (more, (all, e)) =
-    let rest = rest_of t chips even tells trext state levels bits (level ∷ more) r (all, sym (append_assoc levels (level ∷ []) more) ∙ e) in
+pub reads_stops : (code : CodeTable) (trext : Bool) (state : InsideValue) (levels bits : List Bool) (level : Bool)
+    → Reads code.table trext state levels bits
+    → ((bit : Bool) → IsTrue (fits_of state bit) → slice_get (code.table.block state.context bit) state.place ≢ Some level)
+    → ¬ Begins (Streams code.table trext) (levels ++ level ∷ [])
+reads_stops code trext state levels bits level r none (more, (all, e)) =
+    let rest = rest_of code trext state levels bits (level ∷ more) r (all, sym (append_assoc levels (level ∷ []) more) ∙ e) in
     stops rest.others rest.blocks_are
   where
-    stops : (others : List Bool) → r.part ++ level ∷ more ≡ blocks t state.context others → ⊥
+    stops : (others : List Bool) → r.part ++ level ∷ more ≡ blocks code.table state.context others → ⊥
     stops [] f = let sizes = sym (length-append r.part (level ∷ more)) ∙ ap length f in omega arith
     stops (bit ∷ others) f =
+        let t = code.table in
         let place = r.place_is in
         let begun = r.begun bit in
         let front = front_of r.part (t.block state.context bit) more (blocks t (t.next state.context bit) others) level (omega arith) f in
@@ -68,16 +70,17 @@ reads_stops t chips even tells trext state levels bits level r none (more, (all,
         none bit fits (ap (λ n. slice_get (t.block state.context bit) n) place ∙ front.1)
 
 -- the refusal of the next level
-pub reads_bad : (t : Table) (chips : ℕ) → IsEven t chips → TellsBits t → (trext : Bool) (state : InsideValue) (levels bits : List Bool) (level : Bool)
-    → Reads t trext state levels bits
-    → ((bit : Bool) → IsTrue (fits_of state bit) → slice_get (t.block state.context bit) state.place ≢ Some level)
-    → (place : ℕ) → place ≡ length levels → IsBadAt (Streams t trext) (levels ++ level ∷ []) place
-reads_bad t chips even tells trext state levels bits level r none place is =
+pub reads_bad : (code : CodeTable) (trext : Bool) (state : InsideValue) (levels bits : List Bool) (level : Bool)
+    → Reads code.table trext state levels bits
+    → ((bit : Bool) → IsTrue (fits_of state bit) → slice_get (code.table.block state.context bit) state.place ≢ Some level)
+    → IsBadAt (Streams code.table trext) (levels ++ level ∷ []) state.taken
+reads_bad code trext state levels bits level r none =
     let size = length-append levels (level ∷ []) in
+    let taken = r.taken_is in
     record {
       inside = omega arith;
-      begins = rw (take_at levels (level ∷ []) place (sym is)) (reads_begins t trext state levels bits r);
-      stops = rw (take_all (place + 1) (levels ++ level ∷ []) (omega arith)) (reads_stops t chips even tells trext state levels bits level r none);
+      begins = rw (take_at levels (level ∷ []) state.taken (sym taken)) (reads_begins code.table trext state levels bits r);
+      stops = rw (take_all (state.taken + 1) (levels ++ level ∷ []) (omega arith)) (reads_stops code trext state levels bits level r none);
     }
 
 -- the state after a level that is not its block's last
@@ -90,14 +93,18 @@ abbrev pub behind : Table → InsideValue → Bool → InsideValue
 behind t state bit =
     record { context = t.next state.context bit; place = 0; zero_fits = true; one_fits = true; taken = state.taken + 1; put = state.put + 1; last = Some bit }
 
--- the next level is that of some bit that still fits, and the block goes on
+-- the next level is that of some bit that still fits, and the block goes on: which bits fit with the level
+pub record GoesOn (t : Table) (state : InsideValue) (level : Bool) : Type 0 where
+  pub zero_fits : Bool
+  pub one_fits : Bool
+  pub begun : (bit : Bool) → state.place + 1 < length (t.block state.context bit)
+  pub fits_is : (bit : Bool) → IsTrue (fits_of (further state zero_fits one_fits) bit) ↔ (IsTrue (fits_of state bit) × (slice_get (t.block state.context bit) state.place ≡ Some level))
+  pub some_bit : Bool
+  pub some_fits : IsTrue (fits_of (further state zero_fits one_fits) some_bit)
+
 pub reads_more : (t : Table) (trext : Bool) (state : InsideValue) (levels bits : List Bool) (level : Bool) → Reads t trext state levels bits
-    → (zero_fits one_fits : Bool)
-    → ((bit : Bool) → state.place + 1 < length (t.block state.context bit))
-    → ((bit : Bool) → IsTrue (fits_of (further state zero_fits one_fits) bit) ↔ (IsTrue (fits_of state bit) × (slice_get (t.block state.context bit) state.place ≡ Some level)))
-    → (some_bit : Bool) → IsTrue (fits_of (further state zero_fits one_fits) some_bit)
-    → Reads t trext (further state zero_fits one_fits) (levels ++ level ∷ []) bits
-reads_more t trext state levels bits level r zero_fits one_fits begun fits some_bit some_fits =
+    → (on : GoesOn t state level) → Reads t trext (further state on.zero_fits on.one_fits) (levels ++ level ∷ []) bits
+reads_more t trext state levels bits level r on =
     let lead = t.lead trext in
     let before = blocks t t.start bits in
     record {
@@ -105,12 +112,12 @@ reads_more t trext state levels bits level r zero_fits one_fits begun fits some_
       levels_are = ap (λ ls. ls ++ level ∷ []) r.levels_are ∙ append_assoc lead (before ++ r.part) (level ∷ []) ∙ ap (λ ls. lead ++ ls) (append_assoc before r.part (level ∷ []));
       context_is = r.context_is;
       place_is = let size = length-append r.part (level ∷ []) in let old = r.place_is in omega arith;
-      begun = begun;
+      begun = on.begun;
       fits_is = λ bit.
           let more = front_more r.part (t.block state.context bit) level state.place r.place_is (r.begun bit) in
-          (λ h. let f = (fits bit).0 h in more.0 ((r.fits_is bit).0 f.0, f.1), λ h. let f = more.1 h in (fits bit).1 ((r.fits_is bit).1 f.0, f.1));
-      some_bit = some_bit;
-      some_fits = some_fits;
+          (λ h. let f = (on.fits_is bit).0 h in more.0 ((r.fits_is bit).0 f.0, f.1), λ h. let f = more.1 h in (on.fits_is bit).1 ((r.fits_is bit).1 f.0, f.1));
+      some_bit = on.some_bit;
+      some_fits = on.some_fits;
       taken_is = let size = length-append levels (level ∷ []) in let old = r.taken_is in omega arith;
       put_is = r.put_is;
       last_is = r.last_is;
@@ -123,15 +130,21 @@ all_fit t state zero_fits one_fits place false = (λ _. rw place refl, λ _. zer
 all_fit t state zero_fits one_fits place true = (λ _. rw place refl, λ _. one_fits)
 
 -- the next level is the last of a bit's block
-pub reads_bit : (t : Table) (chips : ℕ) → IsEven t chips → (trext : Bool) (state : InsideValue) (levels bits : List Bool) (level bit : Bool)
-    → Reads t trext state levels bits
-    → IsTrue (fits_of state bit) → slice_get (t.block state.context bit) state.place ≡ Some level → length (t.block state.context bit) ≡ state.place + 1
-    → Reads t trext (behind t state bit) (levels ++ level ∷ []) (bits ++ bit ∷ [])
-reads_bit t chips even trext state levels bits level bit r fits at size =
+pub record EndsBlock (t : Table) (state : InsideValue) (bit level : Bool) : Type 0 where
+  pub fits : IsTrue (fits_of state bit)
+  pub level_is : slice_get (t.block state.context bit) state.place ≡ Some level
+  pub last : length (t.block state.context bit) ≡ state.place + 1
+
+pub reads_bit : (code : CodeTable) (trext : Bool) (state : InsideValue) (levels bits : List Bool) (bit level : Bool)
+    → Reads code.table trext state levels bits → EndsBlock code.table state bit level
+    → Reads code.table trext (behind code.table state bit) (levels ++ level ∷ []) (bits ++ bit ∷ [])
+reads_bit code trext state levels bits bit level r ends =
+    let t = code.table in
+    let last = ends.last in
     let lead = t.lead trext in
     let before = blocks t t.start bits in
     let block = t.block state.context bit in
-    let front = (front_more r.part block level state.place r.place_is (r.begun bit)).0 ((r.fits_is bit).0 fits, at) in
+    let front = (front_more r.part block level state.place r.place_is (r.begun bit)).0 ((r.fits_is bit).0 ends.fits, ends.level_is) in
     let whole : r.part ++ level ∷ [] ≡ block = front ∙ take_all (state.place + 1) block (omega arith) in
     let all : before ++ (r.part ++ level ∷ []) ≡ blocks t t.start (bits ++ bit ∷ []) =
     ap (λ ls. before ++ ls) (whole ∙ sym (append-nil block) ∙ ap (λ c. blocks t c (bit ∷ [])) r.context_is) ∙ sym (blocks-append t bits (bit ∷ []) t.start) in
@@ -142,7 +155,7 @@ reads_bit t chips even trext state levels bits level bit r fits at size =
           ∙ ap (λ ls. lead ++ ls) (append_assoc before r.part (level ∷ []) ∙ all ∙ sym (append-nil (blocks t t.start (bits ++ bit ∷ []))));
       context_is = ap (λ c. t.next c bit) r.context_is ∙ sym (context_after-push t bits bit t.start);
       place_is = refl;
-      begun = λ b. let least = even.least in let long = even.blocks_even (t.next state.context bit) b in omega arith;
+      begun = λ b. let least = code.even.least in let long = code.even.blocks_even (t.next state.context bit) b in omega arith;
       fits_is = all_fit t (behind t state bit) refl refl refl;
       some_bit = true;
       some_fits = refl;
@@ -157,10 +170,11 @@ behind_block t chips state bit =
     record { context = t.next state.context bit; place = 0; zero_fits = true; one_fits = true; taken = state.taken + chips; put = state.put + 1; last = Some bit }
 
 -- the next levels are the whole block of a bit, of which none was taken
-pub reads_block : (t : Table) (chips : ℕ) → IsEven t chips → (trext : Bool) (state : InsideValue) (levels bits : List Bool) (bit : Bool)
-    → Reads t trext state levels bits → state.place ≡ 0
-    → Reads t trext (behind_block t chips state bit) (levels ++ t.block state.context bit) (bits ++ bit ∷ [])
-reads_block t chips even trext state levels bits bit r fresh =
+pub reads_block : (code : CodeTable) (trext : Bool) (state : InsideValue) (levels bits : List Bool) (bit : Bool)
+    → Reads code.table trext state levels bits → state.place ≡ 0
+    → Reads code.table trext (behind_block code.table code.chips state bit) (levels ++ code.table.block state.context bit) (bits ++ bit ∷ [])
+reads_block code trext state levels bits bit r fresh =
+    let t = code.table in
     let lead = t.lead trext in
     let before = blocks t t.start bits in
     let block = t.block state.context bit in
@@ -175,32 +189,34 @@ reads_block t chips even trext state levels bits bit r fresh =
           ∙ ap (λ ls. lead ++ ls) (append_assoc before r.part block ∙ all ∙ sym (append-nil (blocks t t.start (bits ++ bit ∷ []))));
       context_is = ap (λ c. t.next c bit) r.context_is ∙ sym (context_after-push t bits bit t.start);
       place_is = refl;
-      begun = λ b. let least = even.least in let long = even.blocks_even (t.next state.context bit) b in omega arith;
-      fits_is = all_fit t (behind_block t chips state bit) refl refl refl;
+      begun = λ b. let least = code.even.least in let long = code.even.blocks_even (t.next state.context bit) b in omega arith;
+      fits_is = all_fit t (behind_block t code.chips state bit) refl refl refl;
       some_bit = true;
       some_fits = refl;
-      taken_is = let size = even.blocks_even state.context bit in let more = length-append levels block in let old = r.taken_is in omega arith;
+      taken_is = let size = code.even.blocks_even state.context bit in let more = length-append levels block in let old = r.taken_is in omega arith;
       put_is = let more = length-append bits (bit ∷ []) in let old = r.put_is in omega arith;
       last_is = (bits, refl);
     }
 
--- behind the lead
-pub reads_none : (t : Table) (chips : ℕ) → IsEven t chips → (trext : Bool) (state : InsideValue) → state.context ≡ t.start → state.place ≡ 0
-    → state.zero_fits ≡ true → state.one_fits ≡ true → state.taken ≡ length (t.lead trext) → state.put ≡ 0 → state.last ≡ None
-    → Reads t trext state (t.lead trext) []
-reads_none t chips even trext state context place zero_fits one_fits taken put last =
+-- the state behind the lead
+abbrev pub behind_lead : Table → ℕ → InsideValue
+behind_lead t taken = record { context = t.start; place = 0; zero_fits = true; one_fits = true; taken = taken; put = 0; last = None }
+
+pub reads_none : (t : Table) (chips : ℕ) → IsEven t chips → (trext : Bool) (taken : ℕ) → taken ≡ length (t.lead trext)
+    → Reads t trext (behind_lead t taken) (t.lead trext) []
+reads_none t chips even trext taken whole =
     record {
       part = [];
       levels_are = sym (append-nil (t.lead trext));
-      context_is = context;
-      place_is = place;
-      begun = λ b. let least = even.least in let long = even.blocks_even state.context b in omega arith;
-      fits_is = all_fit t state zero_fits one_fits place;
+      context_is = refl;
+      place_is = refl;
+      begun = λ b. let least = even.least in let long = even.blocks_even t.start b in omega arith;
+      fits_is = all_fit t (behind_lead t taken) refl refl refl;
       some_bit = true;
-      some_fits = one_fits;
-      taken_is = taken;
-      put_is = put;
-      last_is = rw last refl;
+      some_fits = refl;
+      taken_is = whole;
+      put_is = refl;
+      last_is = refl;
     }
 
 -- what the levels are where they are a stream: whole blocks, the last of them the dummy's
@@ -230,13 +246,14 @@ last_of_push bits front bit None e l = let sizes = length-append front (bit ∷ 
 last_of_push bits front bit (Some b) e l = ap Some (sym (same_from_push front l.0 bit b (sym e ∙ l.1)).1)
 
 -- where the levels are a stream, the block is whole and the last bit is the dummy
-pub reads_finished : (t : Table) (chips : ℕ) → IsEven t chips → TellsBits t → (trext : Bool) (state : InsideValue) (levels bits : List Bool)
-    → Reads t trext state levels bits → Streams t trext levels → (state.place ≡ 0) × (state.last ≡ Some true)
-reads_finished t chips even tells trext state levels bits r (all, e) =
-    let rest = rest_of t chips even tells trext state levels bits [] r (all, append-nil levels ∙ e) in
+pub reads_finished : (code : CodeTable) (trext : Bool) (state : InsideValue) (levels bits : List Bool)
+    → Reads code.table trext state levels bits → Streams code.table trext levels → (state.place ≡ 0) × (state.last ≡ Some true)
+reads_finished code trext state levels bits r (all, e) =
+    let t = code.table in
+    let rest = rest_of code trext state levels bits [] r (all, append-nil levels ∙ e) in
     none rest.all rest.others rest.blocks_are rest.bits_are
   where
-    none : (ends others : List Bool) → r.part ++ [] ≡ blocks t state.context others → ends ++ true ∷ [] ≡ bits ++ others → (state.place ≡ 0) × (state.last ≡ Some true)
+    none : (ends others : List Bool) → r.part ++ [] ≡ blocks code.table state.context others → ends ++ true ∷ [] ≡ bits ++ others → (state.place ≡ 0) × (state.last ≡ Some true)
     none ends [] f g =
         let size = r.place_is ∙ ap length (sym (append-nil r.part) ∙ f) in
         (size, last_of_push bits ends true state.last (sym (append-nil bits) ∙ sym g) r.last_is)
@@ -244,16 +261,16 @@ reads_finished t chips even tells trext state levels bits r (all, e) =
         let begun = r.begun bit in
         let old = r.place_is in
         let left = length-append r.part [] in
-        let right = length-append (t.block state.context bit) (blocks t (t.next state.context bit) others) in
+        let right = length-append (code.table.block state.context bit) (blocks code.table (code.table.next state.context bit) others) in
         let sizes = ap length f in
         absurd (omega arith)
 
 -- the refusal at the end
-pub reads_short : (t : Table) (chips : ℕ) → IsEven t chips → TellsBits t → (trext : Bool) (state : InsideValue) (levels bits : List Bool)
-    → Reads t trext state levels bits → ¬ ((state.place ≡ 0) × (state.last ≡ Some true)) → IsShortAt (Streams t trext) levels state.taken
-reads_short t chips even tells trext state levels bits r none =
+pub reads_short : (code : CodeTable) (trext : Bool) (state : InsideValue) (levels bits : List Bool)
+    → Reads code.table trext state levels bits → ¬ ((state.place ≡ 0) × (state.last ≡ Some true)) → IsShortAt (Streams code.table trext) levels state.taken
+reads_short code trext state levels bits r none =
     record {
       whole = r.taken_is;
-      begins = reads_begins t trext state levels bits r;
-      no_member = λ s. none (reads_finished t chips even tells trext state levels bits r s);
+      begins = reads_begins code.table trext state levels bits r;
+      no_member = λ s. none (reads_finished code trext state levels bits r s);
     }

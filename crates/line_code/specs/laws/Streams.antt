@@ -7,7 +7,7 @@ use Rattle.bit_strings.specs.laws.Family.{begins-take, bad-one, member-not_bad, 
 use Rattle.line_code.specs.Table.{Context, Table}
 use Rattle.line_code.specs.Stream.{blocks, IsStream, Streams}
 use Rattle.line_code.specs.States.{context_after}
-use Rattle.line_code.specs.TableFacts.{IsEven, TellsBits}
+use Rattle.line_code.specs.TableFacts.{IsEven, TellsBits, CodeTable}
 use Rattle.line_code.specs.laws.Flips.{parts_same, told}
 use Rattle.line_code.specs.Refusal.{RefusesStream}
 use Rattle.line_code.specs.Answer.{IsStreamAnswer}
@@ -58,14 +58,15 @@ no_bits t chips even (bit ∷ bits) c e =
     absurd (omega arith)
 
 -- one list is the stream of at most one list of bits
-pub one_stream : (t : Table) (chips : ℕ) → IsEven t chips → TellsBits t → (trext : Bool) (xs ys levels : List Bool)
-    → IsStream t trext xs levels → IsStream t trext ys levels → xs ≡ ys
-one_stream t chips even tells trext xs ys levels e f =
+pub one_stream : (code : CodeTable) (trext : Bool) (xs ys levels : List Bool)
+    → IsStream code.table trext xs levels → IsStream code.table trext ys levels → xs ≡ ys
+one_stream code trext xs ys levels e f =
+    let t = code.table in
     let ours = blocks t t.start (xs ++ true ∷ []) in
     let theirs = blocks t t.start (ys ++ true ∷ []) in
     let same : ours ≡ theirs = append_cancel_left (t.lead trext) ours theirs (sym e ∙ f) in
-    let there = blocks_split t chips even tells (xs ++ true ∷ []) (ys ++ true ∷ []) [] t.start (append-nil ours ∙ same) in
-    let none = no_bits t chips even there.0 (context_after t t.start (xs ++ true ∷ [])) there.2 in
+    let there = blocks_split t code.chips code.even code.tells (xs ++ true ∷ []) (ys ++ true ∷ []) [] t.start (append-nil ours ∙ same) in
+    let none = no_bits t code.chips code.even there.0 (context_after t t.start (xs ++ true ∷ [])) there.2 in
     let whole : ys ++ true ∷ [] ≡ xs ++ true ∷ [] = there.1 ∙ ap (λ ls. (xs ++ true ∷ []) ++ ls) none ∙ append-nil (xs ++ true ∷ []) in
     sym (same_from_push ys xs true true whole).0
 

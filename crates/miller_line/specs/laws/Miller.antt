@@ -5,7 +5,7 @@ use Rattle.std.proofs.lemmas.Bool.{cases_lt}
 use Rattle.std.proofs.lemmas.List.{append_assoc}
 use Rattle.line_code.specs.Table.{Context}
 use Rattle.line_code.specs.TableFacts.{IsEven, HasLead, TellsBits, RefusesFlips, HidesLead, with_level_flipped}
-use Rattle.line_code.specs.laws.Flips.{ShowsFlips, HasBreak, parts_same, with_level_flipped-other, with_level_flipped-left, with_level_flipped-right, length-with_level_flipped, refuses_flips, hides_lead}
+use Rattle.line_code.specs.laws.Flips.{ShowsFlips, IsBreak, HasBreak, parts_same, with_level_flipped-other, with_level_flipped-left, with_level_flipped-right, length-with_level_flipped, refuses_flips, hides_lead}
 use Rattle.miller_line.specs.Miller.{carrier, symbol, zero_start, start_phase, middle_phase, miller_block, miller_next, miller_preamble, miller_lead, miller}
 
 -- M is even, and from 2 to 8
@@ -139,26 +139,29 @@ pilot_symbols m f n rest more e =
     let next = λ (k : ℕ). carrier-append m f.half k false f.twice in
     rw (e, next (m + (m + (m + rest))), next (m + (m + rest)), next (m + rest), next rest) (simp append_assoc)
 
+miller_pilot : (m : ℕ) → IsFactor m → IsBreak (miller m) (2 * m) (symbol m false false) (symbol m false false)
+miller_pilot m f = record { first_whole = length-symbol m false false; second_whole = length-symbol m false false; breaks = no_pilot m f }
+
 miller_break : (m : ℕ) → IsFactor m → (trext : Bool) → HasBreak (miller m) (2 * m) (miller_lead m trext)
 miller_break m f false = record {
   before = 0;
-  first = symbol m false false;
-  second = symbol m false false;
-  after = carrier (4 * m) false ++ miller_preamble m;
-  place = rw zero-mul (pilot_symbols m f (8 * m) (4 * m) (miller_preamble m) (omega arith));
-  first_whole = length-symbol m false false;
-  second_whole = length-symbol m false false;
-  breaks = no_pilot m f;
+  symbols = record {
+    first = symbol m false false;
+    second = symbol m false false;
+    after = carrier (4 * m) false ++ miller_preamble m;
+    place = rw zero-mul (pilot_symbols m f (8 * m) (4 * m) (miller_preamble m) (omega arith));
+    is = miller_pilot m f;
+  };
 }
 miller_break m f true = record {
   before = 0;
-  first = symbol m false false;
-  second = symbol m false false;
-  after = carrier (28 * m) false ++ miller_preamble m;
-  place = rw zero-mul (pilot_symbols m f (32 * m) (28 * m) (miller_preamble m) (omega arith));
-  first_whole = length-symbol m false false;
-  second_whole = length-symbol m false false;
-  breaks = no_pilot m f;
+  symbols = record {
+    first = symbol m false false;
+    second = symbol m false false;
+    after = carrier (28 * m) false ++ miller_preamble m;
+    place = rw zero-mul (pilot_symbols m f (32 * m) (28 * m) (miller_preamble m) (omega arith));
+    is = miller_pilot m f;
+  };
 }
 
 pub miller_hides_lead : (m : ℕ) → IsFactor m → HidesLead (miller m)

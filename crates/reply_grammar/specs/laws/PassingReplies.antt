@@ -10,10 +10,10 @@ use Rattle.gen2_crc.specs.Crc.{crc16_of}
 use Rattle.reply_grammar.specs.declared.expected.Expect.{Expect}
 use Rattle.reply_grammar.specs.declared.expected.Expect.TheVariants.{Rn16 as OneRn16, Epc as OneEpc, Handle as OneHandle, Same, Words as SomeWords, AnyWords, Header as OneHeader}
 use Rattle.reply_grammar.specs.declared.expected.Reply.TheVariants.{Rn16, Epc, Handle, Words, Header, Error}
-use Rattle.reply_grammar.specs.Table.{AnswersExpected, Suits, AreWords, handle_of, spelling, with_check}
+use Rattle.reply_grammar.specs.Table.{AnswersExpected, Suits, handle_of, spelling, with_check}
 use Rattle.reply_grammar.specs.Refusals.{FitsLength, EndsWithCheck, HasHeader, HasHandle, Passes}
 use Rattle.reply_grammar.specs.laws.Passing.{length-with_check, first-five}
-use Rattle.reply_grammar.specs.laws.Reading.{part-field, value_of-part, part-add}
+use Rattle.reply_grammar.specs.laws.Reading.{ReadTo, part-field, value_of-part, part-add}
 
 -- a part of the front of a list
 part-front : (front back : List Bool) (at width : ℕ) → at + width ≤ length front → part_of (front ++ back) at width ≡ part_of front at width
@@ -35,18 +35,26 @@ head-bit : (bits : List Bool) (bit : Bool) → slice_get bits 0 ≡ Some bit →
 head-bit [] bit here = cc
 head-bit (x ∷ bits) bit here = let same : x ≡ bit = cc in ap (λ (b : Bool). b ∷ []) same
 
--- header bit, middle, handle and check number
-pub header_row : (bits middle : List Bool) (bit : Bool) (m handle : ℕ) → length bits ≡ 33 + m → EndsWithCheck bits → slice_get bits 0 ≡ Some bit → HasHandle handle bits → middle ≡ part_of bits 1 m → bits ≡ with_check (bit ∷ (middle ++ field_of handle 16))
-header_row bits middle bit m handle long check header number middle_is =
+-- a header bit, so many bits, a handle and a check number
+record HasRow (bits : List Bool) (bit : Bool) (m handle : ℕ) : Type 0 where
+  long : length bits ≡ 33 + m
+  check : EndsWithCheck bits
+  header : slice_get bits 0 ≡ Some bit
+  number : HasHandle handle bits
+
+header_row : (bits middle : List Bool) (bit : Bool) (m handle : ℕ) → HasRow bits bit m handle → middle ≡ part_of bits 1 m → bits ≡ with_check (bit ∷ (middle ++ field_of handle 16))
+header_row bits middle bit m handle row middle_is =
+    let long = row.long in
+    let check = row.check in
     let front : List Bool = check.front in
     let size : length front ≡ 1 + (m + 16) = omega (arith, length-front bits check) in
     let first : take 1 front ≡ bit ∷ [] =
-    sym (part-split bits 0 1 check (omega arith)) ∙ head-bit bits bit header in
+    sym (part-split bits 0 1 check (omega arith)) ∙ head-bit bits bit row.header in
     let second : part_of front 1 m ≡ middle = sym (part-split bits 1 m check (omega arith)) ∙ sym middle_is in
     let place : length bits - 32 ≡ 1 + m = omega arith in
     let third : part_of front (1 + m) 16 ≡ field_of handle 16 =
     sym (part-split bits (1 + m) 16 check (omega arith))
-    ∙ sym (part-field bits (1 + m) 16 handle (omega arith) (sym number ∙ ap (λ n. value_of (part_of bits n 16)) place)) in
+    ∙ sym (part-field bits (1 + m) 16 handle (omega arith) (sym row.number ∙ ap (λ n. value_of (part_of bits n 16)) place)) in
     let whole : front ≡ take 1 front ++ (part_of front 1 m ++ part_of front (1 + m) 16) =
     sym (take_all (1 + (m + 16)) front (omega arith)) ∙ take-add 1 (m + 16) front ∙ ap (λ (b : List Bool). take 1 front ++ b) (part-add front 1 m 16) in
     rejoin bits (bit ∷ (middle ++ field_of handle 16)) check
@@ -93,13 +101,14 @@ same_answers bits rn handle long check number read =
       spelled = one_word bits rn long check read;
     }
 
-pub epc_answers : (bits : List Bool) (pc : ℕ) (epc : List ℕ) → FitsLength OneEpc bits → EndsWithCheck bits → pc ≡ value_of (part_of bits 0 16) → length epc ≡ value_of (take 5 bits) → AreWords epc → bits_of_words epc ≡ part_of bits 16 (16 * length epc) → AnswersExpected (Epc pc epc) OneEpc bits
+pub epc_answers : (bits : List Bool) (pc : ℕ) (epc : List ℕ) → FitsLength OneEpc bits → EndsWithCheck bits → pc ≡ value_of (part_of bits 0 16) → ReadTo bits 16 (length bits - 16) epc → AnswersExpected (Epc pc epc) OneEpc bits
 unfolding spelling
-epc_answers bits pc epc length_fits check read count range words =
+epc_answers bits pc epc length_fits check read words =
+    let count : length epc ≡ value_of (take 5 bits) = omega (arith, length_fits, words.place) in
     let front : List Bool = check.front in
-    let size : length front ≡ 16 + 16 * length epc = omega (arith, length-front bits check, length_fits) in
+    let size : length front ≡ 16 + 16 * length epc = omega (arith, length-front bits check, length_fits, count) in
     let first : field_of pc 16 ≡ take 16 front = part-field bits 0 16 pc (omega (arith, length_fits)) read ∙ part-split bits 0 16 check (omega arith) in
-    let second : bits_of_words epc ≡ part_of front 16 (16 * length epc) = words ∙ part-split bits 16 (16 * length epc) check (omega arith) in
+    let second : bits_of_words epc ≡ part_of front 16 (16 * length epc) = words.words_are ∙ part-split bits 16 (16 * length epc) check (omega arith) in
     let whole : front ≡ take 16 front ++ part_of front 16 (16 * length epc) = sym (take_all (16 + 16 * length epc) front (omega arith)) ∙ take-add 16 (16 * length epc) front in
     let five : take 5 (take 16 bits) ≡ take 5 bits = take-take 5 16 bits (omega arith) in
     let word : length (take 16 bits) ≡ 16 = omega (arith, length-take 16 bits, length_fits) in
@@ -107,7 +116,7 @@ epc_answers bits pc epc length_fits check read count range words =
       suits = tt;
       in_range = (
         omega (arith, value_of-part bits 0 16 (omega (arith, length_fits))),
-        range,
+        words.range,
         count ∙ ap value_of (sym five) ∙ first-five (take 16 bits) word ∙ ap (λ n. n / 2 ^ 11) (sym read),
       );
       handle_in_range = omega arith;
@@ -125,17 +134,17 @@ bit-at-error bits header same = header ∙ ap (λ (b : Bool). Some b) (eq-eqb (l
 pub words_spelled : (bits : List Bool) (handle : ℕ) (words : List ℕ) → length bits ≡ 33 + 16 * length words → EndsWithCheck bits → HasHeader bits → HasHandle handle bits → bits_of_words words ≡ part_of bits 1 (16 * length words) → bits ≡ spelling (Words words) handle
 unfolding spelling
 words_spelled bits handle words long check header number words_are =
-    header_row bits (bits_of_words words) false (16 * length words) handle long check (bit-at-length bits header (λ same. omega arith)) number words_are
+    header_row bits (bits_of_words words) false (16 * length words) handle (record { long = long; check = check; header = bit-at-length bits header (λ same. omega arith); number = number }) words_are
 
 pub error_spelled : (bits : List Bool) (handle code : ℕ) → length bits ≡ 41 → EndsWithCheck bits → HasHeader bits → HasHandle handle bits → code ≡ value_of (part_of bits 1 8) → bits ≡ spelling (Error code) handle
 unfolding spelling
 error_spelled bits handle code long check header number read =
-    header_row bits (field_of code 8) true 8 handle long check (bit-at-error bits header long) number (part-field bits 1 8 code (omega arith) read)
+    header_row bits (field_of code 8) true 8 handle (record { long = long; check = check; header = bit-at-error bits header long; number = number }) (part-field bits 1 8 code (omega arith) read)
 
 pub header_spelled : (bits : List Bool) (handle : ℕ) → length bits ≡ 33 → EndsWithCheck bits → HasHeader bits → HasHandle handle bits → bits ≡ spelling Header handle
 unfolding spelling
 header_spelled bits handle long check header number =
-    header_row bits [] false 0 handle long check (bit-at-length bits header (λ same. omega arith)) number refl
+    header_row bits [] false 0 handle (record { long = long; check = check; header = bit-at-length bits header (λ same. omega arith); number = number }) refl
 
 -- the same, from the expectation that was found
 pub rn16_passed : (expect : Expect) (bits : List Bool) (rn : ℕ) → expect ≡ OneRn16 → Passes expect bits → rn ≡ value_of (part_of bits 0 16) → AnswersExpected (Rn16 rn) expect bits
@@ -153,33 +162,34 @@ same_passed expect bits rn handle found passes read =
     let here : Passes (Same handle) bits = subst (λ (e : Expect). Passes e bits) found passes in
     subst (λ (e : Expect). AnswersExpected (Handle rn) e bits) (sym found) (same_answers bits rn handle here.length_fits here.check here.number read)
 
-pub epc_passed : (expect : Expect) (bits : List Bool) (pc : ℕ) (epc : List ℕ) → expect ≡ OneEpc → Passes expect bits → pc ≡ value_of (part_of bits 0 16) → length epc ≡ value_of (take 5 bits) → AreWords epc → bits_of_words epc ≡ part_of bits 16 (16 * length epc) → AnswersExpected (Epc pc epc) expect bits
-epc_passed expect bits pc epc found passes read count range words =
+pub epc_passed : (expect : Expect) (bits : List Bool) (pc : ℕ) (epc : List ℕ) → expect ≡ OneEpc → Passes expect bits → pc ≡ value_of (part_of bits 0 16) → ReadTo bits 16 (length bits - 16) epc → AnswersExpected (Epc pc epc) expect bits
+epc_passed expect bits pc epc found passes read words =
     let here : Passes OneEpc bits = subst (λ (e : Expect). Passes e bits) found passes in
-    subst (λ (e : Expect). AnswersExpected (Epc pc epc) e bits) (sym found) (epc_answers bits pc epc here.length_fits here.check read count range words)
+    subst (λ (e : Expect). AnswersExpected (Epc pc epc) e bits) (sym found) (epc_answers bits pc epc here.length_fits here.check read words)
 
-pub words_passed : (expect : Expect) (bits : List Bool) (count handle n : ℕ) (words : List ℕ) → expect ≡ SomeWords count handle → Passes expect bits → length bits ≢ 41 → n ≡ count → length words ≡ n → AreWords words → bits_of_words words ≡ part_of bits 1 (16 * n) → AnswersExpected (Words words) expect bits
-words_passed expect bits count handle n words found passes other asked number range words_are =
+pub words_passed : (expect : Expect) (bits : List Bool) (count handle : ℕ) (words : List ℕ) → expect ≡ SomeWords count handle → Passes expect bits → length bits ≢ 41 → ReadTo bits 1 (length bits - 32) words → AnswersExpected (Words words) expect bits
+words_passed expect bits count handle words found passes other read =
     let here : Passes (SomeWords count handle) bits = subst (λ (e : Expect). Passes e bits) found passes in
     let long : length bits ≡ 33 + 16 * count = elim here.length_fits [ inl whole ↦ whole | inr error ↦ absurd (other error) ] in
+    let number : length words ≡ count = omega (arith, read.place) in
     let answers : AnswersExpected (Words words) (SomeWords count handle) bits = record {
-      suits = number ∙ asked;
-      in_range = range;
+      suits = number;
+      in_range = read.range;
       handle_in_range = handle-fits bits handle (omega arith) here.number;
-      spelled = words_spelled bits handle words (omega arith) here.check here.header here.number (words_are ∙ ap (λ k. part_of bits 1 (16 * k)) (sym number));
+      spelled = words_spelled bits handle words (omega arith) here.check here.header here.number read.words_are;
     } in
     subst (λ (e : Expect). AnswersExpected (Words words) e bits) (sym found) answers
 
-pub any_words_passed : (expect : Expect) (bits : List Bool) (handle n : ℕ) (words : List ℕ) → expect ≡ AnyWords handle → Passes expect bits → length bits ≢ 41 → n ≡ (length bits - 33) / 16 → length words ≡ n → AreWords words → bits_of_words words ≡ part_of bits 1 (16 * n) → AnswersExpected (Words words) expect bits
-any_words_passed expect bits handle n words found passes other asked number range words_are =
+pub any_words_passed : (expect : Expect) (bits : List Bool) (handle : ℕ) (words : List ℕ) → expect ≡ AnyWords handle → Passes expect bits → length bits ≢ 41 → ReadTo bits 1 (length bits - 32) words → AnswersExpected (Words words) expect bits
+any_words_passed expect bits handle words found passes other read =
     let here : Passes (AnyWords handle) bits = subst (λ (e : Expect). Passes e bits) found passes in
-    let long : (1 ≤ n) × (n ≤ 512) × (length bits ≡ 33 + 16 * n) =
-    elim here.length_fits [ inl whole ↦ (omega (arith, whole.1, whole.2, whole.3), omega (arith, whole.1, whole.2, whole.3), omega (arith, whole.1, whole.2, whole.3)) | inr error ↦ absurd (other error) ] in
+    let long : (1 ≤ length words) × (length words ≤ 512) × (length bits ≡ 33 + 16 * length words) =
+    elim here.length_fits [ inl whole ↦ let place = read.place in (omega (arith, whole.1, whole.3), omega (arith, whole.2, whole.3), omega (arith, whole.1, whole.3)) | inr error ↦ absurd (other error) ] in
     let answers : AnswersExpected (Words words) (AnyWords handle) bits = record {
-      suits = (omega (arith, long.0), omega (arith, long.1));
-      in_range = range;
+      suits = (long.0, long.1);
+      in_range = read.range;
       handle_in_range = handle-fits bits handle (omega (arith, long.2)) here.number;
-      spelled = words_spelled bits handle words (omega (arith, long.2)) here.check here.header here.number (words_are ∙ ap (λ k. part_of bits 1 (16 * k)) (sym number));
+      spelled = words_spelled bits handle words long.2 here.check here.header here.number read.words_are;
     } in
     subst (λ (e : Expect). AnswersExpected (Words words) e bits) (sym found) answers
 
@@ -196,25 +206,25 @@ header_passed expect bits handle found passes other =
     subst (λ (e : Expect). AnswersExpected Header e bits) (sym found) answers
 
 -- an error, by the row
-error_row : (bits : List Bool) (handle code : ℕ) → length bits ≡ 41 → EndsWithCheck bits → HasHeader bits → HasHandle handle bits → code ≡ value_of (part_of bits 1 8) → (expect : Expect) → handle_of expect ≡ handle → Suits (Error code) expect → AnswersExpected (Error code) expect bits
-error_row bits handle code long check header number read expect named suits = record {
+error_row : (expect : Expect) (bits : List Bool) (code : ℕ) → length bits ≡ 41 → EndsWithCheck bits → HasHeader bits → HasHandle (handle_of expect) bits → code ≡ value_of (part_of bits 1 8) → Suits (Error code) expect → AnswersExpected (Error code) expect bits
+error_row expect bits code long check header number read suits = record {
   suits = suits;
   in_range = omega (arith, value_of-part bits 1 8 (omega arith));
-  handle_in_range = omega (arith, handle-fits bits handle (omega arith) number);
-  spelled = error_spelled bits handle code long check header number read ∙ ap (λ h. spelling (Error code) h) (sym named);
+  handle_in_range = handle-fits bits (handle_of expect) (omega arith) number;
+  spelled = error_spelled bits (handle_of expect) code long check header number read;
 }
 
 pub words_error : (expect : Expect) (bits : List Bool) (count handle code : ℕ) → expect ≡ SomeWords count handle → Passes expect bits → length bits ≡ 41 → code ≡ value_of (part_of bits 1 8) → AnswersExpected (Error code) expect bits
 words_error expect bits count handle code found passes long read =
     let here : Passes (SomeWords count handle) bits = subst (λ (e : Expect). Passes e bits) found passes in
-    subst (λ (e : Expect). AnswersExpected (Error code) e bits) (sym found) (error_row bits handle code long here.check here.header here.number read (SomeWords count handle) refl tt)
+    subst (λ (e : Expect). AnswersExpected (Error code) e bits) (sym found) (error_row (SomeWords count handle) bits code long here.check here.header here.number read tt)
 
 pub any_words_error : (expect : Expect) (bits : List Bool) (handle code : ℕ) → expect ≡ AnyWords handle → Passes expect bits → length bits ≡ 41 → code ≡ value_of (part_of bits 1 8) → AnswersExpected (Error code) expect bits
 any_words_error expect bits handle code found passes long read =
     let here : Passes (AnyWords handle) bits = subst (λ (e : Expect). Passes e bits) found passes in
-    subst (λ (e : Expect). AnswersExpected (Error code) e bits) (sym found) (error_row bits handle code long here.check here.header here.number read (AnyWords handle) refl tt)
+    subst (λ (e : Expect). AnswersExpected (Error code) e bits) (sym found) (error_row (AnyWords handle) bits code long here.check here.header here.number read tt)
 
 pub header_error : (expect : Expect) (bits : List Bool) (handle code : ℕ) → expect ≡ OneHeader handle → Passes expect bits → length bits ≡ 41 → code ≡ value_of (part_of bits 1 8) → AnswersExpected (Error code) expect bits
 header_error expect bits handle code found passes long read =
     let here : Passes (OneHeader handle) bits = subst (λ (e : Expect). Passes e bits) found passes in
-    subst (λ (e : Expect). AnswersExpected (Error code) e bits) (sym found) (error_row bits handle code long here.check here.header here.number read (OneHeader handle) refl tt)
+    subst (λ (e : Expect). AnswersExpected (Error code) e bits) (sym found) (error_row (OneHeader handle) bits code long here.check here.header here.number read tt)

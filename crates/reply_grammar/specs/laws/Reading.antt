@@ -1,5 +1,5 @@
 -- How words are read one after another.
-use Rattle.std.proofs.Common.{◌≡◌, ℕ, ◌+◌, ◌*◌, ◌^◌, ◌<◌, ◌≤◌, Bool, List, [], ◌∷◌, ◌++◌, length, take, drop, refl, sym, ◌∙◌, ap, subst, arith, length-append, length-take, length-drop}
+use Rattle.std.proofs.Common.{◌≡◌, ℕ, ◌+◌, ◌*◌, ◌^◌, ◌<◌, ◌≤◌, Bool, List, [], ◌∷◌, ◌++◌, length, take, drop, refl, sym, ◌∙◌, ap, arith, length-append, length-take, length-drop}
 use Rattle.std.proofs.Math.Seq.{take-add}
 use Rattle.std.proofs.lemmas.List.{drop-drop}
 use Rattle.std.proofs.lemmas.List.Elements.{All-push, All-nil}
@@ -34,14 +34,14 @@ pub record ReadTo (bits : List Bool) (from at : ℕ) (words : List ℕ) : Type 0
 pub read_none : (bits : List Bool) (from : ℕ) → ReadTo bits from from []
 read_none bits from = record { place = omega arith; range = All-nil (λ word. word < 2 ^ 16); words_are = refl }
 
-pub read_more : (bits : List Bool) (from at word : ℕ) (words more : List ℕ) → ReadTo bits from at words → at + 16 ≤ length bits → word ≡ value_of (part_of bits at 16) → more ≡ words ++ word ∷ [] → ReadTo bits from (at + 16) more
-read_more bits from at word words more so_far within read grown =
-    let count : length more ≡ length words + 1 = ap length grown ∙ length-append words (word ∷ []) in
+pub read_more : (bits : List Bool) (from at word : ℕ) (words : List ℕ) → ReadTo bits from at words → at + 16 ≤ length bits → word ≡ value_of (part_of bits at 16) → ReadTo bits from (at + 16) (words ++ word ∷ [])
+read_more bits from at word words so_far within read =
+    let count : length (words ++ word ∷ []) ≡ length words + 1 = length-append words (word ∷ []) in
     record {
-      place = omega (arith, so_far.place);
-      range = subst AreWords (sym grown) (All-push (λ word. word < 2 ^ 16) words word so_far.range (omega (arith, value_of-part bits at 16 within)));
+      place = omega (arith, so_far.place, count);
+      range = All-push (λ word. word < 2 ^ 16) words word so_far.range (omega (arith, value_of-part bits at 16 within));
       words_are =
-          ap bits_of_words grown ∙ bits_of_words-push words word
+          bits_of_words-push words word
           ∙ ap (λ (b : List Bool). b ++ field_of word 16) so_far.words_are
           ∙ ap (λ (b : List Bool). part_of bits from (16 * length words) ++ b) (part-field bits at 16 word within read)
           ∙ ap (λ n. part_of bits from (16 * length words) ++ part_of bits n 16) so_far.place

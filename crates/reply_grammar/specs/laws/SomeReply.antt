@@ -133,22 +133,23 @@ passes-or-fault e bits =
       ]
     ]
 
--- so many words from a place on
-all-words : (bits : List Bool) (from n : ℕ) → from + 16 * n ≤ length bits → (words : List ℕ) × (length words ≡ n) × ReadTo bits from (from + 16 * n) words
-all-words bits from zero within = ([], refl, subst (λ k. ReadTo bits from k []) (omega arith) (read_none bits from))
-all-words bits from (suc n) within =
-    let front = all-words bits from n (omega arith) in
-    let word : ℕ = value_of (part_of bits (from + 16 * n) 16) in
-    let more : ReadTo bits from (from + 16 * n + 16) (front.0 ++ word ∷ []) = read_more bits from (from + 16 * n) word front.0 (front.0 ++ word ∷ []) front.2 (omega arith) refl refl in
-    (front.0 ++ word ∷ [], omega (arith, length-append front.0 (word ∷ []), front.1), subst (λ k. ReadTo bits from k (front.0 ++ word ∷ [])) (omega arith) more)
+-- so many words from a place on, up to another
+all-words : (bits : List Bool) (from n at : ℕ) → from + 16 * n ≡ at → at ≤ length bits → (words : List ℕ) × ReadTo bits from at words
+all-words bits from zero at same within = ([], subst (λ k. ReadTo bits from k []) (omega (arith, same)) (read_none bits from))
+all-words bits from (suc n) at same within =
+    let before = from + 16 * n in
+    let front = all-words bits from n before refl (omega (arith, same)) in
+    let word : ℕ = value_of (part_of bits before 16) in
+    let more : ReadTo bits from (before + 16) (front.0 ++ word ∷ []) = read_more bits from before word front.0 front.1 (omega (arith, same)) refl in
+    (front.0 ++ word ∷ [], subst (λ k. ReadTo bits from k (front.0 ++ word ∷ [])) (omega (arith, same)) more)
 
 -- what passes is a reply
 reply-there : (e : Expect) (bits : List Bool) → Passes e bits → (reply : Reply) × AnswersExpected reply e bits
 reply-there OneRn16 bits passes = (Rn16 (value_of (part_of bits 0 16)), rn16_passed OneRn16 bits (value_of (part_of bits 0 16)) refl passes refl)
 reply-there OneEpc bits passes =
     let n : ℕ = value_of (take 5 bits) in
-    let read = all-words bits 16 n (omega (arith, passes.length_fits)) in
-    (Epc (value_of (part_of bits 0 16)) read.0, epc_passed OneEpc bits (value_of (part_of bits 0 16)) read.0 refl passes refl read.1 read.2.range read.2.words_are)
+    let read = all-words bits 16 n (length bits - 16) (omega (arith, passes.length_fits)) (omega arith) in
+    (Epc (value_of (part_of bits 0 16)) read.0, epc_passed OneEpc bits (value_of (part_of bits 0 16)) read.0 refl passes refl read.1)
 reply-there OneHandle bits passes = (Handle (value_of (part_of bits 0 16)), handle_passed OneHandle bits (value_of (part_of bits 0 16)) refl passes refl)
 reply-there (Same h) bits passes = (Handle (value_of (part_of bits 0 16)), same_passed (Same h) bits (value_of (part_of bits 0 16)) h refl passes refl)
 reply-there (SomeWords n h) bits passes =
@@ -156,8 +157,8 @@ reply-there (SomeWords n h) bits passes =
       | inl error ↦ (Error (value_of (part_of bits 1 8)), words_error (SomeWords n h) bits n h (value_of (part_of bits 1 8)) refl passes error refl)
       | inr other ↦
           let long : length bits ≡ 33 + 16 * n = elim passes.length_fits [ inl whole ↦ whole | inr error ↦ absurd (other error) ] in
-          let read = all-words bits 1 n (omega arith) in
-          (Words read.0, words_passed (SomeWords n h) bits n h n read.0 refl passes other refl read.1 read.2.range (read.2.words_are ∙ ap (λ k. part_of bits 1 (16 * k)) read.1))
+          let read = all-words bits 1 n (length bits - 32) (omega arith) (omega arith) in
+          (Words read.0, words_passed (SomeWords n h) bits n h read.0 refl passes other read.1)
     ]
 reply-there (AnyWords h) bits passes =
     elim (cases_eq (length bits) 41) [
@@ -165,8 +166,8 @@ reply-there (AnyWords h) bits passes =
       | inr other ↦
           let n : ℕ = (length bits - 33) / 16 in
           let long : length bits ≡ 33 + 16 * n = elim passes.length_fits [ inl whole ↦ omega (arith, whole.3) | inr error ↦ absurd (other error) ] in
-          let read = all-words bits 1 n (omega arith) in
-          (Words read.0, any_words_passed (AnyWords h) bits h n read.0 refl passes other refl read.1 read.2.range (read.2.words_are ∙ ap (λ k. part_of bits 1 (16 * k)) read.1))
+          let read = all-words bits 1 n (length bits - 32) (omega arith) (omega arith) in
+          (Words read.0, any_words_passed (AnyWords h) bits h read.0 refl passes other read.1)
     ]
 reply-there (OneHeader h) bits passes =
     elim (cases_eq (length bits) 41) [

@@ -23,7 +23,7 @@ use Rattle.reply_wire.specs.laws.SomeReceived.{some_received}
 
 -- a stream is that of one list of bits
 pub same_bits : (code : Code) (trext : Bool) (xs ys levels : List Bool) → IsStream (table_of code) trext xs levels → IsStream (table_of code) trext ys levels → xs ≡ ys
-same_bits code trext xs ys levels = one_stream (table_of code) (chips_of code) (code_even code) (code_tells code) trext xs ys levels
+same_bits code trext xs ys levels = one_stream (record { table = table_of code; chips = chips_of code; even = code_even code; tells = code_tells code }) trext xs ys levels
 
 -- bits that answer have no fault
 answered_apart : (reply : Reply) (refusal : ReplyRefusal) (expect : Expect) (xs ys : List Bool) → xs ≡ ys → AnswersExpected reply expect xs → RefusesReply refusal expect ys → ⊥

@@ -1,37 +1,16 @@
 -- How the counts of pairs change with one pair more.
-use Rattle.std.proofs.Common.{◌≡◌, ◌⊎◌, inl, inr, ℕ, ◌+◌, ◌≤◌, Bool, true, false, not, List, [], ◌∷◌, ◌++◌, length, map, refl, sym, ap, ◌∙◌, subst, eq-eqb, arith}
-use Rattle.std.specs.Prelude.{◌==◌, ◌&&◌, nat_eq, filter, count_by, if◌then◌else◌}
-use Rattle.std.specs.Cmp.Lexicographic.{pointwise, same_text, other_text}
-use Rattle.std.proofs.lemmas.Bool.{eqb-true}
+use Rattle.std.proofs.Common.{◌≡◌, ◌⊎◌, inl, inr, ℕ, ◌+◌, ◌≤◌, Bool, true, false, not, List, [], ◌∷◌, ◌++◌, length, map, refl, sym, ap, ◌∙◌, subst, arith}
+use Rattle.std.specs.Prelude.{filter, count_by, if◌then◌else◌}
 use Rattle.std.proofs.lemmas.List.{append-nil, map-append}
 use Rattle.std.proofs.lemmas.List.Elements.{filter-append}
 use Rattle.std.proofs.lemmas.List.Sums.{count_by-le-length, sum_by-append}
-use Rattle.report_lines.specs.SeenCounts.{Seen, same_pair, distinct, seen_among, seen_in, seen_more, count_of}
+use Rattle.reply_grammar.specs.Pairs.{same_pair}
+use Rattle.reply_grammar.specs.laws.SamePairs.{same_pair-is, same_pair-refl, same_pair-equal}
+use Rattle.report_lines.specs.SeenCounts.{Seen, distinct, seen_among, seen_in, seen_more, count_of}
 
 split : (b : Bool) → (b ≡ true) ⊎ (b ≡ false)
 split true = inl refl
 split false = inr refl
-
-both-true : (a b : Bool) → (a && b) ≡ true → (a ≡ true) × (b ≡ true)
-both-true true b e = (refl, e)
-both-true false b e = absurd (cc)
-
--- pairs that are one are equal
-same_pair-is : (one other : ℕ × List ℕ) → same_pair one other ≡ true → one ≡ other
-same_pair-is one other e =
-    let both = both-true (one.0 == other.0) (pointwise nat_eq one.1 other.1) e in
-    let number : one.0 ≡ other.0 = eqb-true one.0 other.0 both.0 in
-    let words : one.1 ≡ other.1 = same_text one.1 other.1 (sym both.1) in
-    λ i. (number i, words i)
-
-words-same : (words : List ℕ) → pointwise nat_eq words words ≡ true
-words-same words = elim (split (pointwise nat_eq words words)) [ inl alike ↦ alike | inr unlike ↦ absurd (other_text words words (sym unlike) refl) ]
-
-same_pair-refl : (pair : ℕ × List ℕ) → same_pair pair pair ≡ true
-same_pair-refl pair = rw (eq-eqb pair.0 pair.0 refl, words-same pair.1) refl
-
-same_pair-equal : (one other : ℕ × List ℕ) → one ≡ other → same_pair one other ≡ true
-same_pair-equal one other e = subst (λ (pair : ℕ × List ℕ). same_pair one pair ≡ true) e (same_pair-refl one)
 
 -- two pairs differ in both orders
 differ : (one other : ℕ × List ℕ) → same_pair one other ≡ false → same_pair other one ≡ false

@@ -19,6 +19,7 @@ hears-nothing text_of behind spelling fault written faults = record {
     whole = λ same. refl;
     added = Adds-nothing written;
     rose = λ same. absurd (cc);
+    steady = λ other. refl;
     count = omega arith;
   };
 }

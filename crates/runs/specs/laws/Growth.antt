@@ -9,9 +9,10 @@ use Rattle.access_ops.specs.declared.OpList.{OpList}
 use Rattle.access_ops.specs.declared.op_next.OpResult.{OpResult}
 use Rattle.air_model.specs.Past.{Start, Item, exchanged, operated, ended, next_record, past_behind_command, rounds_in}
 use Rattle.reply_grammar.specs.Reception.{Reception, no_stream, whole_reply, no_such_reply}
-use Rattle.runs.specs.History.{outcome_of, operation_reception, past_behind_dialogue, dialogue_begun, past_behind_listing, ack_reception, past_behind_ack, past_behind_answer, slot_reception, past_behind_slot, past_behind_turn, past_behind_turns, past_behind_round, past_behind_step, past_behind}
+use Rattle.runs.specs.History.{outcome_of, operation_reception, past_behind_dialogue, dialogue_begun, past_behind_listing, ack_reception, past_behind_ack, past_behind_answer, slot_reception, past_behind_slot, past_behind_turn, past_behind_turns, past_behind_step, past_behind}
 use Rattle.runs.specs.NextItem.{rn_of}
 use Rattle.runs.specs.Report.{item_lines, past_lines}
+use Rattle.runs.specs.laws.PlayedRounds.{SlotOfRun, PlayedRound, number_of, past_behind_played, DoesNext}
 use Rattle.command_grammar.specs.declared.commands.Command.{Command}
 use Rattle.command_grammar.specs.declared.commands.Command.TheVariants as commands
 use Rattle.pie_line.specs.Link.{LinkValue}
@@ -48,37 +49,37 @@ grows-on past between behind first then = record {
 
 -- What each command and each result of a dialogue keeps, and the end. `During` speaks of the number of the next result, what is
 -- left of the dialogue, and the past; `After` of the past behind the dialogue.
-pub record DialogueSteps (During : ℕ → Dialogue → List Item → Type 0) (After : List Item → Type 0) (start : Start) (round slot : ℕ) : Type 0 where
+pub record DialogueSteps (During : ℕ → Dialogue → List Item → Type 0) (After : List Item → Type 0) (at : SlotOfRun) : Type 0 where
   pub command : (index : ℕ) (command : Command) (expect : Expect) (extended : Bool) (go_on : Reception → Dialogue) (past : List Item)
       → During index (sends command expect extended go_on) past
-      → During index (go_on (operation_reception start round slot command expect extended past)) (past_behind_command start round slot command past)
+      → During index (go_on (operation_reception at.start at.round at.slot command expect extended past)) (past_behind_command at.start at.round at.slot command past)
   pub result : (index : ℕ) (result : OpResult) (later : Dialogue) (past : List Item) → During index (tells result later) past
-      → During (index + 1) later (operated round slot index result ∷ past)
+      → During (index + 1) later (operated at.round at.slot index result ∷ past)
   pub end : (index : ℕ) (past : List Item) → During index done past → After past
 
 -- what holds at first holds behind the dialogue
-pub dialogue-holds : (During : ℕ → Dialogue → List Item → Type 0) (After : List Item → Type 0) (start : Start) (round slot : ℕ)
-    → DialogueSteps During After start round slot
-    → (index : ℕ) (dialogue : Dialogue) (past : List Item) → During index dialogue past → After (past_behind_dialogue start round slot index dialogue past)
-dialogue-holds During After start round slot each index (sends command expect extended go_on) past holds =
-    dialogue-holds During After start round slot each index (go_on (operation_reception start round slot command expect extended past))
-    (past_behind_command start round slot command past) (each.command index command expect extended go_on past holds)
-dialogue-holds During After start round slot each index (tells result later) past holds =
-    dialogue-holds During After start round slot each (index + 1) later (operated round slot index result ∷ past) (each.result index result later past holds)
-dialogue-holds During After start round slot each index done past holds = each.end index past holds
+pub dialogue-holds : (During : ℕ → Dialogue → List Item → Type 0) (After : List Item → Type 0) (at : SlotOfRun) → DialogueSteps During After at
+    → (index : ℕ) (dialogue : Dialogue) (past : List Item) → During index dialogue past
+    → After (past_behind_dialogue at.start at.round at.slot index dialogue past)
+dialogue-holds During After at each index (sends command expect extended go_on) past holds =
+    dialogue-holds During After at each index (go_on (operation_reception at.start at.round at.slot command expect extended past))
+    (past_behind_command at.start at.round at.slot command past) (each.command index command expect extended go_on past holds)
+dialogue-holds During After at each index (tells result later) past holds =
+    dialogue-holds During After at each (index + 1) later (operated at.round at.slot index result ∷ past) (each.result index result later past holds)
+dialogue-holds During After at each index done past holds = each.end index past holds
 
 -- what holds of a past, and each command of an operation and each result keeps
-pub record KeptByOperations (Holds : List Item → Type 0) (start : Start) (round slot : ℕ) : Type 0 where
+pub record KeptByOperations (Holds : List Item → Type 0) (at : SlotOfRun) : Type 0 where
   pub command : (command : Command) (expect : Expect) (extended : Bool) (past : List Item) → Expects command expect extended → Holds past
-      → Holds (past_behind_command start round slot command past)
-  pub result : (index : ℕ) (result : OpResult) (past : List Item) → Holds past → Holds (operated round slot index result ∷ past)
+      → Holds (past_behind_command at.start at.round at.slot command past)
+  pub result : (index : ℕ) (result : OpResult) (past : List Item) → Holds past → Holds (operated at.round at.slot index result ∷ past)
 
 -- ... holds behind a dialogue
-pub dialogue-keeps : (Holds : List Item → Type 0) (start : Start) (round slot : ℕ) → KeptByOperations Holds start round slot
+pub dialogue-keeps : (Holds : List Item → Type 0) (at : SlotOfRun) → KeptByOperations Holds at
     → (index : ℕ) (dialogue : Dialogue) (past : List Item) → AwaitsReplies dialogue → Holds past
-    → Holds (past_behind_dialogue start round slot index dialogue past)
-dialogue-keeps Holds start round slot kept index dialogue past awaits holds =
-    dialogue-holds (λ index left now. AwaitsReplies left × Holds now) Holds start round slot
+    → Holds (past_behind_dialogue at.start at.round at.slot index dialogue past)
+dialogue-keeps Holds at kept index dialogue past awaits holds =
+    dialogue-holds (λ index left now. AwaitsReplies left × Holds now) Holds at
     (record {
       command = λ index command expect extended go_on now during. (during.0.1 _, kept.command command expect extended now during.0.0 during.1);
       result = λ index result later now during. (during.0, kept.result index result now during.1);
@@ -106,55 +107,55 @@ begun-awaits operations rn reception = begun-holds AwaitsReplies operations rn r
 
 -- What holds behind an ACK, and what holds behind each dialogue with a tag whose EPC came whole, holds behind the rest of a slot
 -- whose ACK brought this.
-pub listing-holds : (Holds : List Item → Type 0) (start : Start) (operations : OpList) (round slot rn : ℕ) (reception : Reception) (past : List Item) → Holds past
-    → ((pc : ℕ) (epc : List ℕ) → reception ≡ whole_reply (replies.Epc pc epc) → Holds (past_behind_dialogue start round slot 1 (dialogue_of operations epc rn) past))
-    → Holds (past_behind_listing start operations round slot rn reception past)
-listing-holds Holds start operations round slot rn reception past holds whole =
-    begun-holds (λ dialogue. Holds (past_behind_dialogue start round slot 1 dialogue past)) operations rn reception holds whole
+pub listing-holds : (Holds : List Item → Type 0) (at : SlotOfRun) (operations : OpList) (rn : ℕ) (reception : Reception) (past : List Item) → Holds past
+    → ((pc : ℕ) (epc : List ℕ) → reception ≡ whole_reply (replies.Epc pc epc) → Holds (past_behind_dialogue at.start at.round at.slot 1 (dialogue_of operations epc rn) past))
+    → Holds (past_behind_listing at.start operations at.round at.slot rn reception past)
+listing-holds Holds at operations rn reception past holds whole =
+    begun-holds (λ dialogue. Holds (past_behind_dialogue at.start at.round at.slot 1 dialogue past)) operations rn reception holds whole
 
 -- What holds where no RN16 came, and behind each ACK with what follows it, holds behind the rest of a slot whose slot command
 -- brought this.
-pub answer-cases : (Holds : List Item → Type 0) (start : Start) (operations : OpList) (round slot : ℕ) (reception : Reception) (past : List Item)
+pub answer-cases : (Holds : List Item → Type 0) (at : SlotOfRun) (operations : OpList) (reception : Reception) (past : List Item)
     → (rn_of reception ≡ None → Holds past)
-    → ((rn : ℕ) → reception ≡ whole_reply (replies.Rn16 rn) → Holds (past_behind_ack start operations round slot rn past))
-    → Holds (past_behind_answer start operations round slot reception past)
-answer-cases Holds start operations round slot no_stream past none whole = none refl
-answer-cases Holds start operations round slot no_such_reply past none whole = none refl
-answer-cases Holds start operations round slot (whole_reply (replies.Rn16 rn)) past none whole = whole rn refl
-answer-cases Holds start operations round slot (whole_reply (replies.Epc pc epc)) past none whole = none refl
-answer-cases Holds start operations round slot (whole_reply (replies.Handle rn)) past none whole = none refl
-answer-cases Holds start operations round slot (whole_reply (replies.Words words)) past none whole = none refl
-answer-cases Holds start operations round slot (whole_reply replies.Header) past none whole = none refl
-answer-cases Holds start operations round slot (whole_reply (replies.Error code)) past none whole = none refl
+    → ((rn : ℕ) → reception ≡ whole_reply (replies.Rn16 rn) → Holds (past_behind_ack at.start operations at.round at.slot rn past))
+    → Holds (past_behind_answer at.start operations at.round at.slot reception past)
+answer-cases Holds at operations no_stream past none whole = none refl
+answer-cases Holds at operations no_such_reply past none whole = none refl
+answer-cases Holds at operations (whole_reply (replies.Rn16 rn)) past none whole = whole rn refl
+answer-cases Holds at operations (whole_reply (replies.Epc pc epc)) past none whole = none refl
+answer-cases Holds at operations (whole_reply (replies.Handle rn)) past none whole = none refl
+answer-cases Holds at operations (whole_reply (replies.Words words)) past none whole = none refl
+answer-cases Holds at operations (whole_reply replies.Header) past none whole = none refl
+answer-cases Holds at operations (whole_reply (replies.Error code)) past none whole = none refl
 
 -- ... also of what holds behind the slot command whatever came
-pub answer-holds : (Holds : List Item → Type 0) (start : Start) (operations : OpList) (round slot : ℕ) (reception : Reception) (past : List Item) → Holds past
-    → ((rn : ℕ) → reception ≡ whole_reply (replies.Rn16 rn) → Holds (past_behind_ack start operations round slot rn past))
-    → Holds (past_behind_answer start operations round slot reception past)
-answer-holds Holds start operations round slot reception past holds whole =
-    answer-cases Holds start operations round slot reception past (λ none. holds) whole
+pub answer-holds : (Holds : List Item → Type 0) (at : SlotOfRun) (operations : OpList) (reception : Reception) (past : List Item) → Holds past
+    → ((rn : ℕ) → reception ≡ whole_reply (replies.Rn16 rn) → Holds (past_behind_ack at.start operations at.round at.slot rn past))
+    → Holds (past_behind_answer at.start operations at.round at.slot reception past)
+answer-holds Holds at operations reception past holds whole =
+    answer-cases Holds at operations reception past (λ none. holds) whole
 
 -- what each command of an operation and each result keeps holds behind an ACK and what follows it, where it holds behind the ACK
-pub ack-keeps : (Holds : List Item → Type 0) (start : Start) (operations : OpList) (round slot rn : ℕ) (past : List Item) → KeptByOperations Holds start round slot
-    → Holds (past_behind_command start round slot (commands.Ack rn) past) → Holds (past_behind_ack start operations round slot rn past)
-ack-keeps Holds start operations round slot rn past kept holds =
-    let reception = ack_reception start round slot rn past in
-    dialogue-keeps Holds start round slot kept 1 (dialogue_begun operations rn reception) (past_behind_command start round slot (commands.Ack rn) past)
+pub ack-keeps : (Holds : List Item → Type 0) (at : SlotOfRun) (operations : OpList) (rn : ℕ) (past : List Item) → KeptByOperations Holds at
+    → Holds (past_behind_command at.start at.round at.slot (commands.Ack rn) past) → Holds (past_behind_ack at.start operations at.round at.slot rn past)
+ack-keeps Holds at operations rn past kept holds =
+    let reception = ack_reception at.start at.round at.slot rn past in
+    dialogue-keeps Holds at kept 1 (dialogue_begun operations rn reception) (past_behind_command at.start at.round at.slot (commands.Ack rn) past)
     (begun-awaits operations rn reception) holds
 
 -- ... and behind the rest of a slot, where the ACK keeps it too
-pub answer-keeps : (Holds : List Item → Type 0) (start : Start) (operations : OpList) (round slot : ℕ) (reception : Reception) (past : List Item)
-    → KeptByOperations Holds start round slot
-    → ((rn : ℕ) → Holds past → Holds (past_behind_command start round slot (commands.Ack rn) past))
-    → Holds past → Holds (past_behind_answer start operations round slot reception past)
-answer-keeps Holds start operations round slot reception past kept ack holds =
-    answer-holds Holds start operations round slot reception past holds
-    (λ rn is. ack-keeps Holds start operations round slot rn past kept (ack rn holds))
+pub answer-keeps : (Holds : List Item → Type 0) (at : SlotOfRun) (operations : OpList) (reception : Reception) (past : List Item)
+    → KeptByOperations Holds at
+    → ((rn : ℕ) → Holds past → Holds (past_behind_command at.start at.round at.slot (commands.Ack rn) past))
+    → Holds past → Holds (past_behind_answer at.start operations at.round at.slot reception past)
+answer-keeps Holds at operations reception past kept ack holds =
+    answer-holds Holds at operations reception past holds
+    (λ rn is. ack-keeps Holds at operations rn past kept (ack rn holds))
 
 pub dialogue-grows : (start : Start) (round slot index : ℕ) (dialogue : Dialogue) (past : List Item)
     → Grows past (past_behind_dialogue start round slot index dialogue past)
 dialogue-grows start round slot index dialogue past =
-    dialogue-holds (λ index left now. Grows past now) (λ now. Grows past now) start round slot
+    dialogue-holds (λ index left now. Grows past now) (λ now. Grows past now) (record { start = start; round = round; slot = slot })
     (record {
       command = λ index command expect extended go_on now grown. grows-more past now _ grown;
       result = λ index result later now grown. grows-more past now _ grown;
@@ -176,7 +177,7 @@ ack-grows start operations round slot rn past =
 pub answer-grows : (start : Start) (operations : OpList) (round slot : ℕ) (reception : Reception) (past : List Item)
     → Grows past (past_behind_answer start operations round slot reception past)
 answer-grows start operations round slot reception past =
-    answer-holds (λ now. Grows past now) start operations round slot reception past (grows-none past)
+    answer-holds (λ now. Grows past now) (record { start = start; round = round; slot = slot }) operations reception past (grows-none past)
     (λ rn is. ack-grows start operations round slot rn past)
 
 pub slot-grows : (start : Start) (operations : OpList) (round slot : ℕ) (command : Command) (past : List Item)
@@ -249,12 +250,12 @@ send-underway spec link outcomes command is = sends-underway spec link (turn_of 
 
 -- What holds at first, after each slot and at the end. `During` speaks of the outcomes so far, the latest first, and the past;
 -- `After` of the past behind the round.
-pub record RoundSteps (During : List Outcome → List Item → Type 0) (After : List Item → Type 0) (start : Start) (operations : OpList) (round : ℕ) (spec : SpecValue) : Type 0 where
-  pub slot : (outcomes : List Outcome) (past : List Item) (command : Command) → AreOutcomes spec outcomes
-      → next_command spec start.link outcomes ≡ nexts.Send command → During outcomes past
-      → During (outcome_of (slot_reception start round (length outcomes + 1) command past) ∷ outcomes) (past_behind_slot start operations round (length outcomes + 1) command past)
-  pub end : (outcomes : List Outcome) (past : List Item) (end : RoundEnd) → AreOutcomes spec outcomes
-      → next_command spec start.link outcomes ≡ next_at_end end → During outcomes past → After (ended round end (length outcomes) ∷ past)
+pub record RoundSteps (During : List Outcome → List Item → Type 0) (After : List Item → Type 0) (round : PlayedRound) : Type 0 where
+  pub slot : (outcomes : List Outcome) (past : List Item) (command : Command) → DoesNext round outcomes (nexts.Send command) → During outcomes past
+      → During (outcome_of (slot_reception round.start (number_of round) (length outcomes + 1) command past) ∷ outcomes)
+      (past_behind_slot round.start round.operations (number_of round) (length outcomes + 1) command past)
+  pub end : (outcomes : List Outcome) (past : List Item) (end : RoundEnd) → DoesNext round outcomes (next_at_end end) → During outcomes past
+      → After (ended (number_of round) end (length outcomes) ∷ past)
 
 -- a round gives no more slot commands than its limit: a law of rounds
 abbrev pub RoundsKeepLimit : Type 0
@@ -271,46 +272,71 @@ few-outcomes keeps spec outcomes legal are =
     let few : length outcomes ≤ slots_of spec outcomes = outcomes-within spec outcomes (is_over spec outcomes) refl are in
     omega arith
 
-turn-holds : (During : List Outcome → List Item → Type 0) (After : List Item → Type 0) (start : Start) (operations : OpList) (round : ℕ) (spec : SpecValue)
-    → RoundSteps During After start operations round spec
-    → (go_on : List Outcome → List Item → List Item) (outcomes : List Outcome) (past : List Item) → AreOutcomes spec outcomes → During outcomes past
-    → ((outcome : Outcome) (behind : List Item) → AreOutcomes spec (outcome ∷ outcomes) → During (outcome ∷ outcomes) behind → After (go_on (outcome ∷ outcomes) behind))
-    → (next : Next) → next_command spec start.link outcomes ≡ next → After (past_behind_turn go_on start operations round outcomes past next)
-turn-holds During After start operations round spec each go_on outcomes past are holds later (nexts.Send command) is =
-    later _ _ (send-underway spec start.link outcomes command is, are) (each.slot outcomes past command are is holds)
-turn-holds During After start operations round spec each go_on outcomes past are holds later nexts.Quiet is = each.end outcomes past round_ends.Quiet are is holds
-turn-holds During After start operations round spec each go_on outcomes past are holds later nexts.Limit is = each.end outcomes past round_ends.Limit are is holds
+-- a moment of a round behind some of its slots: their outcomes, the latest first, what is past, and that this holds
+record Moment (During : List Outcome → List Item → Type 0) (round : PlayedRound) : Type 0 where
+  pub outcomes : List Outcome
+  pub past : List Item
+  pub are : AreOutcomes round.spec outcomes
+  pub holds : During outcomes past
+
+-- how a round goes on behind its next slot; what holds then leads to what holds in the end
+record GoesOn (During : List Outcome → List Item → Type 0) (After : List Item → Type 0) (round : PlayedRound) (outcomes : List Outcome) : Type 0 where
+  pub go_on : List Outcome → List Item → List Item
+  pub leads : (outcome : Outcome) (behind : List Item) → AreOutcomes round.spec (outcome ∷ outcomes) → During (outcome ∷ outcomes) behind
+      → After (go_on (outcome ∷ outcomes) behind)
+
+turn-holds : (During : List Outcome → List Item → Type 0) (After : List Item → Type 0) (round : PlayedRound) → RoundSteps During After round
+    → (here : Moment During round) (on : GoesOn During After round here.outcomes) (next : Next) → next_command round.spec round.start.link here.outcomes ≡ next
+    → After (past_behind_turn on.go_on round.start round.operations (number_of round) here.outcomes here.past next)
+turn-holds During After round each here on (nexts.Send command) is =
+    on.leads _ _ (send-underway round.spec round.start.link here.outcomes command is, here.are)
+    (each.slot here.outcomes here.past command (record { are = here.are; is = is }) here.holds)
+turn-holds During After round each here on nexts.Quiet is = each.end here.outcomes here.past round_ends.Quiet (record { are = here.are; is = is }) here.holds
+turn-holds During After round each here on nexts.Limit is = each.end here.outcomes here.past round_ends.Limit (record { are = here.are; is = is }) here.holds
 
 -- what holds after each slot, and from there at both ends, holds behind the turns that are left
-pub turns-hold : (During : List Outcome → List Item → Type 0) (After : List Item → Type 0) (start : Start) (operations : OpList) (round : ℕ) (spec : SpecValue)
-    → RoundsKeepLimit → IsLegalSpec spec → RoundSteps During After start operations round spec
-    → (left : ℕ) (outcomes : List Outcome) (past : List Item) → left + length outcomes ≡ spec.limit + 1 → AreOutcomes spec outcomes → During outcomes past
-    → After (past_behind_turns left start operations round spec outcomes past)
-turns-hold During After start operations round spec keeps legal each zero outcomes past count are holds =
-    let few : length outcomes ≤ spec.limit = few-outcomes keeps spec outcomes legal are in
+turns-hold : (During : List Outcome → List Item → Type 0) (After : List Item → Type 0) (round : PlayedRound)
+    → RoundsKeepLimit → IsLegalSpec round.spec → RoundSteps During After round
+    → (left : ℕ) (here : Moment During round) → left + length here.outcomes ≡ round.spec.limit + 1
+    → After (past_behind_turns left round.start round.operations (number_of round) round.spec here.outcomes here.past)
+turns-hold During After round keeps legal each zero here count =
+    let few : length here.outcomes ≤ round.spec.limit = few-outcomes keeps round.spec here.outcomes legal here.are in
     absurd (omega arith)
-turns-hold During After start operations round spec keeps legal each (suc left) outcomes past count are holds =
-    turn-holds During After start operations round spec each (past_behind_turns left start operations round spec) outcomes past are holds
-    (λ outcome behind more during. turns-hold During After start operations round spec keeps legal each left (outcome ∷ outcomes) behind (omega arith) more during)
-    (next_command spec start.link outcomes) refl
-
--- ... also where the limit is none, of what holds at each moment
-pub always-holds : (Holds : List Item → Type 0) (start : Start) (operations : OpList) (round : ℕ) (spec : SpecValue)
-    → RoundSteps (λ outcomes past. Holds past) Holds start operations round spec
-    → (left : ℕ) (outcomes : List Outcome) (past : List Item) → AreOutcomes spec outcomes → Holds past
-    → Holds (past_behind_turns left start operations round spec outcomes past)
-always-holds Holds start operations round spec each zero outcomes past are holds = holds
-always-holds Holds start operations round spec each (suc left) outcomes past are holds =
-    turn-holds (λ outcomes past. Holds past) Holds start operations round spec each (past_behind_turns left start operations round spec) outcomes past are holds
-    (λ outcome behind more during. always-holds Holds start operations round spec each left (outcome ∷ outcomes) behind more during)
-    (next_command spec start.link outcomes) refl
+turns-hold During After round keeps legal each (suc left) here count =
+    turn-holds During After round each here
+    (record {
+      go_on = past_behind_turns left round.start round.operations (number_of round) round.spec;
+      leads = λ outcome behind more during.
+          turns-hold During After round keeps legal each left
+          (record { outcomes = outcome ∷ here.outcomes; past = behind; are = more; holds = during }) (omega arith);
+    })
+    (next_command round.spec round.start.link here.outcomes) refl
 
 -- ... and behind a whole round
-pub round-holds : (During : List Outcome → List Item → Type 0) (After : List Item → Type 0) (start : Start) (operations : OpList) (spec : SpecValue) (past : List Item)
-    → RoundsKeepLimit → IsLegalSpec spec → RoundSteps During After start operations (rounds_in past + 1) spec → During [] past
-    → After (past_behind_round start operations spec past)
-round-holds During After start operations spec past keeps legal each holds =
-    turns-hold During After start operations (rounds_in past + 1) spec keeps legal each (suc spec.limit) [] past (omega arith) tt holds
+pub round-holds : (During : List Outcome → List Item → Type 0) (After : List Item → Type 0) (round : PlayedRound)
+    → RoundsKeepLimit → IsLegalSpec round.spec → RoundSteps During After round → During [] round.before → After (past_behind_played round)
+round-holds During After round keeps legal each holds =
+    turns-hold During After round keeps legal each (suc round.spec.limit) (record { outcomes = []; past = round.before; are = tt; holds = holds }) (omega arith)
+
+-- what holds at each moment holds behind the turns that are left, however many
+turns-always : (Holds : List Item → Type 0) (round : PlayedRound) → RoundSteps (λ outcomes past. Holds past) Holds round
+    → (left : ℕ) (here : Moment (λ outcomes past. Holds past) round)
+    → Holds (past_behind_turns left round.start round.operations (number_of round) round.spec here.outcomes here.past)
+turns-always Holds round each zero here = here.holds
+turns-always Holds round each (suc left) here =
+    turn-holds (λ outcomes past. Holds past) Holds round each here
+    (record {
+      go_on = past_behind_turns left round.start round.operations (number_of round) round.spec;
+      leads = λ outcome behind more during.
+          turns-always Holds round each left (record { outcomes = outcome ∷ here.outcomes; past = behind; are = more; holds = during });
+    })
+    (next_command round.spec round.start.link here.outcomes) refl
+
+-- ... and behind a whole round, also where its limit is none
+pub always-holds : (Holds : List Item → Type 0) (round : PlayedRound) → RoundSteps (λ outcomes past. Holds past) Holds round → Holds round.before
+    → Holds (past_behind_played round)
+always-holds Holds round each holds =
+    turns-always Holds round each (suc round.spec.limit) (record { outcomes = []; past = round.before; are = tt; holds = holds })
 
 -- what each step keeps, a run keeps
 pub steps-hold : (Holds : List Item → Type 0) (Can : Step → Type 0) (start : Start)

@@ -9,6 +9,7 @@ use Rattle.air_model.specs.Past.{Start, Item, past_behind_command, exchanges_in,
 use Rattle.runs.specs.Headline.{AreLegalSteps, most_operating, most_exchanges}
 use Rattle.runs.specs.History.{past_behind_dialogue, ack_reception, past_behind_ack, slot_reception, past_behind_slot, past_behind_round, past_behind_step, past_behind}
 use Rattle.runs.specs.laws.Growth.{RoundsKeepLimit, dialogue-holds, listing-holds, answer-holds, round-holds, few-outcomes}
+use Rattle.runs.specs.laws.PlayedRounds.{SlotOfRun}
 use Rattle.command_grammar.specs.declared.commands.Command.{Command}
 use Rattle.command_grammar.specs.declared.commands.Command.TheVariants as commands
 use Rattle.q_round.specs.SpecValue.{SpecValue, IsLegalSpec}
@@ -21,10 +22,10 @@ record FewLeft (most : ℕ) (dialogue : Dialogue) (past : List Item) : Type 0 wh
   pub sends_few : SendsAtMost left dialogue
   pub within : exchanges_in past + left ≤ most
 
-pub dialogue-exchanges : (start : Start) (round slot index most : ℕ) (dialogue : Dialogue) (past : List Item) → SendsAtMost most dialogue
-    → exchanges_in (past_behind_dialogue start round slot index dialogue past) ≤ exchanges_in past + most
-dialogue-exchanges start round slot index most dialogue past few =
-    dialogue-holds (λ index left now. FewLeft (exchanges_in past + most) left now) (λ now. exchanges_in now ≤ exchanges_in past + most) start round slot
+pub dialogue-exchanges : (at : SlotOfRun) (index most : ℕ) (dialogue : Dialogue) (past : List Item) → SendsAtMost most dialogue
+    → exchanges_in (past_behind_dialogue at.start at.round at.slot index dialogue past) ≤ exchanges_in past + most
+dialogue-exchanges at index most dialogue past few =
+    dialogue-holds (λ index left now. FewLeft (exchanges_in past + most) left now) (λ now. exchanges_in now ≤ exchanges_in past + most) at
     (record {
       command = λ index command expect extended go_on now here.
           record { left = here.left - 1; sends_few = here.sends_few.1 _; within = omega (arith, here.within, here.sends_few.0) };
@@ -37,12 +38,13 @@ dialogue-exchanges start round slot index most dialogue past few =
 pub ack-exchanges : (start : Start) (operations : OpList) (round slot rn : ℕ) (past : List Item)
     → exchanges_in (past_behind_ack start operations round slot rn past) ≤ exchanges_in past + (1 + most_operating operations)
 ack-exchanges start operations round slot rn past =
+    let at : SlotOfRun = record { start = start; round = round; slot = slot } in
     let sent = past_behind_command start round slot (commands.Ack rn) past in
-    listing-holds (λ now. exchanges_in now ≤ exchanges_in past + (1 + most_operating operations)) start operations round slot rn
+    listing-holds (λ now. exchanges_in now ≤ exchanges_in past + (1 + most_operating operations)) at operations rn
     (ack_reception start round slot rn past) sent (omega arith)
     (λ pc epc is.
     let few : exchanges_in (past_behind_dialogue start round slot 1 (dialogue_of operations epc rn) sent) ≤ exchanges_in past + 1 + most_operating operations =
-    dialogue-exchanges start round slot 1 (most_operating operations) (dialogue_of operations epc rn) sent (dialogues-are-few operations epc rn) in
+    dialogue-exchanges at 1 (most_operating operations) (dialogue_of operations epc rn) sent (dialogues-are-few operations epc rn) in
     omega (arith, few))
 
 -- a slot command, and an ACK with the operations or none
@@ -50,7 +52,7 @@ pub slot-exchanges : (start : Start) (operations : OpList) (round slot : ℕ) (c
     → exchanges_in (past_behind_slot start operations round slot command past) ≤ exchanges_in past + (2 + most_operating operations)
 slot-exchanges start operations round slot command past =
     let sent = past_behind_command start round slot command past in
-    answer-holds (λ now. exchanges_in now ≤ exchanges_in past + (2 + most_operating operations)) start operations round slot
+    answer-holds (λ now. exchanges_in now ≤ exchanges_in past + (2 + most_operating operations)) (record { start = start; round = round; slot = slot }) operations
     (slot_reception start round slot command past) sent (omega arith)
     (λ rn is.
     let few : exchanges_in (past_behind_ack start operations round slot rn sent) ≤ exchanges_in past + 1 + (1 + most_operating operations) =
@@ -62,15 +64,15 @@ pub round-exchanges : RoundsKeepLimit → (start : Start) (operations : OpList) 
 round-exchanges keeps start operations spec past legal =
     let each : ℕ = 2 + most_operating operations in
     round-holds (λ outcomes now. exchanges_in now ≤ exchanges_in past + each * length outcomes) (λ now. exchanges_in now ≤ exchanges_in past + each * spec.limit)
-    start operations spec past keeps legal
+    (record { start = start; operations = operations; spec = spec; before = past }) keeps legal
     (record {
-      slot = λ outcomes now command are is holds.
+      slot = λ outcomes now command next holds.
           let more : exchanges_in (past_behind_slot start operations (rounds_in past + 1) (length outcomes + 1) command now) ≤ exchanges_in now + each =
           slot-exchanges start operations (rounds_in past + 1) (length outcomes + 1) command now in
-          let next : each * (length outcomes + 1) ≡ each * length outcomes + each * 1 = mul-add each (length outcomes) 1 in
-          omega (arith, more, next, holds, mul-one each);
-      end = λ outcomes now end are is holds.
-          let few : each * length outcomes ≤ each * spec.limit = mul-le-mul_left each (few-outcomes keeps spec outcomes legal are) in
+          let one_more : each * (length outcomes + 1) ≡ each * length outcomes + each * 1 = mul-add each (length outcomes) 1 in
+          omega (arith, more, one_more, holds, mul-one each);
+      end = λ outcomes now end next holds.
+          let few : each * length outcomes ≤ each * spec.limit = mul-le-mul_left each (few-outcomes keeps spec outcomes legal next.are) in
           omega (arith, few, holds);
     })
     (omega arith)

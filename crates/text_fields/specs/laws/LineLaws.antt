@@ -2,7 +2,7 @@
 use Rattle.std.proofs.Common.{◌≡◌, ◌≢◌, ◌≤◌, ℕ, false, eqb, List, [], ◌∷◌, ◌++◌, length, arith, ap, refl, sym, ◌∙◌, append_assoc}
 use Rattle.std.specs.Prelude.{All}
 use Rattle.std.proofs.lemmas.Bool.Decides.{nat_tests}
-use Rattle.std.proofs.lemmas.List.Elements.{All-head, All-tail, All-weaker}
+use Rattle.std.proofs.lemmas.List.Elements.{All-append, All-cons, All-head, All-nil, All-tail, All-weaker}
 use Rattle.std.proofs.lemmas.List.{append-nil}
 use Rattle.std.proofs.lemmas.List.Splits.{length-slice_split, slice_split_at, slice_split_none}
 use Rattle.text_fields.specs.Lines.{Lacks, fields_behind, fields_of, line_feed, line_with, lines_of, pieces_between, space, text_with}
@@ -38,6 +38,14 @@ fields_come_back (field ∷ []) some lack = whole_piece space field (All-head (L
 fields_come_back (field ∷ next ∷ fields) some lack =
     pieces_between-cut space (line_with (field ∷ next ∷ fields)) field (line_with (next ∷ fields)) (All-head (Lacks space) field (next ∷ fields) lack) refl
     ∙ ap (λ (rest : List (List ℕ)). field ∷ rest) (fields_come_back (next ∷ fields) (λ none. cc) (All-tail (Lacks space) field (next ∷ fields) lack))
+
+-- the line of fields that have no line feed has none
+pub line_lacks : (fields : List (List ℕ)) → All (Lacks line_feed) fields → Lacks line_feed (line_with fields)
+line_lacks [] are = All-nil (λ each. each ≢ line_feed)
+line_lacks (field ∷ []) are = All-head (Lacks line_feed) field [] are
+line_lacks (field ∷ next ∷ fields) are =
+    All-append (λ each. each ≢ line_feed) field (space ∷ line_with (next ∷ fields)) (All-head (Lacks line_feed) field (next ∷ fields) are)
+    (All-cons (λ each. each ≢ line_feed) space (line_with (next ∷ fields)) (λ same. omega (arith, same)) (line_lacks (next ∷ fields) (All-tail (Lacks line_feed) field (next ∷ fields) are)))
 
 -- the lines of a text that is made of lines
 pub lines_come_back : (lines : List (List ℕ)) → All (Lacks line_feed) lines → lines_of (text_with lines) ≡ lines ++ [] ∷ []

@@ -37,7 +37,7 @@ spelling_shape words IsInRange is fields value spells = record {
 }
 
 pub spelling_is_not_faulty : {K V : Type 0} (words : Vocabulary K V) (IsInRange : V → Type 0) → IsVocabulary words IsInRange
-    → (fields : List (List ℕ)) (value : V) (fault : FieldsFault) → AreSpelling words IsInRange fields value → AreFaulty words IsInRange fields fault → ⊥
+    → (fields : List (List ℕ)) (value : V) (fault : FieldsFault) → AreSpelling words IsInRange fields value → ¬ AreFaulty words IsInRange fields fault
 spelling_is_not_faulty words IsInRange is fields value Word spells faulty =
     named_or_none words fields (words.kind value) (words.others value) spells.spelling faulty
 spelling_is_not_faulty words IsInRange is fields value Shape spells faulty = faulty.1 (spelling_shape words IsInRange is fields value spells)
@@ -57,23 +57,22 @@ one_fault words IsInRange fields Number Word faulty faulty' =
 one_fault words IsInRange fields Number Shape faulty faulty' = absurd (faulty'.1 faulty.0)
 one_fault words IsInRange fields Number Number faulty faulty' = refl
 
--- the fields behind a name spell what all the fields spell
-pub spelled_behind : {K V : Type 0} (words : Vocabulary K V) (IsInRange : V → Type 0) (kind : K) (fields behind : List (List ℕ)) (value : V)
-    → fields ≡ words.name kind ∷ behind → SpellBehind words IsInRange kind behind value → AreSpelling words IsInRange fields value
-spelled_behind words IsInRange kind fields behind value first spells = record {
+-- what the fields behind a name spell, they spell with the name before them
+pub spelled_behind : {K V : Type 0} (words : Vocabulary K V) (IsInRange : V → Type 0) (kind : K) (behind : List (List ℕ)) (value : V)
+    → SpellBehind words IsInRange kind behind value → AreSpelling words IsInRange (words.name kind ∷ behind) value
+spelled_behind words IsInRange kind behind value spells = record {
   in_range = spells.in_range;
-  spelling = first ∙ ap (λ (k : _). words.name k ∷ behind) (sym spells.same_kind)
+  spelling = ap (λ (k : _). words.name k ∷ behind) (sym spells.same_kind)
       ∙ ap (λ (others : List (List ℕ)). words.name (words.kind value) ∷ others) spells.spelling;
 }
 
 -- fields whose first is the name of this kind have its shape, or none
 pub wrong_shape : {K V : Type 0} (words : Vocabulary K V) (IsInRange : V → Type 0) → IsVocabulary words IsInRange
-    → (kind : K) (fields behind : List (List ℕ)) → fields ≡ words.name kind ∷ behind → (¬ AreFilled (words.count kind) behind)
-    → AreFaulty words IsInRange fields Shape
-wrong_shape words IsInRange is kind fields behind first wrong = (
-  named_or_none words fields kind behind first,
+    → (kind : K) (behind : List (List ℕ)) → (¬ AreFilled (words.count kind) behind) → AreFaulty words IsInRange (words.name kind ∷ behind) Shape
+wrong_shape words IsInRange is kind behind wrong = (
+  named_or_none words (words.name kind ∷ behind) kind behind refl,
   λ has.
-      let same = same_behind (words.name kind) (words.name has.named) behind has.behind (sym first ∙ has.first) in
+      let same = same_behind (words.name kind) (words.name has.named) behind has.behind has.first in
       wrong (rw (is.told kind has.named same.0, same.1) has.filled),
 )
 

@@ -1,4 +1,4 @@
--- Profile: what `run`, `run trace` and `run json` write for the bytes that they read. The whole input is read before a line is written.
+-- Profile: what `run` writes in each of its modes for the bytes that it reads. The whole input is read before a line is written.
 use Rattle.std.specs.Prelude.{◌≡◌, ℕ, true, List}
 use Rattle.scenario.specs.declared.values.Scenario.{Scenario}
 use Rattle.scenario_text.specs.declared.fault.Fault.{Fault}
@@ -8,6 +8,9 @@ use Rattle.scenario_text.specs.Faults.{IsFirstFault}
 use Rattle.scenario_text.specs.FaultWords.{fault_word}
 use Rattle.text_fields.specs.FaultLine.{fault_line}
 use Rattle.report_lines.specs.declared.mode.Mode.{Mode}
+use Rattle.report_lines.specs.declared.mode.Mode.TheVariants.{Trace}
+use Rattle.air_audit.specs.AuditedTrace.{IsAudited}
+use Rattle.air_audit.specs.OwnTraces.{HasNoEventStep}
 use Rattle.runs.specs.CompleteRounds.{RoundsAreComplete}
 use Rattle.runs.specs.Headline.{Headline, AreHeardAsListed}
 use Rattle.runs.specs.Report.{report_of, report_text_of}
@@ -43,10 +46,16 @@ pub record SaysInventory (mode : Mode) (bytes text : List ℕ) : Type 0 where
   pub reports : Reports mode bytes text
   pub rounds : RoundsAreComplete reports.scenario
 
+-- the text is the trace of the scenario that the bytes spell, and where no step is an event, it is audited
+pub record IsOwnTrace (bytes text : List ℕ) : Type 0 where
+  pub reports : Reports Trace bytes text
+  pub audited : HasNoEventStep reports.scenario.steps → IsAudited (start_of reports.scenario) text
+
 -- what a run proves of its report
 pub record ProvesRun (mode : Mode) (bytes text : List ℕ) : Type 0 where
   pub headline : SaysHeadline mode bytes text
   pub inventory : SaysInventory mode bytes text
+  pub own_trace : mode ≡ Trace → IsOwnTrace bytes text
 
 -- the report of the scenario that the bytes spell
 abbrev pub run_job : Mode → Job

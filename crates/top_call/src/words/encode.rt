@@ -57,6 +57,7 @@ fn write_lines<O: Sink>(alloc: Global, input: &[u8], output: &mut O) -> Result<(
     requires { IsGrammatical input.now }
     ensures ok { OnOk result (AddsWhole (Encodes input.now) (O.written output.old) (O.written output.new)) }
     ensures failed { IsErrOf result WriteEnd.Fault → FaultsRose (O.faults output.old) (O.faults output.new) }
+    ensures memory { IsErrOf result WriteEnd.OutOfMemory → O.faults output.new ≡ O.faults output.old }
     ensures front { OnErr result (AddsFront (Encodes input.now) (O.written output.old) (O.written output.new)) }
 {
     // By this law a line is written for each line that is left, so that there is a whole text.
@@ -85,9 +86,10 @@ fn put_encoded<O: Sink>(
     ensures sent { OnOk result ((written : List ℕ) × EncodesLine line.now [] written
         × Sends (page.old ++ written) page.new (O.written output.old) (O.written output.new)) }
     ensures failed { IsErrOf result WriteEnd.Fault → FaultsRose (O.faults output.old) (O.faults output.new) }
+    ensures memory { IsErrOf result WriteEnd.OutOfMemory → O.faults output.new ≡ O.faults output.old }
+    ensures steady { OnOk result (O.faults output.new ≡ O.faults output.old) }
     ensures lost { OnErr result ((written : List ℕ) × EncodesLine line.now [] written
         × Loses (page.old ++ written) (O.written output.old) (O.written output.new)) }
-    ensures count { O.faults output.old ≤ O.faults output.new }
 {
     requests_have_a_line();
     text.clear();

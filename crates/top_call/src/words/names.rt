@@ -1,5 +1,5 @@
 //! The word `names`: lines, each with its name behind it.
-ghost use Rattle.std.specs.Prelude.{◌≡◌, ℕ, ◌+◌, ◌≤◌, List, [], ◌∷◌, ◌++◌, length, OnOk, OnErr, IfSome, IfNone};
+ghost use Rattle.std.specs.Prelude.{◌≡◌, ◌≢◌, Err, ℕ, ◌+◌, ◌≤◌, List, [], ◌∷◌, ◌++◌, length, OnOk, OnErr, IfSome, IfNone};
 ghost use Rattle.air_io.specs.Flow.{FaultsRose};
 ghost use Rattle.text_fields.specs.Lines.{line_feed, text_with};
 ghost use Rattle.report_lines.specs.Names.{BecomesLines};
@@ -22,8 +22,9 @@ use text_fields::{fault_line, push_bytes, split_line};
 /// Reads the input to its end, and writes what is defined for it. The whole input is checked before a line is
 /// written.
 pub fn answer<I: Source, O: Sink>(alloc: Global, input: &mut I, output: &mut O) -> Status
-    ensures { Tells names_job (I.left input.old) (I.left input.new) (O.written output.old) (O.written output.new)
+    ensures tells { Tells names_job (I.left input.old) (I.left input.new) (O.written output.old) (O.written output.new)
         (I.faults input.old) (I.faults input.new) (O.faults output.old) (O.faults output.new) (output.new ≡ output.old) result }
+    ensures memory { result ≡ Status.OutOfMemory → output.new ≡ output.old }
 {
     match read_to_end(alloc, input, MOST_INPUT_BYTES) {
         Ok(bytes) => status_of(write_with_names(bytes.as_slice(), output)),
@@ -35,7 +36,8 @@ pub fn answer<I: Source, O: Sink>(alloc: Global, input: &mut I, output: &mut O) 
 /// reports that the last line has no line feed. It takes no memory.
 fn write_with_names<O: Sink>(input: &[u8], output: &mut O) -> Result<Wrote, WriteEnd>
     requires { length input.now ≤ input_limit }
-    ensures { EndsSo names_job input.now (O.written output.old) (O.written output.new) (O.faults output.old) (O.faults output.new) result }
+    ensures ends { EndsSo names_job input.now (O.written output.old) (O.written output.new) (O.faults output.old) (O.faults output.new) result }
+    ensures memory { result ≢ Err WriteEnd.OutOfMemory }
 {
     match cut_line(input) {
         None => {

@@ -63,6 +63,7 @@ impl Page {
         ensures empty { OnOk result (self.new ≡ []) }
         ensures failed { OnErr result (FaultsRose (O.faults output.old) (O.faults output.new)) }
         ensures lost { OnErr result (Loses self.old (O.written output.old) (O.written output.new)) }
+        ensures steady { OnOk result (O.faults output.new ≡ O.faults output.old) }
         ensures count { O.faults output.old ≤ O.faults output.new }
     {
         write_all(output, self.bytes.as_slice())?;
@@ -79,6 +80,7 @@ impl Page {
         ensures sent { OnOk result (Sends (self.old ++ piece.now) self.new (O.written output.old) (O.written output.new)) }
         ensures failed { OnErr result (FaultsRose (O.faults output.old) (O.faults output.new)) }
         ensures lost { OnErr result (Loses (self.old ++ piece.now) (O.written output.old) (O.written output.new)) }
+        ensures steady { OnOk result (O.faults output.new ≡ O.faults output.old) }
         ensures count { O.faults output.old ≤ O.faults output.new }
     {
         if piece.len() <= self.room() {
@@ -107,6 +109,7 @@ impl Page {
         ensures sent { OnOk result (Sends (self.old ++ (first.now ++ second.now)) self.new (O.written output.old) (O.written output.new)) }
         ensures failed { OnErr result (FaultsRose (O.faults output.old) (O.faults output.new)) }
         ensures lost { OnErr result (Loses (self.old ++ (first.now ++ second.now)) (O.written output.old) (O.written output.new)) }
+        ensures steady { OnOk result (O.faults output.new ≡ O.faults output.old) }
         ensures count { O.faults output.old ≤ O.faults output.new }
     {
         self.put(first, output)?;

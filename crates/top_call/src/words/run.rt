@@ -1,4 +1,4 @@
-//! The words `run`, `run trace` and `run json`: the report of a scenario, in the mode that they name.
+//! The word `run`, alone or with `trace`, `json`, `exchanges` or `vcd` behind it: the report of a scenario, in the mode that they name.
 ghost use Rattle.std.specs.Prelude.{◌≡◌, ℕ, List};
 ghost use Rattle.report_lines.specs.declared.mode.Mode.{Mode};
 ghost use Rattle.top_call.specs.Job.{Defines, IsLawful};
@@ -7,6 +7,7 @@ ghost use Rattle.top_call.specs.words.Reported.{run_job};
 
 use crate::ending::{MOST_INPUT_BYTES, WriteEnd, Wrote, status_of, unread_status};
 use crate::status::Status;
+use air_audit::own_traces_are_audited;
 use air_io::{Sink, Source, read_to_end, write_all};
 use air_world::{Mode, play, set_up};
 use runs::{headline, rounds_are_complete};
@@ -58,7 +59,7 @@ fn write_report<O: Sink>(
 }
 
 /// An input has one report or one fault line at most, and never both; a report says its headline, and what its
-/// honest rounds prove.
+/// honest rounds prove, and a trace is audited.
 pub fn run_is_lawful()
     ensures { (mode : Mode) → IsLawful (run_job mode) }
 {
@@ -67,6 +68,7 @@ pub fn run_is_lawful()
     scenario_texts_are_not_faulty();
     headline();
     rounds_are_complete();
+    own_traces_are_audited();
 }
 
 /// Each list of bytes has a defined text in each mode of `run`: the report of the scenario that it spells, or its

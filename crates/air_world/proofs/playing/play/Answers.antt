@@ -13,6 +13,12 @@ returns-clause-exchanges g c = (c.write_run.ensures c.args.mode c.in_ok-spelling
 pub returns-clause-write : goal.returns-clause-write
 returns-clause-write g c = (c.write_run.ensures c.args.mode c.in_ok-spelling.ensures).write
 
+pub returns-clause-memory : goal.returns-clause-memory
+returns-clause-memory g c = (c.write_run.ensures c.args.mode c.in_ok-spelling.ensures).memory
+
+pub returns-clause-steady : goal.returns-clause-steady
+returns-clause-steady g c = (c.write_run.ensures c.args.mode c.in_ok-spelling.ensures).steady
+
 pub returns-clause-part : goal.returns-clause-part
 returns-clause-part g c = (c.write_run.ensures c.args.mode c.in_ok-spelling.ensures).part
 

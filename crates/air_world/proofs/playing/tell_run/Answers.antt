@@ -1,8 +1,8 @@
 use Rattle.std.proofs.Common.{[], ap, inr, refl, sym, subst, length}
 use Rattle.air_events.specs.Cursor.{IsLeft}
 use Rattle.air_events.specs.Entries.{Rises}
-use Rattle.air_world.proofs.Beginning.{at-first, between-first, cut-history, ends-played, scenario-playable, stands-slice, whole-told}
-use Rattle.air_world.proofs.Passing.{cut-behind, cut-longer, cut-then, ends-cut, passes-nothing, passes-same}
+use Rattle.air_world.proofs.Beginning.{at-first, at-kept, between-first, cut-history, ends-played, scenario-playable, stands-slice, whole-told}
+use Rattle.air_world.proofs.Passing.{listening, cut-behind, cut-longer, cut-then, ends-cut, passes-nothing, passes-same}
 use Rattle.air_world.proofs.Slots.{stands-then}
 use Rattle.air_world.specs.Playing.{IsBetweenSteps}
 use Rattle.air_world.specs.Telling.{lines_behind}
@@ -13,8 +13,8 @@ use Rattle.air_world.proofs.playing.tell_run.Goals as goal
 pub returns-in_err-run : goal.returns-in_err-run
 returns-in_err-run g c =
     ends-cut c.from_residual.result _ _ _ c.from_residual.ensures.1
-    (cut-longer g.R.Listener.hears g.R.Listener.failed [] [] (run_lines (start_of c.args.scenario.now) c.args.scenario.now.steps) _ _ _ _ refl
-    (cut-behind g.R.Listener.hears g.R.Listener.failed [] [] _ _ _ (passes-nothing g.R.Listener.hears [] c.args.report.now) (inr refl)))
+    (cut-longer (listening g.R.Listener.hears g.R.Listener.failed _ _) [] [] (run_lines (start_of c.args.scenario.now) c.args.scenario.now.steps) _ _ refl
+    (cut-behind (listening g.R.Listener.hears g.R.Listener.failed _ _) [] [] _ (passes-nothing g.R.Listener.hears [] c.args.report.now) (inr (refl, c.requires.faultless))))
 
 pub play_steps-requires-clause-between : goal.play_steps-requires-clause-between
 play_steps-requires-clause-between g c =
@@ -37,8 +37,8 @@ returns-in_err-play_steps g c =
     let cause = c.from_residual-in_err-play_steps in
     let first = passes-same g.R.Listener.hears [] (first_lines c.args.air.now.link) (lines_behind (start_of scenario) []) _ _ (ap (λ a. first_lines a.link) c.requires.fresh) (c.tell_link.ensures []) in
     ends-cut cause.result _ _ _ cause.ensures.1
-    (cut-history g.R.Listener.hears g.R.Listener.failed scenario _ _ _ _ c.as_slice-2.ensures.value
-    (cut-then g.R.Listener.hears g.R.Listener.failed _ _ _ _ _ _ _ first (c.in_err-play_steps.ensures.ends (start_of scenario) [] at)))
+    (cut-history (listening g.R.Listener.hears g.R.Listener.failed _ _) scenario _ _ c.as_slice-2.ensures.value
+    (cut-then (listening g.R.Listener.hears g.R.Listener.failed _ _) _ _ _ _ _ first (c.in_err-play_steps.ensures.ends (start_of scenario) [] at)))
 
 pub returns : goal.returns
 returns g c =
@@ -47,6 +47,9 @@ returns g c =
     (c.new-entries.ensures.left (subst (λ e. Rises 0 e) (sym c.as_slice.ensures.value) c.requires.scenario.rising)) in
     let at = at-first scenario c.args.air.now c.in_ok-run.run' c.requires.scenario c.requires.fresh c.len.ensures.legal c.new-entries.result left c.in_ok-run.ensures in
     let first = passes-same g.R.Listener.hears [] (first_lines c.args.air.now.link) (lines_behind (start_of scenario) []) _ _ (ap (λ a. first_lines a.link) c.requires.fresh) (c.tell_link.ensures []) in
-    let stands = stands-slice _ scenario _ _ _ c.as_slice-2.ensures.value (stands-then g.R.Listener.hears _ _ _ _ _ (start_of scenario) _ _ _ first (c.in_ok-play_steps.ensures.ends (start_of scenario) [] at)) in
-    ends-played g.R.Listener.hears g.R.Listener.failed c.check.result scenario _ _ _ _ _
-    (whole-told g.R.Listener.hears scenario _ _ _ _ _ stands c.in_ok-play_steps.ensures.enough c.finish.ensures.told) stands.at c.finish.ensures.air c.check.ensures.faultless c.check.ensures.cause
+    let stands = stands-slice _ scenario _ _ _ c.as_slice-2.ensures.value (stands-then (listening g.R.Listener.hears g.R.Listener.failed _ _) _ _ _ (record { start = start_of scenario; past = _; air = _; run = _ })
+    first (c.in_ok-play_steps.ensures.ends (start_of scenario) [] at)) in
+    ends-played (listening g.R.Listener.hears g.R.Listener.failed _ _) c.check.result scenario _ _
+    (whole-told (listening g.R.Listener.hears g.R.Listener.failed _ _) _ scenario _ _ stands c.in_ok-play_steps.ensures.enough c.finish.ensures.told)
+    (at-kept (start_of scenario) _ _ _ _ c.finish.ensures.air stands.at)
+    (c.check.ensures.faultless, c.check.ensures.cause)

@@ -1,5 +1,6 @@
 use Rattle.std.proofs.Common.{refl, sym, subst, ◌∙◌}
-use Rattle.air_world.proofs.Written.{run-written, spelling_for, text-lent, told_text}
+use Rattle.air_world.proofs.Passing.{listening}
+use Rattle.air_world.proofs.Written.{run-written, spelling_for, told_text}
 use Rattle.report_lines.specs.Spelled.{line_of_mode, mode_behind}
 use Rattle.report_lines.specs.TextReport.{IsAdded}
 use Rattle.report_lines.specs.declared.mode_spelling.ModeSpelling.{ModeSpelling}
@@ -13,11 +14,14 @@ returns g c = λ mode fresh.
     let old = c.new-report.result in
     let later = c.tell_scenario.new.report in
     let back = c.out-1.given in
-    run-written _ _ c.tell_scenario.result mode scenario old later (sink.written c.args.out.now) (sink.written back.0) (sink.faults c.args.out.now) (sink.faults back.0) _ c.tell_scenario.ensures
+    run-written (listening _ _ old later) c.tell_scenario.result mode scenario
+    (record { first = sink.written c.args.out.now; written = sink.written back.0; before = sink.faults c.args.out.now; after = sink.faults back.0 }) _ c.tell_scenario.ensures
     (λ lines passes.
     let heard = passes.on old (refl, hears-nothing line_of_mode mode_behind old.spelling.now old.fault (sink.written old.out.now) (sink.faults old.out.now)) in
     let spelled = c.new-report.ensures.spelling ∙ fresh in
     let added = subst (λ (spelling : ModeSpelling). IsAdded (told_text spelling lines) (sink.written old.out.now) (sink.written later.out.now) (sink.faults old.out.now) (sink.faults later.out.now) later.fault)
     spelled (heard.1.text c.new-report.ensures.fault) in
-    text-lent sink.written sink.faults (told_text (spelling_for mode scenario) lines) old.out.now c.args.out.now later.out.now back.0 later.fault c.new-report.ensures.written
-    (back.1 (sym (heard.0 ∙ c.new-report.ensures.out))) added)
+    let text = told_text (spelling_for mode scenario) lines in
+    subst (λ first. IsAdded text (sink.written first) (sink.written back.0) (sink.faults first) (sink.faults back.0) later.fault) c.new-report.ensures.written
+    (subst (λ written. IsAdded text (sink.written old.out.now) (sink.written written) (sink.faults old.out.now) (sink.faults written) later.fault)
+    (sym (back.1 (sym (heard.0 ∙ c.new-report.ensures.out)))) added))

@@ -9,8 +9,8 @@ use Rattle.command_text.proofs.lists.mask_of_digits.Goals as goal
 pub returns-then-is_err-clause-only : goal.returns-then-is_err-clause-only
 returns-then-is_err-clause-only c = λ bits few spells.
     let full : length c.loop-bit.mask ≡ 255 = search rules in
-    too_many c.args.digits.now c.loop-bit.rest.now c.in-Some.behind.now c.loop-bit.mask bits c.in-Some.bit c.loop-bit.invariant.spelled
-    c.in-Some.ensures.value full few spells
+    too_many c.args.digits.now c.loop-bit.rest.now c.loop-bit.mask bits c.loop-bit.invariant.spelled
+    (omega (arith, ap length c.in-Some.ensures.value)) full few spells
 
 pub loop-bit-preserved : goal.loop-bit-preserved
 loop-bit-preserved c =

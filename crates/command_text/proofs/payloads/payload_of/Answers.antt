@@ -1,7 +1,6 @@
 -- The words of the first four and of the last four digits spell a payload.
-use Rattle.std.proofs.Common.{◌≡◌, ◌^◌, ◌<◌, ◌+◌, ◌*◌, ◌/◌, length, take, drop, arith, rules, ◌∙◌}
-use Rattle.text_fields.specs.Hexadecimal.{hex_word}
-use Rattle.command_text.proofs.PayloadDigits.{no_upper, not_found, payload_is, payload_read, spelled_payload}
+use Rattle.std.proofs.Common.{◌≡◌, ◌+◌, ◌*◌, ◌/◌, length, arith, rules, ◌∙◌}
+use Rattle.command_text.proofs.PayloadDigits.{HasWords, no_upper, not_found, payload_is, payload_made, payload_words, spelled_payload}
 use Rattle.command_text.proofs.payloads.payload_of.Goals as goal
 
 pub returns-in_err-word-clause-only : goal.returns-in_err-word-clause-only
@@ -11,18 +10,14 @@ returns-in_err-word-clause-only c = λ n small spells.
 pub returns-clause-value : goal.returns-clause-value
 returns-clause-value c =
     let five : length c.args.field.now ≡ 5 = search rules in
-    let first : take 4 c.args.field.now ≡ hex_word c.from-first.result = search rules in
-    let second : drop 1 c.args.field.now ≡ hex_word c.from-others.result = search rules in
-    let high : c.from-first.result < 2 ^ 16 = search rules in
-    let small : c.from-others.result < 2 ^ 16 = search rules in
+    let words : HasWords c.args.field.now c.from-first.result c.from-others.result =
+    record { high = search rules; low = search rules; first = search rules; others = search rules } in
     payload_is c.args.field.now c.new.result (c.from-first.result / 4096 * 65536 + c.from-others.result)
-    (spelled_payload c.args.field.now c.from-first.result c.from-others.result five small first second) (omega (arith, high, small)) c.new.ensures.some
+    (spelled_payload c.args.field.now c.from-first.result c.from-others.result five words) (omega (arith, words.high, words.low)) c.new.ensures.some
 
 pub returns-clause-only : goal.returns-clause-only
 returns-clause-only c = λ n small spells.
-    let first : take 4 c.args.field.now ≡ hex_word c.from-first.result = search rules in
-    let second : drop 1 c.args.field.now ≡ hex_word c.from-others.result = search rules in
-    let high : c.from-first.result < 2 ^ 16 = search rules in
-    let low : c.from-others.result < 2 ^ 16 = search rules in
-    payload_read c.args.field.now c.new.result c.from-first.result c.from-others.result n small high low first second spells c.new.ensures.some
-    c.new.ensures.none.0
+    let words : HasWords c.args.field.now c.from-first.result c.from-others.result =
+    record { high = search rules; low = search rules; first = search rules; others = search rules } in
+    payload_made c.new.result (c.from-first.result / 4096 * 65536 + c.from-others.result) n small
+    (payload_words c.args.field.now c.from-first.result c.from-others.result n small words spells) c.new.ensures.some c.new.ensures.none.0

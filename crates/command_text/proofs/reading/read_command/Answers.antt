@@ -13,11 +13,11 @@ returns-then-not-are_filled-clause-only c = λ command is.
     let first : c.args.fields ≡ command_name c.in-Some-command_named.kind ∷ c.next.new.self = search rules in
     let wrong : AreFilled (command_field_count c.in-Some-command_named.kind) c.next.new.self → ⊥ = λ are. search rules in
     absurd (command_is_not_faulty c.args.fields command Shape is
-    (wrong_shape commands IsLegalCommand commands_are c.in-Some-command_named.kind c.args.fields c.next.new.self first wrong))
+    (rw first (wrong_shape commands IsLegalCommand commands_are c.in-Some-command_named.kind c.next.new.self wrong)))
 
 pub returns-in-Some-read_behind-clause-only : goal.returns-in-Some-read_behind-clause-only
 returns-in-Some-read_behind-clause-only c = λ command is.
     let first : c.args.fields ≡ command_name c.in-Some-command_named.kind ∷ c.next.new.self = search rules in
     command_told c.args.fields c.in-Some-read_behind.command command
-    (spelled_behind commands IsLegalCommand c.in-Some-command_named.kind c.args.fields c.next.new.self c.in-Some-read_behind.command first
-    c.in-Some-read_behind.ensures.value) is
+    (rw first (spelled_behind commands IsLegalCommand c.in-Some-command_named.kind c.next.new.self c.in-Some-read_behind.command
+    c.in-Some-read_behind.ensures.value)) is

@@ -46,7 +46,7 @@ reads-preserved g c =
     let room = c.if-count-most.false in
     let number = old.number in
     let more = c.take.ensures.number in
-    let counted = c.read.ensures.count in
+    let counted = c.in-Took.ensures.steady in
     let before = old.count in
     let within = old.within in
     record {

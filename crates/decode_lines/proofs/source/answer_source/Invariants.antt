@@ -15,7 +15,7 @@ invariant-reads g l = record {
   size : length bytes ≡ l.read;
   taken : Reads (g.I.Source.left l.initial.source) (g.I.Source.left l.source) bytes;
   stands : Stands l.answering.fault bytes l.answering.part.items (string_bytes l.answering.text) l.answering.number;
-  count : g.I.Source.faults l.initial.source ≤ g.I.Source.faults l.source;
+  count : g.I.Source.faults l.source ≡ g.I.Source.faults l.initial.source;
 }
 
 abbrev pub decreases-reads : goal.decreases-reads

@@ -9,4 +9,4 @@ pub returns-clause-one : goal.returns-clause-one
 returns-clause-one c = λ t chips even tells trext levels left right. same_answer t trext levels left right
 
 pub returns-clause-bits : goal.returns-clause-bits
-returns-clause-bits c = λ t chips even tells trext levels left right. one_stream t chips even tells trext left right levels
+returns-clause-bits c = λ t chips even tells trext levels left right. one_stream (record { table = t; chips = chips; even = even; tells = tells }) trext left right levels

@@ -9,7 +9,8 @@ use Rattle.probe_lines.proofs.playing.play_on.Given as goal
 abbrev pub invariant-loop-stimulus : goal.invariant-loop-stimulus
 invariant-loop-stimulus g l = record {
   played : (said : List Stimulus) → AreStimuli l.fn.stimuli said
-      → PlayedTo (tag_value_of l.fn.first) said l.number (tag_value_of l.tag) l.left (g.O.Sink.written l.initial.out) (g.O.Sink.written l.out);
+      → PlayedTo (record { first = tag_value_of l.fn.first; said = said; written = g.O.Sink.written l.initial.out; faults = g.O.Sink.faults l.initial.out })
+      (record { number = l.number; tag = tag_value_of l.tag; left = l.left; written = g.O.Sink.written l.out });
   steady : g.O.Sink.faults l.out ≡ g.O.Sink.faults l.initial.out;
 }
 

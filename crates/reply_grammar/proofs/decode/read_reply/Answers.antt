@@ -1,4 +1,4 @@
-use Rattle.std.proofs.Common.{sym, ◌∙◌, arith}
+use Rattle.std.proofs.Common.{sym, ◌∙◌}
 use Rattle.std.proofs.lemmas.Bool.{eqb-true, eqb-false}
 use Rattle.reply_grammar.specs.laws.PassingReplies.{rn16_passed, handle_passed, same_passed, epc_passed, words_passed, any_words_passed, header_passed, words_error, any_words_error, header_error}
 use Rattle.reply_grammar.proofs.decode.read_reply.Goals as goal
@@ -8,7 +8,7 @@ returns-in-Rn16 c = rn16_passed c.args.expect.now c.args.bits.now.items c.word_a
 
 pub returns-in-Epc : goal.returns-in-Epc
 returns-in-Epc c =
-    epc_passed c.args.expect.now c.args.bits.now.items c.word_at-in-Epc.result c.epc_words.result c.in-Epc.is c.requires c.word_at-in-Epc.ensures c.epc_words.ensures.count c.epc_words.ensures.range c.epc_words.ensures.words
+    epc_passed c.args.expect.now c.args.bits.now.items c.word_at-in-Epc.result c.epc_words.result c.in-Epc.is c.requires c.word_at-in-Epc.ensures c.epc_words.ensures
 
 pub returns-in-Handle : goal.returns-in-Handle
 returns-in-Handle c = handle_passed c.args.expect.now c.args.bits.now.items c.word_at-in-Handle.result c.in-Handle.is c.requires c.word_at-in-Handle.ensures
@@ -30,13 +30,12 @@ returns-then-is_error-3 c =
 
 pub returns-else-is_error : goal.returns-else-is_error
 returns-else-is_error c =
-    words_passed c.args.expect.now c.args.bits.now.items _ _ c.from.result c.read_words.result c.in-Words.is c.requires (eqb-false _ 41 (sym c.is_error.ensures ∙ c.if-is_error.false))
-    (c.from.ensures ∙ c.get.ensures.value) c.read_words.ensures.count c.read_words.ensures.range c.read_words.ensures.words
+    words_passed c.args.expect.now c.args.bits.now.items _ _ c.read_words.result c.in-Words.is c.requires (eqb-false _ 41 (sym c.is_error.ensures ∙ c.if-is_error.false)) c.read_words.ensures
 
 pub returns-else-is_error-2 : goal.returns-else-is_error-2
 returns-else-is_error-2 c =
-    any_words_passed c.args.expect.now c.args.bits.now.items _ _ c.read_words-in-AnyWords.result c.in-AnyWords.is c.requires (eqb-false _ 41 (sym c.is_error-in-AnyWords.ensures ∙ c.if-is_error-2.false))
-    (omega (arith, c.len.ensures.count)) c.read_words-in-AnyWords.ensures.count c.read_words-in-AnyWords.ensures.range c.read_words-in-AnyWords.ensures.words
+    any_words_passed c.args.expect.now c.args.bits.now.items _ c.read_words-in-AnyWords.result c.in-AnyWords.is c.requires (eqb-false _ 41 (sym c.is_error-in-AnyWords.ensures ∙ c.if-is_error-2.false))
+    c.read_words-in-AnyWords.ensures
 
 pub returns-else-is_error-3 : goal.returns-else-is_error-3
 returns-else-is_error-3 c =

@@ -9,5 +9,5 @@ pub returns-in-Some-read_behind-clause-only : goal.returns-in-Some-read_behind-c
 returns-in-Some-read_behind-clause-only c = λ reply is.
     let first : c.args.fields ≡ reply_name c.in-Some-reply_named.kind ∷ c.next.new.self = search rules in
     reply_told c.args.fields c.in-Some-read_behind.reply reply
-    (spelled_behind replies IsReplyForm c.in-Some-reply_named.kind c.args.fields c.next.new.self c.in-Some-read_behind.reply first
-    c.in-Some-read_behind.ensures.value) is
+    (rw first (spelled_behind replies IsReplyForm c.in-Some-reply_named.kind c.next.new.self c.in-Some-read_behind.reply
+    c.in-Some-read_behind.ensures.value)) is

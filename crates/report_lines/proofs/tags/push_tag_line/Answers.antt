@@ -5,5 +5,5 @@ use Rattle.report_lines.proofs.tags.push_tag_line.Goals as goal
 
 pub returns : goal.returns
 returns c = IfOk-equal _ _ _ _ c.end_line.ensures
-    (tag_line _ _ _ c.args.number (tag_value_of c.args.tag.now) c.state.result c.flags.result.now c.locks.result.now c.memory.result.now
-    c.state.ensures.value c.flags.ensures c.locks.ensures c.memory.ensures c.in_ok-push_standing.ensures c.in_ok-next_banks.ensures)
+    (tag_line _ _ _ c.args.number (tag_value_of c.args.tag.now) (rw (c.state.ensures.value, c.flags.ensures, c.locks.ensures) at c.in_ok-push_standing.ensures)
+    (rw c.memory.ensures at c.in_ok-next_banks.ensures))

@@ -3,10 +3,12 @@ use Rattle.runs.proofs.CompleteRound.{complete-inventory}
 use Rattle.runs.proofs.inventory.complete_inventory.Goals as goal
 
 pub returns-clause-run : goal.returns-clause-run
-returns-clause-run c =
+returns-clause-run c = λ start taken before after spec operations legal same honest apart.
     complete-inventory c.round_laws.ensures.limit c.round_facts.ensures
+    (record { start = start; before = before; after = after; spec = spec; operations = operations }) taken legal same (record { honest = honest; apart = apart })
 
 pub returns-clause-scenario : goal.returns-clause-scenario
 returns-clause-scenario c = λ scenario before after spec operations is same honest apart.
     complete-inventory c.round_laws.ensures.limit c.round_facts.ensures
-    (start_of scenario) scenario.steps before after spec operations (c.scenario_steps_are_legal.ensures scenario is) same honest apart
+    (record { start = start_of scenario; before = before; after = after; spec = spec; operations = operations }) scenario.steps
+    (c.scenario_steps_are_legal.ensures scenario is) same (record { honest = honest; apart = apart })

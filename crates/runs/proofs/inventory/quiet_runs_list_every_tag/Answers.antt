@@ -5,6 +5,6 @@ use Rattle.scenario.specs.declared.values.Step.TheVariants as steps
 
 pub returns : goal.returns
 returns c = λ start spec operations slots past legal part own silent none apart quiet.
-    every-tag c.round_laws.ensures.limit c.round_facts.ensures
-    start spec operations slots past legal part own silent
-    (c.rounds_are_honest_where_nothing_is_said.ensures.run start (steps.Round spec operations ∷ []) 1 operations none silent) apart quiet
+    let honest = c.rounds_are_honest_where_nothing_is_said.ensures.run start (steps.Round spec operations ∷ []) 1 operations none silent in
+    every-tag c.round_laws.ensures.limit c.round_facts.ensures start spec operations slots past
+    (record { legal = legal; part = part; own = own; silent = silent; fair = record { honest = honest; apart = apart } }) quiet

@@ -1,5 +1,5 @@
 -- The first and the last samples are all samples of a group.
-use Rattle.std.proofs.Common.{◌≡◌, ◌+◌, ◌-◌, ◌≤◌, length, take, drop, arith, ap, ◌∙◌}
+use Rattle.std.proofs.Common.{◌≡◌, ◌+◌, ◌-◌, ◌≤◌, length, take, drop, arith, ap, sym, ◌∙◌}
 use Rattle.std.proofs.lemmas.List.{length-drop, take-take}
 use Rattle.std.proofs.lemmas.Option.{IfSome_then}
 use Rattle.sample_slicer.specs.Masks.{mask_of}
@@ -32,4 +32,4 @@ returns-else-first-last-clause-mixed c =
     let stands : back + 32 ≡ length group = omega (arith, c.requires.least) in
     let last : c.high_samples-last.result ≡ mask_of c.args.threshold (take 32 (drop back group)) =
     c.high_samples-last.ensures ∙ ap (mask_of c.args.threshold) (take-take 32 (length group - back) (drop back group) (omega (arith, stands))) in
-    long_mixed c.args.threshold back c.high_samples-first.result c.high_samples-last.result group c.requires.least stands c.high_samples-first.ensures last c.if-first-last.false
+    long_mixed c.args.threshold back group c.requires.least stands (λ same. c.if-first-last.false (c.high_samples-first.ensures ∙ same ∙ sym last))

@@ -1,9 +1,9 @@
 -- The mask tells the levels of the groups of a block one after the other.
-use Rattle.std.proofs.Common.{◌≡◌, ◌+◌, ◌-◌, ◌^◌, ◌<◌, ◌≤◌, length, take, drop, refl, arith, ap, sym, ◌∙◌}
+use Rattle.std.proofs.Common.{◌≡◌, ◌+◌, ◌-◌, ◌^◌, ◌≤◌, length, take, drop, refl, arith, ap, sym, ◌∙◌}
 use Rattle.std.proofs.lemmas.List.{length-drop, length-take-le, take_all}
 use Rattle.std.specs.List.{slice_range}
 use Rattle.sample_slicer.specs.Masks.{mask_of}
-use Rattle.sample_slicer.proofs.Masks.{all_bits, group_length, group_mask, behind_mask}
+use Rattle.sample_slicer.proofs.Masks.{LeftOfBlock, all_bits, group_length, group_mask, behind_mask}
 use Rattle.sample_slicer.proofs.SlicedSoFar.{sliced_more, mixed_here}
 use Rattle.sample_slicer.proofs.slicer.slice_block.Goals as goal
 
@@ -30,7 +30,8 @@ returns-in_default-clause-refused c =
     let room : place + left ≤ length c.args.samples.now = omega (arith, c.requires.block, c.loop-at.invariant.within) in
     let whole : place + c.args.per ≤ length c.args.samples.now = omega (arith, room, within) in
     let all = all_bits c.args.per c.requires.most in
-    let mask = group_mask c.args.threshold c.args.per place left c.loop-at.mask _ c.args.samples.now c.loop-at.invariant.mask room within all in
+    let left_is : LeftOfBlock c.args.threshold c.args.per place left c.loop-at.mask c.args.samples.now = record { mask_is = c.loop-at.invariant.mask; within = room; some = within } in
+    let mask = group_mask c.args.threshold c.args.per place left c.loop-at.mask _ c.args.samples.now left_is all in
     let bits = all ∙ ap (λ n. 2 ^ n) (sym (group_length c.args.per place c.args.samples.now whole)) in
     mixed_here _ _ _ c.loop-at.out.items _ so_far whole (c.in_default.ensures.mixed c.args.threshold _ mask bits)
 
@@ -48,14 +49,15 @@ loop-at-preserved c =
     let room : place + left ≤ length c.args.samples.now = omega (arith, c.requires.block, c.loop-at.invariant.within) in
     let whole : place + c.args.per ≤ length c.args.samples.now = omega (arith, room, within) in
     let all = all_bits c.args.per c.requires.most in
-    let mask = group_mask c.args.threshold c.args.per place left c.loop-at.mask _ c.args.samples.now c.loop-at.invariant.mask room within all in
+    let left_is : LeftOfBlock c.args.threshold c.args.per place left c.loop-at.mask c.args.samples.now = record { mask_is = c.loop-at.invariant.mask; within = room; some = within } in
+    let mask = group_mask c.args.threshold c.args.per place left c.loop-at.mask _ c.args.samples.now left_is all in
     let bits = all ∙ ap (λ n. 2 ^ n) (sym (group_length c.args.per place c.args.samples.now whole)) in
     let size : left - c.args.per ≡ c.args.start + 32 - (place + c.args.per) = omega (arith, within) in
     rw c.push_reserved.ensures (record {
-      so_far = sliced_more _ _ _ _ _ _ c.requires.least so_far whole (c.in-Some.ensures.pure c.args.threshold _ mask bits);
+      so_far = sliced_more _ _ _ _ _ _ c.requires.least so_far (record { whole = whole; pure = c.in-Some.ensures.pure c.args.threshold _ mask bits });
       capacity = c.loop-at.invariant.capacity;
       onward = omega (arith, c.loop-at.invariant.onward);
       within = omega (arith, within, c.loop-at.invariant.within);
-      mask = behind_mask c.args.threshold c.args.per place left c.loop-at.mask c.args.samples.now c.loop-at.invariant.mask room within
+      mask = behind_mask c.args.threshold c.args.per place left c.loop-at.mask c.args.samples.now left_is
           ∙ ap (λ n. mask_of c.args.threshold (take n (drop (place + c.args.per) c.args.samples.now))) size;
     })

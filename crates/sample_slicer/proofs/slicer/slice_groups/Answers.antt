@@ -1,5 +1,5 @@
 -- Each group that is left is taken as a whole.
-use Rattle.std.proofs.Common.{◌+◌, ◌≤◌, ◌<◌, length, arith}
+use Rattle.std.proofs.Common.{◌+◌, ◌≤◌, length, arith}
 use Rattle.sample_slicer.proofs.SlicedSoFar.{sliced_more, pure_before, mixed_here}
 use Rattle.sample_slicer.proofs.slicer.slice_groups.Goals as goal
 
@@ -16,7 +16,7 @@ loop-place-preserved c =
     let so_far = c.loop-place.invariant.so_far in
     let room : c.loop-place.place + c.args.per ≤ length c.args.samples.now = omega (arith, so_far.within) in
     rw c.push_reserved.ensures (record {
-      so_far = sliced_more _ _ _ _ _ _ c.requires.least so_far room c.in-Some.ensures.pure;
+      so_far = sliced_more _ _ _ _ _ _ c.requires.least so_far (record { whole = room; pure = c.in-Some.ensures.pure });
       capacity = c.loop-place.invariant.capacity;
     })
 

@@ -11,14 +11,14 @@ returns-then-is_err-clause-only c = λ levels are.
 pub returns-then-is_err-clause-first : goal.returns-then-is_err-clause-first
 returns-then-is_err-clause-first c = λ refusal refuses.
     let call = c.slice_groups-outcome in
-    only_refusal c.args.threshold c.args.per_level c.args.samples.now call.result call.new.out.items refusal c.requires.least call.ensures.ok call.ensures.refused refuses
+    only_refusal c.args.threshold c.args.per_level c.args.samples.now call.result call.new.out.items refusal c.requires.least (record { ok = call.ensures.ok; refused = call.ensures.refused }) refuses
 
 pub returns-else-is_err-clause-only : goal.returns-else-is_err-clause-only
 returns-else-is_err-clause-only c = λ levels are.
     let call = c.slice_groups-outcome in
-    only_levels c.args.threshold c.args.per_level c.args.samples.now call.result call.new.out.items levels c.requires.least call.ensures.ok call.ensures.refused are
+    only_levels c.args.threshold c.args.per_level c.args.samples.now call.result call.new.out.items levels c.requires.least (record { ok = call.ensures.ok; refused = call.ensures.refused }) are
 
 pub returns-else-is_err-clause-first : goal.returns-else-is_err-clause-first
 returns-else-is_err-clause-first c = λ refusal refuses.
     let call = c.slice_groups-outcome in
-    only_refusal c.args.threshold c.args.per_level c.args.samples.now call.result call.new.out.items refusal c.requires.least call.ensures.ok call.ensures.refused refuses
+    only_refusal c.args.threshold c.args.per_level c.args.samples.now call.result call.new.out.items refusal c.requires.least (record { ok = call.ensures.ok; refused = call.ensures.refused }) refuses

@@ -1,5 +1,8 @@
-use Rattle.scenario_text.proofs.LinesBefore.{has-room, disagrees-with}
+use Rattle.scenario_text.proofs.LinesBefore.{may-stand, has-room, disagrees-with}
 use Rattle.scenario_text.proofs.laws.reasons_tell_of_lines_before.Goals as goal
+
+pub returns-clause-word : goal.returns-clause-word
+returns-clause-word c = may-stand
 
 pub returns-clause-limit : goal.returns-clause-limit
 returns-clause-limit c = has-room

@@ -1,13 +1,10 @@
 use Rattle.std.proofs.Common.{length}
 use Rattle.scenario_text.specs.Taking.{standing_of}
-use Rattle.scenario_text.proofs.Reader.{SoFar, StillSays}
+use Rattle.scenario_text.proofs.Reader.{IsRead}
 use Rattle.scenario_text.proofs.reading.read_lines.Given as goal
 
 abbrev pub invariant-loop-line : goal.invariant-loop-line
-invariant-loop-line l = record {
-  so_far : SoFar l.text l.rest (standing_of l.progress);
-  still_says : StillSays l.text l.rest (standing_of l.progress);
-}
+invariant-loop-line l = IsRead l.text l.rest (standing_of l.progress)
 
 abbrev pub decreases-loop-line : goal.decreases-loop-line
 decreases-loop-line l = length l.rest

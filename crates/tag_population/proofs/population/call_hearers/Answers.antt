@@ -1,13 +1,27 @@
 use Rattle.std.proofs.Common.{arith}
-use Rattle.tag_population.proofs.QueryRepCalls.{rep_calls, rep_called_for, rep_bound, called_counted}
+use Rattle.tag_population.proofs.QueryRepCalls.{RepCalls, rep_called_for, rep_bound, called_counted}
+use Rattle.tag_population.proofs.population.call_hearers.Given.{Over}
+use Rattle.tag_population.proofs.population.call_hearers.Goals.{After-count_down}
 use Rattle.tag_population.proofs.population.call_hearers.Goals as goal
+
+abbrev rep_calls : (g : Over) (c : After-count_down g) → RepCalls c.args.session c.args.entry.now c.args.waiting.now c.args.seats.now c.call_due.new.waiting c.call_due.new.seats
+rep_calls g c = record {
+  middle = c.call_missed.new.waiting;
+  between = c.call_missed.new.seats;
+  steps = c.args.steps.now;
+  stepped = c.call_missed.new.steps;
+  last = c.call_due.new.steps;
+  rest = c.requires.rest;
+  missed = c.call_missed.ensures.called;
+  first = c.call_missed.ensures.calls;
+  due = c.call_due.ensures.called;
+  second = c.call_due.ensures.calls;
+}
 
 pub returns-clause-called : goal.returns-clause-called
 returns-clause-called g c =
     rw c.count_down.ensures
-    (rep_called_for c.args.session c.args.entry.now c.args.waiting.now c.args.seats.now c.call_due.new.waiting c.call_due.new.seats
-    (rep_calls c.args.session c.args.entry.now c.args.waiting.now c.call_missed.new.waiting c.call_due.new.waiting c.args.seats.now c.call_missed.new.seats c.call_due.new.seats
-    c.args.steps.now c.call_missed.new.steps c.call_due.new.steps c.requires.rest c.call_missed.ensures.called c.call_missed.ensures.calls c.call_due.ensures.called c.call_due.ensures.calls))
+    (rep_called_for c.args.session c.args.entry.now c.args.waiting.now c.args.seats.now c.call_due.new.waiting c.call_due.new.seats (rep_calls g c))
 
 pub returns-clause-counted : goal.returns-clause-counted
 returns-clause-counted g c =
@@ -17,6 +31,4 @@ returns-clause-counted g c =
 pub returns-clause-bound : goal.returns-clause-bound
 returns-clause-bound g c =
     rw c.count_down.ensures
-    (rep_bound c.args.session c.args.entry.now c.args.waiting.now c.args.seats.now c.call_due.new.waiting c.call_due.new.seats
-    (rep_calls c.args.session c.args.entry.now c.args.waiting.now c.call_missed.new.waiting c.call_due.new.waiting c.args.seats.now c.call_missed.new.seats c.call_due.new.seats
-    c.args.steps.now c.call_missed.new.steps c.call_due.new.steps c.requires.rest c.call_missed.ensures.called c.call_missed.ensures.calls c.call_due.ensures.called c.call_due.ensures.calls))
+    (rep_bound c.args.session c.args.entry.now c.args.waiting.now c.args.seats.now c.call_due.new.waiting c.call_due.new.seats (rep_calls g c))

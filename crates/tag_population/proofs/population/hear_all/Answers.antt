@@ -1,4 +1,4 @@
-use Rattle.std.proofs.Common.{◌≡◌, ◌<◌, ◌∙◌, ◌+◌, ◌++◌, ap, arith, get_or, length, refl, set, subst, sym, List, Option}
+use Rattle.std.proofs.Common.{◌≡◌, ◌<◌, ◌≤◌, ◌∙◌, ◌+◌, ◌++◌, ap, arith, get_or, length, refl, set, subst, sym, List, Option}
 use Rattle.tag_population.proofs.HeardByCalled.{BeforeHearing, HeardSoFar, few_replies}
 use Rattle.tag_population.proofs.HeardByEach.{EachHearsNext, IsIdle, each_none, each_next, each_idle, each_tags, each_settled, idle_stands, back_same, left_by_put, replied_below, replied_more, replied_idle, replied_by_each}
 use Rattle.tag_population.proofs.TagsAtRest.{settled_none, settled_more, settled_all, new_tags, new_rest}
@@ -104,20 +104,19 @@ loop-at-preserved g c =
           })
     ]
 
-pub returns-clause-tags : goal.returns-clause-tags
-returns-clause-tags g c =
-    new_tags c.loop-at.seats c.loop-at.waiting
-    (settled_all c.loop-at.seats c.loop-at.at c.loop-at.waiting c.loop-at.invariant.settled (omega (arith, c.loop-at-test.false, c.loop-at.invariant.heard.seats_whole)))
-    ∙ each_tags _ c.loop-at.at _ c.requires.rest.whole c.loop-at.invariant.heard (omega (arith, c.loop-at-test.false, c.loop-at.invariant.heard.seats_whole))
+pub returns-clause-heard : goal.returns-clause-heard
+returns-clause-heard g c =
+    let heard = c.loop-at.invariant.heard in
+    let past : length c.loop-at.seats ≤ c.loop-at.at = omega (arith, c.loop-at-test.false, heard.seats_whole) in
+    let settled = settled_all c.loop-at.seats c.loop-at.at c.loop-at.waiting c.loop-at.invariant.settled past in
+    record {
+      tags = new_tags c.loop-at.seats c.loop-at.waiting settled ∙ each_tags _ c.loop-at.at _ c.requires.rest.whole heard (omega (arith, past, heard.seats_whole));
+      counted = omega (arith, heard.steps_are, heard.inside);
+      rest = new_rest c.loop-at.seats c.loop-at.waiting settled (omega (arith, c.requires.rest.few, heard.seats_whole)) heard.legal;
+    }
 
 pub returns-clause-replies : goal.returns-clause-replies
 returns-clause-replies g c =
     let before : BeforeHearing = record { command = c.args.command.now; entry = c.args.entry.now; participations = c.args.waiting.now; seats = c.args.seats.now; steps = c.args.steps.now } in
     subst (λ (l : List Replied). g.A.AnswerTaker.took c.args.answers.now l c.loop-at.answers)
     (replied_by_each before c.loop-at.at c.requires.rest.whole (omega (arith, c.loop-at-test.false, c.loop-at.invariant.heard.seats_whole))) c.loop-at.invariant.taken
-
-pub returns-clause-rest : goal.returns-clause-rest
-returns-clause-rest g c =
-    new_rest c.loop-at.seats c.loop-at.waiting
-    (settled_all c.loop-at.seats c.loop-at.at c.loop-at.waiting c.loop-at.invariant.settled (omega (arith, c.loop-at-test.false, c.loop-at.invariant.heard.seats_whole)))
-    (omega (arith, c.requires.rest.few, c.loop-at.invariant.heard.seats_whole)) c.loop-at.invariant.heard.legal

@@ -1,5 +1,5 @@
 -- The law of each word.
-use Rattle.top_call.specs.declared.forms.Form.TheVariants.{Decode, Encode, Run, Upgrade, Names, Probe, Gen}
+use Rattle.top_call.specs.declared.forms.Form.TheVariants.{Decode, Encode, Run, Upgrade, Portals, Names, Probe, Audit, Gen}
 use Rattle.top_call.proofs.laws.jobs_are_lawful.Goals as goal
 
 pub returns : goal.returns
@@ -7,6 +7,8 @@ returns c Decode = c.decode_is_lawful.ensures
 returns c Encode = c.encode_is_lawful.ensures
 returns c (Run mode) = c.run_is_lawful.ensures mode
 returns c Upgrade = c.upgrade_is_lawful.ensures
+returns c Portals = c.portals_are_lawful.ensures
 returns c Names = c.names_are_lawful.ensures
 returns c Probe = c.probe_is_lawful.ensures
+returns c Audit = c.audit_is_lawful.ensures
 returns c (Gen seed tags) = c.gen_is_lawful.ensures seed tags

@@ -1,15 +1,17 @@
-use Rattle.std.proofs.Common.{◌≡◌}
+use Rattle.std.proofs.Common.{◌≡◌, refl}
+use Rattle.report_lines.specs.declared.mode.Mode.TheVariants.{Trace}
 use Rattle.top_call.specs.Jobs.{job_of}
 use Rattle.top_call.specs.declared.forms.Form.TheVariants.{Run, Gen}
 use Rattle.top_call.specs.words.Generated.{CountsEveryTag, gen_job}
-use Rattle.top_call.specs.words.Reported.{SaysHeadline, SaysInventory, run_job}
+use Rattle.top_call.specs.words.Reported.{IsOwnTrace, SaysHeadline, SaysInventory, run_job}
 use Rattle.top_call.proofs.Ends.{completes, keeps, passes_limit, refuses}
 use Rattle.top_call.proofs.program.gen2run.Goals as goal
 
 pub returns-in-Some-clause-complete : goal.returns-in-Some-clause-complete
 returns-in-Some-clause-complete g c form spelled bytes told few allowed no_read no_write =
     let same : c.in-Some.form ≡ form = cc (c.in-Some.ensures.only form spelled) in
-    completes (job_of form) (c.jobs_are_lawful.ensures form) bytes _ _ _ _ _ _ _ _ c.answer.result (rw (told, same) at c.answer.ensures.tells) few allowed no_read no_write
+    completes (job_of form) (c.jobs_are_lawful.ensures form) (record { told = bytes; left' = _; written = _; written' = _; reads = _; reads' = _; writes = _; writes' = _; untouched = _ })
+    c.answer.result (rw (told, same) at c.answer.ensures.tells) few allowed (record { read = no_read; write = no_write })
 
 pub returns-in-Some-clause-promises : goal.returns-in-Some-clause-promises
 returns-in-Some-clause-promises g c form spelled done =
@@ -31,6 +33,11 @@ returns-in-Some-clause-inventory g c = (
       keeps (gen_job seed tags) (λ bytes text. CountsEveryTag seed tags text) (λ bytes text counts. counts) (c.jobs_are_lawful.ensures (Gen seed tags)) _ _ _ _ (rw (done, same) at c.answer.ensures.tells),
 )
 
+pub returns-in-Some-clause-own_trace : goal.returns-in-Some-clause-own_trace
+returns-in-Some-clause-own_trace g c spelled done =
+    let same : c.in-Some.form ≡ Run Trace = cc (c.in-Some.ensures.only (Run Trace) spelled) in
+    keeps (run_job Trace) IsOwnTrace (λ bytes text proves. proves.own_trace refl) (c.jobs_are_lawful.ensures (Run Trace)) _ _ _ _ (rw (done, same) at c.answer.ensures.tells)
+
 pub returns-in-Some-clause-unread : goal.returns-in-Some-clause-unread
 returns-in-Some-clause-unread g c form spelled none =
     let same : c.in-Some.form ≡ form = cc (c.in-Some.ensures.only form spelled) in
@@ -39,9 +46,11 @@ returns-in-Some-clause-unread g c form spelled none =
 pub returns-in-Some-clause-refused : goal.returns-in-Some-clause-refused
 returns-in-Some-clause-refused g c form spelled bytes told few text refused no_read no_write =
     let same : c.in-Some.form ≡ form = cc (c.in-Some.ensures.only form spelled) in
-    refuses (job_of form) (c.jobs_are_lawful.ensures form) bytes text _ _ _ _ _ _ _ _ c.answer.result (rw (told, same) at c.answer.ensures.tells) few refused no_read no_write
+    refuses (job_of form) (c.jobs_are_lawful.ensures form) (record { told = bytes; left' = _; written = _; written' = _; reads = _; reads' = _; writes = _; writes' = _; untouched = _ })
+    text c.answer.result (rw (told, same) at c.answer.ensures.tells) few refused (record { read = no_read; write = no_write })
 
 pub returns-in-Some-clause-passes_limit : goal.returns-in-Some-clause-passes_limit
 returns-in-Some-clause-passes_limit g c form spelled has bytes told many no_read =
     let same : c.in-Some.form ≡ form = cc (c.in-Some.ensures.only form spelled) in
-    passes_limit (job_of form) has bytes _ _ _ _ _ _ _ _ c.answer.result (rw (told, same) at c.answer.ensures.tells) many no_read
+    passes_limit (job_of form) has (record { told = bytes; left' = _; written = _; written' = _; reads = _; reads' = _; writes = _; writes' = _; untouched = _ })
+    c.answer.result (rw (told, same) at c.answer.ensures.tells) many no_read

@@ -4,7 +4,7 @@ use Rattle.tag_machine.specs.Exchange.{AreLegalTags}
 use Rattle.air_model.specs.Past.{Start, Item, Record, next_record, past_behind_command}
 use Rattle.air_model.specs.laws.ReceptionLaws.{silent_reception}
 use Rattle.air_model.specs.declared.got.Got.TheVariants.{Silence}
-use Rattle.air_world.proofs.Passing.{passes-then}
+use Rattle.air_world.proofs.Passing.{listening, passes-then}
 use Rattle.air_world.proofs.Slots.{asked-reception, plays-kept, seen-behind, room-behind, ack-with, ack-without, count-fits, some-room, stands-unlisted, stands-listed, stands-same, stands-then, whole-listed, other-unlisted, plays-listed}
 use Rattle.air_world.specs.Heard.{pair_received}
 use Rattle.air_world.specs.Playing.{RunValue, PlaysAt, IsAt, StandsAt, pair_of}
@@ -52,9 +52,10 @@ stands g c start past at pair =
     let was = ap (λ (run : RunValue). run.out_of_memory) same ∙ c.requires.enough in
     let plays = plays-listed start _ _ _ c.list.new.self _ _ c.list.ensures.rest (plays-kept start _ _ _ _ c.hear_epc.ensures.same behind) in
     let before : List ReportLine = lines_behind start past ++ exchange_lines start.link sent in
-    let told = passes-then g.R.Listener.hears (lines_behind start past) before (before ++ ListLine c.args.round c.args.slot c.in-Some.pc c.in-Some.epc ∷ []) _ _ _
+    let told = passes-then (listening g.R.Listener.hears g.R.Listener.failed _ _) _ (lines_behind start past) before
+    (before ++ ListLine c.args.round c.args.slot c.in-Some.pc c.in-Some.epc ∷ [])
     (c.send.ensures.told start past c.args.round c.args.slot (lines_behind start past) at.plays) (c.list.ensures.told before) in
-    stands-listed (Passes g.R.Listener.hears (lines_behind start past) c.args.report.now c.list.new.report) start sent past listed _ _ plays
+    stands-listed (Passes g.R.Listener.hears (lines_behind start past) c.args.report.now c.list.new.report) (record { start = start; past = past; air = _; run = _ }) sent listed plays
     (λ enough. c.list.ensures.seen (map pair_of (listing_of past)) (seen-behind start past _ _ _ _ same at was) enough) told one
 
 pub returns-in-Silence : goal.returns-in-Silence
@@ -63,7 +64,7 @@ returns-in-Silence g c = λ start past at.
     let none : got_of sent.given ≡ Silence = sym (c.send.ensures.got start past c.args.round c.args.slot at.plays) ∙ c.in-Silence.is in
     let other = ap pair_received (silent_reception expects.Epc sent.given none) in
     stands-same _ start _ _ _ _ (ack-without start c.args.operations.now c.args.round c.args.slot c.args.rn past other)
-    (stands-unlisted _ start sent past _ _ (c.send.ensures.plays start past c.args.round c.args.slot at.plays) (seen-behind start past _ _ _ _ c.send.ensures.rest at)
+    (stands-unlisted _ (record { start = start; past = past; air = _; run = _ }) sent (c.send.ensures.plays start past c.args.round c.args.slot at.plays) (seen-behind start past _ _ _ _ c.send.ensures.rest at)
     (c.send.ensures.told start past c.args.round c.args.slot (lines_behind start past) at.plays)
     (other-unlisted sent (ack_reception start c.args.round c.args.slot c.args.rn past) other))
 
@@ -72,7 +73,7 @@ returns-in-None g c = λ start past at.
     let sent : Record = next_record start c.args.round c.args.slot (commands.Ack c.args.rn) past in
     let other = heard g (goal.at.returns-in-None g c).After-hear_epc start past at.plays ∙ c.in-None.is in
     stands-same _ start _ _ _ _ (ack-without start c.args.operations.now c.args.round c.args.slot c.args.rn past other)
-    (stands-unlisted _ start sent past _ _ (plays-kept start _ _ _ _ c.hear_epc.ensures.same (c.send.ensures.plays start past c.args.round c.args.slot at.plays))
+    (stands-unlisted _ (record { start = start; past = past; air = _; run = _ }) sent (plays-kept start _ _ _ _ c.hear_epc.ensures.same (c.send.ensures.plays start past c.args.round c.args.slot at.plays))
     (seen-behind start past _ _ _ _ (c.hear_epc.ensures.same ∙ c.send.ensures.rest) at)
     (c.send.ensures.told start past c.args.round c.args.slot (lines_behind start past) at.plays)
     (other-unlisted sent (ack_reception start c.args.round c.args.slot c.args.rn past) other))
@@ -101,4 +102,5 @@ returns-in-Some g c = λ start past at.
     let pair = heard g (goal.at.returns-in-Some g c).After-hear_epc start past at.plays ∙ c.in-Some.is in
     let stood = stands g (goal.at.returns-in-Some g c).After-list start past at pair in
     stands-same _ start _ _ _ _ (ack-with start c.args.operations.now c.args.round c.args.slot c.args.rn past (c.in-Some.pc, c.in-Some.epc) pair)
-    (stands-then g.R.Listener.hears _ _ _ _ _ start _ _ _ stood.told (c.operate.ensures start _ stood.at))
+    (stands-then (listening g.R.Listener.hears g.R.Listener.failed _ _) _ _ _ (record { start = start; past = _; air = _; run = _ })
+    stood.told (c.operate.ensures start _ stood.at))

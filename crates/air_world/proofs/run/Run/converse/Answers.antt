@@ -35,4 +35,13 @@ returns-in-Stream-clause-heard g c = λ start past round slot plays.
     start c.args.command.now c.args.expect.now c.args.extended (next_entry start past) (tags_behind start past) c.requires.expects legal in
     let read : IsReadBy start.link given =
     given_is_read start.link (replies_in c.args.command.now (next_entry start past) (tags_behind start past)) (next_entry start past).choice start.several in
-    heard-awaited start.link given c.send.new.air c.args.expect.now c.args.extended c.hear.result link (c.send.ensures.stream start past round slot plays) came unmistakable read c.hear.ensures.received
+    heard-awaited start.link given c.args.expect.now c.args.extended
+    (record {
+      air = c.send.new.air;
+      received = c.hear.result;
+      link_is = link;
+      stream = c.send.ensures.stream start past round slot plays;
+      came = came;
+      heard = c.hear.ensures.received;
+    })
+    unmistakable read

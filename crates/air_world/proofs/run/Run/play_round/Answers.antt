@@ -1,7 +1,7 @@
 use Rattle.std.proofs.Common.{◌+◌, [], ◌∷◌, sym, ◌∙◌, ap, subst}
-use Rattle.air_world.proofs.Passing.{ends-cut, passes-nothing, passes-then}
-use Rattle.air_world.proofs.Rounds.{round-begins, cut-round, slot-number, round-goes-on, round-left, ended-slots, whole-ended, rounds-slot}
-use Rattle.air_world.proofs.Slots.{stands-then}
+use Rattle.air_world.proofs.Passing.{listening, cut-behind, cut-past, ends-cut, passes-nothing, passes-then}
+use Rattle.air_world.proofs.Rounds.{round-begins, slot_played, slot-leads, slot-number, round-goes-on, round-left, ended-slots, stands-ended, rounds-slot}
+use Rattle.air_world.proofs.Slots.{stands-same, stands-then}
 use Rattle.air_world.specs.Playing.{RunValue}
 use Rattle.air_world.specs.Telling.{lines_behind}
 use Rattle.q_round.specs.Rounds.{next_command}
@@ -15,48 +15,71 @@ pub slots-init : goal.slots-init
 slots-init g c = λ start past at.
     let number = ap (λ n. n + 1) (ap (λ (run : RunValue). run.rounds) c.self.view_is ∙ at.plays.rounds) in
     let sends = ap (λ link. next_command c.args.spec.now link []) (sym (c.link.ensures ∙ at.plays.link)) ∙ sym c.start-round.ensures.query in
-    round-begins _ start c.args.operations.now past _ c.args.spec.now _ _ _ _ c.limit.ensures.legal.limit.0 number
-    (record { at = at; told = passes-nothing g.R.Listener.hears (lines_behind start past) c.args.report.now }) c.requires.enough c.start-round.ensures.stands sends
+    record {
+      past = past;
+      stands = record { at = at; told = passes-nothing g.R.Listener.hears (lines_behind start past) c.args.report.now };
+      enough = c.requires.enough;
+      is = round-begins (record { start = start; operations = c.args.operations.now; spec = c.args.spec.now; before = past })
+          (record { number = _; round = _; command = _ }) c.limit.ensures.legal.limit.0 number c.start-round.ensures.stands sends;
+    }
 
 pub returns-in_err-check-clause-ends : goal.returns-in_err-check-clause-ends
 returns-in_err-check-clause-ends g c = λ start past at.
     let u = c.slots.invariant start past at in
-    let slot = slot-number c.args.spec.now c.slots.round u.outcomes c.slots_sent-slot.result u.goes u.on c.slots_sent-slot.ensures.stands in
-    let stands = stands-then g.R.Listener.hears _ _ _ _ _ start _ _ _ u.stands.told (c.play_slot-outcome.ensures.stands start u.past u.stands.at) in
+    let slot = slot-number c.args.spec.now c.slots.round u.is.outcomes c.slots_sent-slot.result u.is.goes u.is.on c.slots_sent-slot.ensures.stands in
+    let played = slot_played _ _ _ u.is c.slots_sent-slot.result c.play_slot-outcome.result slot (c.play_slot-outcome.ensures.outcome start u.past u.stands.at) in
+    let stands = stands-then (listening g.R.Listener.hears g.R.Listener.failed _ _) _ _ _ (record { start = start; past = _; air = _; run = _ })
+    u.stands.told (c.play_slot-outcome.ensures.stands start u.past u.stands.at) in
     ends-cut c.from_residual.result _ _ _ c.from_residual.ensures.1
-    (cut-round g.R.Listener.hears g.R.Listener.failed _ _ _ _ start c.args.operations.now past _ _ c.args.spec.now c.slots.round c.slots.command _ _ _ _ c.slots_sent-slot.result _ u slot stands c.in_err-check.ensures.cause)
+    (cut-past (listening g.R.Listener.hears g.R.Listener.failed _ _) _ start _ _ _ (slot-leads _ _ _ u.is played)
+    (cut-behind (listening g.R.Listener.hears g.R.Listener.failed _ _) _ _ _ stands.told c.in_err-check.ensures.cause))
 
 pub slots-preserved : goal.slots-preserved
 slots-preserved g c = λ start past at.
     let u = c.slots.invariant start past at in
-    let slot = slot-number c.args.spec.now c.slots.round u.outcomes c.slots_sent-slot.result u.goes u.on c.slots_sent-slot.ensures.stands in
-    let stands = stands-then g.R.Listener.hears _ _ _ _ _ start _ _ _ u.stands.told (c.play_slot-outcome.ensures.stands start u.past u.stands.at) in
-    let answers : IsNextAnswer (nexts.Send c.in-Send.next) c.next.new.self c.args.spec.now (c.play_slot-outcome.result ∷ u.outcomes) =
-    subst (λ (n : Next). IsNextAnswer n c.next.new.self c.args.spec.now (c.play_slot-outcome.result ∷ u.outcomes)) c.in-Send.is (c.next.ensures.answer c.args.spec.now u.outcomes u.goes u.on) in
-    round-goes-on _ _ start c.args.operations.now past _ _ c.args.spec.now c.slots.round c.next.new.self c.slots.command c.in-Send.next _ _ _ _ c.slots_sent-slot.result c.play_slot-outcome.result
-    u c.requires.few c.limit.ensures.legal c.round_laws.ensures.limit slot
-    (c.play_slot-outcome.ensures.outcome start u.past u.stands.at) stands c.in_ok-check.ensures.enough answers
+    let slot = slot-number c.args.spec.now c.slots.round u.is.outcomes c.slots_sent-slot.result u.is.goes u.is.on c.slots_sent-slot.ensures.stands in
+    let played = slot_played _ _ _ u.is c.slots_sent-slot.result c.play_slot-outcome.result slot (c.play_slot-outcome.ensures.outcome start u.past u.stands.at) in
+    let stands = stands-then (listening g.R.Listener.hears g.R.Listener.failed _ _) _ _ _ (record { start = start; past = _; air = _; run = _ })
+    u.stands.told (c.play_slot-outcome.ensures.stands start u.past u.stands.at) in
+    let answers : IsNextAnswer (nexts.Send c.in-Send.next) c.next.new.self c.args.spec.now (c.play_slot-outcome.result ∷ u.is.outcomes) =
+    subst (λ (n : Next). IsNextAnswer n c.next.new.self c.args.spec.now (c.play_slot-outcome.result ∷ u.is.outcomes)) c.in-Send.is
+    (c.next.ensures.answer c.args.spec.now u.is.outcomes u.is.goes u.is.on) in
+    record {
+      past = _;
+      stands = stands;
+      enough = c.in_ok-check.ensures.enough;
+      is = round-goes-on _ _ _ u.is played c.next.new.self c.in-Send.next
+          (record { few_operations = c.requires.few; within = λ outcomes are. c.round_laws.ensures.limit c.args.spec.now outcomes c.limit.ensures.legal are }) answers;
+    }
 
 pub returns-in-Quiet-clause-ends : goal.returns-in-Quiet-clause-ends
 returns-in-Quiet-clause-ends g c = λ start past at.
     let u = c.slots.invariant start past at in
-    let slot = slot-number c.args.spec.now c.slots.round u.outcomes c.slots_sent-slot.result u.goes u.on c.slots_sent-slot.ensures.stands in
-    let stands = stands-then g.R.Listener.hears _ _ _ _ _ start _ _ _ u.stands.told (c.play_slot-outcome.ensures.stands start u.past u.stands.at) in
-    let answers : IsNextAnswer nexts.Quiet c.next.new.self c.args.spec.now (c.play_slot-outcome.result ∷ u.outcomes) =
-    subst (λ (n : Next). IsNextAnswer n c.next.new.self c.args.spec.now (c.play_slot-outcome.result ∷ u.outcomes)) c.in-Quiet.is (c.next.ensures.answer c.args.spec.now u.outcomes u.goes u.on) in
-    let left = ended-slots _ ends.Quiet c.slots_sent-slot.result c.play_slot-outcome.result u.outcomes _ _ slot
-    (round-left _ start c.args.operations.now past _ _ c.args.spec.now c.slots.round c.next.new.self c.slots.command _ _ c.slots_sent-slot.result c.play_slot-outcome.result nexts.Quiet u slot (c.play_slot-outcome.ensures.outcome start u.past u.stands.at) answers) in
-    whole-ended _ start _ _ _ ends.Quiet _ _ _ _ (u.rounds ∙ ap (λ n. n + 1) (sym (rounds-slot start c.args.operations.now _ _ _ u.past))) stands.at c.end_round.ensures.rest left
-    (passes-then g.R.Listener.hears _ _ _ _ _ _ stands.told (c.end_round.ensures.told _))
+    let slot = slot-number c.args.spec.now c.slots.round u.is.outcomes c.slots_sent-slot.result u.is.goes u.is.on c.slots_sent-slot.ensures.stands in
+    let played = slot_played _ _ _ u.is c.slots_sent-slot.result c.play_slot-outcome.result slot (c.play_slot-outcome.ensures.outcome start u.past u.stands.at) in
+    let stands = stands-then (listening g.R.Listener.hears g.R.Listener.failed _ _) _ _ _ (record { start = start; past = _; air = _; run = _ })
+    u.stands.told (c.play_slot-outcome.ensures.stands start u.past u.stands.at) in
+    let answers : IsNextAnswer nexts.Quiet c.next.new.self c.args.spec.now (c.play_slot-outcome.result ∷ u.is.outcomes) =
+    subst (λ (n : Next). IsNextAnswer n c.next.new.self c.args.spec.now (c.play_slot-outcome.result ∷ u.is.outcomes)) c.in-Quiet.is
+    (c.next.ensures.answer c.args.spec.now u.is.outcomes u.is.goes u.is.on) in
+    let left = ended-slots _ ends.Quiet c.slots_sent-slot.result c.play_slot-outcome.result u.is.outcomes _ _ slot (round-left _ _ _ u.is played c.next.new.self nexts.Quiet answers) in
+    let told = passes-then (listening g.R.Listener.hears g.R.Listener.failed _ _) _ _ _ _ stands.told (c.end_round.ensures.told _) in
+    stands-same _ start _ _ _ _ (sym left)
+    (stands-ended _ (record { start = start; past = _; air = _; run = _ }) _ ends.Quiet _ _
+    (u.is.rounds ∙ ap (λ n. n + 1) (sym (rounds-slot start c.args.operations.now _ _ _ u.past))) (record { at = stands.at; told = told }) c.end_round.ensures.rest)
 
 pub returns-in-Limit-clause-ends : goal.returns-in-Limit-clause-ends
 returns-in-Limit-clause-ends g c = λ start past at.
     let u = c.slots.invariant start past at in
-    let slot = slot-number c.args.spec.now c.slots.round u.outcomes c.slots_sent-slot.result u.goes u.on c.slots_sent-slot.ensures.stands in
-    let stands = stands-then g.R.Listener.hears _ _ _ _ _ start _ _ _ u.stands.told (c.play_slot-outcome.ensures.stands start u.past u.stands.at) in
-    let answers : IsNextAnswer nexts.Limit c.next.new.self c.args.spec.now (c.play_slot-outcome.result ∷ u.outcomes) =
-    subst (λ (n : Next). IsNextAnswer n c.next.new.self c.args.spec.now (c.play_slot-outcome.result ∷ u.outcomes)) c.in-Limit.is (c.next.ensures.answer c.args.spec.now u.outcomes u.goes u.on) in
-    let left = ended-slots _ ends.Limit c.slots_sent-slot.result c.play_slot-outcome.result u.outcomes _ _ slot
-    (round-left _ start c.args.operations.now past _ _ c.args.spec.now c.slots.round c.next.new.self c.slots.command _ _ c.slots_sent-slot.result c.play_slot-outcome.result nexts.Limit u slot (c.play_slot-outcome.ensures.outcome start u.past u.stands.at) answers) in
-    whole-ended _ start _ _ _ ends.Limit _ _ _ _ (u.rounds ∙ ap (λ n. n + 1) (sym (rounds-slot start c.args.operations.now _ _ _ u.past))) stands.at c.end_round-in-Limit.ensures.rest left
-    (passes-then g.R.Listener.hears _ _ _ _ _ _ stands.told (c.end_round-in-Limit.ensures.told _))
+    let slot = slot-number c.args.spec.now c.slots.round u.is.outcomes c.slots_sent-slot.result u.is.goes u.is.on c.slots_sent-slot.ensures.stands in
+    let played = slot_played _ _ _ u.is c.slots_sent-slot.result c.play_slot-outcome.result slot (c.play_slot-outcome.ensures.outcome start u.past u.stands.at) in
+    let stands = stands-then (listening g.R.Listener.hears g.R.Listener.failed _ _) _ _ _ (record { start = start; past = _; air = _; run = _ })
+    u.stands.told (c.play_slot-outcome.ensures.stands start u.past u.stands.at) in
+    let answers : IsNextAnswer nexts.Limit c.next.new.self c.args.spec.now (c.play_slot-outcome.result ∷ u.is.outcomes) =
+    subst (λ (n : Next). IsNextAnswer n c.next.new.self c.args.spec.now (c.play_slot-outcome.result ∷ u.is.outcomes)) c.in-Limit.is
+    (c.next.ensures.answer c.args.spec.now u.is.outcomes u.is.goes u.is.on) in
+    let left = ended-slots _ ends.Limit c.slots_sent-slot.result c.play_slot-outcome.result u.is.outcomes _ _ slot (round-left _ _ _ u.is played c.next.new.self nexts.Limit answers) in
+    let told = passes-then (listening g.R.Listener.hears g.R.Listener.failed _ _) _ _ _ _ stands.told (c.end_round-in-Limit.ensures.told _) in
+    stands-same _ start _ _ _ _ (sym left)
+    (stands-ended _ (record { start = start; past = _; air = _; run = _ }) _ ends.Limit _ _
+    (u.is.rounds ∙ ap (λ n. n + 1) (sym (rounds-slot start c.args.operations.now _ _ _ u.past))) (record { at = stands.at; told = told }) c.end_round-in-Limit.ensures.rest)

@@ -3,14 +3,13 @@ use Rattle.air_model.specs.Past.{Start, Item}
 use Rattle.air_world.proofs.Rounds.{RoundUnderway}
 use Rattle.air_world.specs.Playing.{IsAt}
 use Rattle.air_world.specs.Telling.{Passes, lines_behind}
-use Rattle.runs.specs.History.{past_behind_round}
 use Rattle.air_world.proofs.run.Run.play_round.Given as goal
 
 abbrev pub invariant-slots : goal.invariant-slots
 invariant-slots g l =
     (start : Start) (past : List Item) → IsAt start past l.fn.air l.fn.self
-    → RoundUnderway (Passes g.R.Listener.hears (lines_behind start past) l.fn.report l.report) start l.operations past (past_behind_round start l.operations l.spec past)
-    l.number l.spec l.round l.command l.air l.self
+    → RoundUnderway (Passes g.R.Listener.hears (lines_behind start past) l.fn.report l.report)
+    (record { start = start; operations = l.operations; spec = l.spec; before = past }) (record { number = l.number; round = l.round; command = l.command }) l.air l.self
 
 abbrev pub decreases-slots : goal.decreases-slots
 decreases-slots g l = l.round.spec.limit - l.round.slots_sent

@@ -5,6 +5,7 @@ use Rattle.air_model.specs.Past.{Start, Item, Record, next_record, past_behind_c
 use Rattle.air_model.specs.Reception.{reception_of}
 use Rattle.air_model.specs.laws.ReceptionLaws.{silent_reception}
 use Rattle.air_model.specs.declared.got.Got.TheVariants.{Silence}
+use Rattle.air_world.proofs.Passing.{listening}
 use Rattle.air_world.proofs.Slots.{asked-reception, rn16-heard, rn16_reception, plays-kept, seen-behind, slot-unlisted, slot-without, slot-with, room-behind, stands-unlisted, stands-same, stands-then}
 use Rattle.air_world.specs.Playing.{PlaysAt, IsAt, StandsAt}
 use Rattle.air_world.specs.Telling.{Passes, lines_behind}
@@ -39,8 +40,8 @@ stands : (g : Over) (c : After-hear_rn16 g) (start : Start) (past : List Item) �
     → StandsAt (Passes g.R.Listener.hears (lines_behind start past) c.args.report.now c.send.new.report) start
     (past_behind_command start c.args.round c.args.slot c.args.command.now past) c.send.new.air c.hear_rn16.new.self
 stands g c start past at =
-    stands-unlisted (Passes g.R.Listener.hears (lines_behind start past) c.args.report.now c.send.new.report) start
-    (next_record start c.args.round c.args.slot c.args.command.now past) past _ _
+    stands-unlisted (Passes g.R.Listener.hears (lines_behind start past) c.args.report.now c.send.new.report)
+    (record { start = start; past = past; air = _; run = _ }) (next_record start c.args.round c.args.slot c.args.command.now past)
     (plays-kept start _ _ _ _ c.hear_rn16.ensures.same (c.send.ensures.plays start past c.args.round c.args.slot at.plays))
     (seen-behind start past _ _ _ _ (c.hear_rn16.ensures.same ∙ c.send.ensures.rest) at)
     (c.send.ensures.told start past c.args.round c.args.slot (lines_behind start past) at.plays)
@@ -52,7 +53,7 @@ returns-in-Silence-clause-stands g c = λ start past at.
     let none : got_of sent.given ≡ Silence = sym (c.send.ensures.got start past c.args.round c.args.slot at.plays) ∙ c.in-Silence.is in
     stands-same _ start _ _ _ _
     (slot-without start c.args.operations.now c.args.round c.args.slot c.args.command.now past no_stream (sym (silent_reception expects.Rn16 sent.given none)) refl)
-    (stands-unlisted _ start sent past _ _ (c.send.ensures.plays start past c.args.round c.args.slot at.plays) (seen-behind start past _ _ _ _ c.send.ensures.rest at)
+    (stands-unlisted _ (record { start = start; past = past; air = _; run = _ }) sent (c.send.ensures.plays start past c.args.round c.args.slot at.plays) (seen-behind start past _ _ _ _ c.send.ensures.rest at)
     (c.send.ensures.told start past c.args.round c.args.slot (lines_behind start past) at.plays) (slot-unlisted sent c.requires.expects))
 
 pub returns-in-Silence-clause-outcome : goal.returns-in-Silence-clause-outcome
@@ -89,7 +90,8 @@ returns-in-Some-clause-stands g c = λ start past at.
     let stood = stands g before start past at in
     stands-same _ start _ _ _ _
     (slot-with start c.args.operations.now c.args.round c.args.slot c.args.command.now past c.in-Some.rn (ap rn16_reception (sym c.in-Some.is) ∙ heard g before start past at.plays))
-    (stands-then g.R.Listener.hears _ _ _ _ _ start _ _ _ stood.told (c.acknowledge.ensures start _ stood.at))
+    (stands-then (listening g.R.Listener.hears g.R.Listener.failed _ _) _ _ _ (record { start = start; past = _; air = _; run = _ })
+    stood.told (c.acknowledge.ensures start _ stood.at))
 
 pub returns-in-Some-clause-outcome : goal.returns-in-Some-clause-outcome
 returns-in-Some-clause-outcome g c = λ start past at.

@@ -1,7 +1,7 @@
 use Rattle.std.proofs.Common.{◌<◌, length, subst, sym, arith}
-use Rattle.air_world.proofs.Passing.{cut-then, ends-cut}
+use Rattle.air_world.proofs.Passing.{listening, cut-past, cut-then, ends-cut}
 use Rattle.air_world.proofs.Slots.{stands-then}
-use Rattle.air_world.proofs.Steps.{step-legal, same-count, steps-go-on, cut-steps}
+use Rattle.air_world.proofs.Steps.{step-legal, same-count, steps-go-on, step-leads}
 use Rattle.air_world.specs.Playing.{IsPlayable}
 use Rattle.air_world.proofs.run.Run.play_steps.Goals as goal
 
@@ -18,13 +18,19 @@ returns-in_err-play_step-clause-ends g c = λ start past at.
     let u = c.loop-step.invariant start past at in
     let inside : c.loop-step.step-index < length c.args.steps.now = omega arith in
     ends-cut c.from_residual.result _ _ _ c.from_residual.ensures.1
-    (cut-steps g.R.Listener.hears g.R.Listener.failed _ _ _ _ start past _ c.args.steps.now c.loop-step.step-index c.step-item.result _ _ _ u inside c.step-item.is
-    (cut-then g.R.Listener.hears g.R.Listener.failed _ _ _ _ _ _ _ u.stands.told (c.in_err-play_step.ensures.ends start u.past u.stands.at)))
+    (cut-past (listening g.R.Listener.hears g.R.Listener.failed _ _) _ start _ _ _
+    (step-leads _ c.loop-step.step-index c.step-item.result u.past u.are (record { inside = inside; is = c.step-item.is }))
+    (cut-then (listening g.R.Listener.hears g.R.Listener.failed _ _) _ _ _ _ _ u.stands.told (c.in_err-play_step.ensures.ends start u.past u.stands.at)))
 
 pub loop-step-preserved : goal.loop-step-preserved
 loop-step-preserved g c = λ start past at.
     let u = c.loop-step.invariant start past at in
     let inside : c.loop-step.step-index < length c.args.steps.now = omega arith in
     let legal = step-legal (length c.args.air.now.tags) c.args.steps.now c.loop-step.step-index c.step-item.result inside c.step-item.is c.requires.steps in
-    steps-go-on c.round_laws.ensures.limit _ _ start past _ (length c.args.air.now.tags) c.args.steps.now c.loop-step.step-index c.step-item.result _ _ _ _ u inside c.step-item.is legal
-    (stands-then g.R.Listener.hears _ _ _ _ _ start _ _ _ u.stands.told (c.in_ok-play_step.ensures.ends start u.past u.stands.at)) c.in_ok-play_step.ensures.enough
+    record {
+      past = _;
+      stands = stands-then (listening g.R.Listener.hears g.R.Listener.failed _ _) _ _ _ (record { start = start; past = _; air = _; run = _ })
+          u.stands.told (c.in_ok-play_step.ensures.ends start u.past u.stands.at);
+      enough = c.in_ok-play_step.ensures.enough;
+      are = steps-go-on c.round_laws.ensures.limit _ (length c.args.air.now.tags) c.loop-step.step-index c.step-item.result u.past u.are (record { inside = inside; is = c.step-item.is }) legal;
+    }

@@ -3,10 +3,9 @@ use Rattle.air_model.specs.Past.{Start, Item}
 use Rattle.air_world.proofs.Steps.{StepsUnderway}
 use Rattle.air_world.specs.Playing.{IsAt}
 use Rattle.air_world.specs.Telling.{Passes, lines_behind}
-use Rattle.runs.specs.History.{past_behind}
 use Rattle.air_world.proofs.run.Run.play_steps.Given as goal
 
 abbrev pub invariant-loop-step : goal.invariant-loop-step
 invariant-loop-step g l =
     (start : Start) (past : List Item) → IsAt start past l.fn.air l.fn.self
-    → StepsUnderway (Passes g.R.Listener.hears (lines_behind start past) l.fn.report l.report) start past (past_behind start l.steps past) l.steps l.step-index l.air l.self
+    → StepsUnderway (Passes g.R.Listener.hears (lines_behind start past) l.fn.report l.report) (record { start = start; before = past; steps = l.steps }) l.step-index l.air l.self

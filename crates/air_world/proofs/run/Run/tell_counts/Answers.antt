@@ -1,6 +1,6 @@
 use Rattle.std.proofs.Common.{◌<◌, List, [], ◌∷◌, ◌++◌, length, map, take, ◌∙◌, ap, arith, append_assoc}
 use Rattle.air_world.proofs.LastLines.{some-count, count-more}
-use Rattle.air_world.proofs.Passing.{passes-same, passes-then}
+use Rattle.air_world.proofs.Passing.{listening, passes-same, passes-then}
 use Rattle.air_world.specs.Playing.{RunValue}
 use Rattle.report_lines.specs.ReportLine.{ReportLine}
 use Rattle.report_lines.specs.SeenCounts.{seen_line}
@@ -15,7 +15,7 @@ loop-at-preserved g c =
     record {
       told = λ before.
           let front : List ReportLine = before ++ map seen_line (take number counts) in
-          passes-then g.R.Listener.hears before front _ _ _ _ (c.loop-at.invariant.told before)
+          passes-then (listening g.R.Listener.hears g.R.Listener.failed _ _) _ before front _ (c.loop-at.invariant.told before)
           (passes-same g.R.Listener.hears front (front ++ seen_line found.0 ∷ []) _ _ _
           (append_assoc before (map seen_line (take number counts)) (seen_line found.0 ∷ []) ∙ ap (λ (l : List ReportLine). before ++ l) (count-more counts number found.0 found.1))
           (c.tell_count.ensures front found.0 found.1));

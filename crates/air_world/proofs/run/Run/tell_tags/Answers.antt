@@ -1,7 +1,7 @@
 use Rattle.std.proofs.Common.{◌≡◌, ◌<◌, List, [], ◌∷◌, ◌++◌, length, take, Some, ◌∙◌, ap, arith, append_assoc, slice_get}
 use Rattle.air_channel.specs.Air.{AirValue}
 use Rattle.air_world.proofs.LastLines.{some-tag, tag-more}
-use Rattle.air_world.proofs.Passing.{passes-same, passes-then}
+use Rattle.air_world.proofs.Passing.{listening, passes-same, passes-then}
 use Rattle.report_lines.specs.ReportLine.{ReportLine, TagLine}
 use Rattle.runs.specs.Report.{tag_lines}
 use Rattle.air_world.proofs.run.Run.tell_tags.Goals as goal
@@ -18,7 +18,7 @@ loop-number-preserved g c =
       air = c.tell_tag.ensures.air ∙ inv.air;
       told = λ before.
           let front : List ReportLine = before ++ tag_lines 0 (take number tags) in
-          passes-then g.R.Listener.hears before front _ _ _ _ (inv.told before)
+          passes-then (listening g.R.Listener.hears g.R.Listener.failed _ _) _ before front _ (inv.told before)
           (passes-same g.R.Listener.hears front (front ++ TagLine number found.0 ∷ []) _ _ _
           (append_assoc before (tag_lines 0 (take number tags)) (TagLine number found.0 ∷ []) ∙ ap (λ (l : List ReportLine). before ++ l) (tag-more tags number found.0 found.1))
           (c.tell_tag.ensures.told front found.0 at));

@@ -26,8 +26,12 @@ returns-in-Err-clause-stands c = λ input stands more.
     let end = c.in-Some.end.now in
     let behind = c.in-Some.behind.now in
     let so_far = c.loop-end.invariant.answered input (none_known _ input _ _ _ c.loop-end.invariant.begun stands) in
-    rw c.end_line.ensures.number (fault_here decode_rules (input ++ c.args.piece.now) (part ++ c.loop-end.rest.now) (part ++ end) behind more _ c.in-Err.reason so_far.0.asks
-    (line_cut part c.loop-end.rest.now end behind c.in-Some.ensures.cut) (line_lacks part end so_far.1 c.in-Some.ensures.first)
+    rw c.end_line.ensures.number (fault_here decode_rules (input ++ c.args.piece.now) (part ++ c.loop-end.rest.now) more _ (record {
+      line = part ++ end;
+      behind = behind;
+      cut = line_cut part c.loop-end.rest.now end behind c.in-Some.ensures.cut;
+      lacks = line_lacks part end so_far.1 c.in-Some.ensures.first;
+    }) c.in-Err.reason so_far.0.asks
     (told_reason _ _ c.in-Err.reason c.in-Err.is c.in_ok-reason.ensures.refused))
 
 pub loop-end-preserved : goal.loop-end-preserved
@@ -39,8 +43,12 @@ loop-end-preserved c =
     record {
       answered = λ input stands.
           let so_far = c.loop-end.invariant.answered input stands in
-          let more = answers_more decode_rules (input ++ c.args.piece.now) (part ++ c.loop-end.rest.now) (part ++ end) behind _ (string_bytes c.end_line.new.self.text) _ so_far.0
-          (line_cut part c.loop-end.rest.now end behind c.in-Some.ensures.cut) (line_lacks part end so_far.1 c.in-Some.ensures.first)
+          let more = answers_more decode_rules (input ++ c.args.piece.now) (part ++ c.loop-end.rest.now) _ (string_bytes c.end_line.new.self.text) _ (record {
+            line = part ++ end;
+            behind = behind;
+            cut = line_cut part c.loop-end.rest.now end behind c.in-Some.ensures.cut;
+            lacks = line_lacks part end so_far.1 c.in-Some.ensures.first;
+          }) so_far.0
           (answered_line _ _ c.in_default-2.field-0 c.in_default-2.is c.in_ok-reason.ensures.ok) in
           rw (none, c.end_line.ensures.number) (more, All-nil (λ byte. byte ≢ line_feed));
       begun = c.loop-end.invariant.begun;

@@ -19,4 +19,4 @@ returns c =
     let bits = ap (λ (b : BitString). b.items) c.encode_reply.ensures.bits ∙ ap (λ handle. spelling c.args.reply.now handle) c.handle_of.ensures in
     let levels = c.stream.ensures ∙ ap (stream_of (table_of c.args.code) c.args.trext) bits in
     on_ok_weaker c.push_heard.result
-    (λ line. heard_written c.args.code c.args.trext c.args.expect.now c.args.reply.now _ _ _ (c.is_allowed.ensures.0 c.if-not-is_allowed.false) levels line) c.push_heard.ensures
+    (λ line. heard_written c.args.code c.args.trext c.args.expect.now c.args.reply.now _ _ (c.is_allowed.ensures.0 c.if-not-is_allowed.false) (rw levels at line)) c.push_heard.ensures

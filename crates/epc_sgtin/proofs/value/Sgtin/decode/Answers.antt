@@ -10,21 +10,21 @@ pub returns-then-front-ne-HEADER-clause-refused : goal.returns-then-front-ne-HEA
 returns-then-front-ne-HEADER-clause-refused c =
     let front = c.half_of-front in
     let back = c.half_of-back in
-    let are = read_words c.args.words.now front.result back.result c.in-len6.len_at_least c.in-len6.len_below (λ i. omega (arith, c.type_inv.words i)) front.ensures.below back.ensures.below front.ensures.bits back.ensures.bits in
+    let are = read_words c.args.words.now front.result back.result (omega (arith, c.in-len6.len_at_least, c.in-len6.len_below)) (λ i. omega (arith, c.type_inv.words i)) front.ensures.below back.ensures.below front.ensures.bits back.ensures.bits in
     wrong_header c.args.words.now front.result back.result are c.if-front-ne-HEADER.true
 
 pub returns-then-partition-eq7-clause-refused : goal.returns-then-partition-eq7-clause-refused
 returns-then-partition-eq7-clause-refused c =
     let front = c.half_of-front in
     let back = c.half_of-back in
-    let are = read_words c.args.words.now front.result back.result c.in-len6.len_at_least c.in-len6.len_below (λ i. omega (arith, c.type_inv.words i)) front.ensures.below back.ensures.below front.ensures.bits back.ensures.bits in
+    let are = read_words c.args.words.now front.result back.result (omega (arith, c.in-len6.len_at_least, c.in-len6.len_below)) (λ i. omega (arith, c.type_inv.words i)) front.ensures.below back.ensures.below front.ensures.bits back.ensures.bits in
     wrong_partition c.args.words.now front.result back.result are c.if-front-ne-HEADER.false (partition_right front.result ∙ c.if-partition-eq7.true)
 
 pub returns-then-company-ten_to-clause-refused : goal.returns-then-company-ten_to-clause-refused
 returns-then-company-ten_to-clause-refused c =
     let front = c.half_of-front in
     let back = c.half_of-back in
-    let are = read_words c.args.words.now front.result back.result c.in-len6.len_at_least c.in-len6.len_below (λ i. omega (arith, c.type_inv.words i)) front.ensures.below back.ensures.below front.ensures.bits back.ensures.bits in
+    let are = read_words c.args.words.now front.result back.result (omega (arith, c.in-len6.len_at_least, c.in-len6.len_below)) (λ i. omega (arith, c.type_inv.words i)) front.ensures.below back.ensures.below front.ensures.bits back.ensures.bits in
     company_refused c.args.words.now front.result back.result c.company_bits-item_bits.result c.ten_to.result
     (is_read _ _ _ _ are c.if-front-ne-HEADER.false c.if-partition-eq7.false c.company_bits-item_bits.ensures) c.ten_to.ensures c.if-company-ten_to.true
 
@@ -32,7 +32,7 @@ pub returns-then-item-ten_to-clause-refused : goal.returns-then-item-ten_to-clau
 returns-then-item-ten_to-clause-refused c =
     let front = c.half_of-front in
     let back = c.half_of-back in
-    let are = read_words c.args.words.now front.result back.result c.in-len6.len_at_least c.in-len6.len_below (λ i. omega (arith, c.type_inv.words i)) front.ensures.below back.ensures.below front.ensures.bits back.ensures.bits in
+    let are = read_words c.args.words.now front.result back.result (omega (arith, c.in-len6.len_at_least, c.in-len6.len_below)) (λ i. omega (arith, c.type_inv.words i)) front.ensures.below back.ensures.below front.ensures.bits back.ensures.bits in
     let company = has_company c.args.words.now front.result back.result c.company_bits-item_bits.result c.ten_to.result
     (is_read _ _ _ _ are c.if-front-ne-HEADER.false c.if-partition-eq7.false c.company_bits-item_bits.ensures) c.ten_to.ensures c.if-company-ten_to.false in
     item_refused c.args.words.now front.result back.result c.company_bits-item_bits.result c.ten_to-2.result company c.ten_to-2.ensures c.if-item-ten_to.true
@@ -41,7 +41,7 @@ pub returns-clause-ok : goal.returns-clause-ok
 returns-clause-ok c =
     let front = c.half_of-front in
     let back = c.half_of-back in
-    let are = read_words c.args.words.now front.result back.result c.in-len6.len_at_least c.in-len6.len_below (λ i. omega (arith, c.type_inv.words i)) front.ensures.below back.ensures.below front.ensures.bits back.ensures.bits in
+    let are = read_words c.args.words.now front.result back.result (omega (arith, c.in-len6.len_at_least, c.in-len6.len_below)) (λ i. omega (arith, c.type_inv.words i)) front.ensures.below back.ensures.below front.ensures.bits back.ensures.bits in
     let company = has_company c.args.words.now front.result back.result c.company_bits-item_bits.result c.ten_to.result
     (is_read _ _ _ _ are c.if-front-ne-HEADER.false c.if-partition-eq7.false c.company_bits-item_bits.ensures) c.ten_to.ensures c.if-company-ten_to.false in
     accepted c.args.words.now front.result back.result c.company_bits-item_bits.result c.ten_to-2.result company c.ten_to-2.ensures c.if-item-ten_to.false

@@ -1,13 +1,15 @@
 use Rattle.std.proofs.Common.{true, [], ◌∷◌, ◌++◌, length, ap, ◌∙◌, refl, arith, length-append}
 use Rattle.std.proofs.lemmas.Bool.{both_ways}
+use Rattle.line_code.specs.TableFacts.{CodeTable}
 use Rattle.line_code.specs.laws.Reading.{reads_short, reads_whole}
 use Rattle.line_code.proofs.Buffer.{popped}
 use Rattle.line_code.proofs.states.Inside.end.Goals as goal
 
 pub returns-then-not-is_whole-clause-answer : goal.returns-then-not-is_whole-clause-answer
 returns-then-not-is_whole-clause-answer g c =
+    let code : CodeTable = record { table = g.C.LineCode.table; chips = g.C.LineCode.CHIPS; even = g.met.C.LineCode.even; tells = g.met.C.LineCode.tells_bits } in
     rw (← c.self.view_is) (λ trext levels bits stood r e. (
-      reads_short g.C.LineCode.table g.C.LineCode.CHIPS g.met.C.LineCode.even g.met.C.LineCode.tells_bits trext _ levels bits r
+      reads_short code trext _ levels bits r
           (λ whole. both_ways c.is_whole.result c.if-not-is_whole.true (c.is_whole.ensures.1 whole)),
       refl,
     ))

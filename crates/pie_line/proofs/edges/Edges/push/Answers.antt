@@ -1,5 +1,6 @@
-use Rattle.std.proofs.Common.{Err, refl, subst}
+use Rattle.std.proofs.Common.{◌∙◌, ℕ, Err, refl, ap, subst}
 use Rattle.pie_line.specs.FrameState.{Moves}
+use Rattle.pie_line.specs.Refusal.{refusal_at}
 use Rattle.pie_line.proofs.Leads.{leads-refused}
 use Rattle.pie_line.proofs.DecoderStandsFor.{stands-at, refused-again, answers-bit, answers-more}
 use Rattle.pie_line.proofs.OneAnswer.{refused_so}
@@ -12,7 +13,8 @@ returns-in-Err-clause-answer c = rw (← c.self.view_is) (λ bits xs s. refused-
 pub returns-in_default-clause-answer : goal.returns-in_default-clause-answer
 returns-in_default-clause-answer c = rw (← c.self.view_is) (λ bits xs s.
     let at = stands-at _ c.in-Ok.place bits xs c.in-Ok.is s in
-    (refl, leads-refused c.in-Ok.place bits xs c.args.interval c.self.inside.count c.refusal_of-refusal.result at.1 c.in_default.ensures.stops at.0 c.refusal_of-refusal.ensures))
+    let named = c.refusal_of-refusal.ensures ∙ ap (λ (count : ℕ). refusal_at count c.args.interval) at.0 in
+    (refl, leads-refused c.in-Ok.place bits xs c.args.interval c.refusal_of-refusal.result at.1 c.in_default.ensures.stops named))
 
 pub returns-clause-answer : goal.returns-clause-answer
 returns-clause-answer c = rw (← c.self.view_is) (λ bits xs s.

@@ -14,8 +14,14 @@ returns-in_default-clause-refused c =
 pub loop-line-preserved : goal.loop-line-preserved
 loop-line-preserved c =
     let says = rw c.in-Ok-Stimulus.field-0-is at c.in-Ok-Stimulus.ensures.ok in
-    one_read (lines_of c.args.text.now) (lines_of c.loop-line.rest.now) c.in-Some.line.now (lines_of c.in-Some.behind.now) c.loop-line.count
-    c.in-Ok-Stimulus.field-0-0 c.loop-line.invariant c.in-Some.ensures.lines says.0 says.1
+    one_read (lines_of c.args.text.now) (lines_of c.loop-line.rest.now) c.loop-line.count
+    (record {
+      line = c.in-Some.line.now;
+      behind = lines_of c.in-Some.behind.now;
+      cut = c.in-Some.ensures.lines;
+      stimulus = c.in-Ok-Stimulus.field-0-0;
+      spells = says.0;
+    }) c.loop-line.invariant says.1
 
 pub invariant_of-result : goal.invariant_of-result
 invariant_of-result c =

@@ -7,8 +7,14 @@ use Rattle.probe_lines.proofs.stimuli.Stimuli.next.Goals as goal
 pub invariant_of-self : goal.invariant_of-self
 invariant_of-self c =
     let spells = rw c.in-Ok-Stimulus.field-0-is at c.in-Ok-Stimulus.ensures.ok in
-    left_behind c.line_laws.ensures.lines (lines_of c.self.inside.rest.now) c.in-Some.line.now (lines_of c.in-Some.behind.now) c.in-Ok-Stimulus.stimulus
-    c.in-Some.ensures.lines spells c.self.invariant.0 c.self.invariant.1
+    left_behind c.line_laws.ensures.lines (lines_of c.self.inside.rest.now)
+    (record {
+      line = c.in-Some.line.now;
+      behind = lines_of c.in-Some.behind.now;
+      cut = c.in-Some.ensures.lines;
+      stimulus = c.in-Ok-Stimulus.stimulus;
+      spells = spells;
+    }) c.self.invariant.0 c.self.invariant.1
 
 pub unreachable-requires-in-Err : goal.unreachable-requires-in-Err
 unreachable-requires-in-Err c =
@@ -20,6 +26,12 @@ returns-in-Ok-Stimulus-clause-some c =
     let spells = rw c.in-Ok-Stimulus.field-0-is at c.in-Ok-Stimulus.ensures.ok in (
       spells.is,
       λ said say.
-          first_left c.line_laws.ensures.lines c.args.self.now c.in-Some.line.now (lines_of c.in-Some.behind.now) c.in-Ok-Stimulus.stimulus said
-          (sym c.self.view_is ∙ c.in-Some.ensures.lines) spells say,
+          first_left c.line_laws.ensures.lines c.args.self.now
+          (record {
+            line = c.in-Some.line.now;
+            behind = lines_of c.in-Some.behind.now;
+            cut = sym c.self.view_is ∙ c.in-Some.ensures.lines;
+            stimulus = c.in-Ok-Stimulus.stimulus;
+            spells = spells;
+          }) said say,
     )

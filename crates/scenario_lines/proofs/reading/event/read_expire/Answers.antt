@@ -12,4 +12,4 @@ pub returns-in_default-clause-only : goal.returns-in_default-clause-only
 returns-in_default-clause-only c = λ event tag is.
     let flag = expiry_has_flag event is.same_kind in
     c.in_default.ensures.only (flag_word flag.0) (decimal tag) (is.spelling ∙ ap (λ (e : Event). event_fields e tag) flag.1)
-    (flag_is flag.0).filled (number_text tag (omega (arith, is.is.place))).filled
+    (flag_is flag.0).filled (number_text tag (omega (arith, is.in_range.place))).filled

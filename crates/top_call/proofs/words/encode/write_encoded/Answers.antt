@@ -8,7 +8,7 @@ use Rattle.top_call.proofs.words.encode.write_encoded.Goals as goal
 pub returns-in_err-write_lines-in-Ok : goal.returns-in_err-write_lines-in-Ok
 returns-in_err-write_lines-in-Ok g c =
     let ended = c.in_err-write_lines-in-Ok.ensures in
-    encode_failed c.args.input.now _ _ _ _ c.in_err-write_lines-in-Ok.field-0.0 _ (search rules) ended.failed ended.front
+    encode_failed c.args.input.now (record { written = _; written' = _; writes = _; writes' = _ }) c.in_err-write_lines-in-Ok.field-0.0 _ (search rules) ended.failed ended.memory ended.front
 
 pub returns-in_err-write_all-in-Err : goal.returns-in_err-write_all-in-Err
 returns-in_err-write_all-in-Err g c =

@@ -5,13 +5,13 @@ use Rattle.top_call.proofs.Ends.{write_failed}
 use Rattle.top_call.proofs.NamedLines.{names_failed}
 use Rattle.top_call.proofs.words.names.write_with_names.Goals as goal
 
-pub returns-in_err-write_named-in-None : goal.returns-in_err-write_named-in-None
-returns-in_err-write_named-in-None g c =
+pub returns-in_err-write_named-in-None-clause-ends : goal.returns-in_err-write_named-in-None-clause-ends
+returns-in_err-write_named-in-None-clause-ends g c =
     let ended = c.in_err-write_named-in-None.ensures in
     names_failed c.args.input.now _ _ _ _ _ (search rules) ended.failed ended.front
 
-pub returns-in_err-write_all-in-Some : goal.returns-in_err-write_all-in-Some
-returns-in_err-write_all-in-Some g c =
+pub returns-in_err-write_all-in-Some-clause-ends : goal.returns-in_err-write_all-in-Some-clause-ends
+returns-in_err-write_all-in-Some-clause-ends g c =
     let written = c.in_err-write_all-in-Some.ensures in
     write_failed names_job _ _ _ _ _ c.fault_line-line.result.items _ _ (search rules)
     (inr (record { number = c.in-Some.number; at = c.in-Some.ensures.some; line = c.fault_line-line.ensures })) c.as_slice.ensures.value written.failed written.part

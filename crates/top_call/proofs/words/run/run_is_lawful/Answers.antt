@@ -1,3 +1,7 @@
+use Rattle.std.proofs.Common.{subst}
+use Rattle.report_lines.specs.declared.mode.Mode.{Mode}
+use Rattle.top_call.specs.words.Reported.{Reports}
+use Rattle.top_call.proofs.AuditEnds.{own_trace}
 use Rattle.top_call.proofs.RunEnds.{same_report, same_refusal, text_not_refused}
 use Rattle.top_call.proofs.words.run.run_is_lawful.Goals as goal
 
@@ -15,5 +19,6 @@ returns c mode = record {
       heard_as_listed = c.headline.ensures.heard_as_listed mode writes.scenario writes.legal;
     };
     inventory = record { reports = writes; rounds = c.rounds_are_complete.ensures writes.scenario writes.legal };
+    own_trace = λ is. own_trace c.own_traces_are_audited.ensures bytes text (subst (λ (m : Mode). Reports m bytes text) is writes);
   };
 }

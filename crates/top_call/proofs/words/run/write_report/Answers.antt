@@ -8,7 +8,8 @@ pub returns-in_err-play-in-Ok : goal.returns-in_err-play-in-Ok
 returns-in_err-play-in-Ok g c =
     let read = c.in-Ok.ensures.ok in
     let cut = c.in_err-play-in-Ok.ensures in
-    play_failed c.args.mode _ c.in-Ok.scenario _ _ _ _ c.in_err-play-in-Ok.field-0.0 _ (search rules) read.0 read.1 cut.write cut.part
+    play_failed c.args.mode _ (c.in-Ok.scenario, read.0, read.1) (record { written = _; written' = _; writes = _; writes' = _ }) c.in_err-play-in-Ok.field-0.0 _ (search rules)
+    (record { rose = cut.write; steady = cut.memory; part = cut.part })
 
 pub returns-in_err-write_all-in-Err-Line : goal.returns-in_err-write_all-in-Err-Line
 returns-in_err-write_all-in-Err-Line g c =

@@ -1,7 +1,7 @@
 -- The text of version 2, or the line of the first fault; and what a failed write left of it is a front.
 use Rattle.std.proofs.Common.{◌≡◌, inl, inr, refl, rules}
 use Rattle.scenario_text.specs.ScenarioText.{scenario_text}
-use Rattle.top_call.specs.words.Upgraded.{Upgrades, upgrade_job}
+use Rattle.top_call.specs.words.Upgraded.{upgrade_job}
 use Rattle.top_call.proofs.Ends.{write_failed}
 use Rattle.top_call.proofs.UpgradeEnds.{upgraded_text}
 use Rattle.top_call.proofs.words.upgrade.write_upgraded.Goals as goal

@@ -1,0 +1,88 @@
+-- A line that follows leads to one standing: a tx line sends one command, and no line is of two kinds.
+use Rattle.std.proofs.Common.{◌≡◌, ◌+◌, ◌≤◌, ℕ, Bool, inl, inr, List, [], ◌∷◌, map, get_or, codes, arith, ap, refl, sym, ◌∙◌, subst}
+use Rattle.std.specs.Prelude.{All}
+use Rattle.std.specs.Fmt.{decimal}
+use Rattle.text_fields.specs.Binary.{binary}
+use Rattle.std.proofs.lemmas.List.Elements.{All-head, All-tail}
+use Rattle.text_fields.specs.laws.ToldApart.{binary_told, decimal_told}
+use Rattle.command_grammar.specs.Commands.{SpellsCommand}
+use Rattle.command_grammar.specs.declared.commands.Command.{Command}
+use Rattle.pie_line.specs.Pie.{IsFrame, longest_interval}
+use Rattle.pie_line.specs.declared.frame.FrameKind.{FrameKind}
+use Rattle.air_model.specs.Past.{Start, Item, exchanges_in}
+use Rattle.air_audit.specs.Standing.{Standing, begun, between, sending, listing, telling, ended, TellsNext, GoesOn, record_of, next_tag}
+use Rattle.air_audit.specs.TraceLines.{first_field, IsOfTags, TxFields, RxFields, AreFrameOf, Sends}
+use Rattle.air_audit.proofs.Words.{told-word, tx-unjudged, tx-tags, unjudged-tags}
+
+-- the laws of frames and of commands that this goes by
+pub record Laws : Type 0 where
+  pub frame : (kind other : FrameKind) (bits others : List Bool) (intervals : List ℕ) → IsFrame kind bits intervals → IsFrame other others intervals
+      → (kind ≡ other) × (bits ≡ others)
+  pub command : (c d : Command) (bits : List Bool) → SpellsCommand c bits → SpellsCommand d bits → c ≡ d
+
+-- intervals that are spelled alike
+intervals-told : (one other : List ℕ) → All (λ interval. interval ≤ longest_interval) one → All (λ interval. interval ≤ longest_interval) other
+    → map decimal one ≡ map decimal other → one ≡ other
+intervals-told [] [] short short' same = refl
+intervals-told [] (n ∷ ns) short short' same = absurd (cc)
+intervals-told (m ∷ ms) [] short short' same = absurd (cc)
+intervals-told (m ∷ ms) (n ∷ ns) short short' same =
+    let small : m ≤ longest_interval = All-head (λ interval. interval ≤ longest_interval) m ms short in
+    let small' : n ≤ longest_interval = All-head (λ interval. interval ≤ longest_interval) n ns short' in
+    let digits : decimal m ≡ decimal n = cc in
+    let first : m ≡ n = decimal_told m n (omega arith) (omega arith) digits in
+    let rest : ms ≡ ns = intervals-told ms ns (All-tail (λ interval. interval ≤ longest_interval) m ms short) (All-tail (λ interval. interval ≤ longest_interval) n ns short') (cc) in
+    cc
+
+-- the fields of a tx line, and of an rx line, are read in one way
+pub tx-same : (line : List ℕ) (one other : TxFields line) → (one.exchange ≡ other.exchange) × (one.intervals ≡ other.intervals)
+tx-same line one other =
+    let fields : codes "tx" ∷ one.exchange ∷ map decimal one.intervals ≡ codes "tx" ∷ other.exchange ∷ map decimal other.intervals = sym one.are ∙ other.are in
+    (cc, intervals-told one.intervals other.intervals one.short other.short (cc))
+
+pub rx-same : (line : List ℕ) (one other : RxFields line) → (one.exchange ≡ other.exchange) × (one.count ≡ other.count) × (one.levels ≡ other.levels)
+rx-same line one other =
+    let fields : codes "rx" ∷ one.exchange ∷ one.count ∷ binary one.levels ∷ [] ≡ codes "rx" ∷ other.exchange ∷ other.count ∷ binary other.levels ∷ [] =
+    sym one.are ∙ other.are in
+    (cc, cc, binary_told one.levels other.levels (cc))
+
+-- a frame sends one command
+pub frame-one : Laws → (one other : Command) (intervals : List ℕ) → AreFrameOf one intervals → AreFrameOf other intervals → one ≡ other
+frame-one laws one other intervals first second =
+    let same = (laws.frame first.kind second.kind first.bits second.bits intervals first.frame second.frame).1 in
+    laws.command one other second.bits (subst (SpellsCommand one) same first.spells) second.spells
+
+sends-one : Laws → (exchange : ℕ) (line : List ℕ) (one other : Command) → Sends exchange line one → Sends exchange line other → one ≡ other
+sends-one laws exchange line one other first second =
+    frame-one laws one other second.tx.intervals (subst (AreFrameOf one) (tx-same line first.tx second.tx).1 first.frame) second.frame
+
+-- a line that sends a command begins with tx
+pub tx-word : (line : List ℕ) → TxFields line → first_field line ≡ codes "tx"
+tx-word line tx = ap (λ (fields : List (List ℕ)). get_or fields 0 []) tx.are
+
+-- ... and one that tells of a tag with tag or done
+pub tells-word : (start : Start) (past : List Item) (told : ℕ) (line : List ℕ) (to : Standing) → TellsNext start past told line to → IsOfTags (first_field line)
+tells-word start past told line to tells =
+    subst (λ (text : List ℕ). IsOfTags (first_field text)) (sym tells.text) (told-word told (next_tag start past told))
+
+pub goes-one : Laws → (start : Start) (from : Standing) (line : List ℕ) (to other : Standing) → GoesOn start from line to → GoesOn start from line other → to ≡ other
+goes-one laws start begun line to other one second = one.leads ∙ sym second.leads
+goes-one laws start (between past) line to other (inl one) (inl second) =
+    let same = sends-one laws (exchanges_in past + 1) line one.command second.command one.sends second.sends in
+    one.leads ∙ ap (λ (command : Command). sending past (record_of start past command)) same ∙ sym second.leads
+goes-one laws start (between past) line to other (inl one) (inr (inl second)) = absurd (tx-unjudged (first_field line) (tx-word line one.sends.tx) second.unjudged)
+goes-one laws start (between past) line to other (inl one) (inr (inr second)) =
+    absurd (tx-tags (first_field line) (tx-word line one.sends.tx) (tells-word start past 0 line other second))
+goes-one laws start (between past) line to other (inr (inl one)) (inl second) = absurd (tx-unjudged (first_field line) (tx-word line second.sends.tx) one.unjudged)
+goes-one laws start (between past) line to other (inr (inl one)) (inr (inl second)) = one.leads ∙ sym second.leads
+goes-one laws start (between past) line to other (inr (inl one)) (inr (inr second)) =
+    absurd (unjudged-tags (first_field line) one.unjudged (tells-word start past 0 line other second))
+goes-one laws start (between past) line to other (inr (inr one)) (inl second) =
+    absurd (tx-tags (first_field line) (tx-word line second.sends.tx) (tells-word start past 0 line to one))
+goes-one laws start (between past) line to other (inr (inr one)) (inr (inl second)) =
+    absurd (unjudged-tags (first_field line) second.unjudged (tells-word start past 0 line to one))
+goes-one laws start (between past) line to other (inr (inr one)) (inr (inr second)) = one.leads ∙ sym second.leads
+goes-one laws start (sending past sent) line to other one second = one.leads ∙ sym second.leads
+goes-one laws start (listing past listed) line to other one second = one.leads ∙ sym second.leads
+goes-one laws start (telling past told) line to other one second = one.leads ∙ sym second.leads
+goes-one laws start (ended past) line to other one second = absurd one

@@ -1,0 +1,61 @@
+-- The rx line of a record is read back, so that a line that differs from it in some part is another.
+use Rattle.std.proofs.Common.{◌≡◌, ◌≢◌, ◌^◌, ◌<◌, ◌≤◌, ℕ, Bool, zero, suc, List, length, codes, arith, ap, refl, sym, subst}
+use Rattle.std.specs.Fmt.{decimal}
+use Rattle.std.proofs.lemmas.List.Elements.{All-from_recursion}
+use Rattle.report_lines.specs.ReportLine.{RxLine, report_fields}
+use Rattle.text_fields.specs.Lines.{Lacks, fields_of, space}
+use Rattle.text_fields.specs.laws.FieldTextLaws.{IsFieldText-binary}
+use Rattle.text_fields.specs.laws.LineLaws.{fields_come_back}
+use Rattle.air_audit.specs.LineRefusals.{DiffersFirst}
+use Rattle.air_audit.specs.TraceLines.{text_of, most_levels, RxFields}
+use Rattle.air_audit.specs.declared.verdict.AuditReason.{AuditReason}
+use Rattle.air_audit.proofs.OneReason.{rx_part, rx-refusal}
+use Rattle.air_audit.proofs.SentLines.{number-is}
+use Rattle.air_audit.proofs.Spelled.{decimal-lacks}
+use Rattle.air_audit.proofs.Words.{word-text}
+
+-- so many replies and these levels in the exchange are within what is read
+pub record IsReadable (exchange count : ℕ) (levels : List Bool) : Type 0 where
+  pub exchange_small : exchange < 2 ^ 64
+  pub count_small : count < 2 ^ 64
+  pub few : length levels ≤ most_levels
+
+pub rx-fields : (exchange count : ℕ) (levels : List Bool) → fields_of (text_of (RxLine exchange count levels)) ≡ report_fields (RxLine exchange count levels)
+rx-fields exchange count levels =
+    fields_come_back (report_fields (RxLine exchange count levels)) (λ none. cc)
+    (All-from_recursion (Lacks space) (report_fields (RxLine exchange count levels)) (
+      (word-text 114 (codes "x") refl).no_space,
+      (
+        decimal-lacks space exchange (omega arith),
+        (
+          decimal-lacks space count (omega arith),
+          ((IsFieldText-binary levels).no_space, tt),
+        ),
+      ),
+    ))
+
+rx-read : (exchange count : ℕ) (levels : List Bool) → IsReadable exchange count levels → RxFields (text_of (RxLine exchange count levels))
+rx-read exchange count levels is = record {
+  exchange = decimal exchange;
+  count = decimal count;
+  levels = levels;
+  are = rx-fields exchange count levels;
+  number = number-is exchange is.exchange_small;
+  count_number = number-is count is.count_small;
+  few = is.few;
+}
+
+rx-holds : (exchange count : ℕ) (levels : List Bool) → IsReadable exchange count levels → (place : ℕ)
+    → rx_part exchange count levels (text_of (RxLine exchange count levels)) place
+unfolding rx-read
+rx-holds exchange count levels is zero = ap length (rx-fields exchange count levels)
+rx-holds exchange count levels is (suc zero) = rx-read exchange count levels is
+rx-holds exchange count levels is (suc (suc zero)) = (rx-read exchange count levels is, refl)
+rx-holds exchange count levels is (suc (suc (suc zero))) = (rx-read exchange count levels is, refl, refl)
+rx-holds exchange count levels is (suc (suc (suc (suc place)))) = (rx-read exchange count levels is, refl, refl, refl)
+
+pub rx-differs : (exchange count : ℕ) (levels : List Bool) (line : List ℕ) (reason : AuditReason) → IsReadable exchange count levels
+    → DiffersFirst exchange count levels line reason → line ≢ text_of (RxLine exchange count levels)
+rx-differs exchange count levels line reason is first same =
+    let refusal = rx-refusal exchange count levels line reason first in
+    refusal.fails.fails (subst (λ (text : List ℕ). rx_part exchange count levels text refusal.place) (sym same) (rx-holds exchange count levels is refusal.place))

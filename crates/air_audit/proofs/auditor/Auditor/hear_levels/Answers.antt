@@ -1,0 +1,27 @@
+use Rattle.std.proofs.Common.{◌≡◌, ◌<◌, ◌^◌, List, Bool, ap, subst, ◌∙◌, arith}
+use Rattle.runs.proofs.Answering.{TagLaws}
+use Rattle.air_audit.specs.Auditing.{AuditorValue}
+use Rattle.air_audit.specs.LineRefusals.{DiffersFirst}
+use Rattle.air_audit.proofs.Following.{levels-few, rx-not}
+use Rattle.air_audit.proofs.auditor.Auditor.hear_levels.Goals as goal
+
+pub returns-in-Err-clause-follows : goal.returns-in-Err-clause-follows
+returns-in-Err-clause-follows g c = λ start past sent is.
+    let laws : TagLaws = record { rows = c.answers_are_replies.ensures.reply; range = c.answers_are_replies.ensures.legal; stays = c.steps_keep_tags_legal.ensures.befallen } in
+    let auditor : AuditorValue = c.args.self.now in
+    let number = ap (λ (a : AuditorValue). a.exchanges) c.self.view_is in
+    let count : c.count.result ≡ auditor.answers.count = c.count.ensures.value ∙ ap (λ (a : AuditorValue). a.answers.count) c.self.view_is in
+    let levels : c.levels.result.now.items ≡ auditor.answers.levels = c.levels.ensures.value ∙ ap (λ (a : AuditorValue). a.answers.levels) c.self.view_is in
+    let small : c.count.result < 2 ^ 32 = c.count.ensures.few in
+    let early : auditor.exchanges < 2 ^ 32 = omega (arith, c.requires.early.exchanges) in
+    let count_small : auditor.answers.count < 2 ^ 32 = subst (λ n. n < 2 ^ 32) count small in
+    let first : DiffersFirst auditor.exchanges auditor.answers.count auditor.answers.levels c.args.line.now c.in-Err.reason =
+    subst (λ n. DiffersFirst n auditor.answers.count auditor.answers.levels c.args.line.now c.in-Err.reason) number
+    (subst (λ n. DiffersFirst c.self.inside.exchanges n auditor.answers.levels c.args.line.now c.in-Err.reason) count
+    (subst (λ (l : List Bool). DiffersFirst c.self.inside.exchanges c.count.result l c.args.line.now c.in-Err.reason) levels c.in-Err.ensures.refused)) in
+    rx-not start past sent c.args.line.now auditor c.in-Err.reason is
+    (record {
+      readable = record { exchange_small = omega arith; count_small = omega arith; few = levels-few laws start past sent auditor is };
+      word = c.requires.word;
+      first = first;
+    })

@@ -1,0 +1,6 @@
+use Rattle.std.proofs.Common.{take}
+use Rattle.air_audit.specs.OwnTraces.{HasNoEventStep}
+use Rattle.air_audit.proofs.trace_behind.has_event_step.Given as goal
+
+abbrev pub invariant-loop-step : goal.invariant-loop-step
+invariant-loop-step l = HasNoEventStep (take l.step-index l.steps)

@@ -1,0 +1,177 @@
+-- Profile: an audit that is under way. A contract says of each part of it how the trace goes on with a line, or why it doesn't.
+use Rattle.std.specs.Prelude.{◌≡◌, ◌≢◌, ℕ, ◌+◌, ◌<◌, ◌≤◌, List, [], ◌∷◌, All, length, Option, Some, None, Result, Ok, Err}
+use Rattle.air_events.specs.Cursor.{IsLeft}
+use Rattle.air_events.specs.Entries.{Rises, entry_at}
+use Rattle.air_events.specs.Streams.{HasStreamLength}
+use Rattle.air_events.specs.TagNumbers.{most_tags}
+use Rattle.air_events.specs.declared.Choice.{Choice}
+use Rattle.air_events.specs.declared.Choice.TheVariants as choices
+use Rattle.air_events.specs.declared.Entry.{Entry}
+use Rattle.air_events.specs.declared.Several.{Several}
+use Rattle.command_grammar.specs.declared.commands.Command.{Command}
+use Rattle.command_grammar.specs.declared.refusal.CommandRefusal.{CommandRefusal}
+use Rattle.pie_line.specs.Link.{LinkValue}
+use Rattle.reply_grammar.specs.declared.expected.Received.{Received}
+use Rattle.reply_grammar.specs.declared.expected.Received.TheVariants as receiveds
+use Rattle.reply_grammar.specs.declared.expected.Reply.TheVariants as replies
+use Rattle.tag_machine.specs.Exchange.{AreLegalTags}
+use Rattle.tag_machine.specs.TagValue.{TagValue}
+use Rattle.air_model.specs.Channel.{heard_levels}
+use Rattle.air_model.specs.Past.{Start, Record, Item, exchanged, exchanges_in, tags_behind}
+use Rattle.report_lines.specs.ReportLine.{ReportLine, report_line_text}
+use Rattle.runs.specs.Listing.{Listed, listed_by}
+use Rattle.runs.specs.Report.{list_line}
+use Rattle.air_audit.specs.Giving.{AnswersValue}
+use Rattle.air_audit.specs.LineRefusals.{IsRefusedHere}
+use Rattle.air_audit.specs.Standing.{Standing, begun, between, sending, listing, telling, ended, GoesOn, place_in, record_of, told_line}
+use Rattle.air_audit.specs.TraceLines.{text_of, Sends}
+use Rattle.air_audit.specs.declared.auditor.Position.{Position}
+use Rattle.air_audit.specs.declared.auditor.Position.TheVariants as positions
+use Rattle.air_audit.specs.declared.stop.Stop.{Stop}
+use Rattle.air_audit.specs.declared.stop.Stop.TheVariants as stops
+use Rattle.air_audit.specs.declared.verdict.AuditReason.TheVariants as reasons
+
+-- where a raw stream is chosen, it has a level at least, and no more than the longest reply
+abbrev pub GivesStream : Option Choice → Type 0
+GivesStream (Some (choices.Raw levels)) = HasStreamLength levels
+GivesStream choice = Unit {0}
+
+-- so many tags, and what is said of exchanges, are as one scenario gives them
+pub record AreAsGiven (tags : ℕ) (entries : List (ℕ × Entry)) : Type 0 where
+  pub few : tags ≤ most_tags
+  pub rises : Rises 0 entries
+  pub events : (exchange : ℕ) → All (λ event. event.1 < tags) (entry_at entries exchange).events
+  pub missed : (exchange : ℕ) → All (λ tag. tag < tags) (entry_at entries exchange).missed
+  pub streams : (exchange : ℕ) → GivesStream (entry_at entries exchange).choice
+
+-- What a contract sees of an audit: what the channel gives of several replies, the tags as they are, what is said of later
+-- exchanges, where the trace stands, how many exchanges there were, the round and the slot of the last one, its command, what was
+-- answered, and the line that was written last.
+pub record AuditorValue : Type 0 where
+  pub several : Several
+  pub tags : List TagValue
+  pub entries : List (ℕ × Entry)
+  pub position : Position
+  pub exchanges : ℕ
+  pub round : ℕ
+  pub slot : ℕ
+  pub sent : Result Command CommandRefusal
+  pub answers : AnswersValue
+  pub text : List ℕ
+
+-- no line was read yet
+pub record IsBegun (link : LinkValue) (several : Several) (tags : List TagValue) (entries : List (ℕ × Entry)) (auditor : AuditorValue) : Type 0 where
+  pub link_is : auditor.answers.link ≡ link
+  pub several_is : auditor.several ≡ several
+  pub tags_are : auditor.tags ≡ tags
+  pub entries_are : auditor.entries ≡ entries
+  pub position_is : auditor.position ≡ positions.First
+  pub exchanges_are : auditor.exchanges ≡ 0
+  pub round_is : auditor.round ≡ 0
+  pub slot_is : auditor.slot ≡ 0
+
+-- there were at most so many exchanges
+pub record IsEarly (most : ℕ) (auditor : AuditorValue) : Type 0 where
+  pub exchanges : auditor.exchanges ≤ most
+  pub round : auditor.round ≤ most
+  pub slot : auditor.slot ≤ most
+
+-- the auditor is what a past made of it
+pub record KeepsUp (start : Start) (past : List Item) (auditor : AuditorValue) : Type 0 where
+  pub given : AreAsGiven (length start.tags) start.entries
+  pub link : auditor.answers.link ≡ start.link
+  pub several : auditor.several ≡ start.several
+  pub tags : auditor.tags ≡ tags_behind start past
+  pub legal : AreLegalTags auditor.tags
+  pub entries : IsLeft auditor.entries start.entries (exchanges_in past)
+  pub exchanges : auditor.exchanges ≡ exchanges_in past
+  pub round : auditor.round ≡ (place_in past).round
+  pub slot : auditor.slot ≡ (place_in past).slot
+
+-- ... and knows what came back in the exchange that is last
+pub record IsHearing (start : Start) (past : List Item) (sent : Record) (auditor : AuditorValue) : Type 0 where
+  pub position_is : auditor.position ≡ positions.Sending
+  pub keeps : KeepsUp start (exchanged sent ∷ past) auditor
+  pub made : sent ≡ record_of start past sent.command
+  pub command : auditor.sent ≡ Ok sent.command
+  pub legal : AreLegalTags (tags_behind start past)
+  pub count : auditor.answers.count ≡ length sent.replies
+  pub levels : auditor.answers.levels ≡ heard_levels start.link sent.given
+
+-- ... and has written the list line that has to come
+pub record ExpectsList (start : Start) (past : List Item) (listed : Listed) (auditor : AuditorValue) : Type 0 where
+  pub position_is : auditor.position ≡ positions.Listing
+  pub keeps : KeepsUp start past auditor
+  pub text : auditor.text ≡ report_line_text (list_line listed)
+
+-- ... and stands at this position
+pub record IsAt (position : Position) (start : Start) (past : List Item) (auditor : AuditorValue) : Type 0 where
+  pub position_is : auditor.position ≡ position
+  pub keeps : KeepsUp start past auditor
+
+-- the auditor stands where the trace does
+abbrev pub StandsAt : Start → Standing → AuditorValue → Type 0
+StandsAt start begun auditor = IsAt positions.First start [] auditor
+StandsAt start (between past) auditor = IsAt positions.Between start past auditor
+StandsAt start (sending past sent) auditor = IsHearing start past sent auditor
+StandsAt start (listing past listed) auditor = ExpectsList start past listed auditor
+StandsAt start (telling past told) auditor = IsAt (positions.Telling told) start past auditor
+StandsAt start (ended past) auditor = IsAt positions.Ended start past auditor
+
+-- there is a trace that the auditor stands for
+pub record IsUnderway (auditor : AuditorValue) : Type 0 where
+  pub start : Start
+  pub standing : Standing
+  pub stands : StandsAt start standing auditor
+
+-- the trace goes on with the line, and the auditor with it
+pub record GoesOnWith (start : Start) (standing : Standing) (line : List ℕ) (auditor : AuditorValue) : Type 0 where
+  pub next : Standing
+  pub goes : GoesOn start standing line next
+  pub stands : StandsAt start next auditor
+
+-- the line is refused, or there was no memory
+abbrev pub StopsAt : Stop → Start → Standing → List ℕ → Type 0
+StopsAt (stops.Refused reason) start standing line = IsRefusedHere start standing line reason
+StopsAt (stops.OutOfMemory error) start standing line = Unit {0}
+
+-- the answer to a line
+abbrev pub Follows : Result (Unit {0}) Stop → Start → Standing → List ℕ → AuditorValue → Type 0
+Follows (Ok done) start standing line auditor = GoesOnWith start standing line auditor
+Follows (Err stop) start standing line auditor = StopsAt stop start standing line
+
+-- the line sends a command, which the tags have heard
+pub record SendsTo (start : Start) (past : List Item) (line : List ℕ) (auditor : AuditorValue) : Type 0 where
+  pub command : Command
+  pub sends : Sends (exchanges_in past + 1) line command
+  pub hearing : IsHearing start past (record_of start past command) auditor
+
+-- the PC and the EPC are those of a reply that is received whole
+abbrev pub Brings : Option (ℕ × List ℕ) → Received → Type 0
+Brings (Some pair) received = received ≡ receiveds.Whole (replies.Epc pair.0 pair.1)
+Brings None received = (pc : ℕ) (epc : List ℕ) → received ≢ receiveds.Whole (replies.Epc pc epc)
+
+-- the PC and the EPC are those that a record lists
+abbrev pub Lists : Option (ℕ × List ℕ) → Record → Type 0
+Lists None sent = listed_by sent ≡ []
+Lists (Some pair) sent = listed_by sent ≡ record { round = sent.round; slot = sent.slot; pc = pair.0; epc = pair.1 } ∷ []
+
+-- where a trace stands behind the line of the next tag, or the last line
+abbrev pub position_behind : ℕ → Option TagValue → Position
+position_behind told None = positions.Ended
+position_behind told (Some tag) = positions.Telling (told + 1)
+
+-- that line is written
+pub record WritesTold (told : ℕ) (next : Option TagValue) (behind : Position) (text : List ℕ) : Type 0 where
+  pub text_is : text ≡ report_line_text (told_line told next)
+  pub behind_is : behind ≡ position_behind told next
+
+-- the line is this one, and the trace goes on behind it
+pub record Tells (told : ℕ) (next : Option TagValue) (line : List ℕ) (before after : AuditorValue) : Type 0 where
+  pub text_is : line ≡ text_of (told_line told next)
+  pub moves : after ≡ record before { position = position_behind told next; text = after.text }
+
+-- the line is another, or there was no memory
+abbrev pub TellsOther : ReportLine → List ℕ → Stop → Type 0
+TellsOther expected line (stops.Refused reason) = (reason ≡ reasons.Tag) × (line ≢ text_of expected)
+TellsOther expected line (stops.OutOfMemory error) = Unit {0}

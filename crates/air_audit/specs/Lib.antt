@@ -1,0 +1,13 @@
+pub mod TraceLines
+pub mod Standing
+pub mod AuditedTrace
+pub mod LineRefusals
+pub mod FirstRefusal
+pub mod OwnTraces
+pub mod Sent
+pub mod FirstWords
+pub mod Rooms
+pub mod Giving
+pub mod Auditing
+pub mod TraceBehind
+pub mod VerdictText

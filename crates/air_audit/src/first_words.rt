@@ -1,0 +1,48 @@
+//! The words that lines begin with.
+ghost use Rattle.air_audit.specs.FirstWords.{IsWord};
+ghost use Rattle.air_audit.specs.TraceLines.{first_field};
+
+use crate::fields::next_field;
+use text_fields::Fields;
+
+/// What a line is by the word that it begins with.
+#[derive(Clone, Copy, Debug, PartialEq, Eq)]
+pub(crate) enum Word {
+    /// `tx`: a frame was sent.
+    Tx,
+    /// `rx`: what came back.
+    Rx,
+    /// `list`: a tag was listed.
+    List,
+    /// `op`, `round` or `seen`: nothing in the line is judged.
+    Unjudged,
+    /// `tag` or `done`: what a tag is in the end, or that this is all.
+    OfTags,
+    /// Any other.
+    Other,
+}
+
+/// What this word says.
+fn word_of(word: &[u8]) -> Word
+    ensures { IsWord result word.now }
+{
+    match word {
+        b"tx" => Word::Tx,
+        b"rx" => Word::Rx,
+        b"list" => Word::List,
+        b"op" | b"round" | b"seen" => Word::Unjudged,
+        b"tag" | b"done" => Word::OfTags,
+        _ => Word::Other,
+    }
+}
+
+/// What a line is by its first field.
+pub(crate) fn word_of_line(line: &[u8]) -> Word
+    ensures { IsWord result (first_field line.now) }
+{
+    match next_field(&mut Fields::new(line)) {
+        Some(first) => word_of(first),
+        // A line has a field at least.
+        None => unreachable!(),
+    }
+}

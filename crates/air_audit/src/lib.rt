@@ -1,0 +1,27 @@
+//! Audit of traces: whether a trace is what the standard's tags and the channel make of the commands in it.
+#![tactic(auto)]
+
+mod answers;
+mod auditor;
+mod chosen;
+mod fields;
+mod first_words;
+mod laws;
+mod rounds;
+mod rx_line;
+mod sent_frame;
+mod stop;
+mod texts;
+mod trace_behind;
+mod traces;
+mod tx_line;
+mod verdict;
+mod verdict_lines;
+
+pub use laws::{
+    own_traces_are_audited, refused_lines_end_the_beginnings, traces_have_at_most_one_verdict,
+};
+pub use trace_behind::{has_event_step, split_scenario};
+pub use traces::audit;
+pub use verdict::{AuditReason, Verdict};
+pub use verdict_lines::{event_text, verdict_text};

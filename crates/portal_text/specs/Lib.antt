@@ -1,0 +1,2 @@
+pub mod PortalFault
+pub mod PortalText

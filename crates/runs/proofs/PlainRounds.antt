@@ -1,0 +1,381 @@
+-- A round of a plain run depends on what is past through its tags alone.
+use Rattle.std.proofs.Common.{◌≡◌, ℕ, zero, suc, ◌+◌, ◌≤◌, Bool, true, false, List, [], ◌∷◌, ◌++◌, length, map, refl, ap, sym, ◌∙◌, subst, arith}
+use Rattle.std.specs.List.{AllZip}
+use Rattle.std.proofs.lemmas.List.{map-append}
+use Rattle.access_ops.specs.Operations.{Dialogue}
+use Rattle.access_ops.specs.declared.OpList.{OpList}
+use Rattle.air_events.specs.Entries.{no_entry}
+use Rattle.air_events.specs.declared.Entry.{Entry}
+use Rattle.air_events.specs.declared.Several.TheVariants as severals
+use Rattle.air_model.specs.Channel.{Given, default_given}
+use Rattle.air_model.specs.Past.{Start, Record, Item, ended, next_record, past_behind_command, rounds_in, tags_behind, tags_behind_from}
+use Rattle.air_model.specs.Reception.{reception_of}
+use Rattle.bit_strings.specs.declared.code.Code.{Code}
+use Rattle.command_fields.specs.declared.choices.Sel.{Sel}
+use Rattle.command_fields.specs.declared.choices.Side.{Side}
+use Rattle.command_fields.specs.declared.choices.UpDn.{UpDn}
+use Rattle.command_grammar.specs.declared.commands.Command.{Command}
+use Rattle.command_grammar.specs.declared.commands.Command.TheVariants as commands
+use Rattle.q_round.specs.SpecValue.{SpecValue, IsLegalSpec}
+use Rattle.q_round.specs.Rounds.{Turn, query, adjust, rep, quiet, limit, ends as over, AreOutcomes, answer_of, is_over, turn_of}
+use Rattle.q_round.specs.declared.frame.Outcome.{Outcome}
+use Rattle.q_round.specs.declared.round.Next.TheVariants as nexts
+use Rattle.q_round.specs.declared.round.RoundEnd.{RoundEnd}
+use Rattle.q_round.specs.declared.round.RoundEnd.TheVariants as round_ends
+use Rattle.reply_grammar.specs.Reception.{Reception, no_stream, whole_reply, no_such_reply}
+use Rattle.reply_grammar.specs.declared.expected.Expect.TheVariants as expects
+use Rattle.reply_grammar.specs.declared.expected.Reply.TheVariants as replies
+use Rattle.tag_machine.specs.Answers.{Outcome as TagOutcome}
+use Rattle.tag_machine.specs.Exchange.{outcome_in, outcomes_from, replies_from, replies_in, tags_after}
+use Rattle.tag_machine.specs.Step.{step}
+use Rattle.tag_machine.specs.TagValue.{StateValue, BodyValue, TagValue}
+use Rattle.two_portals.specs.Played.{Played}
+use Rattle.runs.specs.History.{outcome_of, past_behind_ack, past_behind_answer, past_behind_dialogue, past_behind_round, past_behind_slot, past_behind_turn, past_behind_turns, ack_reception, slot_reception}
+use Rattle.runs.specs.Listed.{sender_listed_by, sender_where, tags_listed_where}
+use Rattle.runs.specs.Listing.{listed_by, listed_from, listing_of, reception_of_ack}
+use Rattle.scenario.specs.Limits.{no_operations}
+use Rattle.runs.specs.RoundsTold.{GoesByTags, IsBetweenRounds, IsPlain, first_round, pair_listed, pairs_listed_by, pairs_since, played_of, round_ended, rounds_told, senders_since, start_with}
+use Rattle.runs.specs.laws.Growth.{RoundsKeepLimit, few-outcomes}
+use Rattle.runs.specs.laws.Tags.{tags-ended, tags-exchanged}
+use Rattle.runs.specs.EveryTag.{pairs_listed}
+use Rattle.runs.proofs.Keeping.{Keeps, ack-keeps, keeps-on, query-keeps, query_adjust-keeps, query_rep-keeps}
+use Rattle.runs.proofs.Turns.{nothing-begun}
+
+-- Two commands of a round without operations that tags can't tell apart: they are one, or both are a Query, and differ in the form of
+-- the replies.
+data AreOne : Command → Command → Type 0 where
+  acks : (rn : ℕ) → AreOne (commands.Ack rn) (commands.Ack rn)
+  reps : (session : ℕ) → AreOne (commands.QueryRep session) (commands.QueryRep session)
+  adjusts : (session : ℕ) (updn : UpDn) → AreOne (commands.QueryAdjust session updn) (commands.QueryAdjust session updn)
+  queries : (dr dr2 : Bool) (code code2 : Code) (trext trext2 : Bool) (sel : Sel) (session : ℕ) (target : Side) (q : ℕ)
+      → AreOne (commands.Query dr code trext sel session target q) (commands.Query dr2 code2 trext2 sel session target q)
+
+queries-one : (dr dr2 : Bool) (code code2 : Code) (trext trext2 : Bool) (sel : Sel) (session : ℕ) (target : Side) (q number : ℕ) (entry : Entry) (tags : List TagValue)
+    → outcomes_from number (commands.Query dr code trext sel session target q) entry tags ≡ outcomes_from number (commands.Query dr2 code2 trext2 sel session target q) entry tags
+queries-one dr dr2 code code2 trext trext2 sel session target q number entry [] = refl
+queries-one dr dr2 code code2 trext trext2 sel session target q number entry (tag ∷ tags) =
+    ap (λ (outcomes : List TagOutcome). outcome_in number (commands.Query dr code trext sel session target q) entry tag ∷ outcomes)
+    (queries-one dr dr2 code code2 trext trext2 sel session target q (number + 1) entry tags)
+
+outcomes-one : (command command2 : Command) → AreOne command command2 → (entry : Entry) (tags : List TagValue) → outcomes_from 0 command entry tags ≡ outcomes_from 0 command2 entry tags
+outcomes-one command command2 (acks rn) entry tags = refl
+outcomes-one command command2 (reps session) entry tags = refl
+outcomes-one command command2 (adjusts session updn) entry tags = refl
+outcomes-one command command2 (queries dr dr2 code code2 trext trext2 sel session target q) entry tags = queries-one dr dr2 code code2 trext trext2 sel session target q 0 entry tags
+
+-- what such a command keeps of each tag
+step-keeps : (command command2 : Command) → AreOne command command2 → (state : StateValue) (body : BodyValue) → Keeps (record { state = state; body = body }) (step command state body).tag
+step-keeps command command2 (acks rn) state body = ack-keeps rn state body
+step-keeps command command2 (reps session) state body = query_rep-keeps session state body
+step-keeps command command2 (adjusts session updn) state body = query_adjust-keeps session updn state body
+step-keeps command command2 (queries dr dr2 code code2 trext trext2 sel session target q) state body = query-keeps sel session target q state body
+
+all-keep : (command command2 : Command) → AreOne command command2 → (number : ℕ) (first tags : List TagValue) → AllZip Keeps first tags
+    → AllZip Keeps first (tags_after (outcomes_from number command no_entry tags))
+all-keep command command2 same number [] [] kept = tt
+all-keep command command2 same number [] (tag ∷ tags) kept = absurd kept
+all-keep command command2 same number (first ∷ firsts) [] kept = absurd kept
+all-keep command command2 same number (first ∷ firsts) (tag ∷ tags) kept =
+    (keeps-on first tag _ kept.0 (step-keeps command command2 same tag.state tag.body), all-keep command command2 same (number + 1) firsts tags kept.1)
+
+-- what a plain channel gives of a command
+abbrev given_plainly : Command → List TagValue → Given
+given_plainly command tags = default_given severals.Break (replies_in command no_entry tags)
+
+given-plain : (start : Start) (round slot : ℕ) (command : Command) (past : List Item) → IsPlain start
+    → (next_record start round slot command past).given ≡ given_plainly command (tags_behind start past)
+given-plain start round slot command past plain = rw (plain.entries, plain.several) refl
+
+tags-plain : (start : Start) (round slot : ℕ) (command : Command) (past : List Item) → IsPlain start
+    → tags_behind start (past_behind_command start round slot command past) ≡ tags_after (outcomes_from 0 command no_entry (tags_behind start past))
+tags-plain start round slot command past plain = tags-exchanged start (next_record start round slot command past) past ∙ (rw plain.entries refl)
+
+-- what a record lists goes by its command and by what the channel gave
+pairs-from : (sent sent2 : Record) (reception : Reception)
+    → map pair_listed (listed_from sent reception) ≡ map pair_listed (listed_from sent2 reception)
+pairs-from sent sent2 no_stream = refl
+pairs-from sent sent2 no_such_reply = refl
+pairs-from sent sent2 (whole_reply (replies.Rn16 rn)) = refl
+pairs-from sent sent2 (whole_reply (replies.Epc pc epc)) = refl
+pairs-from sent sent2 (whole_reply (replies.Handle rn)) = refl
+pairs-from sent sent2 (whole_reply (replies.Words words)) = refl
+pairs-from sent sent2 (whole_reply replies.Header) = refl
+pairs-from sent sent2 (whole_reply (replies.Error code)) = refl
+
+senders-from : (sent sent2 : Record) (reception : Reception) (given : Given) → sender_where (listed_from sent reception) given ≡ sender_where (listed_from sent2 reception) given
+senders-from sent sent2 no_stream given = refl
+senders-from sent sent2 no_such_reply given = refl
+senders-from sent sent2 (whole_reply (replies.Rn16 rn)) given = refl
+senders-from sent sent2 (whole_reply (replies.Epc pc epc)) given = refl
+senders-from sent sent2 (whole_reply (replies.Handle rn)) given = refl
+senders-from sent sent2 (whole_reply (replies.Words words)) given = refl
+senders-from sent sent2 (whole_reply replies.Header) given = refl
+senders-from sent sent2 (whole_reply (replies.Error code)) given = refl
+
+-- what is received of an ACK goes by what was given
+heard-one : (sent sent2 : Record) (command command2 : Command) → AreOne command command2 → sent.given ≡ sent2.given → reception_of_ack sent command ≡ reception_of_ack sent2 command2
+heard-one sent sent2 command command2 (acks rn) given = ap (reception_of expects.Epc) given
+heard-one sent sent2 command command2 (reps session) given = refl
+heard-one sent sent2 command command2 (adjusts session updn) given = refl
+heard-one sent sent2 command command2 (queries dr dr2 code code2 trext trext2 sel session target q) given = refl
+
+-- two pasts, each behind a start of its own: the tags stand alike, and alike was listed since the last round ended; what the rounds
+-- before told stands still; of the first tags each one keeps what it keeps; and in the second past no round ended
+record AreAlike (start start2 : Start) (first : List TagValue) (told told2 : List Played) (past past2 : List Item) : Type 0 where
+  tags : tags_behind start past ≡ tags_behind start2 past2
+  pairs : pairs_since past ≡ pairs_since past2
+  senders : senders_since past ≡ senders_since past2
+  before : rounds_told start past ≡ told
+  before2 : rounds_told start2 past2 ≡ told2
+  kept : AllZip Keeps first (tags_behind start past)
+  all_pairs : pairs_listed past2 ≡ pairs_since past2
+  all_senders : tags_listed_where (λ sent. true) past2 ≡ senders_since past2
+
+-- two plain starts, rounds that are played behind them, and what was told before
+record Both : Type 0 where
+  start : Start
+  start2 : Start
+  plain : IsPlain start
+  plain2 : IsPlain start2
+  round : ℕ
+  round2 : ℕ
+  operations : OpList
+  operations2 : OpList
+  none : operations.ops ≡ []
+  none2 : operations2.ops ≡ []
+  first : List TagValue
+  told : List Played
+  told2 : List Played
+
+abbrev AreBoth : Both → List Item → List Item → Type 0
+AreBoth b past past2 = AreAlike b.start b.start2 b.first b.told b.told2 past past2
+
+given-alike : (b : Both) (slot slot2 : ℕ) (command command2 : Command) (past past2 : List Item) → AreOne command command2 → AreBoth b past past2
+    → (next_record b.start b.round slot command past).given ≡ (next_record b.start2 b.round2 slot2 command2 past2).given
+given-alike b slot slot2 command command2 past past2 same alike =
+    given-plain b.start b.round slot command past b.plain
+    ∙ ap (given_plainly command) alike.tags
+    ∙ ap (λ (outcomes : List TagOutcome). default_given severals.Break (replies_from 0 outcomes)) (outcomes-one command command2 same no_entry (tags_behind b.start2 past2))
+    ∙ sym (given-plain b.start2 b.round2 slot2 command2 past2 b.plain2)
+
+command-alike : (b : Both) (slot slot2 : ℕ) (command command2 : Command) (past past2 : List Item) → AreOne command command2 → AreBoth b past past2
+    → AreBoth b (past_behind_command b.start b.round slot command past) (past_behind_command b.start2 b.round2 slot2 command2 past2)
+command-alike b slot slot2 command command2 past past2 same alike =
+    let sent = next_record b.start b.round slot command past in
+    let sent2 = next_record b.start2 b.round2 slot2 command2 past2 in
+    let given = given-alike b slot slot2 command command2 past past2 same alike in
+    let heard = heard-one sent sent2 command command2 same given in
+    record {
+      tags =
+          tags-plain b.start b.round slot command past b.plain
+          ∙ ap (λ (tags : List TagValue). tags_after (outcomes_from 0 command no_entry tags)) alike.tags
+          ∙ ap tags_after (outcomes-one command command2 same no_entry (tags_behind b.start2 past2))
+          ∙ sym (tags-plain b.start2 b.round2 slot2 command2 past2 b.plain2);
+      pairs =
+          ap (λ (pairs : List (ℕ × List ℕ)). pairs ++ pairs_listed_by sent) alike.pairs
+          ∙ ap (λ (pairs : List (ℕ × List ℕ)). pairs_since past2 ++ pairs)
+          (pairs-from sent sent2 (reception_of_ack sent command)
+          ∙ ap (λ (reception : Reception). map pair_listed (listed_from sent2 reception)) heard);
+      senders =
+          ap (λ (senders : List ℕ). senders ++ sender_listed_by sent) alike.senders
+          ∙ ap (λ (senders : List ℕ). senders_since past2 ++ senders)
+          (senders-from sent sent2 (reception_of_ack sent command) sent.given
+          ∙ ap (λ (reception : Reception). sender_where (listed_from sent2 reception) sent.given) heard
+          ∙ ap (λ (each : Given). sender_where (listed_by sent2) each) given);
+      before = alike.before;
+      before2 = alike.before2;
+      kept = subst (AllZip Keeps b.first) (sym (tags-plain b.start b.round slot command past b.plain)) (all-keep command command2 same 0 b.first (tags_behind b.start past) alike.kept);
+      all_pairs =
+          map-append pair_listed (listing_of past2) (listed_by sent2) ∙ ap (λ (pairs : List (ℕ × List ℕ)). pairs ++ pairs_listed_by sent2) alike.all_pairs;
+      all_senders = ap (λ (senders : List ℕ). senders ++ sender_listed_by sent2) alike.all_senders;
+    }
+
+-- behind an ACK nothing is done
+ack-alike : (b : Both) (slot slot2 rn : ℕ) (past past2 : List Item) → AreBoth b past past2
+    → AreBoth b (past_behind_ack b.start b.operations b.round slot rn past) (past_behind_ack b.start2 b.operations2 b.round2 slot2 rn past2)
+ack-alike b slot slot2 rn past past2 alike =
+    let behind = past_behind_command b.start b.round slot (commands.Ack rn) past in
+    let behind2 = past_behind_command b.start2 b.round2 slot2 (commands.Ack rn) past2 in
+    let done1 = nothing-begun b.operations rn (ack_reception b.start b.round slot rn past) b.none in
+    let done2 = nothing-begun b.operations2 rn (ack_reception b.start2 b.round2 slot2 rn past2) b.none2 in
+    subst (λ (dialogue : Dialogue). AreBoth b (past_behind_dialogue b.start b.round slot 1 dialogue behind)
+    (past_behind_ack b.start2 b.operations2 b.round2 slot2 rn past2)) (sym done1)
+    (subst (λ (dialogue : Dialogue). AreBoth b behind (past_behind_dialogue b.start2 b.round2 slot2 1 dialogue behind2)) (sym done2)
+    (command-alike b slot slot2 (commands.Ack rn) (commands.Ack rn) past past2 (acks rn) alike))
+
+answer-alike : (b : Both) (slot slot2 : ℕ) (reception : Reception) (past past2 : List Item) → AreBoth b past past2
+    → AreBoth b (past_behind_answer b.start b.operations b.round slot reception past) (past_behind_answer b.start2 b.operations2 b.round2 slot2 reception past2)
+answer-alike b slot slot2 no_stream past past2 alike = alike
+answer-alike b slot slot2 no_such_reply past past2 alike = alike
+answer-alike b slot slot2 (whole_reply (replies.Rn16 rn)) past past2 alike = ack-alike b slot slot2 rn past past2 alike
+answer-alike b slot slot2 (whole_reply (replies.Epc pc epc)) past past2 alike = alike
+answer-alike b slot slot2 (whole_reply (replies.Handle rn)) past past2 alike = alike
+answer-alike b slot slot2 (whole_reply (replies.Words words)) past past2 alike = alike
+answer-alike b slot slot2 (whole_reply replies.Header) past past2 alike = alike
+answer-alike b slot slot2 (whole_reply (replies.Error code)) past past2 alike = alike
+
+received-alike : (b : Both) (slot slot2 : ℕ) (command command2 : Command) (past past2 : List Item) → AreOne command command2 → AreBoth b past past2
+    → slot_reception b.start b.round slot command past ≡ slot_reception b.start2 b.round2 slot2 command2 past2
+received-alike b slot slot2 command command2 past past2 same alike = ap (reception_of expects.Rn16) (given-alike b slot slot2 command command2 past past2 same alike)
+
+slot-alike : (b : Both) (slot slot2 : ℕ) (command command2 : Command) (past past2 : List Item) → AreOne command command2 → AreBoth b past past2
+    → AreBoth b (past_behind_slot b.start b.operations b.round slot command past) (past_behind_slot b.start2 b.operations2 b.round2 slot2 command2 past2)
+slot-alike b slot slot2 command command2 past past2 same alike =
+    let behind = past_behind_command b.start b.round slot command past in
+    let behind2 = past_behind_command b.start2 b.round2 slot2 command2 past2 in
+    subst (λ (reception : Reception). AreBoth b (past_behind_slot b.start b.operations b.round slot command past)
+    (past_behind_answer b.start2 b.operations2 b.round2 slot2 reception behind2)) (received-alike b slot slot2 command command2 past past2 same alike)
+    (answer-alike b slot slot2 (slot_reception b.start b.round slot command past) behind behind2 (command-alike b slot slot2 command command2 past past2 same alike))
+
+-- both rounds ended, and are told alike: as the end of the second says
+record AreTold (b : Both) (now now2 : List Item) : Type 0 where
+  pub end : RoundEnd
+  pub slots : ℕ
+  pub past : List Item
+  pub is : now2 ≡ ended b.round2 end slots ∷ past
+  pub told : rounds_told b.start now ≡ b.told ++ round_ended b.start2 end past ∷ []
+  pub told2 : rounds_told b.start2 now2 ≡ b.told2 ++ round_ended b.start2 end past ∷ []
+  pub tags : tags_behind b.start now ≡ tags_behind b.start2 past
+  pub between : IsBetweenRounds now
+  pub kept : AllZip Keeps b.first (tags_behind b.start2 past)
+  pub all_pairs : pairs_listed past ≡ pairs_since past
+  pub all_senders : tags_listed_where (λ sent. true) past ≡ senders_since past
+
+end-alike : (b : Both) (end : RoundEnd) (slots : ℕ) (past past2 : List Item) → AreBoth b past past2 → AreTold b (ended b.round end slots ∷ past) (ended b.round2 end slots ∷ past2)
+end-alike b end slots past past2 alike = record {
+  end = end;
+  slots = slots;
+  past = past2;
+  is = refl;
+  told = (λ i. alike.before i ++ record { senders = alike.senders i; pairs = alike.pairs i; end = end; tags = alike.tags i } ∷ []);
+  told2 = ap (λ (told : List Played). told ++ round_ended b.start2 end past2 ∷ []) alike.before2;
+  tags = tags-ended b.start b.round end slots past ∙ alike.tags;
+  between = record { pairs = refl; senders = refl };
+  kept = subst (AllZip Keeps b.first) alike.tags alike.kept;
+  all_pairs = alike.all_pairs;
+  all_senders = alike.all_senders;
+}
+
+-- the turns that are left
+abbrev Goes : Both → SpecValue → ℕ → List Outcome → List Item → List Item → Type 0
+Goes b spec left outcomes past past2 =
+    AreTold b (past_behind_turns left b.start b.operations b.round spec outcomes past) (past_behind_turns left b.start2 b.operations2 b.round2 spec outcomes past2)
+
+send-alike : (b : Both) (spec : SpecValue) (left : ℕ) (outcomes : List Outcome) (past past2 : List Item) (command command2 : Command) → AreOne command command2 → AreBoth b past past2
+    → ((outcome : Outcome) (behind behind2 : List Item) → AreBoth b behind behind2 → Goes b spec left (outcome ∷ outcomes) behind behind2)
+    → AreTold b (past_behind_turn (past_behind_turns left b.start b.operations b.round spec) b.start b.operations b.round outcomes past (nexts.Send command))
+    (past_behind_turn (past_behind_turns left b.start2 b.operations2 b.round2 spec) b.start2 b.operations2 b.round2 outcomes past2 (nexts.Send command2))
+send-alike b spec left outcomes past past2 command command2 same alike later =
+    let slot : ℕ = length outcomes + 1 in
+    let behind = past_behind_slot b.start b.operations b.round slot command past in
+    let behind2 = past_behind_slot b.start2 b.operations2 b.round2 slot command2 past2 in
+    subst (λ (reception : Reception). AreTold b (past_behind_turns left b.start b.operations b.round spec (outcome_of (slot_reception b.start b.round slot command past) ∷ outcomes) behind)
+    (past_behind_turns left b.start2 b.operations2 b.round2 spec (outcome_of reception ∷ outcomes) behind2)) (received-alike b slot slot command command2 past past2 same alike)
+    (later (outcome_of (slot_reception b.start b.round slot command past)) behind behind2 (slot-alike b slot slot command command2 past past2 same alike))
+
+turn-alike : (b : Both) (spec : SpecValue) (left : ℕ) (outcomes : List Outcome) (past past2 : List Item) (turn : Turn) → turn_of spec outcomes ≡ turn → AreBoth b past past2
+    → ((outcome : Outcome) (behind behind2 : List Item) → is_over spec outcomes ≡ false → AreBoth b behind behind2 → Goes b spec left (outcome ∷ outcomes) behind behind2)
+    → AreTold b (past_behind_turn (past_behind_turns left b.start b.operations b.round spec) b.start b.operations b.round outcomes past (answer_of spec b.start.link turn))
+    (past_behind_turn (past_behind_turns left b.start2 b.operations2 b.round2 spec) b.start2 b.operations2 b.round2 outcomes past2 (answer_of spec b.start2.link turn))
+turn-alike b spec left outcomes past past2 query is alike later =
+    send-alike b spec left outcomes past past2 _ _
+    (queries b.start.link.dr b.start2.link.dr b.start.link.code b.start2.link.code b.start.link.trext b.start2.link.trext spec.sel spec.session spec.target spec.q) alike
+    (λ outcome behind behind2 more. later outcome behind behind2 (ap over is) more)
+turn-alike b spec left outcomes past past2 (adjust updn) is alike later =
+    send-alike b spec left outcomes past past2 _ _ (adjusts spec.session updn) alike (λ outcome behind behind2 more. later outcome behind behind2 (ap over is) more)
+turn-alike b spec left outcomes past past2 rep is alike later =
+    send-alike b spec left outcomes past past2 _ _ (reps spec.session) alike (λ outcome behind behind2 more. later outcome behind behind2 (ap over is) more)
+turn-alike b spec left outcomes past past2 quiet is alike later = end-alike b round_ends.Quiet (length outcomes) past past2 alike
+turn-alike b spec left outcomes past past2 limit is alike later = end-alike b round_ends.Limit (length outcomes) past past2 alike
+
+turns-alike : RoundsKeepLimit → (b : Both) (spec : SpecValue) → IsLegalSpec spec → (left : ℕ) (outcomes : List Outcome) (past past2 : List Item) → left + length outcomes ≡ spec.limit + 1
+    → AreOutcomes spec outcomes → AreBoth b past past2 → Goes b spec left outcomes past past2
+turns-alike keeps b spec legal zero outcomes past past2 count are alike =
+    absurd (let few : length outcomes ≤ spec.limit = few-outcomes keeps spec outcomes legal are in omega arith)
+turns-alike keeps b spec legal (suc left) outcomes past past2 count are alike =
+    turn-alike b spec left outcomes past past2 (turn_of spec outcomes) refl alike
+    (λ outcome behind behind2 underway more. turns-alike keeps b spec legal left (outcome ∷ outcomes) behind behind2 (omega arith) (underway, are) more)
+
+pub tags-from-none : (number : ℕ) (tags : List TagValue) → tags_behind_from number tags [] ≡ tags
+tags-from-none number [] = refl
+tags-from-none number (tag ∷ tags) = ap (λ (l : List TagValue). tag ∷ l) (tags-from-none (number + 1) tags)
+
+-- a round behind a past, beside the round of a history that begins with its tags
+abbrev both-of : (start : Start) (operations : OpList) (past : List Item) → IsPlain start → operations.ops ≡ [] → Both
+both-of start operations past plain none =
+    let tags = tags_behind start past in
+    record {
+      start = start;
+      start2 = start_with tags;
+      plain = plain;
+      plain2 = record { entries = refl; several = refl };
+      round = rounds_in past + 1;
+      round2 = 1;
+      operations = operations;
+      operations2 = no_operations;
+      none = none;
+      none2 = refl;
+      first = tags;
+      told = rounds_told start past;
+      told2 = [];
+    }
+
+all-kept : (tags : List TagValue) → AllZip Keeps tags tags
+all-kept [] = tt
+all-kept (tag ∷ tags) = (record { memory = refl; locks = refl; present = λ is. is }, all-kept tags)
+
+told-beside : RoundsKeepLimit → (start : Start) (operations : OpList) (spec : SpecValue) (past : List Item) (plain : IsPlain start) (none : operations.ops ≡ []) → IsLegalSpec spec
+    → IsBetweenRounds past
+    → AreTold (both-of start operations past plain none) (past_behind_round start operations spec past)
+    (past_behind_round (start_with (tags_behind start past)) no_operations spec [])
+told-beside keeps start operations spec past plain none legal between =
+    let tags = tags_behind start past in
+    turns-alike keeps (both-of start operations past plain none) spec legal (suc spec.limit) [] past [] (omega arith) tt
+    (record {
+      tags = sym (tags-from-none 0 tags);
+      pairs = between.pairs;
+      senders = between.senders;
+      before = refl;
+      before2 = refl;
+      kept = all-kept tags;
+      all_pairs = refl;
+      all_senders = refl;
+    })
+
+pub goes-by-tags : RoundsKeepLimit → (start : Start) (operations : OpList) (spec : SpecValue) (past : List Item) → IsPlain start → operations.ops ≡ [] → IsLegalSpec spec → IsBetweenRounds past
+    → GoesByTags start operations spec past
+goes-by-tags keeps start operations spec past plain none legal between =
+    let tags = tags_behind start past in
+    let ends = told-beside keeps start operations spec past plain none legal between in
+    let same : round_ended (start_with tags) ends.end ends.past ≡ played_of tags spec = sym (ap (first_round tags) ends.told2) in
+    record {
+      told = ends.told ∙ ap (λ (round : Played). rounds_told start past ++ round ∷ []) same;
+      tags = ends.tags ∙ ap (λ (round : Played). round.tags) same;
+      between = ends.between;
+    }
+
+-- what a round makes of tags, as the history of that round says
+pub record IsOneRound (tags : List TagValue) (spec : SpecValue) : Type 0 where
+  pub end : RoundEnd
+  pub slots : ℕ
+  pub past : List Item
+  pub is : past_behind_round (start_with tags) no_operations spec [] ≡ ended 1 end slots ∷ past
+  pub played : played_of tags spec
+      ≡ record { senders = tags_listed_where (λ sent. true) past; pairs = pairs_listed past; end = end; tags = tags_behind (start_with tags) past }
+  pub kept : AllZip Keeps tags (tags_behind (start_with tags) past)
+
+pub one-round-played : RoundsKeepLimit → (tags : List TagValue) (spec : SpecValue) → IsLegalSpec spec → IsOneRound tags spec
+one-round-played keeps tags spec legal =
+    let first = tags-from-none 0 tags in
+    let ends = told-beside keeps (start_with tags) no_operations spec [] (record { entries = refl; several = refl }) refl legal (record { pairs = refl; senders = refl }) in
+    subst (λ (same : List TagValue). IsOneRound same spec) first
+    (record {
+      end = ends.end;
+      slots = ends.slots;
+      past = ends.past;
+      is = ends.is;
+      played =
+          ap (first_round (tags_behind (start_with tags) [])) ends.told2
+          ∙ (λ i. record { senders = sym ends.all_senders i; pairs = sym ends.all_pairs i; end = ends.end; tags = tags_behind (start_with (tags_behind (start_with tags) [])) ends.past });
+      kept = ends.kept;
+    })

@@ -1,0 +1,12 @@
+use Rattle.runs.proofs.LegalPasts.{command-legal}
+use Rattle.runs.proofs.laws.histories_send_legal_commands.Goals as goal
+
+pub returns : goal.returns
+returns c = command-legal (record {
+  range = c.answers_are_replies.ensures.legal;
+  heard = c.steps_keep_tags_legal.ensures.heard;
+  befallen = c.steps_keep_tags_legal.ensures.befallen;
+  rounds = c.round_laws.ensures.legal;
+  operations = c.operation_commands.ensures.legal;
+  copies = c.copies_are_tags.ensures;
+})

@@ -1,0 +1,12 @@
+use Rattle.top_call.proofs.PortalEnds.{portals_not_refused, proves_portals, same_lines, same_refusals}
+use Rattle.top_call.proofs.words.portals.portals_are_lawful.Goals as goal
+
+pub returns : goal.returns
+returns c = record {
+  one_text = same_lines c.scenarios_are_told_apart.ensures;
+  one_fault_line = same_refusals c.scenarios_are_told_apart.ensures c.texts_have_one_fault.ensures c.scenario_texts_are_not_faulty.ensures;
+  allowed = λ bytes text writes. writes.of;
+  not_refused = portals_not_refused c.scenarios_are_told_apart.ensures c.scenario_texts_are_not_faulty.ensures;
+  unread = λ unread bytes text refused. absurd (cc);
+  kept = proves_portals c.portal_scenarios.ensures c.portals_are_independent.ensures;
+}

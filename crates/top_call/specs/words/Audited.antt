@@ -1,0 +1,43 @@
+-- Profile: what `audit` writes for the bytes that it reads: a scenario and behind it a trace. The whole input is read before anything is
+-- written.
+use Rattle.std.specs.Prelude.{◌≡◌, ◌⊎◌, ℕ, true, List}
+use Rattle.air_audit.specs.FirstRefusal.{IsVerdict}
+use Rattle.air_audit.specs.OwnTraces.{HasNoEventStep}
+use Rattle.air_audit.specs.TraceBehind.{scenario_part, trace_part}
+use Rattle.air_audit.specs.VerdictText.{event_line, verdict_line}
+use Rattle.air_audit.specs.declared.verdict.Verdict.{Verdict}
+use Rattle.runs.specs.ScenarioStart.{start_of}
+use Rattle.scenario.specs.Limits.{IsScenario}
+use Rattle.scenario.specs.ScenarioText.{IsText, scenario_text}
+use Rattle.scenario.specs.declared.values.Scenario.{Scenario}
+use Rattle.top_call.specs.Job.{Job}
+use Rattle.top_call.specs.words.Reported.{RefusesScenario}
+
+-- the text says whether a trace is one of the scenario
+pub record SaysVerdict (scenario : Scenario) (trace text : List ℕ) : Type 0 where
+  pub told : HasNoEventStep scenario.steps
+  pub verdict : Verdict
+  pub right : IsVerdict (start_of scenario) trace verdict
+  pub line : text ≡ verdict_line verdict
+
+-- no trace tells of an event between two exchanges
+pub record SaysEvent (scenario : Scenario) (text : List ℕ) : Type 0 where
+  pub untold : ¬ HasNoEventStep scenario.steps
+  pub line : text ≡ event_line
+
+-- the text is what is said of the trace behind the scenario that the bytes begin with
+pub record Audits (bytes text : List ℕ) : Type 0 where
+  pub scenario : Scenario
+  pub legal : IsScenario scenario
+  pub spelled : scenario_part bytes ≡ scenario_text scenario
+  pub says : SaysEvent scenario text ⊎ SaysVerdict scenario (trace_part bytes) text
+
+-- whether the trace behind a scenario is one of it
+abbrev pub audit_job : Job
+audit_job = record {
+  input = true;
+  allows = λ bytes. IsText (scenario_part bytes);
+  writes = Audits;
+  refuses = λ bytes text. RefusesScenario (scenario_part bytes) text;
+  promises = λ bytes text. Unit {0};
+}

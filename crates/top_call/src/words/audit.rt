@@ -1,0 +1,92 @@
+//! The word `audit`: whether a trace is what the tags of a scenario and its channel make of the commands in it.
+ghost use Rattle.std.specs.Prelude.{◌≡◌, ◌≤◌, ◌⊎◌, IfOk, length};
+ghost use Rattle.scenario.specs.Limits.{IsScenario};
+ghost use Rattle.top_call.specs.Job.{IsLawful};
+ghost use Rattle.top_call.specs.Outcome.{EndsSo, Tells, input_limit};
+ghost use Rattle.top_call.specs.words.Audited.{SaysEvent, SaysVerdict, audit_job};
+
+use crate::ending::{MOST_INPUT_BYTES, WriteEnd, Wrote, status_of, unread_status};
+use crate::status::Status;
+use air_audit::{
+    audit, event_text, has_event_step, split_scenario, traces_have_at_most_one_verdict,
+    verdict_text,
+};
+use air_io::{Sink, Source, read_to_end, write_all};
+use air_world::tags_at_start;
+use arrayvec::ArrayVec;
+use bit_strings::OutOfMemory;
+use scenario::Scenario;
+use scenario_text::{
+    ScenarioFault, fault_text, read_scenario, scenario_texts_are_not_faulty,
+    scenarios_are_told_apart, texts_have_one_fault,
+};
+use std::alloc::Global;
+
+/// Reads the input to its end, and writes what is defined for it. The whole input is read before anything is written.
+pub fn answer<I: Source, O: Sink>(alloc: Global, input: &mut I, output: &mut O) -> Status
+    ensures { Tells audit_job (I.left input.old) (I.left input.new) (O.written output.old) (O.written output.new)
+        (I.faults input.old) (I.faults input.new) (O.faults output.old) (O.faults output.new) (output.new ≡ output.old) result }
+{
+    match read_to_end(alloc, input, MOST_INPUT_BYTES) {
+        Ok(bytes) => status_of(write_audited(alloc, bytes.as_slice(), output)),
+        Err(end) => unread_status(end),
+    }
+}
+
+/// Writes what is defined for the bytes of an input: the verdict on the trace behind the scenario, or the one line that reports
+/// the first faulty line of the scenario.
+fn write_audited<O: Sink>(alloc: Global, input: &[u8], output: &mut O) -> Result<Wrote, WriteEnd>
+    requires { length input.now ≤ input_limit }
+    ensures { EndsSo audit_job input.now (O.written output.old) (O.written output.new) (O.faults output.old) (O.faults output.new) result }
+{
+    let (text, trace) = split_scenario(input);
+    match read_scenario(alloc, text) {
+        Ok(scenario) => {
+            let line = audited_line(alloc, scenario, trace)?;
+            write_all(output, line.as_slice())?;
+            Ok(Wrote::Text)
+        }
+        Err(ScenarioFault::Line(number, fault)) => {
+            let line = fault_text(number, fault);
+            write_all(output, line.as_slice())?;
+            Ok(Wrote::FaultLine)
+        }
+        Err(ScenarioFault::OutOfMemory) => Err(WriteEnd::OutOfMemory),
+    }
+}
+
+/// The line that says what a trace is behind a scenario.
+fn audited_line(
+    alloc: Global,
+    scenario: Scenario,
+    trace: &[u8],
+) -> Result<ArrayVec<u8, 32>, OutOfMemory>
+    requires scenario { IsScenario scenario }
+    requires trace { length trace.now ≤ input_limit }
+    ensures { IfOk result (λ line. SaysEvent scenario line.items ⊎ SaysVerdict scenario trace.now line.items) }
+{
+    if has_event_step(scenario.steps.as_slice()) {
+        return Ok(event_text());
+    }
+    let tags = tags_at_start(alloc, &scenario)?;
+    let Scenario {
+        version: _,
+        link,
+        several,
+        groups: _,
+        entries,
+        steps: _,
+    } = scenario;
+    let verdict = audit(alloc, tags, link, entries, several, trace)?;
+    Ok(verdict_text(verdict))
+}
+
+/// An input has one verdict or one fault line at most, and never both.
+pub fn audit_is_lawful()
+    ensures { IsLawful audit_job }
+{
+    scenarios_are_told_apart();
+    texts_have_one_fault();
+    scenario_texts_are_not_faulty();
+    traces_have_at_most_one_verdict();
+}

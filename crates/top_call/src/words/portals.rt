@@ -1,0 +1,93 @@
+//! The word `portals`: what two portals that share tags list, beside what each would list alone.
+ghost use Rattle.std.specs.Prelude.{◌≡◌, None, IfOk, ℕ, List};
+ghost use Rattle.std.specs.String.{string_bytes};
+ghost use Rattle.portal_text.specs.PortalFault.{portal_fault};
+ghost use Rattle.portal_text.specs.PortalText.{portals_text};
+ghost use Rattle.runs.specs.Portals.{portals_told};
+ghost use Rattle.scenario.specs.Limits.{IsScenario};
+ghost use Rattle.top_call.specs.Job.{Defines, IsLawful};
+ghost use Rattle.top_call.specs.Outcome.{EndsSo, Tells};
+ghost use Rattle.top_call.specs.words.Compared.{portals_job};
+
+use crate::ending::{MOST_INPUT_BYTES, WriteEnd, Wrote, status_of, unread_status};
+use crate::status::Status;
+use air_io::{Sink, Source, read_to_end, write_all};
+use air_world::compare_portals;
+use portal_text::{portal_fault, portal_scenarios, portals_text, round_specs};
+use runs::portals_are_independent;
+use scenario::Scenario;
+use scenario_text::{
+    ScenarioFault, fault_text, read_scenario, scenario_texts_are_not_faulty,
+    scenarios_are_told_apart, texts_are_scenarios_or_faulty, texts_have_one_fault,
+};
+use std::alloc::{AllocError, Global};
+use text_fields::fault_line;
+
+/// Reads the input to its end, and writes what is defined for it.
+pub fn answer<I: Source, O: Sink>(alloc: Global, input: &mut I, output: &mut O) -> Status
+    ensures { Tells portals_job (I.left input.old) (I.left input.new) (O.written output.old) (O.written output.new)
+        (I.faults input.old) (I.faults input.new) (O.faults output.old) (O.faults output.new) (output.new ≡ output.old) result }
+{
+    match read_to_end(alloc, input, MOST_INPUT_BYTES) {
+        Ok(bytes) => status_of(write_portals(alloc, bytes.as_slice(), output)),
+        Err(end) => unread_status(end),
+    }
+}
+
+/// Writes what is defined for the bytes of an input: the lines of the two portals of the scenario that they spell, or the
+/// one line that reports the first faulty line.
+fn write_portals<O: Sink>(alloc: Global, input: &[u8], output: &mut O) -> Result<Wrote, WriteEnd>
+    ensures { EndsSo portals_job input.now (O.written output.old) (O.written output.new) (O.faults output.old) (O.faults output.new) result }
+{
+    match read_scenario(alloc, input) {
+        Ok(scenario) => match portal_fault(&scenario) {
+            None => {
+                let text = text_of_portals(alloc, &scenario)?;
+                write_all(output, text.as_bytes())?;
+                Ok(Wrote::Text)
+            }
+            Some(number) => {
+                let line = fault_line(number, "portal");
+                write_all(output, line.as_slice())?;
+                Ok(Wrote::FaultLine)
+            }
+        },
+        Err(ScenarioFault::Line(number, fault)) => {
+            let line = fault_text(number, fault);
+            write_all(output, line.as_slice())?;
+            Ok(Wrote::FaultLine)
+        }
+        Err(ScenarioFault::OutOfMemory) => Err(WriteEnd::OutOfMemory),
+    }
+}
+
+/// The text of the lines of the two portals of a scenario.
+fn text_of_portals(alloc: Global, scenario: &Scenario) -> Result<String, AllocError>
+    requires scenario { IsScenario scenario.now }
+    requires portals { portal_fault scenario.now ≡ None }
+    ensures { IfOk result (λ text. string_bytes text ≡ portals_text (portals_told scenario.now)) }
+{
+    portal_scenarios();
+    let specs = round_specs(alloc, scenario.steps.as_slice())?;
+    let lines = compare_portals(alloc, scenario, specs.as_slice())?;
+    portals_text(alloc, lines.as_slice())
+}
+
+/// An input has one text of its two portals or one fault line at most, and never both; where each line of the text says
+/// that its round ended after a whole frame of silent slots, each portal lists with the other beside what it lists alone.
+pub fn portals_are_lawful()
+    ensures { IsLawful portals_job }
+{
+    scenarios_are_told_apart();
+    texts_have_one_fault();
+    scenario_texts_are_not_faulty();
+    portal_scenarios();
+    portals_are_independent();
+}
+
+/// Each list of bytes has a defined text under `portals`.
+pub fn portals_inputs_have_a_text()
+    ensures { (bytes : List ℕ) → (text : List ℕ) × Defines portals_job bytes text }
+{
+    texts_are_scenarios_or_faulty();
+}
