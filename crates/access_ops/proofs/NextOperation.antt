@@ -18,9 +18,9 @@ use Rattle.access_ops.specs.declared.stage.Covered.TheVariants.{Upper}
 use Rattle.access_ops.specs.declared.stage.Purpose.TheVariants.{Handle, Cover}
 use Rattle.access_ops.specs.declared.stage.Password.TheVariants.{Access, Kill}
 use Rattle.access_ops.specs.declared.stage.Stage.{Stage}
-use Rattle.access_ops.specs.declared.stage.Stage.TheVariants.{Deny, Number, Last}
-use Rattle.access_ops.specs.Operations.{Dialogue, sends, tells, behind_reception, behind_last, behind_number, operation, operations, denials, operations_from_rn16, first_of, Move, answered, told, reception_in, dialogue_behind, dialogue_after, next_operation, Follows}
-use Rattle.access_ops.specs.OpRunValue.{OpRunValue, later_of, behind_heard, dialogue_at, dialogue_with, answer_in, last_answer, Does, OpRunStandsFor, IsNextOperation}
+use Rattle.access_ops.specs.declared.stage.Stage.TheVariants.{Deny, Number}
+use Rattle.access_ops.specs.Operations.{Dialogue, sends, tells, behind_reception, behind_number, operation, operations, denials, operations_from_rn16, first_of, Move, answered, told, reception_in, dialogue_behind, dialogue_after, next_operation, Follows}
+use Rattle.access_ops.specs.OpRunValue.{OpRunValue, later_of, dialogue_at, dialogue_with, answer_in, last_answer, Does, OpRunStandsFor, IsNextOperation}
 
 -- a command: the run goes on by the answer
 sent-rest : (command : Command) (expect : Expect) (extended : Bool) (go_on : Reception → Dialogue) (list : OpList) (run : OpRunValue)
@@ -92,9 +92,9 @@ module _ (said : OpNext) (run : OpRunValue) (new : OpRunValue) where
         };
       }
 
--- ... where the last command of an operation was answered
+-- ... in a stage that goes by the answer
 module _ (said : OpNext) (run : OpRunValue) (new : OpRunValue) where
-  pub next-behind-last : (list : OpList) (epc : List ℕ) (rn : ℕ) (moves : List Move) (answer : Option Answer) → run.stage ≡ Last
-      → OpRunStandsFor run list epc rn moves → answer ≡ last_answer moves → Does said new list (behind_heard (behind_last (later_of list run)) answer) → IsNextOperation said new list epc rn moves
-  next-behind-last list epc rn moves answer stage s given does =
-      does-next said run new list epc rn moves answer s given (subst (λ (at : Stage). Does said new list (dialogue_at at list run answer)) (sym stage) does)
+  pub next-at : (list : OpList) (epc : List ℕ) (rn : ℕ) (moves : List Move) (answer : Option Answer) (stage : Stage) → run.stage ≡ stage
+      → OpRunStandsFor run list epc rn moves → answer ≡ last_answer moves → Does said new list (dialogue_at stage list run answer) → IsNextOperation said new list epc rn moves
+  next-at list epc rn moves answer stage is s given does =
+      does-next said run new list epc rn moves answer s given (subst (λ (at : Stage). Does said new list (dialogue_at at list run answer)) (sym is) does)

@@ -1,15 +1,13 @@
 -- What a run of operations that keeps no answers does next (profile).
-use Rattle.std.specs.Prelude.{◌≡◌, ℕ, ◌+◌, ◌*◌, ◌-◌, bit_xor, Bool, true, false, List, [], ◌∷◌, length, drop, Option, Some, None, Result, Ok, Err}
+use Rattle.std.specs.Prelude.{◌≡◌, ℕ, ◌+◌, ◌*◌, ◌-◌, bit_xor, Bool, true, false, List, [], ◌∷◌, length, drop, Option, Some, None}
 use Rattle.command_grammar.specs.declared.commands.Command.{Command}
 use Rattle.command_grammar.specs.declared.commands.Command.TheVariants as commands
 use Rattle.reply_grammar.specs.declared.expected.Expect.{Expect}
 use Rattle.reply_grammar.specs.declared.expected.Expect.TheVariants as expects
-use Rattle.reply_grammar.specs.declared.expected.Received.TheVariants.{Whole, Refused}
 use Rattle.reply_grammar.specs.declared.expected.Reply.{Reply}
 use Rattle.reply_grammar.specs.declared.expected.Reply.TheVariants as replies
 use Rattle.access_ops.specs.declared.OpList.{OpList}
 use Rattle.access_ops.specs.declared.op_next.Answer.{Answer}
-use Rattle.access_ops.specs.declared.op_next.Answer.TheVariants.{Silence, Got}
 use Rattle.access_ops.specs.declared.op_next.OpNext.{OpNext}
 use Rattle.access_ops.specs.declared.op_next.OpNext.TheVariants as nexts
 use Rattle.access_ops.specs.declared.op_next.OpResult.{OpResult}
@@ -89,36 +87,11 @@ dialogue_at Done list run answer = done
 abbrev pub dialogue_with : OpList → OpRunValue → Option Answer → Dialogue
 dialogue_with list run answer = dialogue_at run.stage list run answer
 
--- the number in an answer, or the result with which all ends
-abbrev pub number_in_reply : Reply → Result ℕ OpResult
-number_in_reply (replies.Handle number) = Ok number
-number_in_reply reply = Err results.Broken
-
-abbrev pub number_in_answer : Option Answer → Result ℕ OpResult
-number_in_answer None = Err results.Silent
-number_in_answer (Some Silence) = Err results.Silent
-number_in_answer (Some (Got (Refused place))) = Err results.Broken
-number_in_answer (Some (Got (Whole reply))) = number_in_reply reply
-
--- the result that an answer to a last command is
+-- the result that the reply to a last command is
 abbrev pub result_in_reply : Reply → OpResult
 result_in_reply (replies.Error code) = results.TagError code
 result_in_reply (replies.Words words) = results.Ok words
 result_in_reply reply = results.Ok []
-
-abbrev pub result_of : Option Answer → OpResult
-result_of None = results.Silent
-result_of (Some Silence) = results.Silent
-result_of (Some (Got (Refused place))) = results.Broken
-result_of (Some (Got (Whole reply))) = result_in_reply reply
-
--- behind Silent and Broken all is done
-abbrev pub stage_behind_result : OpResult → Stage
-stage_behind_result (results.Ok words) = Begin
-stage_behind_result (results.TagError code) = Begin
-stage_behind_result results.Silent = Done
-stage_behind_result results.Broken = Done
-stage_behind_result results.Denied = Begin
 
 -- the answer that a run is given: none at first, and behind a result and the end
 abbrev pub answer_in : Move → Option Answer

@@ -19,10 +19,5 @@ pub(crate) fn copy_of_words(words: &ReadWords) -> ReadWords
 pub(crate) fn copy_of_block(block: &BlockWords) -> BlockWords
     ensures { result ≡ block.now }
 {
-    let words = block.as_slice();
-    let mut copy = BlockWords::first(words[0]);
-    for at in 1..words.len() {
-        copy.push(words[at]).unwrap();
-    }
-    copy
+    BlockWords::of(block.as_slice())
 }

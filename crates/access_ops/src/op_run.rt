@@ -1,17 +1,17 @@
 //! The operations on one tag, done one thing at a time.
 ghost use Rattle.std.specs.Prelude.{◌≡◌, ◌+◌, ◌*◌, ◌-◌, ◌≤◌, ℕ, false, List, [], length, drop, option_copied, if◌then◌else◌};
-ghost use Rattle.access_ops.specs.Operations.{Move, behind_last, denials, is_for, operations_from_rn16, operation, words_expected};
-ghost use Rattle.access_ops.specs.OpRunValue.{Does, IsNextOperation, OpRunStandsFor, behind_cover, behind_heard, behind_purpose, last_answer, later_of, stage_behind_result, turns_at, turns_in, turns_left};
+ghost use Rattle.access_ops.specs.Operations.{Move, behind_last, behind_number, denials, is_for, operations_from_rn16, operation, words_expected};
+ghost use Rattle.access_ops.specs.OpRunValue.{Does, IsNextOperation, OpRunStandsFor, behind_cover, behind_heard, behind_purpose, last_answer, later_of, result_in_reply, turns_at, turns_in, turns_left};
 ghost use Rattle.access_ops.specs.declared.OpList.{OpList};
 
-use crate::answers::{number_in, result_in};
+use crate::answers::result_in_reply;
 use crate::copies::copy_of_block;
 use crate::op_next::{Answer, OpNext, OpResult};
 use crate::stage::{Covered, Password, Purpose, Stage};
 use crate::{Op, OpList};
 use bit_strings::{Count1, xor16};
 use command_grammar::Command;
-use reply_grammar::{EpcWords, Expect};
+use reply_grammar::{EpcWords, Expect, Received, Reply};
 use std::marker::Model;
 
 /// The operations on one tag, done one thing at a time. It is given the answer to each command, and
@@ -59,10 +59,7 @@ impl OpRun {
             Stage::Open => self.open(list),
             Stage::Deny => self.deny(list),
             Stage::Begin => self.begin(list),
-            Stage::Number(purpose) => match number_in(answer) {
-                Ok(number) => self.go_on(list, purpose, number),
-                Err(result) => self.break_off(result),
-            },
+            Stage::Number(purpose) => self.take_number(list, purpose, answer),
             Stage::Last => self.end_operation(answer),
             Stage::Done => OpNext::End,
         }
@@ -181,6 +178,20 @@ impl OpRun {
         }
     }
 
+    /// Goes on with the answer to a Req_RN or to the upper half of a password.
+    fn take_number(&mut self, list: &OpList, purpose: Purpose, answer: Option<&Answer>) -> OpNext
+        ensures does { Does result self.new list.now (behind_heard (behind_number (behind_purpose purpose list.now self.old)) (option_copied answer.entry)) }
+        ensures turns { turns_left list.now self.new + turns_in result ≤ turns_at (Stage.Number purpose) + 5 * (length list.now.ops - self.old.begun) }
+    {
+        match answer {
+            Some(Answer::Got(Received::Whole(Reply::Handle(number)))) => {
+                self.go_on(list, purpose, *number)
+            }
+            Some(Answer::Got(_)) => self.end_broken(),
+            Some(Answer::Silence) | None => self.end_silent(),
+        }
+    }
+
     /// Goes on with a number that the tag was asked for.
     fn go_on(&mut self, list: &OpList, purpose: Purpose, number: u16) -> OpNext
         ensures does { Does result self.new list.now (behind_purpose purpose list.now self.old number) }
@@ -271,18 +282,38 @@ impl OpRun {
         ensures begun { self.new.begun ≡ self.old.begun }
         ensures turns { turns_at self.new.stage + turns_in result ≤ 1 }
     {
-        let result = result_in(answer);
-        self.stage = stage_behind(&result);
-        OpNext::Result(result)
+        match answer {
+            None | Some(Answer::Silence) => self.end_silent(),
+            Some(Answer::Got(Received::Refused(_))) => self.end_broken(),
+            Some(Answer::Got(Received::Whole(reply))) => self.end_with(reply),
+        }
     }
 
-    /// Ends the run with this result.
-    fn break_off(&mut self, last: OpResult) -> OpNext
+    /// Ends an operation with the reply to its last command.
+    fn end_with(&mut self, reply: &Reply) -> OpNext
+        ensures run { self.new ≡ record self.old { stage = Stage.Begin } }
+        ensures next { result ≡ OpNext.Result (result_in_reply reply.now) }
+    {
+        self.stage = Stage::Begin;
+        OpNext::Result(result_in_reply(reply))
+    }
+
+    /// Ends the run where no reply came.
+    fn end_silent(&mut self) -> OpNext
         ensures run { self.new ≡ record self.old { stage = Stage.Done } }
-        ensures next { result ≡ OpNext.Result last }
+        ensures next { result ≡ OpNext.Result OpResult.Silent }
     {
         self.stage = Stage::Done;
-        OpNext::Result(last)
+        OpNext::Result(OpResult::Silent)
+    }
+
+    /// Ends the run where another reply came than one that is expected.
+    fn end_broken(&mut self) -> OpNext
+        ensures run { self.new ≡ record self.old { stage = Stage.Done } }
+        ensures next { result ≡ OpNext.Result OpResult.Broken }
+    {
+        self.stage = Stage::Done;
+        OpNext::Result(OpResult::Broken)
     }
 
     /// Ends the run.
@@ -312,15 +343,5 @@ fn expected_words(count: u8, handle: u16) -> Expect
     match Count1::new(count) {
         Some(count) => Expect::Words(count, handle),
         None => Expect::AnyWords(handle),
-    }
-}
-
-/// What a run does behind the result of an operation: Silent and Broken end it.
-fn stage_behind(told: &OpResult) -> Stage
-    ensures { result ≡ stage_behind_result told.now }
-{
-    match told {
-        OpResult::Silent | OpResult::Broken => Stage::Done,
-        OpResult::Ok(_) | OpResult::TagError(_) | OpResult::Denied => Stage::Begin,
     }
 }

@@ -10,42 +10,17 @@ use Rattle.air_events.specs.declared.Several.{Several}
 use Rattle.command_grammar.specs.declared.commands.Command.{Command}
 use Rattle.pie_line.specs.Link.{LinkValue}
 use Rattle.tag_machine.specs.Answers.{Outcome}
-use Rattle.tag_machine.specs.Exchange.{AreLegalTags, outcome_in, outcomes_from, outcomes_in, replies_from, tag_after_events, tag_after_own_event, tags_after, tags_after_event}
+use Rattle.tag_machine.specs.Exchange.{AreLegalTags, outcomes_in, replies_from, tags_after}
 use Rattle.tag_machine.specs.TagValue.{TagValue}
 use Rattle.air_model.specs.Channel.{given_of, heard_levels}
 use Rattle.air_model.specs.Past.{Start, Item, exchanged, exchanges_in, next_entry, tags_behind}
 use Rattle.runs.specs.laws.Tags.{length-tags, tags-exchanged}
 use Rattle.tag_population.proofs.TagsAtRest.{length-befallen}
-use Rattle.tag_population.specs.Hearing.{hearing_from, tags_after_events}
+use Rattle.tag_population.specs.Hearing.{tags_after_events}
 use Rattle.air_audit.specs.Auditing.{AreAsGiven, AuditorValue, IsHearing, KeepsUp}
 use Rattle.air_audit.specs.Standing.{Place, place_in, place_of_command, record_of}
 use Rattle.air_audit.specs.declared.auditor.Position.TheVariants as positions
 use Rattle.air_audit.specs.declared.verdict.AuditReason.{AuditReason}
-
--- what events make of the first tag and of the others
-events-apart : (number : ℕ) (events : List (Event × ℕ)) (tag : TagValue) (tags : List TagValue)
-    → tags_after_events number events (tag ∷ tags) ≡ tag_after_events number events tag ∷ tags_after_events (number + 1) events tags
-events-apart number [] tag tags = refl
-events-apart number (event ∷ events) tag tags =
-    events-apart number events (tag_after_own_event number event.0 event.1 tag) (tags_after_event (number + 1) event.0 event.1 tags)
-
-no-tags : (number : ℕ) (events : List (Event × ℕ)) → tags_after_events number events [] ≡ []
-no-tags number [] = refl
-no-tags number (event ∷ events) = no-tags number events
-
--- events and then the command are what an exchange is for each tag
-heard-outcomes : (number : ℕ) (command : Command) (entry : Entry) (tags : List TagValue)
-    → hearing_from number command entry (tags_after_events number entry.events tags) ≡ outcomes_from number command entry tags
-heard-outcomes number command entry [] = ap (λ (l : List TagValue). hearing_from number command entry l) (no-tags number entry.events)
-heard-outcomes number command entry (tag ∷ tags) =
-    ap (λ (l : List TagValue). hearing_from number command entry l) (events-apart number entry.events tag tags)
-    ∙ ap (λ (l : List Outcome). outcome_in number command entry tag ∷ l) (heard-outcomes (number + 1) command entry tags)
-
-pub outcomes-heard : (command : Command) (entry : Entry) (tags befallen : List TagValue) (events : List (Event × ℕ)) → events ≡ entry.events → befallen ≡ tags_after_events 0 events tags
-    → hearing_from 0 command entry befallen ≡ outcomes_in command entry tags
-outcomes-heard command entry tags befallen events are befell =
-    ap (λ (l : List TagValue). hearing_from 0 command entry l) (befell ∙ ap (λ (l : List (Event × ℕ)). tags_after_events 0 l tags) are)
-    ∙ heard-outcomes 0 command entry tags
 
 -- the entry of the next exchange names tags that there are, and chooses few levels
 pub record NextEntry (start : Start) (past : List Item) (tags : List TagValue) (entry : Entry) : Type 0 where

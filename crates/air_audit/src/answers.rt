@@ -1,10 +1,9 @@
 //! What the interrogator is given of the tags' answers to one command.
 ghost use Rattle.std.specs.Prelude.{◌≡◌, ◌<◌, ◌≤◌, ◌^◌, List, [], length, IfOk};
-ghost use Rattle.pie_line.specs.Link.{LinkValue};
 ghost use Rattle.reply_grammar.specs.Table.{longest_reply};
 ghost use Rattle.tag_machine.specs.Exchange.{Replied};
 ghost use Rattle.air_model.specs.Channel.{HasFewLevels, given_of, heard_levels};
-ghost use Rattle.air_audit.specs.Giving.{AnswersValue, HasHeard, HasLevels, chosen_of, levels_before, levels_of_bits, levels_then, with_one_inverted};
+ghost use Rattle.air_audit.specs.Giving.{AnswersValue, HasHeard, HasLevels, chosen_of, levels_of_bits, levels_then, with_one_inverted};
 ghost use Rattle.air_audit.specs.Rooms.{room_for_streams};
 
 use crate::chosen::{Chosen, chosen_of};

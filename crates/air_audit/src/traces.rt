@@ -1,5 +1,5 @@
 //! The audit of a trace.
-ghost use Rattle.std.specs.Prelude.{◌≡◌, ◌≤◌, ◌^◌, ℕ, length, map, vec_len, IfOk};
+ghost use Rattle.std.specs.Prelude.{◌≡◌, ◌≤◌, ◌^◌, length, map, vec_len, IfOk};
 ghost use Rattle.tag_machine.specs.Hearing.{tag_value_of};
 ghost use Rattle.air_model.specs.Past.{Start};
 ghost use Rattle.air_audit.specs.Auditing.{AreAsGiven, IsEarly, StandsAt};

@@ -53,14 +53,14 @@ pub struct Air {
 
 impl Model for Air {
     ghost use Rattle.air_channel.specs.Air.{AirValue};
-    ghost use Rattle.air_channel.specs.Rooms.{HasRoom};
-    ghost use Rattle.air_channel.specs.Taken.{HasTakenNothing};
+    ghost use Rattle.std.specs.Prelude.{◌≤◌};
+    ghost use Rattle.air_channel.specs.Rooms.{HasRoom, room_for_frames};
 
     ghost Value = { AirValue };
 
     ghost view = { λ a. record { link = a.link; several = a.several; tags = a.population; frame = a.frame.items; stream = a.stream.items; replies = a.replies.count; exchanges = a.exchanges } };
 
-    ghost invariant = { λ a. HasRoom a.bits a.frame a.stream × HasTakenNothing a.receiver.edges a.receiver.framer };
+    ghost invariant = { λ a. HasRoom a.bits a.frame a.stream × (room_for_frames ≤ a.receiver.bits.capacity) };
 }
 
 impl Air {
@@ -76,6 +76,7 @@ impl Air {
     {
         let bits = Bits::new(alloc, FRAME_ROOM)?;
         let frame = Intervals::new(alloc, FRAME_ROOM)?;
+        let receiver = Receiver::new(alloc, FRAME_ROOM)?;
         let replies = Replies::new(alloc)?;
         let stream = Levels::new(alloc, STREAM_ROOM)?;
         Ok(Air {
@@ -84,7 +85,7 @@ impl Air {
             population,
             bits,
             frame,
-            receiver: Receiver::new(),
+            receiver,
             replies,
             stream,
             exchanges: 0,
@@ -215,7 +216,14 @@ impl Air {
         self.replies.count()
     }
 
-    /// How many exchanges there were. The number stays at its last value.
+    /// Counts exchanges from 0 again. Nothing else changes.
+    pub fn count_anew(&mut self)
+        ensures { self.new ≡ record self.old { exchanges = 0 } }
+    {
+        self.exchanges = 0;
+    }
+
+    /// How many exchanges there were, since they were counted anew. The number stays at its last value.
     pub fn exchanges(&self) -> u64
         ensures { result ≡ self.now.exchanges }
     {

@@ -4,7 +4,6 @@ ghost use Rattle.command_grammar.specs.Commands.{IsLegalCommand};
 ghost use Rattle.pie_line.specs.Pie.{longest_interval};
 ghost use Rattle.air_model.specs.Channel.{lead_of, wave_for};
 ghost use Rattle.air_channel.specs.Rooms.{longest_frame, room_for_frames};
-ghost use Rattle.air_channel.specs.Taken.{HasTakenNothing};
 
 use crate::receiver::Receiver;
 use bit_strings::Bits;
@@ -22,9 +21,9 @@ pub(crate) fn transmit(
 )
     requires bits_room { room_for_frames ≤ bits.old.capacity }
     requires frame_room { room_for_frames ≤ frame.old.capacity }
-    requires begun { HasTakenNothing receiver.old.edges receiver.old.framer }
+    requires receiver_room { room_for_frames ≤ receiver.old.bits.capacity }
     ensures heard { receiver.new.heard ≡ Ok command.now }
-    ensures begun { HasTakenNothing receiver.new.edges receiver.new.framer }
+    ensures receiver_capacity { receiver.new.bits.capacity ≡ receiver.old.bits.capacity }
     ensures legal { IsLegalCommand command.now }
     ensures wave { frame.new.items ≡ wave_for link.now command.now }
     ensures each { All (λ interval. interval ≤ longest_interval) frame.new.items }
@@ -34,7 +33,7 @@ pub(crate) fn transmit(
 {
     encode_command(command, bits);
     encode_frame(link, lead_of(command), bits, frame);
-    receiver.read(frame.as_slice());
+    receiver.read(frame);
 }
 
 /// With which header the frame of a command begins (6.3.1.2.8).

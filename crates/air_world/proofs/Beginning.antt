@@ -1,5 +1,5 @@
 -- A run as it begins and as it ends.
-use Rattle.std.proofs.Common.{◌≡◌, ℕ, ◌+◌, ◌<◌, ◌≤◌, ◌==◌, Bool, true, false, List, [], ◌∷◌, ◌++◌, length, map, Option, Some, None, Result, Ok, Err, refl, sym, ◌∙◌, ap, subst, arith}
+use Rattle.std.proofs.Common.{◌≡◌, inl, inr, append-nil, ℕ, ◌+◌, ◌<◌, ◌≤◌, ◌==◌, Bool, true, false, List, [], ◌∷◌, ◌++◌, length, map, Option, Some, None, Result, Ok, Err, refl, sym, ◌∙◌, ap, subst, arith}
 use Rattle.std.proofs.lemmas.List.{length-map}
 use Rattle.std.proofs.lemmas.List.Elements.{All-head, All-tail, All-nil, All-weaker}
 use Rattle.std.specs.Prelude.{All, IfSome, if◌then◌else◌}
@@ -15,17 +15,18 @@ use Rattle.air_events.specs.declared.Event.{Event}
 use Rattle.air_model.specs.Channel.{HasFewLevels}
 use Rattle.tag_machine.specs.Exchange.{AreLegalTags}
 use Rattle.air_model.specs.Past.{Start, Item, tags_behind_from}
-use Rattle.air_world.proofs.Passing.{Listening, IsTold, IsCutIn, IsCause, cut-behind, cut-longer, passes-then}
+use Rattle.air_world.proofs.Passing.{Listening, IsCutIn, IsTold, IsCause, cut-longer}
 use Rattle.air_world.specs.NewAir.{new_air}
-use Rattle.air_world.specs.Playing.{RunValue, IsAt, IsPlayable, StandsAt, IsBetweenSteps, NamesItsTags, pair_of}
-use Rattle.air_world.specs.Telling.{Ends, IsPlayed, Passes, lines_behind}
+use Rattle.air_world.specs.Playing.{RunValue, IsAt, IsPlayable, StandsAt, IsBetweenSteps, NamesItsTags}
+use Rattle.air_world.specs.Telling.{Ends, IsCutShort, IsPlayed, lines_behind}
 use Rattle.report_lines.specs.ReportLine.{ReportLine, DoneLine}
-use Rattle.report_lines.specs.SeenCounts.{seen_in, seen_line}
+use Rattle.report_lines.specs.SeenCounts.{Seen, seen_in, seen_line}
 use Rattle.report_lines.specs.declared.mode.PlayFault.{PlayFault}
+use Rattle.report_lines.specs.declared.mode.PlayFault.TheVariants.{OutOfMemory}
 use Rattle.runs.specs.History.{past_behind}
-use Rattle.runs.specs.Listing.{listing_of}
 use Rattle.runs.specs.Report.{last_lines, run_lines, tag_lines}
 use Rattle.runs.specs.ScenarioStart.{start_of, history, tag_of}
+use Rattle.runs.specs.Summary.{pairs_in}
 use Rattle.scenario.specs.Groups.{tags_of}
 use Rattle.scenario.specs.Limits.{IsScenario, IsEntry, IsStep, most_tags_of}
 use Rattle.scenario.specs.declared.values.Scenario.{Scenario}
@@ -92,26 +93,23 @@ few-all tags (entry ∷ entries) are exchange =
     few-if (entry.0 == exchange) entry.1 (entry_at entries exchange) (chosen-few entry.1.choice (All-head (IsEntry tags) entry entries are).choice)
     (few-all tags entries (All-tail (IsEntry tags) entry entries are) exchange)
 
-tags-before : (number : ℕ) (starts : List TagValue) → tags_behind_from number starts [] ≡ starts
+pub tags-before : (number : ℕ) (starts : List TagValue) → tags_behind_from number starts [] ≡ starts
 tags-before number [] = refl
 tags-before number (start ∷ starts) = ap (λ (t : List TagValue). start ∷ t) (tags-before (number + 1) starts)
 
 -- the run begins
 pub at-first : (scenario : Scenario) (air : AirValue) (run : RunValue) → IsScenario scenario → air ≡ new_air (start_of scenario) → AreLegalTags air.tags → (left : List (ℕ × Entry))
-    → IsLeft left scenario.entries 0 → run ≡ record { entries = left; seen = []; rounds = 0; out_of_memory = false } → IsAt (start_of scenario) [] air run
+    → IsLeft left scenario.entries 0 → run ≡ record { entries = left; rounds = 0 } → IsAt (start_of scenario) [] air run
 at-first scenario air run is fresh legal left left_is run_is = record {
-  plays = record {
-    names = scenario-names scenario is;
-    few = few-all (length (tags_of scenario.groups)) scenario.entries is.entries;
-    link = ap (λ (a : AirValue). a.link) fresh;
-    several = ap (λ (a : AirValue). a.several) fresh;
-    tags = ap (λ (a : AirValue). a.tags) fresh ∙ sym (tags-before 0 (start_of scenario).tags);
-    legal = legal;
-    exchanges = ap (λ (a : AirValue). a.exchanges) fresh;
-    entries = subst (λ l. IsLeft l scenario.entries 0) (sym (ap (λ (r : RunValue). r.entries) run_is)) left_is;
-    rounds = ap (λ (r : RunValue). r.rounds) run_is;
-  };
-  seen = λ enough. ap (λ (r : RunValue). r.seen) run_is;
+  names = scenario-names scenario is;
+  few = few-all (length (tags_of scenario.groups)) scenario.entries is.entries;
+  link = ap (λ (a : AirValue). a.link) fresh;
+  several = ap (λ (a : AirValue). a.several) fresh;
+  tags = ap (λ (a : AirValue). a.tags) fresh ∙ sym (tags-before 0 (start_of scenario).tags);
+  legal = legal;
+  exchanges = ap (λ (a : AirValue). a.exchanges) fresh;
+  entries = subst (λ l. IsLeft l scenario.entries 0) (sym (ap (λ (r : RunValue). r.entries) run_is)) left_is;
+  rounds = ap (λ (r : RunValue). r.rounds) run_is;
 }
 
 -- there is room for all steps
@@ -125,26 +123,30 @@ between-first scenario air run is at = record {
 }
 
 -- what is told behind the steps is what the report has there
-last-told : (scenario : Scenario) (air : AirValue) (run : RunValue) → IsAt (start_of scenario) (history scenario) air run → run.out_of_memory ≡ false
-    → map seen_line run.seen ++ tag_lines 0 air.tags ++ DoneLine ∷ [] ≡ last_lines (start_of scenario) (history scenario)
-last-told scenario air run at enough =
-    ap (λ s. map seen_line s ++ tag_lines 0 air.tags ++ DoneLine ∷ []) (at.seen enough)
-    ∙ ap (λ t. map seen_line (seen_in (map pair_of (listing_of (history scenario)))) ++ tag_lines 0 t ++ DoneLine ∷ []) at.plays.tags
+last-told : (scenario : Scenario) (air : AirValue) (run : RunValue) (seen : List Seen) → IsAt (start_of scenario) (history scenario) air run → seen ≡ seen_in (pairs_in (history scenario))
+    → map seen_line seen ++ tag_lines 0 air.tags ++ DoneLine ∷ [] ≡ last_lines (start_of scenario) (history scenario)
+last-told scenario air run seen at counted =
+    ap (λ s. map seen_line s ++ tag_lines 0 air.tags ++ DoneLine ∷ []) counted
+    ∙ ap (λ t. map seen_line (seen_in (pairs_in (history scenario))) ++ tag_lines 0 t ++ DoneLine ∷ []) at.tags
 
 -- the steps as a slice
 pub stands-slice : (Heard : List ReportLine → Type 0) (scenario : Scenario) (steps : List Step) (air : AirValue) (run : RunValue) → steps ≡ scenario.steps
     → StandsAt Heard (start_of scenario) (past_behind (start_of scenario) steps []) air run → StandsAt Heard (start_of scenario) (history scenario) air run
 stands-slice Heard scenario steps air run same stands = subst (λ (s : List Step). StandsAt Heard (start_of scenario) (past_behind (start_of scenario) s []) air run) same stands
 
+-- ... where they were cut off
+pub cut-slice : {A : Type 0} (l : Listening A) (scenario : Scenario) (steps : List Step) (fault : PlayFault) → steps ≡ scenario.steps
+    → IsCutIn l [] (lines_behind (start_of scenario) (past_behind (start_of scenario) steps [])) fault → IsCutIn l [] (lines_behind (start_of scenario) (history scenario)) fault
+cut-slice l scenario steps fault same cut = subst (λ (s : List Step). IsCutIn l [] (lines_behind (start_of scenario) (past_behind (start_of scenario) s [])) fault) same cut
+
 -- all is told
-pub whole-told : {A : Type 0} (l : Listening A) (first : A) (scenario : Scenario) (air : AirValue) (run : RunValue)
-    → StandsAt (Passes l.hears [] first l.old) (start_of scenario) (history scenario) air run → run.out_of_memory ≡ false
-    → ((before : List ReportLine) → IsTold l before (before ++ (map seen_line run.seen ++ tag_lines 0 air.tags ++ DoneLine ∷ [])))
-    → Passes l.hears [] first l.new (run_lines (start_of scenario) scenario.steps)
-whole-told l first scenario air run stands enough last =
+pub whole-told : {A : Type 0} (l : Listening A) (first : A) (scenario : Scenario) (air : AirValue) (run : RunValue) (seen : List Seen)
+    → StandsAt (λ lines. l.hears first lines l.old) (start_of scenario) (history scenario) air run × (seen ≡ seen_in (pairs_in (history scenario)))
+    → ((before : List ReportLine) → IsTold l before (before ++ (map seen_line seen ++ tag_lines 0 air.tags ++ DoneLine ∷ [])))
+    → l.hears first (run_lines (start_of scenario) scenario.steps) l.new
+whole-told l first scenario air run seen (stands, counted) last =
     let lines : List ReportLine = lines_behind (start_of scenario) (history scenario) in
-    passes-then l first [] lines (run_lines (start_of scenario) scenario.steps) stands.told
-    (subst (λ (more : List ReportLine). IsTold l lines (lines ++ more)) (last-told scenario air run stands.at enough) (last lines))
+    (subst (λ (more : List ReportLine). IsTold l lines (lines ++ more)) (last-told scenario air run seen stands.at counted) (last lines)).on first stands.told
 
 -- the air stayed as it was
 pub at-kept : (start : Start) (past : List Item) (air after : AirValue) (run : RunValue) → after ≡ air → IsAt start past air run → IsAt start past after run
@@ -152,16 +154,35 @@ at-kept start past air after run kept at = subst (λ (a : AirValue). IsAt start 
 
 -- ... so the run is played, or its listener met a fault
 pub ends-played : {A : Type 0} (l : Listening A) (r : Result (Unit {0}) PlayFault) (scenario : Scenario) (air : AirValue) (run : RunValue)
-    → IsTold l [] (run_lines (start_of scenario) scenario.steps) → IsAt (start_of scenario) (history scenario) air run
+    → l.hears l.old (run_lines (start_of scenario) scenario.steps) l.new → IsAt (start_of scenario) (history scenario) air run
     → OnOk r (l.failed l.new ≡ None) × IfErr r (IsCause l)
-    → Ends r (IsPlayed l.hears l.failed scenario l.old l.new air) (IsCutIn l [] (run_lines (start_of scenario) scenario.steps))
-ends-played l (Ok done) scenario air run told at (faultless, cause) =
-    record { passes = told; faultless = faultless; tags = at.plays.tags; exchanges = at.plays.exchanges }
-ends-played l (Err fault) scenario air run told at (faultless, cause) = cut-behind l [] (run_lines (start_of scenario) scenario.steps) fault told cause
+    → Ends r (IsPlayed l.hears l.failed scenario l.old l.new air) (IsCutShort l.hears l.failed l.old l.new (run_lines (start_of scenario) scenario.steps))
+ends-played l (Ok done) scenario air run told at (faultless, cause) = record { told = told; faultless = faultless; tags = at.tags; exchanges = at.exchanges }
+ends-played l (Err fault) scenario air run told at (faultless, cause) = record {
+  front = run_lines (start_of scenario) scenario.steps;
+  rest = [];
+  split = sym (append-nil (run_lines (start_of scenario) scenario.steps));
+  told = told;
+  cause = inl cause;
+}
 
--- the steps were cut off
-pub cut-history : {A : Type 0} (l : Listening A) (scenario : Scenario) (steps : List Step) (fault : PlayFault) → steps ≡ scenario.steps
-    → IsCutIn l [] (lines_behind (start_of scenario) (past_behind (start_of scenario) steps [])) fault → IsCutIn l [] (run_lines (start_of scenario) scenario.steps) fault
-cut-history l scenario steps fault same cut =
-    cut-longer l [] (lines_behind (start_of scenario) (history scenario)) (last_lines (start_of scenario) (history scenario)) (run_lines (start_of scenario) scenario.steps) fault refl
-    (subst (λ (s : List Step). IsCutIn l [] (lines_behind (start_of scenario) (past_behind (start_of scenario) s [])) fault) same cut)
+-- it was cut off before its last lines
+pub cut-before-last : {A : Type 0} (l : Listening A) (scenario : Scenario) (fault : PlayFault) → IsCutShort l.hears l.failed l.old l.new (lines_behind (start_of scenario) (history scenario)) fault
+    → IsCutShort l.hears l.failed l.old l.new (run_lines (start_of scenario) scenario.steps) fault
+cut-before-last l scenario fault cut =
+    cut-longer (lines_behind (start_of scenario) (history scenario)) (last_lines (start_of scenario) (history scenario)) (run_lines (start_of scenario) scenario.steps) fault refl cut
+
+-- nothing was told before there was no memory
+pub cut-at-first : {A : Type 0} (l : Listening A) (scenario : Scenario) → l.hears l.old [] l.new → l.failed l.new ≡ None
+    → IsCutShort l.hears l.failed l.old l.new (run_lines (start_of scenario) scenario.steps) OutOfMemory
+cut-at-first l scenario told none = record {
+  front = [];
+  rest = run_lines (start_of scenario) scenario.steps;
+  split = refl;
+  told = told;
+  cause = inr (refl, none);
+}
+
+-- what a listener has heard that was lent, and was given back
+pub given-back : {A : Type 0} (l : Listening A) (first later : A) (lines : List ReportLine) → first ≡ l.old → later ≡ l.new → l.hears first lines later → l.hears l.old lines l.new
+given-back l first later lines was is told = subst (λ now. l.hears l.old lines now) is (subst (λ was_first. l.hears was_first lines later) was told)

@@ -7,7 +7,7 @@ use Rattle.access_ops.specs.declared.OpList.{OpList}
 use Rattle.air_model.specs.Past.{Start, Record, Item, befell, exchanged, operated, ended, past_behind_command, exchanges_in, rounds_in, tags_behind}
 use Rattle.air_world.proofs.Beginning.{scenario-few}
 use Rattle.air_world.proofs.Rounds.{KeepsLimit}
-use Rattle.air_world.proofs.Slots.{few-listed}
+use Rattle.air_world.proofs.Listings.{few-listed}
 use Rattle.air_world.specs.Counting.{Counts, Fits, counted_line, counted_lines, nothing_counted}
 use Rattle.air_world.specs.laws.CountingLaws.{counted-append}
 use Rattle.air_world.specs.Playing.{most_slots}
@@ -162,14 +162,14 @@ summary-fits keeps scenario is =
     let legal = legal-steps scenario is in
     let tags : length start.tags ≡ length (tags_of scenario.groups) = length-map (tags_of scenario.groups) tag_of in
     let pairs : length (pairs_in past) ≡ length (listing_of past) = length-map (listing_of past) (λ listed. (listed.pc, listed.epc)) in
-    let listed : length (pairs_in past) ≤ exchanges_in past = few-listed past in
+    let listed : length (listing_of past) ≤ exchanges_in past = few-listed past in
     let most = steps-exchanges keeps start scenario.steps [] legal in
     let few = few-exchanges scenario.steps legal in
     let slots : slots_in past ≤ slots_in [] + most_slots * length scenario.steps = steps-slots keeps start scenario.steps [] legal in
     record {
       tags = omega (arith, tags, scenario-few scenario is);
       listed = omega (arith, pairs, listed, most, few, is.few_steps);
-      distinct = omega (arith, few-distinct (pairs_in past), listed, most, few, is.few_steps);
+      distinct = omega (arith, few-distinct (pairs_in past), pairs, listed, most, few, is.few_steps);
       slots = omega (arith, slots, is.few_steps);
     }
 

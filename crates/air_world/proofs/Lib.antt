@@ -1,7 +1,9 @@
 pub mod Beginning
 pub mod Copies
 pub mod Counted
+pub mod Listings
 pub mod LastLines
+pub mod SeenThrough
 pub mod Operating
 pub mod Passing
 pub mod Rounds

@@ -19,7 +19,7 @@ use Rattle.air_model.specs.declared.got.Got.TheVariants as gots
 use Rattle.runs.specs.laws.Tags.{tags-operated}
 use Rattle.runs.specs.History.{operation_reception, past_behind_dialogue}
 use Rattle.runs.specs.Listing.{reception_of_ack, listed_from, listed_by}
-use Rattle.air_world.proofs.Passing.{RunBehind, Stands}
+use Rattle.air_world.proofs.Passing.{RunBehind, Stands, at-behind}
 use Rattle.air_world.specs.Playing.{RunValue, StandsAt}
 use Rattle.runs.specs.laws.PlayedRounds.{SlotOfRun}
 use Rattle.command_grammar.specs.declared.commands.Command.{Command}
@@ -177,25 +177,11 @@ operations-sent of here past u asked by after next fewer =
 -- what stands behind a result
 pub stands-operated : (Heard : List ReportLine → Type 0) (at : RunBehind) (round slot index : ℕ) (result : OpResult)
     → Stands (λ lines. Heard (lines ++ OpLine round slot index result ∷ [])) at → StandsAt Heard at.start (operated round slot index result ∷ at.past) at.air at.run
-stands-operated Heard at round slot index result stands =
-    let plays = stands.at.plays in
-    record {
-      at = record {
-        plays = record {
-          names = plays.names;
-          few = plays.few;
-          link = plays.link;
-          several = plays.several;
-          tags = plays.tags ∙ sym (tags-operated at.start round slot index result at.past);
-          legal = plays.legal;
-          exchanges = plays.exchanges;
-          entries = plays.entries;
-          rounds = plays.rounds;
-        };
-        seen = stands.at.seen;
-      };
-      told = stands.told;
-    }
+stands-operated Heard at round slot index result stands = record {
+  at = at-behind at (operated round slot index result) at.run stands.at (tags-operated at.start round slot index result at.past) refl
+      (ap (λ n. record at.run { rounds = n }) stands.at.rounds);
+  told = stands.told;
+}
 
 -- a result was told
 pub operations-told : (of : TagOperations) (here : OperationsSoFar) (past : List Item) (u : AreInDialogue of here past) (after : OpRunValue) (result : OpResult)

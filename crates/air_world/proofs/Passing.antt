@@ -1,14 +1,14 @@
 -- What is told one after another, and what was told where a run is cut off.
-use Rattle.std.proofs.Common.{◌≡◌, ◌⊎◌, List, [], ◌++◌, Option, Some, None, Result, Ok, Err, sym, ◌∙◌, ap, subst, append_assoc}
+use Rattle.std.proofs.Common.{◌≡◌, List, [], ◌∷◌, ◌++◌, Option, Some, Result, Ok, Err, sym, ◌∙◌, ap, subst, append_assoc}
 use Rattle.std.proofs.lemmas.List.{append-nil}
 use Rattle.std.specs.Result.{IfErr, IsErrAnd}
 use Rattle.air_channel.specs.Air.{AirValue}
-use Rattle.air_model.specs.Past.{Start, Item}
-use Rattle.air_world.specs.Playing.{RunValue, StandsAt}
-use Rattle.air_world.specs.Telling.{Ends, IsCutOff, Passes, lines_behind}
+use Rattle.air_events.specs.Cursor.{IsLeft}
+use Rattle.air_model.specs.Past.{Start, Item, exchanges_in, rounds_in, tags_behind}
+use Rattle.air_world.specs.Playing.{RunValue, IsAt, StandsAt}
+use Rattle.air_world.specs.Telling.{Ends, IsCut, IsCutOff, Passes, lines_behind}
 use Rattle.report_lines.specs.ReportLine.{ReportLine}
 use Rattle.report_lines.specs.declared.mode.PlayFault.{PlayFault}
-use Rattle.report_lines.specs.declared.mode.PlayFault.TheVariants.{OutOfMemory}
 use Rattle.runs.specs.laws.Growth.{Grows, added_lines, past_lines-more}
 
 -- a listener that is told lines: what such a one hears, which fault it met, what it was before, and what it is now
@@ -29,9 +29,9 @@ IsTold l before = Passes l.hears before l.old l.new
 abbrev pub IsCutIn : {A : Type 0} → Listening A → (before whole : List ReportLine) → PlayFault → Type 0
 IsCutIn l before whole = IsCutOff l.hears l.failed before l.old l.new whole
 
--- it met this fault, or it met none, and there was no memory
+-- this is its first fault
 abbrev pub IsCause : {A : Type 0} → Listening A → PlayFault → Type 0
-IsCause l = λ fault. (l.failed l.new ≡ Some fault) ⊎ ((fault ≡ OutOfMemory) × (l.failed l.new ≡ None))
+IsCause l = λ fault. l.failed l.new ≡ Some fault
 
 -- nothing was told
 pub passes-nothing : {A : Type 0} (hears : A → List ReportLine → A → Type 0) (before : List ReportLine) (old : A) → Passes hears before old old before
@@ -54,18 +54,18 @@ cut-then l first before between whole fault told cut = record {
   front = cut.front;
   rest = cut.rest;
   split = cut.split;
-  passes = passes-then l first before between cut.front told cut.passes;
+  told = passes-then l first before between cut.front told cut.told;
   cause = cut.cause;
 }
 
 -- a front of lines is a front of all that begin with them
-pub cut-longer : {A : Type 0} (l : Listening A) (before lines more whole : List ReportLine) (fault : PlayFault) → whole ≡ lines ++ more → IsCutIn l before lines fault
-    → IsCutIn l before whole fault
-cut-longer l before lines more whole fault joined cut = record {
+pub cut-longer : {Told : List ReportLine → Type 0} {Cause : PlayFault → Type 0} (lines more whole : List ReportLine) (fault : PlayFault) → whole ≡ lines ++ more → IsCut Told Cause lines fault
+    → IsCut Told Cause whole fault
+cut-longer lines more whole fault joined cut = record {
   front = cut.front;
   rest = cut.rest ++ more;
   split = joined ∙ ap (λ (lines : List ReportLine). lines ++ more) cut.split ∙ append_assoc cut.front cut.rest more;
-  passes = cut.passes;
+  told = cut.told;
   cause = cut.cause;
 }
 
@@ -75,7 +75,7 @@ cut-behind l before lines fault told cause = record {
   front = lines;
   rest = [];
   split = sym (append-nil lines);
-  passes = told;
+  told = told;
   cause = cause;
 }
 
@@ -83,7 +83,7 @@ cut-behind l before lines fault told cause = record {
 pub cut-past : {A : Type 0} (l : Listening A) (before : List ReportLine) (start : Start) (past longer : List Item) (fault : PlayFault) → Grows past longer
     → IsCutIn l before (lines_behind start past) fault → IsCutIn l before (lines_behind start longer) fault
 cut-past l before start past longer fault grows cut =
-    cut-longer l before (lines_behind start past) (added_lines start.link grows.own) (lines_behind start longer) fault
+    cut-longer (lines_behind start past) (added_lines start.link grows.own) (lines_behind start longer) fault
     (ap (λ (items : List Item). lines_behind start items) grows.is ∙ past_lines-more start.link grows.own past) cut
 
 -- a fault that is handed on
@@ -107,3 +107,19 @@ pub ends-checked : {A T : Type 0} (l : Listening A) (before : List ReportLine) (
     → Ends r (Stands (IsTold l before) at) (IsCutIn l before (lines_behind at.start at.past))
 ends-checked l before (Ok done) at stands cause = stands
 ends-checked l before (Err fault) at stands cause = cut-behind l before (lines_behind at.start at.past) fault stands.told cause
+
+-- an item that is no exchange leaves the air as it is
+pub at-behind : (at : RunBehind) (item : Item) (after : RunValue) → IsAt at.start at.past at.air at.run → tags_behind at.start (item ∷ at.past) ≡ tags_behind at.start at.past
+    → exchanges_in (item ∷ at.past) ≡ exchanges_in at.past → after ≡ record at.run { rounds = rounds_in (item ∷ at.past) } → IsAt at.start (item ∷ at.past) at.air after
+at-behind at item after is tags exchanges after_is = record {
+  names = is.names;
+  few = is.few;
+  link = is.link;
+  several = is.several;
+  tags = is.tags ∙ sym tags;
+  legal = is.legal;
+  exchanges = is.exchanges ∙ sym exchanges;
+  entries = subst (λ n. IsLeft after.entries at.start.entries n) (sym exchanges)
+      (subst (λ l. IsLeft l at.start.entries (exchanges_in at.past)) (sym (ap (λ (r : RunValue). r.entries) after_is)) is.entries);
+  rounds = ap (λ (r : RunValue). r.rounds) after_is;
+}

@@ -2,9 +2,8 @@
 use Rattle.std.proofs.Common.{◌≡◌, ℕ, zero, suc, ◌+◌, ◌*◌, ◌≤◌, false, List, [], ◌∷◌, ◌++◌, length, refl, sym, ◌∙◌, ap, subst, arith}
 use Rattle.access_ops.specs.declared.OpList.{OpList}
 use Rattle.air_channel.specs.Air.{AirValue}
-use Rattle.air_events.specs.Cursor.{IsLeft}
 use Rattle.air_model.specs.Past.{Start, Item, ended, past_behind_command, exchanges_in, rounds_in}
-use Rattle.air_world.proofs.Passing.{RunBehind, Stands}
+use Rattle.air_world.proofs.Passing.{RunBehind, Stands, at-behind}
 use Rattle.air_world.specs.Playing.{RunValue, StandsAt, most_in_slot}
 use Rattle.command_grammar.specs.declared.commands.Command.{Command}
 use Rattle.q_round.specs.laws.SlotLaws.{slots-underway}
@@ -45,7 +44,6 @@ pub record IsInRound (played : PlayedRound) (here : RoundSoFar) (past : List Ite
 pub record RoundUnderway (Heard : List ReportLine → Type 0) (played : PlayedRound) (here : RoundSoFar) (air : AirValue) (run : RunValue) : Type 0 where
   pub past : List Item
   pub stands : StandsAt Heard played.start past air run
-  pub enough : run.out_of_memory ≡ false
   pub is : IsInRound played here past
 
 abbrev pred : ℕ → ℕ
@@ -184,22 +182,8 @@ ended-slots number end slot outcome outcomes past whole is left =
 pub stands-ended : (Heard : List ReportLine → Type 0) (at : RunBehind) (number : ℕ) (end : RoundEnd) (slots : ℕ) (after : RunValue) → number ≡ rounds_in at.past + 1
     → Stands (λ lines. Heard (lines ++ RoundLine number end slots ∷ [])) at → after ≡ record at.run { rounds = number }
     → StandsAt Heard at.start (ended number end slots ∷ at.past) at.air after
-stands-ended Heard at number end slots after number_is stands is =
-    let plays = stands.at.plays in
-    record {
-      at = record {
-        plays = record {
-          names = plays.names;
-          few = plays.few;
-          link = plays.link;
-          several = plays.several;
-          tags = plays.tags ∙ sym (tags-ended at.start number end slots at.past);
-          legal = plays.legal;
-          exchanges = plays.exchanges;
-          entries = subst (λ l. IsLeft l at.start.entries (exchanges_in at.past)) (sym (ap (λ (r : RunValue). r.entries) is)) plays.entries;
-          rounds = ap (λ (r : RunValue). r.rounds) is ∙ number_is;
-        };
-        seen = λ enough. ap (λ (r : RunValue). r.seen) is ∙ stands.at.seen (sym (ap (λ (r : RunValue). r.out_of_memory) is) ∙ enough);
-      };
-      told = stands.told;
-    }
+stands-ended Heard at number end slots after number_is stands is = record {
+  at = at-behind at (ended number end slots) after stands.at (tags-ended at.start number end slots at.past) refl
+      (is ∙ ap (λ n. record at.run { rounds = n }) number_is);
+  told = stands.told;
+}

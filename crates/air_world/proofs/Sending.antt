@@ -7,7 +7,7 @@ use Rattle.air_model.specs.Past.{Start, Record, Item, next_record, past_behind_c
 use Rattle.air_events.specs.Entries.{entry_at}
 use Rattle.air_events.specs.declared.Entry.{Entry}
 use Rattle.runs.specs.laws.Tags.{tags-exchanged, length-tags}
-use Rattle.air_world.specs.Playing.{RunValue, PlaysAt, HasRoom, last_exchange_lines}
+use Rattle.air_world.specs.Playing.{RunValue, IsAt, HasRoom, last_exchange_lines}
 use Rattle.air_world.specs.Saying.{said_of, said_with}
 use Rattle.air_events.specs.declared.Several.{Several}
 use Rattle.runs.specs.Report.{wave_lines}
@@ -22,17 +22,17 @@ next-below : (exchanges : ℕ) → exchanges < last_exchange → next_exchange e
 next-below exchanges few = omega (arith, few)
 
 -- the cursor of the run stands behind the exchanges of the past
-pub cursor-stands : (start : Start) (past : List Item) (air : AirValue) (run : RunValue) (entries : List (ℕ × Entry)) → PlaysAt start past air run → run.entries ≡ entries
+pub cursor-stands : (start : Start) (past : List Item) (air : AirValue) (run : RunValue) (entries : List (ℕ × Entry)) → IsAt start past air run → run.entries ≡ entries
     → IsLeft entries start.entries (exchanges_in past)
 cursor-stands start past air run entries plays cursor = subst (λ l. IsLeft l start.entries (exchanges_in past)) cursor plays.entries
 
 -- the number of the next exchange
-pub next-number : (start : Start) (past : List Item) (air : AirValue) (run : RunValue) (exchange : ℕ) → PlaysAt start past air run → exchange ≡ air.exchanges + 1
+pub next-number : (start : Start) (past : List Item) (air : AirValue) (run : RunValue) (exchange : ℕ) → IsAt start past air run → exchange ≡ air.exchanges + 1
     → exchange ≡ exchanges_in past + 1
 next-number start past air run exchange plays number = number ∙ ap (λ n. n + 1) plays.exchanges
 
 -- the entry of the next exchange names tags that there are ..
-pub entry-names : (start : Start) (past : List Item) (air : AirValue) (run : RunValue) (entry : Entry) → PlaysAt start past air run
+pub entry-names : (start : Start) (past : List Item) (air : AirValue) (run : RunValue) (entry : Entry) → IsAt start past air run
     → entry ≡ entry_at start.entries (exchanges_in past + 1) → NamesTags (length air.tags) entry
 entry-names start past air run entry plays is =
     let count : length air.tags ≡ length start.tags = ap length plays.tags ∙ length-tags start past in
@@ -40,7 +40,7 @@ entry-names start past air run entry plays is =
     subst (λ n. NamesTags n entry) (sym count) named
 
 -- .. and gives few levels
-pub entry-fits : (start : Start) (past : List Item) (air : AirValue) (run : RunValue) (entry : Entry) → PlaysAt start past air run
+pub entry-fits : (start : Start) (past : List Item) (air : AirValue) (run : RunValue) (entry : Entry) → IsAt start past air run
     → entry ≡ entry_at start.entries (exchanges_in past + 1) → HasFewLevels entry.choice
 entry-fits start past air run entry plays is = subst (λ (e : Entry). HasFewLevels e.choice) (sym is) (plays.few (exchanges_in past + 1))
 
@@ -50,7 +50,7 @@ pub record Sends (start : Start) (past : List Item) (command : Command) : Type 0
   pub run : RunValue
   pub next : AirValue
   pub entry : Entry
-  pub plays : PlaysAt start past air run
+  pub plays : IsAt start past air run
   pub is : next ≡ air_after air command entry
   pub entry_is : entry ≡ entry_at start.entries (exchanges_in past + 1)
   pub legal : AreLegalTags next.tags
@@ -79,7 +79,7 @@ sent-number start past command sends = ap (λ (a : AirValue). a.exchanges) sends
 -- after an exchange, air and run stand behind the longer past
 pub sent-plays : (start : Start) (past : List Item) (round slot : ℕ) (command : Command) (sends : Sends start past command) (after : RunValue)
     → after ≡ record sends.run { entries = after.entries } → IsLeft after.entries start.entries (exchanges_in past + 1)
-    → PlaysAt start (past_behind_command start round slot command past) sends.next after
+    → IsAt start (past_behind_command start round slot command past) sends.next after
 sent-plays start past round slot command sends after after_is left_is =
     let sent : Record = next_record start round slot command past in
     let air = sends.air in
@@ -140,5 +140,5 @@ sent-lines start past round slot command sends =
     ap (λ (line : ReportLine). line ∷ RxLine next.exchanges next.replies next.stream ∷ []) tx ∙ ap (λ (line : ReportLine). TxLine sent.exchange (wave_for start.link command) ∷ line ∷ []) rx
 
 -- the exchanges fit the counter
-pub few-exchanges : (start : Start) (past : List Item) (air : AirValue) (run : RunValue) (more : ℕ) → PlaysAt start past air run → HasRoom (more + 1) past → air.exchanges < last_exchange
+pub few-exchanges : (start : Start) (past : List Item) (air : AirValue) (run : RunValue) (more : ℕ) → IsAt start past air run → HasRoom (more + 1) past → air.exchanges < last_exchange
 few-exchanges start past air run more plays room = omega (arith, plays.exchanges, room)

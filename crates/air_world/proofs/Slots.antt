@@ -1,21 +1,20 @@
 -- What the exchanges of a slot make of a run.
-use Rattle.std.proofs.Common.{◌≡◌, ℕ, suc, ◌+◌, ◌≤◌, ◌<◌, ◌^◌, Bool, false, List, [], ◌∷◌, ◌++◌, length, map, Option, Some, None, refl, sym, ◌∙◌, ap, subst, arith, append_assoc, length-append}
-use Rattle.std.proofs.lemmas.List.{append-nil, map-append}
+use Rattle.std.proofs.Common.{◌≡◌, ℕ, ◌+◌, ◌≤◌, ◌<◌, ◌^◌, Bool, List, [], ◌∷◌, ◌++◌, map, Option, Some, None, refl, sym, ◌∙◌, ap, subst, arith, append_assoc}
+use Rattle.std.proofs.lemmas.List.{append-nil}
 use Rattle.access_ops.specs.Operations.{dialogue_of}
 use Rattle.access_ops.specs.declared.OpList.{OpList}
 use Rattle.air_channel.specs.Air.{AirValue}
-use Rattle.air_events.specs.Cursor.{IsLeft}
 use Rattle.air_events.specs.declared.Entry.{Entry}
 use Rattle.tag_machine.specs.Exchange.{AreLegalTags, replies_in}
 use Rattle.air_model.specs.Channel.{Given, got_of, heard_levels}
-use Rattle.air_model.specs.Past.{Start, Record, Item, befell, exchanged, operated, ended, next_entry, next_record, past_behind_command, tags_behind, exchanges_in}
+use Rattle.air_model.specs.Past.{Start, Record, Item, exchanged, next_entry, next_record, past_behind_command, tags_behind}
 use Rattle.air_model.specs.Reception.{reception_of}
 use Rattle.air_model.specs.laws.GivenLaws.{given_is_read}
 use Rattle.air_model.specs.laws.ReceptionLaws.{stream_reception}
 use Rattle.air_model.specs.declared.got.Got.TheVariants as gots
 use Rattle.air_world.proofs.Passing.{Listening, IsTold, passes-then, RunBehind, Stands}
 use Rattle.air_world.specs.Heard.{pair_received, rn16_received}
-use Rattle.air_world.specs.Playing.{RunValue, PlaysAt, IsAt, StandsAt, HasRoom, pair_of}
+use Rattle.air_world.specs.Playing.{RunValue, IsAt, StandsAt, HasRoom}
 use Rattle.air_world.specs.Telling.{Passes, lines_behind}
 use Rattle.command_grammar.specs.declared.commands.Command.{Command}
 use Rattle.command_grammar.specs.declared.commands.Command.TheVariants as commands
@@ -30,13 +29,11 @@ use Rattle.reply_grammar.specs.declared.expected.Received.TheVariants as receive
 use Rattle.reply_grammar.specs.declared.expected.Reply.TheVariants as replies
 use Rattle.reply_wire.specs.Received.{IsReceived}
 use Rattle.report_lines.specs.ReportLine.{ReportLine}
-use Rattle.report_lines.specs.SeenCounts.{Seen, seen_in, count_of}
-use Rattle.report_lines.specs.laws.SeenLaws.{count_of-few}
 use Rattle.runs.proofs.Answering.{TagLaws, given-in-expected}
 use Rattle.tag_machine.specs.TagValue.{TagValue}
 use Rattle.runs.specs.History.{past_behind_dialogue, past_behind_listing, ack_reception, past_behind_ack, past_behind_answer, slot_reception, past_behind_slot}
 use Rattle.runs.specs.NextItem.{expectation_of}
-use Rattle.runs.specs.Listing.{Listed, reception_of_ack, listed_from, listed_by, listing_of}
+use Rattle.runs.specs.Listing.{Listed, reception_of_ack, listed_from, listed_by}
 use Rattle.runs.specs.Report.{exchange_lines, list_line}
 
 -- what is known of a stream that came in an exchange whose command expects such a reply
@@ -83,14 +80,8 @@ rn16-heard t trext levels (receiveds.Whole (replies.Error code)) rn is found = a
 rn16-heard t trext levels (receiveds.Refused place) rn is found = ap rn16_reception found
 
 -- what is heard changes nothing of a run
-pub plays-kept : (start : Start) (past : List Item) (air : AirValue) (run later : RunValue) → later ≡ run → PlaysAt start past air run → PlaysAt start past air later
-plays-kept start past air run later same plays = subst (λ (r : RunValue). PlaysAt start past air r) (sym same) plays
-
--- an exchange leaves the counts as they are
-pub seen-behind : (start : Start) (past : List Item) (air : AirValue) (run later : RunValue) (left : List (ℕ × Entry)) → later ≡ record run { entries = left } → IsAt start past air run
-    → later.out_of_memory ≡ false → later.seen ≡ seen_in (map pair_of (listing_of past))
-seen-behind start past air run later left is at enough =
-    ap (λ (r : RunValue). r.seen) is ∙ at.seen (sym (ap (λ (r : RunValue). r.out_of_memory) is) ∙ enough)
+pub run-kept : (start : Start) (past : List Item) (air : AirValue) (run later : RunValue) → later ≡ run → IsAt start past air run → IsAt start past air later
+run-kept start past air run later same at = subst (λ (r : RunValue). IsAt start past air r) (sym same) at
 
 -- the lines behind an exchange: what is told of it, then what it lists
 lines-exchanged : (start : Start) (sent : Record) (past : List Item)
@@ -98,36 +89,23 @@ lines-exchanged : (start : Start) (sent : Record) (past : List Item)
 lines-exchanged start sent past = sym (append_assoc (lines_behind start past) (exchange_lines start.link sent) (map list_line (listed_by sent)))
 
 -- where an exchange lists nothing
-pub stands-unlisted : (Heard : List ReportLine → Type 0) (at : RunBehind) (sent : Record) → PlaysAt at.start (exchanged sent ∷ at.past) at.air at.run
-    → (at.run.out_of_memory ≡ false → at.run.seen ≡ seen_in (map pair_of (listing_of at.past)))
+pub stands-unlisted : (Heard : List ReportLine → Type 0) (at : RunBehind) (sent : Record) → IsAt at.start (exchanged sent ∷ at.past) at.air at.run
     → Heard (lines_behind at.start at.past ++ exchange_lines at.start.link sent) → listed_by sent ≡ [] → StandsAt Heard at.start (exchanged sent ∷ at.past) at.air at.run
-stands-unlisted Heard at sent plays seen told none =
-    let past : List Item = at.past in
-    let before : List ReportLine = lines_behind at.start past ++ exchange_lines at.start.link sent in
-    let lines : lines_behind at.start (exchanged sent ∷ past) ≡ before =
-    lines-exchanged at.start sent past ∙ ap (λ (l : List Listed). before ++ map list_line l) none ∙ append-nil before in
-    let same : listing_of past ++ listed_by sent ≡ listing_of past = ap (λ (l : List Listed). listing_of past ++ l) none ∙ append-nil (listing_of past) in
-    record {
-      at = record { plays = plays; seen = λ enough. seen enough ∙ ap (λ (l : List Listed). seen_in (map pair_of l)) (sym same) };
-      told = subst Heard (sym lines) told;
-    }
+stands-unlisted Heard at sent is told none =
+    let before : List ReportLine = lines_behind at.start at.past ++ exchange_lines at.start.link sent in
+    let lines : lines_behind at.start (exchanged sent ∷ at.past) ≡ before =
+    lines-exchanged at.start sent at.past ∙ ap (λ (l : List Listed). before ++ map list_line l) none ∙ append-nil before in
+    record { at = is; told = subst Heard (sym lines) told }
 
 -- where it lists one tag
-pub stands-listed : (Heard : List ReportLine → Type 0) (at : RunBehind) (sent : Record) (listed : Listed) → PlaysAt at.start (exchanged sent ∷ at.past) at.air at.run
-    → (at.run.out_of_memory ≡ false → at.run.seen ≡ seen_in (map pair_of (listing_of at.past) ++ pair_of listed ∷ []))
+pub stands-listed : (Heard : List ReportLine → Type 0) (at : RunBehind) (sent : Record) (listed : Listed) → IsAt at.start (exchanged sent ∷ at.past) at.air at.run
     → Heard ((lines_behind at.start at.past ++ exchange_lines at.start.link sent) ++ list_line listed ∷ []) → listed_by sent ≡ listed ∷ []
     → StandsAt Heard at.start (exchanged sent ∷ at.past) at.air at.run
-stands-listed Heard at sent listed plays seen told one =
-    let past : List Item = at.past in
-    let before : List ReportLine = lines_behind at.start past ++ exchange_lines at.start.link sent in
-    let lines : lines_behind at.start (exchanged sent ∷ past) ≡ before ++ list_line listed ∷ [] =
-    lines-exchanged at.start sent past ∙ ap (λ (l : List Listed). before ++ map list_line l) one in
-    let same : map pair_of (listing_of past ++ listed_by sent) ≡ map pair_of (listing_of past) ++ pair_of listed ∷ [] =
-    ap (λ (l : List Listed). map pair_of (listing_of past ++ l)) one ∙ map-append pair_of (listing_of past) (listed ∷ []) in
-    record {
-      at = record { plays = plays; seen = λ enough. seen enough ∙ ap seen_in (sym same) };
-      told = subst Heard (sym lines) told;
-    }
+stands-listed Heard at sent listed is told one =
+    let before : List ReportLine = lines_behind at.start at.past ++ exchange_lines at.start.link sent in
+    let lines : lines_behind at.start (exchanged sent ∷ at.past) ≡ before ++ list_line listed ∷ [] =
+    lines-exchanged at.start sent at.past ∙ ap (λ (l : List Listed). before ++ map list_line l) one in
+    record { at = is; told = subst Heard (sym lines) told }
 
 -- what was told before, and what stands when more was told
 pub stands-then : {A : Type 0} (l : Listening A) (first : A) (before between : List ReportLine) (at : RunBehind)
@@ -140,21 +118,6 @@ stands-then l first before between at told stands = record {
 -- what stands behind the same past
 pub stands-same : (Heard : List ReportLine → Type 0) (start : Start) (past same : List Item) (air : AirValue) (run : RunValue) → past ≡ same → StandsAt Heard start same air run → StandsAt Heard start past air run
 stands-same Heard start past same air run is stands = subst (λ (p : List Item). StandsAt Heard start p air run) (sym is) stands
-
--- listing changes nothing else
-pub plays-listed : (start : Start) (past : List Item) (air : AirValue) (run after : RunValue) (seen : List Seen) (short : Bool) → after ≡ record run { seen = seen; out_of_memory = short }
-    → PlaysAt start past air run → PlaysAt start past air after
-plays-listed start past air run after seen short is plays = record {
-  names = plays.names;
-  few = plays.few;
-  link = plays.link;
-  several = plays.several;
-  tags = plays.tags;
-  legal = plays.legal;
-  exchanges = plays.exchanges;
-  entries = subst (λ l. IsLeft l start.entries (exchanges_in past)) (sym (ap (λ (r : RunValue). r.entries) is)) plays.entries;
-  rounds = ap (λ (r : RunValue). r.rounds) is ∙ plays.rounds;
-}
 
 command-unlisted : (sent : Record) (command : Command) → expectation_of command ≡ Some expects.Rn16 → reception_of_ack sent command ≡ no_stream
 command-unlisted sent (commands.Ack rn) asked = absurd (cc)
@@ -187,40 +150,7 @@ other-unlisted sent (whole_reply (replies.Error code)) is = refl
 other-unlisted sent no_stream is = refl
 other-unlisted sent no_such_reply is = refl
 
-length-map-pairs : (listed : List Listed) → length (map pair_of listed) ≡ length listed
-length-map-pairs [] = refl
-length-map-pairs (one ∷ others) = ap suc (length-map-pairs others)
-
--- a past lists at most one tag in each exchange
-few-from : (sent : Record) (reception : Reception) → length (listed_from sent reception) ≤ 1
-few-from sent no_stream = omega arith
-few-from sent no_such_reply = omega arith
-few-from sent (whole_reply (replies.Epc pc epc)) = omega arith
-few-from sent (whole_reply (replies.Rn16 rn)) = omega arith
-few-from sent (whole_reply (replies.Handle rn)) = omega arith
-few-from sent (whole_reply (replies.Words words)) = omega arith
-few-from sent (whole_reply replies.Header) = omega arith
-few-from sent (whole_reply (replies.Error code)) = omega arith
-
-pub few-listed : (past : List Item) → length (map pair_of (listing_of past)) ≤ exchanges_in past
-few-listed [] = omega arith
-few-listed (befell event number ∷ past) = few-listed past
-few-listed (operated round slot index result ∷ past) = few-listed past
-few-listed (ended round end slots ∷ past) = few-listed past
-few-listed (exchanged sent ∷ past) =
-    let here = few-from sent (reception_of_ack sent sent.command) in
-    let there = few-listed past in
-    omega (arith, here, there, ap length (map-append pair_of (listing_of past) (listed_by sent)), length-append (map pair_of (listing_of past)) (map pair_of (listed_by sent)), length-map-pairs (listed_by sent))
-
--- so the counts fit
-pub count-fits : (past : List Item) (run : RunValue) (pair : ℕ × List ℕ) → run.seen ≡ seen_in (map pair_of (listing_of past)) → HasRoom 1 past
-    → count_of run.seen pair < 2 ^ 63
-count-fits past run pair seen room =
-    let few : count_of (seen_in (map pair_of (listing_of past))) pair ≤ length (map pair_of (listing_of past)) = count_of-few (map pair_of (listing_of past)) pair in
-    let same : count_of run.seen pair ≡ count_of (seen_in (map pair_of (listing_of past))) pair = ap (λ s. count_of s pair) seen in
-    omega (arith, few, same, few-listed past, room)
-
--- ... and of a slot without an ACK
+-- what is past behind a slot without an ACK
 pub slot-without : (start : Start) (operations : OpList) (round slot : ℕ) (command : Command) (past : List Item) (reception : Reception) → reception ≡ slot_reception start round slot command past
     → past_behind_answer start operations round slot reception (past_behind_command start round slot command past) ≡ past_behind_command start round slot command past
     → past_behind_slot start operations round slot command past ≡ past_behind_command start round slot command past
@@ -268,10 +198,6 @@ pub ack-with : (start : Start) (operations : OpList) (round slot rn : ℕ) (past
     ≡ past_behind_dialogue start round slot 1 (dialogue_of operations pair.1 rn) (past_behind_command start round slot (commands.Ack rn) past)
 ack-with start operations round slot rn past pair found =
     whole-listing start operations round slot rn (ack_reception start round slot rn past) pair (past_behind_command start round slot (commands.Ack rn) past) found
-
--- less room is room
-pub some-room : (past : List Item) (more : ℕ) → HasRoom (1 + more) past → HasRoom 1 past
-some-room past more room = omega arith
 
 -- room for one exchange more
 pub room-behind : (start : Start) (round slot : ℕ) (command : Command) (past : List Item) (more : ℕ) → HasRoom (1 + more) past → HasRoom more (past_behind_command start round slot command past)

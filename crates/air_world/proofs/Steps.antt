@@ -1,5 +1,5 @@
 -- What the steps of a run make of it.
-use Rattle.std.proofs.Common.{◌≡◌, ℕ, suc, ◌+◌, ◌*◌, ◌≤◌, ◌<◌, false, List, [], ◌∷◌, length, drop, get_or, None, refl, sym, ◌∙◌, ap, subst, arith}
+use Rattle.std.proofs.Common.{◌≡◌, ℕ, suc, ◌+◌, ◌*◌, ◌≤◌, ◌<◌, List, [], ◌∷◌, length, drop, get_or, None, refl, sym, ◌∙◌, ap, subst, arith}
 use Rattle.std.proofs.Math.Nat.{mul-le-mul}
 use Rattle.std.proofs.Math.Seq.{drop-cons}
 use Rattle.std.proofs.lemmas.List.{append-nil}
@@ -11,7 +11,7 @@ use Rattle.tag_machine.specs.Exchange.{AreLegalTags}
 use Rattle.air_model.specs.Past.{Start, Record, Item, befell, exchanges_in, rounds_in, tags_behind}
 use Rattle.air_world.proofs.Passing.{RunBehind, Stands}
 use Rattle.air_world.proofs.Rounds.{KeepsLimit, rounds-slot}
-use Rattle.air_world.specs.Playing.{RunValue, PlaysAt, IsPlayable, StandsAt, most_in_round, most_in_slot, most_slots}
+use Rattle.air_world.specs.Playing.{RunValue, IsAt, IsPlayable, StandsAt, most_in_round, most_in_slot, most_slots}
 use Rattle.air_world.specs.Telling.{lines_behind}
 use Rattle.command_grammar.specs.declared.commands.Command.{Command}
 use Rattle.command_grammar.specs.declared.commands.Command.TheVariants as commands
@@ -40,23 +40,20 @@ alone-unlisted sent asked = ap (λ (r : Reception). listed_from sent r) (command
 pub stands-befell : (Heard : List ReportLine → Type 0) (at : RunBehind) (event : Event) (number : ℕ) (next : AirValue) → Stands Heard at
     → next ≡ air_after_event at.air event number → AreLegalTags next.tags → StandsAt Heard at.start (befell event number ∷ at.past) next at.run
 stands-befell Heard at event number next stands is legal =
-    let plays = stands.at.plays in
+    let was = stands.at in
     let moved : next.tags ≡ tags_behind at.start (befell event number ∷ at.past) =
-    ap (λ (a : AirValue). a.tags) is ∙ ap (λ t. (air_after_event (record at.air { tags = t }) event number).tags) plays.tags ∙ sym (tags-befell at.start event number at.past) in
+    ap (λ (a : AirValue). a.tags) is ∙ ap (λ t. (air_after_event (record at.air { tags = t }) event number).tags) was.tags ∙ sym (tags-befell at.start event number at.past) in
     record {
       at = record {
-        plays = record {
-          names = plays.names;
-          few = plays.few;
-          link = ap (λ (a : AirValue). a.link) is ∙ plays.link;
-          several = ap (λ (a : AirValue). a.several) is ∙ plays.several;
-          tags = moved;
-          legal = legal;
-          exchanges = ap (λ (a : AirValue). a.exchanges) is ∙ plays.exchanges;
-          entries = plays.entries;
-          rounds = plays.rounds;
-        };
-        seen = stands.at.seen;
+        names = was.names;
+        few = was.few;
+        link = ap (λ (a : AirValue). a.link) is ∙ was.link;
+        several = ap (λ (a : AirValue). a.several) is ∙ was.several;
+        tags = moved;
+        legal = legal;
+        exchanges = ap (λ (a : AirValue). a.exchanges) is ∙ was.exchanges;
+        entries = was.entries;
+        rounds = was.rounds;
       };
       told = subst Heard (sym (append-nil (lines_behind at.start at.past))) stands.told;
     }
@@ -107,7 +104,6 @@ pub record AreTaken (taken : StepsTaken) (index : ℕ) (past : List Item) : Type
 pub record StepsUnderway (Heard : List ReportLine → Type 0) (taken : StepsTaken) (index : ℕ) (air : AirValue) (run : RunValue) : Type 0 where
   pub past : List Item
   pub stands : StandsAt Heard taken.start past air run
-  pub enough : run.out_of_memory ≡ false
   pub are : AreTaken taken index past
 
 -- a step among others
@@ -115,7 +111,7 @@ pub step-legal : (tags : ℕ) (list : List Step) (index : ℕ) (step : Step) →
 step-legal tags list index step inside is all = subst (λ (s : Step). IsPlayable tags s) (sym is) (All-get_or (IsPlayable tags) list index step inside all)
 
 -- the number of tags stays
-pub same-count : (start : Start) (past later : List Item) (air next : AirValue) (run then_run : RunValue) → PlaysAt start past air run → PlaysAt start later next then_run → length next.tags ≡ length air.tags
+pub same-count : (start : Start) (past later : List Item) (air next : AirValue) (run then_run : RunValue) → IsAt start past air run → IsAt start later next then_run → length next.tags ≡ length air.tags
 same-count start past later air next run then_run plays goes = ap length goes.tags ∙ length-tags start later ∙ sym (ap length plays.tags ∙ length-tags start past)
 
 step-drop : (list : List Step) (index : ℕ) (step : Step) → index < length list → step ≡ get_or list index step → drop index list ≡ step ∷ drop (index + 1) list

@@ -3,8 +3,8 @@ use Rattle.std.proofs.Common.{◌≡◌, inl, inr, ℕ, List, [], ◌++◌, Opti
 use Rattle.std.proofs.lemmas.List.{append-nil}
 use Rattle.air_channel.specs.Air.{AirValue}
 use Rattle.air_io.specs.Flow.{Adds}
-use Rattle.air_world.proofs.Passing.{Listening, IsTold, IsCutIn}
-use Rattle.air_world.specs.Telling.{Ends, IsPlayed, IsWritten}
+use Rattle.air_world.proofs.Passing.{Listening}
+use Rattle.air_world.specs.Telling.{Ends, IsCutShort, IsPlayed, IsWritten}
 use Rattle.report_lines.specs.ReportLine.{ReportLine}
 use Rattle.report_lines.specs.Spelled.{line_of_mode, mode_behind, new_spelling}
 use Rattle.report_lines.specs.TextReport.{IsAdded, spelling_behind, text_from}
@@ -60,11 +60,11 @@ IsAddedTo sink text fault = IsAdded text sink.first sink.written sink.before sin
 
 -- how a run ended is what it told, in the spelling of a mode
 pub run-written : {A : Type 0} (l : Listening A) (r : Result (Unit {0}) PlayFault) (mode : Mode) (scenario : Scenario) (sink : SinkChange) (air : AirValue)
-    → Ends r (IsPlayed l.hears l.failed scenario l.old l.new air) (IsCutIn l [] (run_lines (start_of scenario) scenario.steps))
-    → ((lines : List ReportLine) → IsTold l [] lines → IsAddedTo sink (told_text (spelling_for mode scenario) lines) (l.failed l.new))
+    → Ends r (IsPlayed l.hears l.failed scenario l.old l.new air) (IsCutShort l.hears l.failed l.old l.new (run_lines (start_of scenario) scenario.steps))
+    → ((lines : List ReportLine) → l.hears l.old lines l.new → IsAddedTo sink (told_text (spelling_for mode scenario) lines) (l.failed l.new))
     → IsWritten r mode scenario sink.first sink.written sink.before sink.after air
 run-written l (Ok done) mode scenario sink air played adds =
-    let added = adds (run_lines (start_of scenario) scenario.steps) played.passes in
+    let added = adds (run_lines (start_of scenario) scenario.steps) played.told in
     record {
       report = subst (λ (text : List ℕ). Adds sink.first sink.written text) (report-told mode scenario)
           (all-added _ sink.first sink.written sink.before sink.after (l.failed l.new) played.faultless added);
@@ -77,7 +77,7 @@ run-written l (Ok done) mode scenario sink air played adds =
       count = added.count;
     }
 run-written l (Err fault) mode scenario sink air cut adds =
-    let added = adds cut.front cut.passes in
+    let added = adds cut.front cut.told in
     let later : List ℕ = told_text (behind_lines (spelling_for mode scenario) cut.front) cut.rest in
     record {
       report = tt;

@@ -3,6 +3,6 @@ pub mod Telling
 pub mod Playing
 pub mod Saying
 pub mod Heard
-pub mod Halls
+pub mod Listing
 pub mod Counting
 pub mod laws

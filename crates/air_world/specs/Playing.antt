@@ -1,27 +1,23 @@
 -- Profile: a run that is under way. A contract says of each part of it what the past becomes, and what is told.
-use Rattle.std.specs.Prelude.{◌≡◌, ℕ, Bool, false, ◌+◌, ◌*◌, ◌≤◌, ◌^◌, List, ◌∷◌, [], length, map}
+use Rattle.std.specs.Prelude.{◌≡◌, ℕ, ◌+◌, ◌*◌, ◌≤◌, ◌^◌, List, ◌∷◌, [], length}
 use Rattle.air_channel.specs.Air.{AirValue, NamesTags}
 use Rattle.air_events.specs.Cursor.{IsLeft}
 use Rattle.air_events.specs.Entries.{entry_at}
 use Rattle.air_events.specs.declared.Entry.{Entry}
 use Rattle.air_model.specs.Channel.{HasFewLevels}
 use Rattle.tag_machine.specs.Exchange.{AreLegalTags}
-use Rattle.air_model.specs.Past.{Start, Item, exchanges_in, rounds_in, tags_behind}
+use Rattle.air_model.specs.Past.{Start, Item, ended, exchanges_in, rounds_in, tags_behind}
 use Rattle.air_world.specs.Telling.{lines_behind}
+use Rattle.q_round.specs.declared.round.RoundEnd.{RoundEnd}
 use Rattle.report_lines.specs.ReportLine.{ReportLine, TxLine, RxLine}
-use Rattle.report_lines.specs.SeenCounts.{Seen, seen_in}
-use Rattle.runs.specs.Listing.{Listed, listing_of}
 use Rattle.scenario.specs.Limits.{IsStep}
 use Rattle.scenario.specs.declared.values.Step.{Step}
 use Rattle.scenario_lines.specs.declared.version.Version.{Version}
 
--- what is kept of a run beside the air: what is said of later exchanges, how often each pair of PC and EPC was listed, how many rounds
--- ended, and whether there was no memory for a count
+-- what is kept of a run beside the air: what is said of later exchanges, and how many rounds ended
 pub record RunValue : Type 0 where
   pub entries : List (ℕ × Entry)
-  pub seen : List Seen
   pub rounds : ℕ
-  pub out_of_memory : Bool
 
 -- what is said of each exchange names tags that there are
 abbrev pub NamesItsTags : Start → Type 0
@@ -31,8 +27,8 @@ NamesItsTags start = (exchange : ℕ) → NamesTags (length start.tags) (entry_a
 abbrev pub GivesFewLevels : Start → Type 0
 GivesFewLevels start = (exchange : ℕ) → HasFewLevels (entry_at start.entries exchange).choice
 
--- the air and the run are what a past made of them, but for the listing
-pub record PlaysAt (start : Start) (past : List Item) (air : AirValue) (run : RunValue) : Type 0 where
+-- the air and the run are what a past made of them
+pub record IsAt (start : Start) (past : List Item) (air : AirValue) (run : RunValue) : Type 0 where
   pub names : NamesItsTags start
   pub few : GivesFewLevels start
   pub link : air.link ≡ start.link
@@ -42,15 +38,6 @@ pub record PlaysAt (start : Start) (past : List Item) (air : AirValue) (run : Ru
   pub exchanges : air.exchanges ≡ exchanges_in past
   pub entries : IsLeft run.entries start.entries (exchanges_in past)
   pub rounds : run.rounds ≡ rounds_in past
-
--- the PC and the EPC that were listed
-abbrev pub pair_of : Listed → ℕ × List ℕ
-pair_of listed = (listed.pc, listed.epc)
-
--- ... with the listing, where there was memory for it
-pub record IsAt (start : Start) (past : List Item) (air : AirValue) (run : RunValue) : Type 0 where
-  pub plays : PlaysAt start past air run
-  pub seen : run.out_of_memory ≡ false → run.seen ≡ seen_in (map pair_of (listing_of past))
 
 -- ... and the lines of the past are heard
 pub record StandsAt (Heard : List ReportLine → Type 0) (start : Start) (past : List Item) (air : AirValue) (run : RunValue) : Type 0 where
@@ -92,6 +79,13 @@ pub record IsBetweenSteps (steps : ℕ) (air : AirValue) (run : RunValue) : Type
   pub at : IsAt start past air run
   pub room : HasRoom (most_in_round * steps) past
   pub rounds : rounds_in past + steps ≤ 2 ^ 31
+
+-- this past ends with a round that ended so
+pub record IsEndedBy (end : RoundEnd) (past : List Item) : Type 0 where
+  pub number : ℕ
+  pub slots : ℕ
+  pub before : List Item
+  pub is : past ≡ ended number end slots ∷ before
 
 -- what is told of the last exchange
 abbrev pub last_exchange_lines : AirValue → List ReportLine

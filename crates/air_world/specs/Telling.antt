@@ -20,14 +20,21 @@ lines_behind start past = past_lines start.link past
 pub record Passes {A : Type 0} (hears : A → List ReportLine → A → Type 0) (before : List ReportLine) (old new : A) (after : List ReportLine) : Type 0 where
   pub on : (first : A) → hears first before old → hears first after new
 
--- A run was cut off: a front of these lines was told. The fault is the first of the listener, or the listener met none, and there was no memory.
-pub record IsCutOff {A : Type 0} (hears : A → List ReportLine → A → Type 0) (failed : A → Option PlayFault) (before : List ReportLine) (old new : A)
-    (whole : List ReportLine) (fault : PlayFault) : Type 0 where
+-- a run was cut off by this fault, and a front of these lines was told
+pub record IsCut (Told : List ReportLine → Type 0) (Cause : PlayFault → Type 0) (whole : List ReportLine) (fault : PlayFault) : Type 0 where
   pub front : List ReportLine
   pub rest : List ReportLine
   pub split : whole ≡ front ++ rest
-  pub passes : Passes hears before old new front
-  pub cause : (failed new ≡ Some fault) ⊎ ((fault ≡ OutOfMemory) × (failed new ≡ None))
+  pub told : Told front
+  pub cause : Cause fault
+
+-- ... which is the first of the listener
+abbrev pub IsCutOff : {A : Type 0} → (A → List ReportLine → A → Type 0) → (A → Option PlayFault) → (before : List ReportLine) → (old new : A) → (whole : List ReportLine) → PlayFault → Type 0
+IsCutOff hears failed before old new = IsCut (Passes hears before old new) (λ fault. failed new ≡ Some fault)
+
+-- ... or the listener, which was told nothing before, met none, and there was no memory
+abbrev pub IsCutShort : {A : Type 0} → (A → List ReportLine → A → Type 0) → (A → Option PlayFault) → (old new : A) → (whole : List ReportLine) → PlayFault → Type 0
+IsCutShort hears failed old new = IsCut (λ lines. hears old lines new) (λ fault. (failed new ≡ Some fault) ⊎ ((fault ≡ OutOfMemory) × (failed new ≡ None)))
 
 -- this holds at an end, and that of the fault where it was cut off
 abbrev pub Ends : {T : Type 0} → Result T PlayFault → Type 0 → (PlayFault → Type 0) → Type 0
@@ -36,7 +43,7 @@ Ends (Err fault) Whole CutOff = CutOff fault
 
 -- A run was told whole, and its air is what the history made of it.
 pub record IsPlayed {A : Type 0} (hears : A → List ReportLine → A → Type 0) (failed : A → Option PlayFault) (scenario : Scenario) (old new : A) (air : AirValue) : Type 0 where
-  pub passes : Passes hears [] old new (run_lines (start_of scenario) scenario.steps)
+  pub told : hears old (run_lines (start_of scenario) scenario.steps) new
   pub faultless : failed new ≡ None
   pub tags : air.tags ≡ tags_behind (start_of scenario) (history scenario)
   pub exchanges : air.exchanges ≡ exchanges_in (history scenario)

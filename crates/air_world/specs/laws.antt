@@ -2,3 +2,4 @@
 pub mod CountingLaws
 pub mod SayingLaws
 pub mod HallLaws
+pub mod ListingLaws

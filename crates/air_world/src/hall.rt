@@ -1,27 +1,24 @@
 //! Tags that an interrogator reads by whole rounds, on an air of their own.
-ghost use Rattle.std.specs.Prelude.{◌≡◌, ℕ, ◌+◌, ◌≤◌, ◌++◌, List, Some, length, IfOk};
-ghost use Rattle.air_events.specs.Entries.{no_entry};
-ghost use Rattle.air_events.specs.Streams.{longest_stream};
-ghost use Rattle.air_model.specs.Past.{Item, Start};
-ghost use Rattle.air_world.specs.Halls.{HallAt, HearsOf};
-ghost use Rattle.runs.specs.History.{outcome_of, past_behind_ack, past_behind_slot, slot_reception};
-ghost use Rattle.runs.specs.NextItem.{expectation_of};
+ghost use Rattle.std.specs.Prelude.{◌≡◌, ◌+◌, ◌≤◌, ◌++◌, ◌∷◌, [], length, IfOk};
+ghost use Rattle.air_world.specs.Listing.{HearsPairs};
+ghost use Rattle.report_lines.specs.Line.{line_of};
 ghost use Rattle.runs.specs.RoundsTold.{played_of};
 ghost use Rattle.scenario.specs.Limits.{no_operations};
 ghost use Rattle.tag_machine.specs.Exchange.{AreLegalTags};
 
-use crate::receiving::{receive_epc, receive_rn16};
-use air_channel::{Air, Got, Unheard};
-use air_events::{Entry, LONGEST_STREAM, MOST_TAGS, Several, empty_entry};
-use bit_strings::{Bits, OutOfMemory};
-use command_grammar::Command;
-use q_round::{Next, Outcome, Round, RoundEnd, RoundSpec, round_laws};
-use reply_grammar::Expect;
+use crate::run::Run;
+use access_ops::OpList;
+use air_channel::Air;
+use air_events::{Entry, EntryCursor, LONGEST_STREAM, MOST_TAGS, Several, empty_entry};
+use bit_strings::{Bits, List, OutOfMemory};
+use q_round::{RoundEnd, RoundSpec, round_laws};
+use reply_grammar::EpcWords;
+use report_lines::{Line, Listener, PlayFault};
 use runs::{rounds_go_by_tags, rounds_list_their_tags};
 use std::alloc::Global;
 use std::marker::{Brand, Model};
 use std::sync::ledger::{Blank, Ledger};
-use tag_machine::{Steps, answers_are_replies, steps_keep_tags_legal};
+use tag_machine::Steps;
 use two_portals::{Hall, Pairs};
 
 /// Tags that an interrogator reads by whole rounds, on an air of their own. Where several tags reply, the channel breaks
@@ -32,21 +29,24 @@ use two_portals::{Hall, Pairs};
 pub struct AirHall {
     air: Air,
     nothing: Entry,
-    bits: Bits,
+    operations: OpList,
+    /// Room for what is received. It is lent to each round.
+    bits: Option<Bits>,
 }
 
 impl Model for AirHall {
-    ghost use Rattle.std.specs.Prelude.{◌≡◌, ◌≤◌, List};
+    ghost use Rattle.std.specs.Prelude.{◌≡◌, ◌≤◌, List, IsSomeAnd};
     ghost use Rattle.air_events.specs.Entries.{no_entry};
     ghost use Rattle.air_events.specs.Streams.{longest_stream};
     ghost use Rattle.air_events.specs.declared.Several.TheVariants as severals;
+    ghost use Rattle.scenario.specs.Limits.{no_operations};
     ghost use Rattle.tag_machine.specs.TagValue.{TagValue};
 
     ghost Value = { List TagValue };
 
     ghost view = { λ a. a.air.tags };
 
-    ghost invariant = { λ a. (a.air.several ≡ severals.Break) × (a.nothing ≡ no_entry) × (longest_stream ≤ a.bits.capacity) };
+    ghost invariant = { λ a. (a.air.several ≡ severals.Break) × (a.nothing ≡ no_entry) × (a.operations ≡ no_operations) × IsSomeAnd a.bits (λ bits. longest_stream ≤ bits.capacity) };
 }
 
 impl AirHall {
@@ -59,7 +59,11 @@ impl AirHall {
         Ok(AirHall {
             air,
             nothing: empty_entry(alloc),
-            bits,
+            operations: OpList {
+                only: None,
+                ops: List::new(Vec::new(alloc)),
+            },
+            bits: Some(bits),
         })
     }
 
@@ -74,15 +78,15 @@ impl AirHall {
         ensures tags { self.new ≡ (played_of self.old spec.now).tags }
     {
         prove!(self.air.len() <= u32::from(MOST_TAGS));
-        let mut steps = Steps::<L>::new(blank);
-        play_round(
-            &mut self.air,
-            &self.nothing,
-            &mut self.bits,
-            spec,
-            heard,
-            &mut steps,
-        )
+        let Some(bits) = self.bits.take() else {
+            unreachable!();
+        };
+        self.air.count_anew();
+        let entries = EntryCursor::new(&[], &self.nothing);
+        let mut run = Run::<L>::new(entries, Steps::new(blank), bits);
+        let end = hear_round(&mut run, &mut self.air, spec, &self.operations, heard);
+        self.bits = Some(run.into_bits());
+        end
     }
 }
 
@@ -107,103 +111,88 @@ impl Hall for AirHall {
     ghost quiet = { hall_quiet };
 }
 
-/// Plays a round over an air, of whose exchanges nothing is said, and adds the PC and the EPC of each tag that it
-/// lists. The bits are room for what is received.
-fn play_round<L: Ledger>(
+/// Plays the first round of a run, of whose exchanges nothing is said, and adds the PC and the EPC of each tag that it
+/// lists.
+fn hear_round<'a, L: Ledger>(
+    run: &mut Run<'a, L>,
     air: &mut Air,
-    nothing: &Entry,
-    bits: &mut Bits,
     spec: &RoundSpec,
+    operations: &OpList,
     heard: &mut Pairs,
-    steps: &mut Steps<L>,
 ) -> RoundEnd
+    requires run { run.old ≡ record { entries = []; rounds = 0 } }
     requires several { air.old.several ≡ Several.Break }
     requires legal { AreLegalTags air.old.tags }
-    requires nothing { nothing.now ≡ no_entry }
-    requires bits { longest_stream ≤ bits.old.capacity }
+    requires fresh { air.old.exchanges ≡ 0 }
+    requires operations { operations.now ≡ no_operations }
     requires room { length heard.old.items + length air.old.tags ≤ heard.old.capacity }
     ensures pairs { heard.new ≡ record heard.old { items = heard.old.items ++ (played_of air.old.tags spec.now).pairs } }
     ensures end { result ≡ (played_of air.old.tags spec.now).end }
     ensures tags { air.new.tags ≡ (played_of air.old.tags spec.now).tags }
     ensures several { air.new.several ≡ Several.Break }
-    ensures bits { bits.new.capacity ≡ bits.old.capacity }
 {
     round_laws();
     rounds_go_by_tags();
     rounds_list_their_tags();
     prove!(spec.limit() <= 70000);
-    let (mut round, mut command) = Round::start(spec, air.link());
-    'slots: loop {
-        let outcome = play_slot(air, nothing, bits, &command, heard, steps);
-        match round.next(outcome) {
-            Next::Send(next) => command = next,
-            Next::Quiet => return RoundEnd::Quiet,
-            Next::Limit => return RoundEnd::Limit,
-        }
+    let mut listener = PairListener { heard };
+    match run.play_round(air, spec, operations, &mut listener) {
+        Ok(end) => end,
+        // Who only keeps pairs meets no fault.
+        Err(_) => unreachable!(),
     }
 }
 
-/// Plays a slot, which begins with this slot command: after a whole RN16 the interrogator sends an ACK with it.
-fn play_slot<L: Ledger>(
-    air: &mut Air,
-    nothing: &Entry,
-    bits: &mut Bits,
-    command: &Command,
-    heard: &mut Pairs,
-    steps: &mut Steps<L>,
-) -> Outcome
-    requires nothing { nothing.now ≡ no_entry }
-    requires bits { longest_stream ≤ bits.old.capacity }
-    requires expects { expectation_of command.now ≡ Some Expect.Rn16 }
-    ensures at { (start : Start) (past : List Item) (round slot : ℕ) → HallAt start past air.old
-        → HallAt start (past_behind_slot start no_operations round slot command.now past) air.new }
-    ensures outcome { (start : Start) (past : List Item) (round slot : ℕ) → HallAt start past air.old
-        → result ≡ outcome_of (slot_reception start round slot command.now past) }
-    ensures heard { (start : Start) (past : List Item) (round slot : ℕ) → HallAt start past air.old
-        → HearsOf past (past_behind_slot start no_operations round slot command.now past) heard.old heard.new }
-    ensures bits { bits.new.capacity ≡ bits.old.capacity }
-{
-    answers_are_replies();
-    steps_keep_tags_legal();
-    match air.exchange(command, nothing, &mut Unheard, steps) {
-        Got::Silence => Outcome::Silence,
-        Got::Stream => match receive_rn16(air, bits) {
-            None => Outcome::Refused,
-            Some(rn) => {
-                acknowledge(air, nothing, bits, rn, heard, steps);
-                Outcome::Whole
-            }
-        },
+/// Keeps the PC and the EPC of each tag that is listed, where there is room for them.
+#[derive(Drop)]
+struct PairListener<'h> {
+    heard: &'h mut Pairs,
+}
+
+impl<'h> PairListener<'h> {
+    /// Keeps what a line lists.
+    fn keep(&mut self, line: &Line<'_>)
+        ensures room { self.new.heard.ghost_name ≡ self.old.heard.ghost_name }
+        ensures kept { HearsPairs (line_of line.now ∷ []) self.old.heard.now self.new.heard.now }
+    {
+        let Line::List { pc, epc, .. } = *line else {
+            return;
+        };
+        let _ = self.heard.push((pc, copy_of(epc)));
     }
 }
 
-/// Sends an ACK, and adds the PC and the EPC that come whole, where there is room for them.
-fn acknowledge<L: Ledger>(
-    air: &mut Air,
-    nothing: &Entry,
-    bits: &mut Bits,
-    rn: u16,
-    heard: &mut Pairs,
-    steps: &mut Steps<L>,
-)
-    requires nothing { nothing.now ≡ no_entry }
-    requires bits { longest_stream ≤ bits.old.capacity }
-    ensures at { (start : Start) (past : List Item) (round slot : ℕ) → HallAt start past air.old
-        → HallAt start (past_behind_ack start no_operations round slot rn past) air.new }
-    ensures heard { (start : Start) (past : List Item) (round slot : ℕ) → HallAt start past air.old
-        → HearsOf past (past_behind_ack start no_operations round slot rn past) heard.old heard.new }
-    ensures bits { bits.new.capacity ≡ bits.old.capacity }
-{
-    answers_are_replies();
-    steps_keep_tags_legal();
-    let ack = Command::Ack { rn };
-    match air.exchange(&ack, nothing, &mut Unheard, steps) {
-        Got::Silence => {}
-        Got::Stream => match receive_epc(air, bits) {
-            None => {}
-            Some(pair) => {
-                let _ = heard.push(pair);
-            }
-        },
+impl<'h> Listener for PairListener<'h> {
+    ghost use Rattle.std.specs.Prelude.{None, refl};
+    ghost use Rattle.air_world.specs.Listing.{HearsPairs};
+    ghost use Rattle.air_world.specs.laws.ListingLaws.{hears-no-pair};
+
+    ghost hears = { λ first lines later. (later.heard.ghost_name ≡ first.heard.ghost_name) × HearsPairs lines first.heard.now later.heard.now };
+
+    ghost failed = { λ listener. None };
+
+    fn tell(&mut self, line: &Line<'_>) {
+        self.keep(line);
     }
+
+    fn fault(&self) -> Option<PlayFault> {
+        None
+    }
+
+    fn wants_exchanges(&self) -> bool {
+        false
+    }
+
+    ghost nothing = { λ listener. (refl, hears-no-pair listener.heard.now) };
+}
+
+/// A copy of the words of an EPC.
+fn copy_of(epc: &EpcWords) -> EpcWords
+    ensures { result ≡ epc.now }
+{
+    let mut copy = EpcWords::new();
+    for word in epc.as_slice() {
+        copy.push_reserved(*word);
+    }
+    copy
 }

@@ -6,6 +6,7 @@ mod playing;
 mod portals;
 mod receiving;
 mod run;
+mod seen;
 mod start;
 mod summary;
 

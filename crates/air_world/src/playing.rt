@@ -3,20 +3,25 @@ ghost use Rattle.std.specs.Prelude.{◌≡◌, ◌≤◌, ◌++◌, ℕ, List, [
 ghost use Rattle.air_io.specs.Flow.{Adds, FaultsRose};
 ghost use Rattle.air_model.specs.Past.{exchanges_in, tags_behind};
 ghost use Rattle.air_world.specs.NewAir.{new_air};
-ghost use Rattle.air_world.specs.Telling.{Ends, IsCutOff, IsPlayed, IsWritten};
+ghost use Rattle.air_world.specs.Playing.{IsAt, StandsAt};
+ghost use Rattle.air_world.specs.Telling.{Ends, IsCutOff, IsCutShort, IsPlayed, IsWritten, Passes, lines_behind};
+ghost use Rattle.report_lines.specs.SeenCounts.{seen_in};
 ghost use Rattle.report_lines.specs.Spelled.{new_spelling};
 ghost use Rattle.report_lines.specs.declared.mode.Mode.{Mode as ReportMode};
 ghost use Rattle.runs.specs.CompleteRounds.{RoundsAreComplete};
 ghost use Rattle.runs.specs.Headline.{AreHeardAsListed, Headline};
 ghost use Rattle.runs.specs.Report.{report_of, report_text_of, run_lines};
 ghost use Rattle.runs.specs.ScenarioStart.{history, start_of};
+ghost use Rattle.runs.specs.Summary.{pairs_in};
 ghost use Rattle.scenario.specs.Limits.{IsScenario};
 
-use crate::run::{Run, tell_link};
+use crate::run::{Run, check, tell_link};
+use crate::seen::SeenListener;
 use air_channel::Air;
-use air_events::{EntryCursor, MOST_TAGS, empty_entry};
+use air_events::{EntryCursor, LONGEST_STREAM, MOST_TAGS, empty_entry};
 use air_io::Sink;
-use report_lines::{Listener, Mode, ModeSpelling, PlayFault, TextReport};
+use bit_strings::Bits;
+use report_lines::{Listener, Mode, ModeSpelling, PlayFault, SeenCounts, TextReport};
 use runs::{headline, rounds_are_complete};
 use scenario::Scenario;
 use std::alloc::Global;
@@ -96,7 +101,7 @@ pub(crate) fn tell_scenario<R: Listener>(
     requires fresh { air.old ≡ new_air (start_of scenario.now) }
     requires faultless { R.failed report.old ≡ None }
     ensures { Ends result (IsPlayed R.hears R.failed scenario.now report.old report.new air.new)
-        (IsCutOff R.hears R.failed [] report.old report.new (run_lines (start_of scenario.now) scenario.now.steps)) }
+        (IsCutShort R.hears R.failed report.old report.new (run_lines (start_of scenario.now) scenario.now.steps)) }
 {
     tell_run::<Brand, R>(Blank::new(1), alloc, scenario, air, report)
 }
@@ -117,14 +122,54 @@ fn tell_run<L: Ledger, R: Listener>(
     requires fresh { air.old ≡ new_air (start_of scenario.now) }
     requires faultless { R.failed report.old ≡ None }
     ensures { Ends result (IsPlayed R.hears R.failed scenario.now report.old report.new air.new)
-        (IsCutOff R.hears R.failed [] report.old report.new (run_lines (start_of scenario.now) scenario.now.steps)) }
+        (IsCutShort R.hears R.failed report.old report.new (run_lines (start_of scenario.now) scenario.now.steps)) }
 {
     prove!(air.len() <= u32::from(MOST_TAGS));
     let empty = empty_entry(alloc);
+    let bits = Bits::new(alloc, LONGEST_STREAM)?;
     let entries = EntryCursor::new(scenario.entries.as_slice(), &empty);
-    let mut run = Run::<L>::new(alloc, entries, Steps::new(blank))?;
+    let mut run = Run::<L>::new(entries, Steps::new(blank), bits);
+    let mut seen = SeenCounts::new(alloc);
+    tell_steps(scenario, air, &mut run, &mut seen, report)?;
+    run.finish(air, &seen, report);
+    check(report)
+}
+
+/// Tells a listener all of a run up to its last step, and counts how often each pair of PC and EPC was listed.
+fn tell_steps<'a, L: Ledger, R: Listener>(
+    scenario: &Scenario,
+    air: &mut Air,
+    run: &mut Run<'a, L>,
+    seen: &mut SeenCounts,
+    report: &mut R,
+) -> Result<(), PlayFault>
+    requires scenario { IsScenario scenario.now }
+    requires fresh { air.old ≡ new_air (start_of scenario.now) }
+    requires at { IsAt (start_of scenario.now) [] air.old run.old }
+    requires none { seen.old ≡ [] }
+    ensures ends { Ends result (StandsAt (λ lines. R.hears report.old lines report.new) (start_of scenario.now) (history scenario.now) air.new run.new)
+        (IsCutShort R.hears R.failed report.old report.new (lines_behind (start_of scenario.now) (history scenario.now))) }
+    ensures seen { OnOk result (seen.new ≡ seen_in (pairs_in (history scenario.now))) }
+{
+    let mut listener = SeenListener::new(report, seen);
+    tell_to_last_step(scenario, air, run, &mut listener)
+}
+
+/// Tells a listener all of a run up to its last step.
+fn tell_to_last_step<'a, L: Ledger, R: Listener>(
+    scenario: &Scenario,
+    air: &mut Air,
+    run: &mut Run<'a, L>,
+    report: &mut R,
+) -> Result<(), PlayFault>
+    requires scenario { IsScenario scenario.now }
+    requires fresh { air.old ≡ new_air (start_of scenario.now) }
+    requires at { IsAt (start_of scenario.now) [] air.old run.old }
+    ensures ends { Ends result (StandsAt (Passes R.hears [] report.old report.new) (start_of scenario.now) (history scenario.now) air.new run.new)
+        (IsCutOff R.hears R.failed [] report.old report.new (lines_behind (start_of scenario.now) (history scenario.now))) }
+    ensures faultless { OnOk result (R.failed report.new ≡ None) }
+{
     tell_link(air, report);
     run.play_steps(air, scenario.steps.as_slice(), report)?;
-    run.finish(air, report);
-    run.check(report)
+    check(report)
 }

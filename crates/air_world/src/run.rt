@@ -1,16 +1,16 @@
 //! A run that is under way.
-ghost use Rattle.std.specs.Prelude.{◌≡◌, ℕ, ◌+◌, ◌≤◌, ◌<◌, ◌^◌, ◌++◌, ◌||◌, ◌⊎◌, length, List, [], ◌∷◌, Some, None, false, true, OnOk, IfErr, IfOk};
+ghost use Rattle.std.specs.Prelude.{◌≡◌, ℕ, ◌+◌, ◌≤◌, ◌++◌, ◌||◌, length, List, [], ◌∷◌, Some, None, OnOk, IfErr, IfOk};
 ghost use Rattle.air_model.specs.Channel.{got_of, heard_levels};
 ghost use Rattle.air_model.specs.Past.{Item, Start, next_record, past_behind_command};
 ghost use Rattle.air_world.specs.Heard.{rn16_received, pair_received};
-ghost use Rattle.air_world.specs.Playing.{PlaysAt, IsAt, StandsAt, IsBetweenSteps, IsUnderway, last_exchange_lines, most_in_slot};
+ghost use Rattle.air_events.specs.Streams.{longest_stream};
+ghost use Rattle.air_world.specs.Playing.{IsAt, StandsAt, IsBetweenSteps, IsEndedBy, IsUnderway, last_exchange_lines, most_in_slot};
 ghost use Rattle.air_world.specs.Telling.{Ends, IsCutOff, Passes, lines_behind};
 ghost use Rattle.runs.specs.Report.{exchange_lines};
 ghost use Rattle.line_codes.specs.Codes.{table_of};
 ghost use Rattle.reply_grammar.specs.Reception.{reception_from};
 ghost use Rattle.reply_wire.specs.Received.{IsReceived};
 ghost use Rattle.report_lines.specs.ReportLine.{ReportLine, ListLine, RoundLine};
-ghost use Rattle.report_lines.specs.SeenCounts.{count_of, seen_in};
 ghost use Rattle.runs.specs.History.{outcome_of, past_behind_ack, past_behind_round, past_behind_slot, slot_reception};
 ghost use Rattle.runs.specs.NextItem.{expectation_of};
 
@@ -22,29 +22,25 @@ mod steps;
 use crate::receiving::{receive_epc, receive_last, receive_rn16};
 use access_ops::OpList;
 use air_channel::{Air, Got};
-use air_events::{Entry, EntryCursor, LONGEST_STREAM};
-use bit_strings::{Bits, OutOfMemory};
+use air_events::{Entry, EntryCursor};
+use bit_strings::Bits;
 use command_grammar::Command;
 use q_round::{Next, Outcome, Round, RoundEnd, RoundSpec, round_laws};
 use reply_grammar::{EpcWords, Expect, Received};
 pub(crate) use report::tell_link;
-use report_lines::{Line, Listener, PlayFault, SeenCounts};
+use report_lines::{Line, Listener, PlayFault};
 use saying::say;
-use std::alloc::Global;
 use std::marker::Model;
 use std::sync::ledger::Ledger;
 use tag_machine::{Steps, answers_are_replies, steps_keep_tags_legal};
 
 /// What is kept of a run beside the air. What it tells, it tells a listener.
 ///
-/// A contract sees it as a record of what is said of later exchanges, the counts of what was listed, the
-/// number of rounds, and whether there was no memory for a count.
+/// A contract sees it as a record of what is said of later exchanges and the number of rounds.
 #[derive(Drop)]
 pub(crate) struct Run<'a, L: Ledger> {
     entries: EntryCursor<'a>,
-    seen: SeenCounts,
     rounds: u32,
-    out_of_memory: bool,
     steps: Steps<L>,
     bits: Bits,
 }
@@ -56,42 +52,43 @@ impl<'a, L: Ledger> Model for Run<'a, L> {
 
     ghost Value = { RunValue };
 
-    ghost view = { λ a. record { entries = a.entries; seen = a.seen; rounds = a.rounds; out_of_memory = a.out_of_memory } };
+    ghost view = { λ a. record { entries = a.entries; rounds = a.rounds } };
 
     ghost invariant = { λ a. longest_stream ≤ a.bits.capacity };
 }
 
 impl<'a, L: Ledger> Run<'a, L> {
-    /// Begins a run on the entries of a scenario: no exchange was made, and nothing was listed.
-    pub(crate) fn new(
-        alloc: Global,
-        entries: EntryCursor<'a>,
-        steps: Steps<L>,
-    ) -> Result<Run<'a, L>, OutOfMemory>
-        ensures { IfOk result (λ run. run ≡ record { entries = entries.entry; seen = []; rounds = 0; out_of_memory = false }) }
+    /// Begins a run on these entries: no exchange was made. The bits are room for what is received.
+    pub(crate) fn new(entries: EntryCursor<'a>, steps: Steps<L>, bits: Bits) -> Run<'a, L>
+        requires { longest_stream ≤ bits.capacity }
+        ensures { result ≡ record { entries = entries.entry; rounds = 0 } }
     {
-        let bits = Bits::new(alloc, LONGEST_STREAM)?;
-        Ok(Run {
+        Run {
             entries,
-            seen: SeenCounts::new(alloc),
             rounds: 0,
-            out_of_memory: false,
             steps,
             bits,
-        })
+        }
+    }
+
+    /// The room for what is received.
+    pub(crate) fn into_bits(self) -> Bits
+        ensures { longest_stream ≤ result.capacity }
+    {
+        self.bits
     }
 
     /// Sends a command, in one exchange, and tells of it.
     fn send<R: Listener>(&mut self, air: &mut Air, command: &Command, report: &mut R) -> Got
         requires { IsUnderway 1 air.old self.old }
-        ensures plays { (start : Start) (past : List Item) (round slot : ℕ) → PlaysAt start past air.old self.old
-            → PlaysAt start (past_behind_command start round slot command.now past) air.new self.new }
+        ensures plays { (start : Start) (past : List Item) (round slot : ℕ) → IsAt start past air.old self.old
+            → IsAt start (past_behind_command start round slot command.now past) air.new self.new }
         ensures rest { self.new ≡ record self.old { entries = self.new.entries } }
-        ensures stream { (start : Start) (past : List Item) (round slot : ℕ) → PlaysAt start past air.old self.old
+        ensures stream { (start : Start) (past : List Item) (round slot : ℕ) → IsAt start past air.old self.old
             → air.new.stream ≡ heard_levels start.link (next_record start round slot command.now past).given }
-        ensures got { (start : Start) (past : List Item) (round slot : ℕ) → PlaysAt start past air.old self.old
+        ensures got { (start : Start) (past : List Item) (round slot : ℕ) → IsAt start past air.old self.old
             → result ≡ got_of (next_record start round slot command.now past).given }
-        ensures told { (start : Start) (past : List Item) (round slot : ℕ) (before : List ReportLine) → PlaysAt start past air.old self.old
+        ensures told { (start : Start) (past : List Item) (round slot : ℕ) (before : List ReportLine) → IsAt start past air.old self.old
             → Passes R.hears before report.old report.new (before ++ exchange_lines start.link (next_record start round slot command.now past)) }
     {
         let entry = self.entries.next_entry(air.exchanges() + 1);
@@ -124,21 +121,21 @@ impl<'a, L: Ledger> Run<'a, L> {
         receive_last(air, expect, extended, &mut self.bits)
     }
 
-    /// Plays a round.
-    fn play_round<R: Listener>(
+    /// Plays a round, and says how it ended.
+    pub(crate) fn play_round<R: Listener>(
         &mut self,
         air: &mut Air,
         spec: &RoundSpec,
         operations: &OpList,
         report: &mut R,
-    ) -> Result<(), PlayFault>
+    ) -> Result<RoundEnd, PlayFault>
         requires between { IsBetweenSteps 1 air.old self.old }
-        requires enough { self.old.out_of_memory ≡ false }
         requires few { length operations.now.ops ≤ 32 }
         ensures ends { (start : Start) (past : List Item) → IsAt start past air.old self.old
             → Ends result (StandsAt (Passes R.hears (lines_behind start past) report.old report.new) start (past_behind_round start operations.now spec.now past) air.new self.new)
             (IsCutOff R.hears R.failed (lines_behind start past) report.old report.new (lines_behind start (past_behind_round start operations.now spec.now past))) }
-        ensures enough { OnOk result (self.new.out_of_memory ≡ false) }
+        ensures end { (start : Start) (past : List Item) → IsAt start past air.old self.old
+            → IfOk result (λ end. IsEndedBy end (past_behind_round start operations.now spec.now past)) }
     {
         round_laws();
         prove!(spec.limit() <= 70000);
@@ -147,34 +144,19 @@ impl<'a, L: Ledger> Run<'a, L> {
         'slots: loop {
             let slot = round.slots_sent();
             let outcome = self.play_slot(air, number, slot, &command, operations, report);
-            self.check(report)?;
+            check(report)?;
             match round.next(outcome) {
                 Next::Send(next) => command = next,
                 Next::Quiet => {
                     self.end_round(number, RoundEnd::Quiet, slot, report);
-                    return Ok(());
+                    return Ok(RoundEnd::Quiet);
                 }
                 Next::Limit => {
                     self.end_round(number, RoundEnd::Limit, slot, report);
-                    return Ok(());
+                    return Ok(RoundEnd::Limit);
                 }
             }
         }
-    }
-
-    /// The run goes on, unless the listener has met a fault or there was no memory for a count. The listener's fault comes first.
-    pub(crate) fn check<R: Listener>(&self, report: &R) -> Result<(), PlayFault>
-        ensures enough { OnOk result (self.now.out_of_memory ≡ false) }
-        ensures faultless { OnOk result (R.failed report.now ≡ None) }
-        ensures cause { IfErr result (λ fault. (R.failed report.now ≡ Some fault) ⊎ ((fault ≡ PlayFault.OutOfMemory) × (R.failed report.now ≡ None))) }
-    {
-        if let Some(fault) = report.fault() {
-            return Err(fault);
-        }
-        if self.out_of_memory {
-            return Err(PlayFault::OutOfMemory);
-        }
-        Ok(())
     }
 
     /// Counts the end of a round, and tells of it.
@@ -202,7 +184,6 @@ impl<'a, L: Ledger> Run<'a, L> {
         report: &mut R,
     ) -> Outcome
         requires underway { IsUnderway most_in_slot air.old self.old }
-        requires enough { self.old.out_of_memory ≡ false }
         requires few { length operations.now.ops ≤ 32 }
         requires expects { expectation_of command.now ≡ Some Expect.Rn16 }
         ensures stands { (start : Start) (past : List Item) → IsAt start past air.old self.old
@@ -235,7 +216,6 @@ impl<'a, L: Ledger> Run<'a, L> {
         report: &mut R,
     )
         requires underway { IsUnderway 130 air.old self.old }
-        requires enough { self.old.out_of_memory ≡ false }
         requires few { length operations.now.ops ≤ 32 }
         ensures { (start : Start) (past : List Item) → IsAt start past air.old self.old
             → StandsAt (Passes R.hears (lines_behind start past) report.old report.new) start (past_behind_ack start operations.now round slot rn past) air.new self.new }
@@ -248,30 +228,35 @@ impl<'a, L: Ledger> Run<'a, L> {
             Got::Stream => match self.hear_epc(air) {
                 None => {}
                 Some((pc, epc)) => {
-                    self.list(round, slot, pc, &epc, report);
+                    tell_listed(round, slot, pc, &epc, report);
                     self.operate(air, round, slot, operations, &epc, rn, report);
                 }
             },
         }
     }
+}
 
-    /// Lists a tag.
-    fn list<R: Listener>(&mut self, round: u32, slot: u32, pc: u16, epc: &EpcWords, report: &mut R)
-        requires { count_of self.old.seen (pc, epc.now) < 2 ^ 63 }
-        ensures rest { self.new ≡ record self.old { seen = self.new.seen; out_of_memory = self.new.out_of_memory } }
-        ensures seen { (pairs : List (ℕ × List ℕ)) → self.old.seen ≡ seen_in pairs → self.new.out_of_memory ≡ false → self.new.seen ≡ seen_in (pairs ++ (pc, epc.now) ∷ []) }
-        ensures told { (before : List ReportLine) → Passes R.hears before report.old report.new (before ++ ListLine round slot pc epc.now ∷ []) }
-    {
-        if self.seen.count(pc, epc).is_err() {
-            self.out_of_memory = true;
-        }
-        report.tell(&Line::List {
-            round,
-            slot,
-            pc,
-            epc,
-        });
+/// The run goes on, unless the listener has met a fault.
+pub(crate) fn check<R: Listener>(report: &R) -> Result<(), PlayFault>
+    ensures faultless { OnOk result (R.failed report.now ≡ None) }
+    ensures cause { IfErr result (λ fault. R.failed report.now ≡ Some fault) }
+{
+    match report.fault() {
+        Some(fault) => Err(fault),
+        None => Ok(()),
     }
+}
+
+/// Tells that a tag is listed.
+fn tell_listed<R: Listener>(round: u32, slot: u32, pc: u16, epc: &EpcWords, report: &mut R)
+    ensures { (before : List ReportLine) → Passes R.hears before report.old report.new (before ++ ListLine round slot pc epc.now ∷ []) }
+{
+    report.tell(&Line::List {
+        round,
+        slot,
+        pc,
+        epc,
+    });
 }
 
 /// Tells of the last exchange: the frame that was sent, and the stream that came.

@@ -525,12 +525,19 @@ room_in bits count front same small f =
 
 -- ---- from a place of a list on
 
-pub read_more : (items front : List Bool) (from at : ℕ) (bit d : Bool) → from ≤ at → at < length items → front ≡ part_of items from (at - from) → bit ≡ get_or items at d → front ++ bit ∷ [] ≡ part_of items from (at + 1 - from)
-read_more items front from at bit d forward inside same read =
+-- the bits from a place up to the one that is read next
+pub record IsReadTo (items : List Bool) (from at : ℕ) (front : List Bool) : Type 0 where
+  pub is : front ≡ part_of items from (at - from)
+  pub forward : from ≤ at
+  pub inside : at < length items
+
+pub read_more : (items front : List Bool) (from at : ℕ) (bit d : Bool) → IsReadTo items from at front → bit ≡ get_or items at d → front ++ bit ∷ [] ≡ part_of items from (at + 1 - from)
+read_more items front from at bit d so_far read =
+    let forward = so_far.forward in
     let place : at - from + 1 ≡ at + 1 - from = omega arith in
     let there : get_or (drop from items) (at - from) d ≡ bit = get_or-drop from items (at - from) d ∙ ap (λ n. get_or items n d) (omega arith) ∙ sym read in
-    ap (λ (b : List Bool). b ++ bit ∷ []) same ∙ ap (λ (x : Bool). part_of items from (at - from) ++ x ∷ []) (sym there)
-    ∙ sym (take_more (drop from items) (at - from) d (omega (arith, length-drop from items)))
+    ap (λ (b : List Bool). b ++ bit ∷ []) so_far.is ∙ ap (λ (x : Bool). part_of items from (at - from) ++ x ∷ []) (sym there)
+    ∙ sym (take_more (drop from items) (at - from) d (omega (arith, so_far.inside, length-drop from items)))
     ∙ ap (λ n. part_of items from n) place
 
 behind_part : (P : List Bool → Type 0) → ((bits more : List Bool) → P bits → P (bits ++ more)) → (items : List Bool) (from width : ℕ) → P (part_of items from width) → P (drop from items)

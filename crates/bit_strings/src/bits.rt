@@ -1,7 +1,9 @@
 //! A list of bits with a capacity.
-ghost use Rattle.std.specs.Prelude.{◌≡◌, ◌+◌, ◌<◌, ◌≤◌, ◌↔◌, List, [], ◌∷◌, ◌++◌, length, take, drop, replicate, Bool, false, not, Some, IsErr, IsTrue, IsNone, IfSome, IfNone, OnErr, IfOk, slice_get, slice_set, map, ◌==◌};
+ghost use Rattle.std.specs.Prelude.{◌≡◌, ◌+◌, ◌*◌, ◌<◌, ◌≤◌, ◌↔◌, List, [], ◌∷◌, ◌++◌, length, take, drop, replicate, Bool, false, not, Some, IsErr, IsTrue, IsNone, IfSome, IfNone, OnErr, IfOk, slice_get, slice_set, map, ◌==◌};
+ghost use Rattle.bit_strings.specs.Words.{bits_of_words};
 
 use crate::list::List;
+use crate::words::write_words;
 use std::alloc::{AllocError, Global};
 use std::marker::Model;
 use thiserror::Error;
@@ -123,6 +125,17 @@ impl Bits {
         ensures { self.new ≡ record self.old { items = self.old.items ++ bit ∷ [] } }
     {
         self.bits.push_reserved(bit);
+    }
+
+    /// Adds the bits of words, one word behind the other, to a list that has room for them.
+    pub fn put_words_reserved(&mut self, words: &[u16])
+        requires { length self.old.items + 16 * length words.now ≤ self.old.capacity }
+        ensures { self.new ≡ record self.old { items = self.old.items ++ bits_of_words words.now } }
+    {
+        let from = self.bits.len();
+        // There is room for each bit.
+        let _ = self.bits.resize(from + 16 * words.len(), false);
+        write_words(words, &mut self.bits[from..]);
     }
 
     /// Puts this many zeros in place of what the list holds.

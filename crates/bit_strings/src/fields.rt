@@ -3,6 +3,7 @@ ghost use Rattle.std.specs.Prelude.{◌≡◌, ◌+◌, ◌^◌, ◌<◌, ◌≤
 ghost use Rattle.bit_strings.specs.Numbers.{value_of, field_of, part_of};
 
 use crate::bits::{Bits, Full};
+use crate::words::word_of;
 
 impl Bits {
     /// Adds the `width` bits of `value`. `Full` comes exactly where fewer than `width` places are
@@ -50,7 +51,7 @@ impl Bits {
         requires { length self.old.items + 16 ≤ self.old.capacity }
         ensures { self.new ≡ record self.old { items = self.old.items ++ field_of value 16 } }
     {
-        self.put_field_reserved(u32::from(value), 16);
+        self.put_words_reserved(&[value]);
     }
 
     /// The number that the `width` bits from the place `from` on are. None comes exactly where
@@ -73,8 +74,9 @@ impl Bits {
         ensures some { IfSome result (λ word. word ≡ value_of (part_of self.now.items from 16)) }
         ensures none { IsNone result ↔ (length self.now.items < from + 16) }
     {
-        let value = self.field(from, 16)?;
-        Some(value as u16)
+        let (_, behind) = self.as_slice().split_at_checked(from as usize)?;
+        let (bits, _) = behind.split_at_checked(16)?;
+        Some(word_of(bits))
     }
 }
 

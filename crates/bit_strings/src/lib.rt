@@ -11,6 +11,7 @@ mod ebv_front;
 mod fields;
 mod laws;
 mod list;
+mod words;
 
 pub use bits::{Bits, Full, Levels, OutOfMemory};
 pub use checked::{Action, Count1, Payload, Pointer, QValue, Session};
@@ -20,3 +21,4 @@ pub use ebv_front::{EbvFront, EbvStep};
 pub use fields::{value_of_bits, xor16};
 pub use laws::{ebv_laws, field_laws};
 pub use list::List;
+pub use words::word_of;

@@ -113,6 +113,18 @@ impl BlockWords {
         BlockWords { words: block }
     }
 
+    /// The block of these words.
+    pub fn of(words: &[u16]) -> BlockWords
+        requires some { 1 ≤ length words.now }
+        requires within { length words.now ≤ 255 }
+        ensures { result ≡ words.now }
+    {
+        let mut block = ArrayVec::new();
+        // There is room for each word.
+        let _ = block.try_extend_from_slice(words);
+        BlockWords { words: block }
+    }
+
     /// Adds a word at the end. `Full` comes exactly at 255 words, and changes nothing.
     pub fn push(&mut self, word: u16) -> Result<(), Full>
         ensures full { IsErr result ↔ (length self.old ≡ 255) }

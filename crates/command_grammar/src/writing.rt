@@ -43,6 +43,16 @@ pub(crate) fn put_bits(out: &mut Bits, bits: &[bool])
     }
 }
 
+/// Adds the 16 bits of a word.
+pub(crate) fn put_word(out: &mut Bits, word: u16)
+    requires { length out.old.items + 16 ≤ out.old.capacity }
+    ensures items { out.new.items ≡ out.old.items ++ field_of word 16 }
+    ensures count { length out.new.items ≡ length out.old.items + 16 }
+    ensures capacity { out.new.capacity ≡ out.old.capacity }
+{
+    out.put_u16_reserved(word);
+}
+
 /// Adds these words.
 pub(crate) fn put_words(out: &mut Bits, words: &[u16])
     requires { length out.old.items + 16 * length words.now ≤ out.old.capacity }
@@ -51,9 +61,7 @@ pub(crate) fn put_words(out: &mut Bits, words: &[u16])
     ensures capacity { out.new.capacity ≡ out.old.capacity }
     ensures words { AllByRecursion IsWord words.now }
 {
-    for word in words {
-        put(out, u32::from(*word), 16);
-    }
+    out.put_words_reserved(words);
 }
 
 /// Adds a bank, by its bits, and a pointer into it as an extensible bit vector of at most four blocks.
@@ -85,7 +93,7 @@ pub(crate) fn put_crc16(out: &mut Bits)
     ensures capacity { out.new.capacity ≡ out.old.capacity }
 {
     let check = crc16_of_bits(out.as_slice());
-    put(out, u32::from(check), 16);
+    put_word(out, check);
 }
 
 /// Adds the tag's RN16 or handle and the CRC-16, with which each access command ends.
@@ -94,6 +102,6 @@ pub(crate) fn put_handle(out: &mut Bits, rn: u16)
     ensures items { out.new.items ≡ (out.old.items ++ field_of rn 16) ++ crc16_of (out.old.items ++ field_of rn 16) }
     ensures capacity { out.new.capacity ≡ out.old.capacity }
 {
-    put(out, u32::from(rn), 16);
+    put_word(out, rn);
     put_crc16(out);
 }

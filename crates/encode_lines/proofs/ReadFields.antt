@@ -13,25 +13,12 @@ use Rattle.reply_grammar.specs.declared.expected.Reply.{Reply as OneReply}
 use Rattle.checked_lines.specs.declared.fault.FaultReason.{FaultReason}
 use Rattle.checked_lines.specs.declared.fault.FaultReason.TheVariants.{End, Word, Shape, Number}
 use Rattle.encode_lines.specs.Request.{AsksBehind, AreFaulty, IsFaultyReplyBehind}
-use Rattle.encode_lines.specs.declared.request.LineKind.TheVariants.{Pie as PieKind, Reply as ReplyKind, Heard as HeardKind}
+use Rattle.encode_lines.specs.declared.request.LineKind.TheVariants.{Pie as PieKind, Heard as HeardKind}
 use Rattle.encode_lines.specs.declared.request.Request.{Request}
 use Rattle.encode_lines.specs.declared.request.Request.TheVariants.{Stream, Pie, Command, Reply, Heard}
 
 three_filled : (a b c : List ℕ) → Filled a → Filled b → Filled c → AreFilled 3 (a ∷ b ∷ c ∷ [])
 three_filled a b c p q r = one_more 2 a (b ∷ c ∷ []) p (one_more 1 b (c ∷ []) q (one_more 0 c [] r none_filled))
-
--- a line `reply` asks for its reply alone
-no_reply : (field : List ℕ) (tail : List (List ℕ)) → ((expect : Expect) (reply : OneReply) → IsExpect expect → field ≡ expect_word expect → ¬ IsReplyText tail reply)
-    → (request : Request) → ¬ AsksBehind ReplyKind (field ∷ tail) request
-no_reply field tail none (Reply expect reply) asks =
-    let spelled : field ∷ tail ≡ expect_word expect ∷ reply_fields reply = asks.spelling in
-    let front : field ≡ expect_word expect = cc in
-    let back : tail ≡ reply_fields reply = cc in
-    none expect reply asks.limits.0 front (record { in_range = asks.limits.1; spelling = back })
-no_reply field tail none (Stream code trext bits) asks = let same = asks.same_kind in cc
-no_reply field tail none (Pie tari rtcal trcal pw lead bits) asks = let same = asks.same_kind in cc
-no_reply field tail none (Command command) asks = let same = asks.same_kind in cc
-no_reply field tail none (Heard code trext expect reply) asks = let same = asks.same_kind in cc
 
 -- what a test says of a field
 pub weaker_front : (P Q : Type 0) → (P → Q) → (Q → P) → (tail : List (List ℕ)) (reason : FaultReason) → IsFaultyReplyBehind P tail reason → IsFaultyReplyBehind Q tail reason

@@ -1,13 +1,13 @@
 //! What is written for an encode line.
-ghost use Rattle.std.specs.Prelude.{◌≡◌, ◌≤◌, ◌↔◌, ◌≢◌, [], ◌∷◌, ◌++◌, length, codes, IfOk, IfErr, IsTrue, OnOk};
+ghost use Rattle.std.specs.Prelude.{◌≡◌, ◌≤◌, ◌↔◌, ◌≢◌, [], ◌∷◌, ◌++◌, length, IsTrue, OnOk};
 ghost use Rattle.std.specs.String.{string_bytes};
 ghost use Rattle.line_code.specs.Stream.{stream_of};
 ghost use Rattle.line_codes.specs.Codes.{table_of};
-ghost use Rattle.reply_grammar.specs.Table.{CanBeSent, handle_of, longest_reply};
+ghost use Rattle.reply_grammar.specs.Table.{handle_of, longest_reply};
 ghost use Rattle.reply_text.specs.ReplyText.{IsReplyForm};
 ghost use Rattle.encode_lines.specs.EncodeLines.{AddsWave, AddsWritten, EncodesLine};
 ghost use Rattle.encode_lines.specs.Request.{AsksForRequest, IsWithinLimits, longest_levels, most_frame_bits, most_frame_intervals};
-ghost use Rattle.encode_lines.specs.Written.{IsAllowed, link_of, reply_bits};
+ghost use Rattle.encode_lines.specs.Written.{IsAllowed};
 ghost use Rattle.encode_lines.specs.declared.request.Request.{Request};
 
 use crate::output::{
@@ -19,6 +19,7 @@ use bit_strings::{Bits, Code, Levels, OutOfMemory};
 use command_grammar::{Command, encode_command};
 use line_codes::encode_bits;
 use pie_line::{Intervals, Lead, Link, LinkRefusal, encode_frame};
+use pie_text::KeptIntervals;
 use reply_grammar::{Expect, Reply, encode_reply};
 use std::alloc::Global;
 use text_fields::Digits;
@@ -32,12 +33,14 @@ const LONGEST_LEVELS: u32 = LONGEST_LEAD + 16 * (MOST_STREAM_BITS + 1);
 /// How many intervals the longest frame has: seven of its header, and two a bit.
 const MOST_INTERVALS: u32 = 7 + 2 * MOST_FRAME_BITS;
 
-/// Room for the bits, levels and intervals of the longest line, taken once for all lines.
+/// Room for the bits, levels and intervals of the longest line, taken once for all lines, and the texts of intervals that were
+/// written.
 #[derive(Drop)]
 pub struct Encoder {
     bits: Bits,
     levels: Levels,
     intervals: Intervals,
+    kept: KeptIntervals,
     ghost bits_room: { bits.capacity ≡ most_frame_bits },
     ghost levels_room: { levels.capacity ≡ longest_levels },
     ghost intervals_room: { intervals.capacity ≡ most_frame_intervals },
@@ -53,6 +56,7 @@ impl Encoder {
             bits,
             levels,
             intervals,
+            kept: KeptIntervals::new(),
         })
     }
 
@@ -151,7 +155,7 @@ impl Encoder {
     {
         bits.copy_to(&mut self.bits);
         encode_frame(link, lead, &self.bits, &mut self.intervals);
-        push_wave(text, &self.intervals)
+        push_wave(text, &self.intervals, &mut self.kept)
     }
 
     /// Adds the bits of a command.

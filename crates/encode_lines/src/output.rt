@@ -4,7 +4,6 @@ ghost use Rattle.std.specs.String.{string_bytes};
 ghost use Rattle.std.specs.Fmt.{decimal};
 ghost use Rattle.text_fields.specs.Binary.{binary, binary_digit};
 ghost use Rattle.text_fields.specs.CodeNames.{code_word};
-ghost use Rattle.text_fields.specs.Lines.{fields_behind, space};
 ghost use Rattle.reply_text.specs.ReplyText.{expect_word};
 ghost use Rattle.encode_lines.specs.EncodeLines.{written_line};
 ghost use Rattle.encode_lines.specs.Written.{refusal_word, refused_fields};
@@ -12,9 +11,10 @@ ghost use Rattle.encode_lines.specs.Written.{refusal_word, refused_fields};
 use bit_strings::{Bits, Code, Levels, OutOfMemory};
 use command_text::bit_name;
 use pie_line::{Intervals, LinkRefusal};
+use pie_text::KeptIntervals;
 use reply_grammar::Expect;
 use reply_text::push_next_expect;
-use text_fields::{name_of, push_next_bits, push_next_name, push_next_numbers};
+use text_fields::{name_of, push_next_bits, push_next_name};
 
 /// Writes the line of a stream: `CODE TREXT LEVELS`.
 pub(crate) fn push_stream(
@@ -33,11 +33,15 @@ pub(crate) fn push_stream(
 }
 
 /// Writes the line of a frame: `pie INTERVALS`.
-pub(crate) fn push_wave(text: &mut String, intervals: &Intervals) -> Result<(), OutOfMemory>
+pub(crate) fn push_wave(
+    text: &mut String,
+    intervals: &Intervals,
+    kept: &mut KeptIntervals,
+) -> Result<(), OutOfMemory>
     ensures { OnOk result (string_bytes text.new ≡ string_bytes text.old ++ written_line (codes "pie" ∷ map decimal intervals.now.items)) }
 {
     text.push_str("pie")?;
-    push_next_numbers(text, intervals.as_slice())?;
+    kept.push_next(text, intervals.as_slice())?;
     text.push_str("\n")
 }
 

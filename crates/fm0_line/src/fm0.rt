@@ -1,5 +1,5 @@
 //! FM0 baseband and its preamble.
-ghost use Rattle.std.specs.Prelude.{◌≡◌, ◌<◌, Some};
+ghost use Rattle.std.specs.Prelude.{◌≡◌, ◌<◌, Some, ◌∷◌, [], not};
 ghost use Rattle.fm0_line.specs.Fm0.{fm0, fm0_second};
 ghost use Rattle.fm0_line.specs.laws.Fm0.{fm0_even, fm0_has_lead, fm0_tells_bits, fm0_refuses_flips, fm0_hides_lead};
 
@@ -36,11 +36,30 @@ const SYMBOLS: [[[bool; 2]; 2]; 2] = [
     [[true, false], [true, true]],
 ];
 
+/// The levels of two symbols, one behind the other, by the first of them and by their bits.
+const TWO_SYMBOLS: [[[[bool; 4]; 2]; 2]; 2] = [
+    [
+        [[false, true, false, true], [false, true, false, false]],
+        [[false, false, true, false], [false, false, true, true]],
+    ],
+    [
+        [[true, false, true, false], [true, false, true, true]],
+        [[true, true, false, true], [true, true, false, false]],
+    ],
+];
+
 /// The second level of a symbol whose first level is this.
 fn second_level(first: bool, bit: bool) -> bool
     ensures { result ≡ fm0_second first bit }
 {
     if bit { first } else { !first }
+}
+
+/// The levels of two symbols, one behind the other, by the first of them and by their bits.
+fn two_symbols(level: bool, first: bool, second: bool) -> &'static [bool]
+    ensures { result.now ≡ level ∷ fm0_second level first ∷ not (fm0_second level first) ∷ fm0_second (not (fm0_second level first)) second ∷ [] }
+{
+    &TWO_SYMBOLS[level as usize][first as usize][second as usize]
 }
 
 impl LineCode for Fm0 {
@@ -77,6 +96,32 @@ impl LineCode for Fm0 {
         } else {
             Some(levels[0] == levels[1])
         }
+    }
+
+    fn two_blocks(mark: SymbolBefore, first: bool, second: bool) -> &'static [bool] {
+        two_symbols(!mark.last_level, first, second)
+    }
+
+    fn four_bits(mark: SymbolBefore, levels: &[bool]) -> Option<([bool; 4], SymbolBefore)> {
+        // Each symbol begins with an inversion.
+        let inverts = (levels[0] != mark.last_level)
+            & (levels[2] != levels[1])
+            & (levels[4] != levels[3])
+            & (levels[6] != levels[5]);
+        if !inverts {
+            return None;
+        }
+        let bits = [
+            levels[0] == levels[1],
+            levels[2] == levels[3],
+            levels[4] == levels[5],
+            levels[6] == levels[7],
+        ];
+        let last = SymbolBefore {
+            bit: bits[3],
+            last_level: levels[7],
+        };
+        Some((bits, last))
     }
 
     fn after(mark: SymbolBefore, bit: bool) -> SymbolBefore {

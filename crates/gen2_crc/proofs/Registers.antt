@@ -135,7 +135,7 @@ unfolding register_of
 register_of-push bits bit = remainder_of-append preset16 others16 bits (bit ∷ []) (omega arith) (omega arith)
 
 -- the bits of the number that stands for a list
-stands-field : (register : ℕ) (bits : List Bool) → RegisterStandsFor register bits → field_of register 16 ≡ register_of bits
+pub stands-field : (register : ℕ) (bits : List Bool) → RegisterStandsFor register bits → field_of register 16 ≡ register_of bits
 stands-field register bits stands =
     ap (λ n. field_of n 16) stands.is_remainder ∙ ap (λ w. field_of (value_of (register_of bits)) w) (sym (length-register_of bits)) ∙ field_of-value_of (register_of bits)
 

@@ -91,7 +91,7 @@ moved [] (y ∷ ys) zs lengths = absurd (omega arith)
 moved (x ∷ xs) [] zs lengths = absurd (omega arith)
 moved (x ∷ xs) (y ∷ ys) zs lengths = ap (λ (rest : List Bool). differ x y ∷ rest) (moved xs ys zs (omega arith))
 
-taken_off : (register last : List Bool) → length register ≡ 16 → length last ≡ 16 → remainder_of register others16 last ≡ remainder_of (minus last register) others16 (replicate 16 false)
+pub taken_off : (register last : List Bool) → length register ≡ 16 → length last ≡ 16 → remainder_of register others16 last ≡ remainder_of (minus last register) others16 (replicate 16 false)
 taken_off register last p q =
     let off : length (minus last register) ≡ length register = length-minus last register ∙ q ∙ sym p in
     ap (λ (bits : List Bool). divide (length last) others16 bits) (moved last register (replicate (length register) false) (q ∙ sym p))

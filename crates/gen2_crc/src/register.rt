@@ -1,8 +1,10 @@
-//! The CRC-16 bit by bit.
-ghost use Rattle.std.specs.Prelude.{◌≡◌, ◌↔◌, List, Bool, [], ◌∷◌, ◌++◌, IsTrue};
+//! The CRC-16, bit by bit and word by word.
+ghost use Rattle.std.specs.Prelude.{◌≡◌, ◌↔◌, List, Bool, false, [], ◌∷◌, ◌++◌, replicate, IsTrue};
 ghost use Rattle.bit_strings.specs.Numbers.{value_of, field_of};
+ghost use Rattle.bit_strings.specs.Words.{bits_of_words};
 ghost use Rattle.gen2_crc.specs.Crc.{crc16_of, register_of, remainder_of, others16, residue, RegisterStandsFor};
 
+use bit_strings::word_of;
 use std::marker::Model;
 
 /// The coefficients of `x^16 + x^12 + x^5 + 1` behind the leading one.
@@ -49,11 +51,32 @@ impl Crc16 {
         self.register = shifted16(self.register, bit);
     }
 
-    /// Stands for these bits more.
+    /// Stands for the 16 bits of a word more.
+    #[inline]
+    pub fn push_word(&mut self, word: u16)
+        ensures { (bits : List Bool) → RegisterStandsFor self.old bits → RegisterStandsFor self.new (bits ++ field_of word 16) }
+    {
+        self.register = shifted_by_word(self.register ^ word);
+    }
+
+    /// Stands for the bits of these words more.
+    pub fn push_words(&mut self, words: &[u16])
+        ensures { (front : List Bool) → RegisterStandsFor self.old front → RegisterStandsFor self.new (front ++ bits_of_words words.now) }
+    {
+        for word in words {
+            self.push_word(*word);
+        }
+    }
+
+    /// Stands for these bits more. They are taken 16 at a time.
     pub fn push_all(&mut self, bits: &[bool])
         ensures { (front : List Bool) → RegisterStandsFor self.old front → RegisterStandsFor self.new (front ++ bits.now) }
     {
-        for bit in bits {
+        let words = bits.len() / 16;
+        for at in 0..words {
+            self.push_word(word_of(&bits[16 * at..16 * at + 16]));
+        }
+        for bit in &bits[16 * words..] {
             self.push(*bit);
         }
     }
@@ -83,4 +106,18 @@ fn shifted16(register: u16, bit: bool) -> u16
     } else {
         moved
     }
+}
+
+/// The register 16 zeros later: what long division leaves of it with 16 zeros behind. The quotient comes first; then all that it takes
+/// off is taken off at once.
+#[inline]
+fn shifted_by_word(register: u16) -> u16
+    ensures { field_of result 16 ≡ remainder_of (field_of register 16) others16 (replicate 16 false) }
+{
+    let quotient = register
+        ^ (register >> 4)
+        ^ (register >> 8)
+        ^ (register >> 11)
+        ^ (register >> 12);
+    quotient ^ (quotient << 5) ^ (quotient << 12)
 }

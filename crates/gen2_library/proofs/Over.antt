@@ -25,11 +25,16 @@ whole-of job T told left written writes =
     let text : writes.adds.text ≡ written = let added = writes.adds.added in cc in
     subst (λ b. T b written) bytes (subst (T writes.bytes) text writes.adds.named)
 
-pub whole : (job : Job) (T : List ℕ → List ℕ → Type 0) (input told left before written : List ℕ) → told ≡ input → before ≡ []
+-- before the call the source tells the input, and nothing is written
+pub record AtCall (input told before : List ℕ) : Type 0 where
+  pub told_is : told ≡ input
+  pub unwritten : before ≡ []
+
+pub whole : (job : Job) (T : List ℕ → List ℕ → Type 0) (input told left before written : List ℕ) → AtCall input told before
     → WritesWhole job T (Some told) (Some left) (Some before) (Some written) → T (input_of job input) written
-whole job T input told left before written same empty writes =
-    subst (λ i. T (input_of job i) written) same
-    (whole-of job T told left written (subst (λ b. WritesWhole job T (Some told) (Some left) (Some b) (Some written)) empty writes))
+whole job T input told left before written at writes =
+    subst (λ i. T (input_of job i) written) at.told_is
+    (whole-of job T told left written (subst (λ b. WritesWhole job T (Some told) (Some left) (Some b) (Some written)) at.unwritten writes))
 
 -- and of one that was cut off it is a front
 front-of : (job : Job) (told left written : List ℕ) → WritesFront job (Some told) (Some left) (Some []) (Some written)
@@ -42,11 +47,11 @@ front-of job told left written writes =
       named = subst (λ b. Defines job b (written ++ writes.adds.rest)) bytes (subst (λ f. Defines job writes.bytes (f ++ writes.adds.rest)) text writes.adds.named);
     }
 
-pub front : (job : Job) (input told left before written : List ℕ) → told ≡ input → before ≡ []
+pub front : (job : Job) (input told left before written : List ℕ) → AtCall input told before
     → WritesFront job (Some told) (Some left) (Some before) (Some written) → IsFront (Defines job (input_of job input)) written
-front job input told left before written same empty writes =
-    subst (λ i. IsFront (Defines job (input_of job i)) written) same
-    (front-of job told left written (subst (λ b. WritesFront job (Some told) (Some left) (Some b) (Some written)) empty writes))
+front job input told left before written at writes =
+    subst (λ i. IsFront (Defines job (input_of job i)) written) at.told_is
+    (front-of job told left written (subst (λ b. WritesFront job (Some told) (Some left) (Some b) (Some written)) at.unwritten writes))
 
 -- an input of which too much was read is too long
 pub too-long : (input told left : List ℕ) → told ≡ input → ReadsTooMuch (Some told) (Some left) → input_limit < length input
@@ -55,12 +60,12 @@ too-long input told left same many =
     omega (arith, many.over, ap length same, ap length is, length-append many.bytes left)
 
 -- nor is a front of its text written, where it is to be read
-pub not-taken : (job : Job) (input told left : List ℕ) (before written : Option (List ℕ)) → told ≡ input → job.input ≡ true → input_limit < length input
+pub not-taken : (job : Job) (told left : List ℕ) (before written : Option (List ℕ)) → job.input ≡ true → input_limit < length told
     → WritesFront job (Some told) (Some left) before written → ⊥
-not-taken job input told left before written same reads many writes =
+not-taken job told left before written reads many writes =
     let taken : ReadsAll (Some told) (Some left) writes.bytes = subst (λ reads. TakesInput reads (Some told) (Some left) writes.bytes) reads writes.taken in
     let all : writes.bytes ≡ told = all-read told left writes.bytes taken.reads taken.end in
-    omega (arith, many, ap length same, ap length all, taken.limit)
+    omega (arith, many, ap length all, taken.limit)
 
 -- a count that stands at 0 did not rise
 pub none-rose : FaultsRose 0 0 → ⊥

@@ -2,7 +2,7 @@
 use Rattle.std.proofs.Common.{◌<◌, ◌≡◌, ℕ, ◌≤◌, Bool, true, List, [], ◌∷◌, ◌++◌, length, Result, Ok, Err, IsOk, IsErr, OnOk, IfErr, refl, sym, ap, ◌∙◌, subst, arith, length-append, mul-le-mul_right}
 use Rattle.line_code.specs.Table.{Context, Table}
 use Rattle.line_code.specs.Stream.{blocks, IsStream, Streams}
-use Rattle.line_code.specs.States.{InsideValue, Reads}
+use Rattle.line_code.specs.States.{InsideValue, Reads, HasBlocks}
 use Rattle.line_code.specs.TableFacts.{IsEven, CodeTable, RefusesFlips, HidesLead, with_level_flipped}
 use Rattle.line_code.specs.Refusal.{RefusesStream}
 use Rattle.line_code.specs.laws.Streams.{length-blocks, one_stream, refused_is_none}
@@ -16,6 +16,13 @@ bits_within t chips even trext state levels bits r =
     let inner = length-append (blocks t t.start bits) r.part in
     let few : length bits ≤ length (blocks t t.start bits) = omega (arith, length-blocks t chips even bits t.start, mul-le-mul_right (length bits) even.least) in
     omega (arith, whole, outer, inner, few)
+
+pub has_within : (t : Table) (chips : ℕ) → IsEven t chips → (trext : Bool) (context : Context) (levels bits : List Bool) → HasBlocks t trext context levels bits → length bits ≤ length levels
+has_within t chips even trext context levels bits h =
+    let whole = ap length h.levels_are in
+    let outer = length-append (t.lead trext) (blocks t t.start bits) in
+    let few : length bits ≤ length (blocks t t.start bits) = omega (arith, length-blocks t chips even bits t.start, mul-le-mul_right (length bits) even.least) in
+    omega (arith, whole, outer, few)
 
 -- where the levels are a stream, a true answer is its bits
 pub decided : (code : CodeTable) (trext : Bool) (result : Result (Unit {0}) LineRefusal) (levels out bits : List Bool)

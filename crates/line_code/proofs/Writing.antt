@@ -1,5 +1,5 @@
 -- What the encoder has written, and how much room it takes.
-use Rattle.std.proofs.Common.{◌≡◌, ℕ, ◌+◌, ◌<◌, ◌≤◌, Bool, true, false, List, [], ◌∷◌, ◌++◌, length, take, drop, get_or, sym, ap, ◌∙◌, arith, append_assoc, length-append}
+use Rattle.std.proofs.Common.{◌≡◌, ℕ, ◌+◌, ◌*◌, ◌<◌, ◌≤◌, Bool, true, false, List, [], ◌∷◌, ◌++◌, length, take, drop, get_or, sym, ap, ◌∙◌, arith, append_assoc, length-append}
 use Rattle.std.proofs.lemmas.List.{append-nil, take_more, take_all, length-take-le, length-drop}
 use Rattle.std.proofs.Math.Seq.{take-append_seam}
 use Rattle.bit_strings.specs.BitString.{BitString}
@@ -7,7 +7,8 @@ use Rattle.line_code.specs.Table.{Context, Table}
 use Rattle.line_code.specs.Stream.{blocks}
 use Rattle.line_code.specs.States.{context_after}
 use Rattle.line_code.specs.TableFacts.{CodeTable}
-use Rattle.line_code.specs.laws.Splits.{blocks-append, context_after-push}
+use Rattle.line_code.specs.laws.Splits.{blocks-append, context_after-append}
+use Rattle.line_code.specs.laws.Streams.{length-blocks}
 
 -- what levels are up to the end of those that were put over others
 overwritten : (items block : List Bool) (at : ℕ) → at ≤ length items
@@ -26,12 +27,11 @@ overwritten_size items block at within =
     let behind = length-drop (at + length block) items in
     omega arith
 
--- one more block, behind the lead and the blocks before
-pub more_blocks : (t : Table) (lead bits : List Bool) (bit : Bool) (c : Context)
-    → (lead ++ blocks t c bits) ++ t.block (context_after t c bits) bit ≡ lead ++ blocks t c (bits ++ bit ∷ [])
-more_blocks t lead bits bit c =
-    append_assoc lead (blocks t c bits) (t.block (context_after t c bits) bit)
-    ∙ ap (λ ls. lead ++ ls) (ap (λ ls. blocks t c bits ++ ls) (sym (append-nil (t.block (context_after t c bits) bit))) ∙ sym (blocks-append t bits (bit ∷ []) c))
+-- more blocks, behind the lead and the blocks before
+pub more_blocks : (t : Table) (lead bits more : List Bool) (c : Context)
+    → (lead ++ blocks t c bits) ++ blocks t (context_after t c bits) more ≡ lead ++ blocks t c (bits ++ more)
+more_blocks t lead bits more c =
+    append_assoc lead (blocks t c bits) (blocks t (context_after t c bits) more) ∙ ap (λ ls. lead ++ ls) (sym (blocks-append t bits more c))
 
 pub capacity_of : (new old : BitString) (items : List Bool) → new ≡ record { items = items; capacity = old.capacity } → new.capacity ≡ old.capacity
 capacity_of new old items e = ap (λ (s : BitString). s.capacity) e
@@ -48,58 +48,95 @@ pub record Written (t : Table) (lead bits : List Bool) (now : Progress) : Type 0
   pub levels_are : take now.at now.items ≡ lead ++ blocks t t.start (take now.bits bits)
   pub context_is : now.context ≡ context_after t t.start (take now.bits bits)
 
--- the block of a bit was put over what stood there
-pub record PutOver (t : Table) (now : Progress) (bit : Bool) (new : List Bool) : Type 0 where
+-- the blocks of more bits were put over what stood there
+pub record PutOver (t : Table) (now : Progress) (more new : List Bool) : Type 0 where
   pub block : List Bool
-  pub block_is : block ≡ t.block now.context bit
+  pub block_is : block ≡ blocks t now.context more
   pub items_are : new ≡ (take now.at now.items ++ block) ++ drop (now.at + length block) now.items
 
-pub put_over : (t : Table) (now : Progress) (bit : Bool) (block : List Bool) (new : BitString) (capacity : ℕ) → block ≡ t.block now.context bit
-    → new ≡ record { items = (take now.at now.items ++ block) ++ drop (now.at + length block) now.items; capacity = capacity } → PutOver t now bit new.items
-put_over t now bit block new capacity is put = record { block = block; block_is = is; items_are = ap (λ (s : BitString). s.items) put }
+pub put_over : (t : Table) (now : Progress) (more block : List Bool) (new : BitString) (capacity : ℕ) → block ≡ blocks t now.context more
+    → new ≡ record { items = (take now.at now.items ++ block) ++ drop (now.at + length block) now.items; capacity = capacity } → PutOver t now more new.items
+put_over t now more block new capacity is put = record { block = block; block_is = is; items_are = ap (λ (s : BitString). s.items) put }
+
+-- the block of one bit
+pub one_block : (t : Table) (c : Context) (bit : Bool) (block : List Bool) → block ≡ t.block c bit → block ≡ blocks t c (bit ∷ [])
+one_block t c bit block is = is ∙ sym (append-nil (t.block c bit))
+
+-- how many levels the blocks have
+put_size : (code : CodeTable) (now : Progress) (more new : List Bool) → (put : PutOver code.table now more new) → length put.block ≡ code.chips * length more
+put_size code now more new put = ap length put.block_is ∙ length-blocks code.table code.chips code.even more now.context
+
+-- up to where the blocks end stand the lead and all blocks
+put_levels : (code : CodeTable) (lead bits more : List Bool) (now : Progress) (new : List Bool) → now.at ≤ length now.items
+    → (put : PutOver code.table now more new) → Written code.table lead bits now
+    → take (now.at + length put.block) new ≡ lead ++ blocks code.table code.table.start (take now.bits bits ++ more)
+put_levels code lead bits more now new room put written =
+    let t = code.table in
+    ap (λ ls. take (now.at + length put.block) ls) put.items_are
+    ∙ overwritten now.items put.block now.at room
+    ∙ ap (λ ls. take now.at now.items ++ ls) put.block_is
+    ∙ ap (λ ls. ls ++ blocks t now.context more) written.levels_are
+    ∙ ap (λ c. (lead ++ blocks t t.start (take now.bits bits)) ++ blocks t c more) written.context_is
+    ∙ more_blocks t lead (take now.bits bits) more t.start
 
 -- how far it is then
-abbrev pub further : CodeTable → Progress → Bool → List Bool → Progress
-further code now bit new = record { items = new; at = now.at + code.chips; context = code.table.next now.context bit; bits = now.bits + 1 }
+abbrev pub further : CodeTable → Progress → List Bool → List Bool → Progress
+further code now more new =
+    record { items = new; at = now.at + code.chips * length more; context = context_after code.table now.context more; bits = now.bits + length more }
 
--- the block of the next bit goes behind those before
-pub writes_more : (code : CodeTable) (lead bits : List Bool) (now : Progress) (new : List Bool) → now.bits < length bits → now.at + code.chips ≤ length now.items
-    → PutOver code.table now (get_or bits now.bits false) new → Written code.table lead bits now
-    → Written code.table lead bits (further code now (get_or bits now.bits false) new) × (length new ≡ length now.items)
-writes_more code lead bits now new within room put written =
+-- one step of the encoder: behind what is written, the blocks of more bits are put
+pub record Step (t : Table) (lead bits : List Bool) : Type 0 where
+  pub now : Progress
+  pub written : Written t lead bits now
+  pub more : List Bool
+  pub new : List Bool
+  pub put : PutOver t now more new
+
+-- the blocks of the next bits go behind those before
+pub writes_more : (code : CodeTable) (lead bits : List Bool) (step : Step code.table lead bits)
+    → take (step.now.bits + length step.more) bits ≡ take step.now.bits bits ++ step.more → step.now.at + code.chips * length step.more ≤ length step.now.items
+    → Written code.table lead bits (further code step.now step.more step.new) × (length step.new ≡ length step.now.items)
+writes_more code lead bits step taken room =
     let t = code.table in
-    let bit = get_or bits now.bits false in
-    let size : length put.block ≡ code.chips = ap length put.block_is ∙ code.even.blocks_even now.context bit in
-    let more = sym (take_more bits now.bits false within) in (
+    let now = step.now in
+    let more = step.more in
+    let new = step.new in
+    let put = step.put in
+    let written = step.written in
+    let size = put_size code now more new put in (
       record {
         levels_are =
-            ap (λ ls. take (now.at + code.chips) ls) put.items_are
-            ∙ ap (λ k. take (now.at + k) ((take now.at now.items ++ put.block) ++ drop (now.at + length put.block) now.items)) (sym size)
-            ∙ overwritten now.items put.block now.at (omega (arith, room))
-            ∙ ap (λ ls. take now.at now.items ++ ls) put.block_is
-            ∙ ap (λ ls. ls ++ t.block now.context bit) written.levels_are
-            ∙ ap (λ c. (lead ++ blocks t t.start (take now.bits bits)) ++ t.block c bit) written.context_is
-            ∙ more_blocks t lead (take now.bits bits) bit t.start
-            ∙ ap (λ bs. lead ++ blocks t t.start bs) more;
+            ap (λ k. take (now.at + k) new) (sym size) ∙ put_levels code lead bits more now new (omega (arith, room)) put written
+            ∙ ap (λ bs. lead ++ blocks t t.start bs) (sym taken);
         context_is =
-            ap (λ c. t.next c bit) written.context_is ∙ sym (context_after-push t (take now.bits bits) bit t.start)
-            ∙ ap (λ bs. context_after t t.start bs) more;
+            ap (λ c. context_after t c more) written.context_is ∙ sym (context_after-append t (take now.bits bits) more t.start)
+            ∙ ap (λ bs. context_after t t.start bs) (sym taken);
       },
       ap length put.items_are ∙ overwritten_size now.items put.block now.at (omega (arith, room, size)),
     )
 
--- the block of the dummy, with which the stream ends
-pub writes_dummy : (code : CodeTable) (lead bits : List Bool) (now : Progress) (new : List Bool) → length bits ≤ now.bits → now.at + code.chips ≡ length now.items
-    → PutOver code.table now true new → Written code.table lead bits now → new ≡ lead ++ blocks code.table code.table.start (bits ++ true ∷ [])
-writes_dummy code lead bits now new all last put written =
+-- the blocks of the last bits and of the dummy, with which the stream ends
+pub writes_last : (code : CodeTable) (lead bits : List Bool) (step : Step code.table lead bits)
+    → bits ++ true ∷ [] ≡ take step.now.bits bits ++ step.more → step.now.at + code.chips * length step.more ≡ length step.now.items
+    → step.new ≡ lead ++ blocks code.table code.table.start (bits ++ true ∷ [])
+writes_last code lead bits step all last =
     let t = code.table in
-    let size : length put.block ≡ code.chips = ap length put.block_is ∙ code.even.blocks_even now.context true in
+    let now = step.now in
+    let more = step.more in
+    let new = step.new in
+    let put = step.put in
+    let size = put_size code now more new put in
     let whole : length new ≡ length now.items = ap length put.items_are ∙ overwritten_size now.items put.block now.at (omega (arith, last, size)) in
     sym (take_all (now.at + length put.block) new (omega (arith, whole, last, size)))
-    ∙ ap (λ ls. take (now.at + length put.block) ls) put.items_are
-    ∙ overwritten now.items put.block now.at (omega (arith, last))
-    ∙ ap (λ ls. take now.at now.items ++ ls) put.block_is
-    ∙ ap (λ ls. ls ++ t.block now.context true) written.levels_are
-    ∙ ap (λ c. (lead ++ blocks t t.start (take now.bits bits)) ++ t.block c true) written.context_is
-    ∙ more_blocks t lead (take now.bits bits) true t.start
-    ∙ ap (λ bs. lead ++ blocks t t.start (bs ++ true ∷ [])) (take_all now.bits bits all)
+    ∙ put_levels code lead bits more now new (omega (arith, last)) put step.written
+    ∙ ap (λ bs. lead ++ blocks t t.start bs) (sym all)
+
+-- the next two bits
+pub take_two : (bits : List Bool) (n : ℕ) → n + 1 < length bits → take (n + 2) bits ≡ take n bits ++ get_or bits n false ∷ get_or bits (n + 1) false ∷ []
+take_two bits n within =
+    ap (λ k. take k bits) (add_two n) ∙ take_more bits (n + 1) false within
+    ∙ ap (λ bs. bs ++ get_or bits (n + 1) false ∷ []) (take_more bits n false (omega (arith, within)))
+    ∙ append_assoc (take n bits) (get_or bits n false ∷ []) (get_or bits (n + 1) false ∷ [])
+  where
+    add_two : (k : ℕ) → k + 2 ≡ (k + 1) + 1
+    add_two k = omega arith

@@ -23,6 +23,13 @@ pub record InsideValue : Type 0 where
 pub record EndedValue : Type 0 where
   pub bits : ℕ
 
+-- the buffer that the bits go to, over one call: what stood in it before the bits of the stream, and all that it
+-- has before the call and behind it
+pub record Buffer : Type 0 where
+  pub stood : List Bool
+  pub old : List Bool
+  pub new : List Bool
+
 -- the levels are the first ones of the lead, and not the whole lead
 pub record Seeks (t : Table) (trext : Bool) (state : SeekingValue) (levels : List Bool) : Type 0 where
   pub trext_is : state.trext ≡ trext
@@ -57,6 +64,11 @@ pub record Reads (t : Table) (trext : Bool) (state : InsideValue) (levels bits :
   pub taken_is : state.taken ≡ length levels
   pub put_is : state.put ≡ length bits
   pub last_is : LastIs bits state.last
+
+-- the levels are the lead and the blocks of these bits, and this is the context of the next block
+pub record HasBlocks (t : Table) (trext : Bool) (context : Context) (levels bits : List Bool) : Type 0 where
+  pub levels_are : levels ≡ t.lead trext ++ blocks t t.start bits
+  pub context_is : context ≡ context_after t t.start bits
 
 -- the levels are the stream of these bits
 pub record Ends (t : Table) (trext : Bool) (state : EndedValue) (levels bits : List Bool) : Type 0 where

@@ -1,6 +1,8 @@
 //! What a line code is.
-ghost use Rattle.std.specs.Prelude.{◌≡◌, ◌≢◌, ℕ, ◌<◌, ◌≤◌, length, Bool, Some, IfSome, IfNone, slice_get};
+ghost use Rattle.std.specs.Prelude.{◌≡◌, ◌≢◌, ℕ, ◌*◌, [], ◌∷◌, ◌<◌, ◌≤◌, length, Bool, Some, IfSome, IfNone, slice_get};
 ghost use Rattle.line_code.specs.Table.{Context, Table};
+ghost use Rattle.line_code.specs.Stream.{blocks};
+ghost use Rattle.line_code.specs.States.{context_after};
 ghost use Rattle.line_code.specs.TableFacts.{IsEven, HasLead, TellsBits, RefusesFlips, HidesLead, longest_lead};
 
 /// A line code of the link from tag to interrogator (6.3.1.3.2 of the standard).
@@ -65,6 +67,17 @@ pub trait LineCode {
         requires { length levels.now ≡ CHIPS }
         ensures some { IfSome result (λ bit. levels.now ≡ table.block (context_of mark) bit) }
         ensures none { IfNone result ((bit : Bool) → levels.now ≢ table.block (context_of mark) bit) };
+
+    /// The levels of the blocks of two bits, one behind the other.
+    fn two_blocks(mark: Self::Mark, first: bool, second: bool) -> &'static [bool]
+        ensures { result.now ≡ blocks table (context_of mark) (first ∷ second ∷ []) };
+
+    /// The four bits whose blocks, one behind the other, the levels are, and the mark of the bit that follows them; none exactly where they
+    /// are no such blocks.
+    fn four_bits(mark: Self::Mark, levels: &[bool]) -> Option<([bool; 4], Self::Mark)>
+        requires { length levels.now ≡ 4 * CHIPS }
+        ensures some { IfSome result (λ it. (levels.now ≡ blocks table (context_of mark) it.0) × (context_of it.1 ≡ context_after table (context_of mark) it.0)) }
+        ensures none { IfNone result ((first second third fourth : Bool) → levels.now ≢ blocks table (context_of mark) (first ∷ second ∷ third ∷ fourth ∷ [])) };
 
     /// The mark of the bit that follows a bit.
     fn after(mark: Self::Mark, bit: bool) -> Self::Mark

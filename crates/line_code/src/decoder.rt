@@ -1,10 +1,10 @@
 //! The decoder of a whole list of levels.
-ghost use Rattle.std.specs.Prelude.{◌≡◌, ◌≤◌, ◌<◌, ℕ, List, Bool, [], length, take, IfSome, IfOk, OnOk, IfErr, OnErr, IsOk, IsErr};
+ghost use Rattle.std.specs.Prelude.{◌≡◌, ◌≤◌, ◌<◌, ◌+◌, ◌*◌, ◌++◌, ℕ, List, Bool, [], length, take, IfSome, IfOk, OnOk, IfErr, OnErr, IsOk, IsErr};
 ghost use Rattle.line_code.specs.Table.{Context};
 ghost use Rattle.line_code.specs.Stream.{IsStream, Streams, blocks};
 ghost use Rattle.line_code.specs.TableFacts.{with_level_flipped};
 ghost use Rattle.line_code.specs.Refusal.{RefusesStream};
-ghost use Rattle.line_code.specs.States.{Reads};
+ghost use Rattle.line_code.specs.States.{context_after};
 ghost use Rattle.bit_strings.specs.BitString.{most_counted};
 
 use crate::code::LineCode;
@@ -44,11 +44,20 @@ fn read<C: LineCode>(trext: bool, levels: &[bool], out: &mut Bits) -> Result<(),
     ensures refused { IfErr result (RefusesStream (Streams C.table trext) levels.now) }
     ensures capacity { out.new.capacity ≡ out.old.capacity }
 {
-    let (mut inside, mut at) = seek::<C>(trext, levels)?;
-    while let Some(bit) = inside.next_bit(&levels[at..]) {
-        inside = inside.take_block(bit, out);
+    let mut at = seek::<C>(trext, levels)?;
+    let mut mark = C::after_lead();
+    while let Some(four) = next_four::<C>(mark, &levels[at..]) {
+        let bits = four.0;
+        put_bits(&bits, out);
+        mark = four.1;
+        at += 4 * C::CHIPS as usize;
+    }
+    while let Some(bit) = next_bit::<C>(mark, &levels[at..]) {
+        out.push_reserved(bit);
+        mark = C::after(mark, bit);
         at += C::CHIPS as usize;
     }
+    let mut inside = Inside::<C>::between_blocks(mark, at as u32, out);
     // The levels from the first one on that belongs to no whole block.
     for place in at..levels.len() {
         match inside.push(levels[place], out) {
@@ -60,21 +69,20 @@ fn read<C: LineCode>(trext: bool, levels: &[bool], out: &mut Bits) -> Result<(),
     Ok(())
 }
 
-/// Takes the levels of the pilot and the preamble, and answers the state behind them and how many
-/// they are.
-fn seek<C: LineCode>(trext: bool, levels: &[bool]) -> Result<(Inside<C>, usize), LineRefusal>
+/// Takes the levels of the pilot and the preamble, and answers how many they are.
+fn seek<C: LineCode>(trext: bool, levels: &[bool]) -> Result<usize, LineRefusal>
     requires { length levels.now ≤ most_counted }
-    ensures found { IfOk result (λ it. (it.1 ≤ length levels.now) × Reads C.table trext it.0 (take it.1 levels.now) []) }
+    ensures found { IfOk result (λ lead. (lead ≤ length levels.now) × (take lead levels.now ≡ C.table.lead trext)) }
     ensures refused { IfErr result (RefusesStream (Streams C.table trext) levels.now) }
 {
     if let Some(lead) = whole_lead::<C>(trext, levels) {
-        return Ok((Inside::behind_lead(lead), lead as usize));
+        return Ok(lead);
     }
     let mut seeking = Seeking::<C>::new(trext);
     for (at, level) in levels.iter().enumerate() {
         match seeking.push(*level) {
             Sought::Seeking(next) => seeking = next,
-            Sought::Inside(inside) => return Ok((inside, at + 1)),
+            Sought::Inside(_inside) => return Ok(at + 1),
             Sought::Refused(place) => return Err(LineRefusal::Invalid(place)),
         }
     }
@@ -82,13 +90,45 @@ fn seek<C: LineCode>(trext: bool, levels: &[bool]) -> Result<(Inside<C>, usize),
 }
 
 /// How many levels the pilot and the preamble have, where the levels begin with them.
-fn whole_lead<C: LineCode>(trext: bool, levels: &[bool]) -> Option<u32>
-    ensures { IfSome result (λ lead. (lead ≡ length (C.table.lead trext)) × (lead ≤ length levels.now) × (take lead levels.now ≡ C.table.lead trext)) }
+fn whole_lead<C: LineCode>(trext: bool, levels: &[bool]) -> Option<usize>
+    ensures { IfSome result (λ lead. (lead ≤ length levels.now) × (take lead levels.now ≡ C.table.lead trext)) }
 {
     let lead = C::lead_levels(trext);
     if lead.len() <= levels.len() && lead == &levels[..lead.len()] {
-        Some(lead.len() as u32)
+        Some(lead.len())
     } else {
         None
+    }
+}
+
+/// The four bits whose blocks, one behind the other, the first of these levels are, and the mark of the bit that follows them.
+fn next_four<C: LineCode>(mark: C::Mark, levels: &[bool]) -> Option<([bool; 4], C::Mark)>
+    ensures { IfSome result (λ it. (length it.0 ≡ 4) × (4 * C.CHIPS ≤ length levels.now) × (take (4 * C.CHIPS) levels.now ≡ blocks C.table (C.context_of mark) it.0) × (C.context_of it.1 ≡ context_after C.table (C.context_of mark) it.0)) }
+{
+    let chips = 4 * C::CHIPS as usize;
+    if levels.len() < chips {
+        return None;
+    }
+    C::four_bits(mark, &levels[..chips])
+}
+
+/// The bit whose block the first of these levels are.
+fn next_bit<C: LineCode>(mark: C::Mark, levels: &[bool]) -> Option<bool>
+    ensures { IfSome result (λ bit. (C.CHIPS ≤ length levels.now) × (take C.CHIPS levels.now ≡ C.table.block (C.context_of mark) bit)) }
+{
+    let chips = C::CHIPS as usize;
+    if levels.len() < chips {
+        return None;
+    }
+    C::block_bit(mark, &levels[..chips])
+}
+
+/// Puts the bits to the end of `out`.
+fn put_bits(bits: &[bool], out: &mut Bits)
+    requires { length out.old.items + length bits.now ≤ out.old.capacity }
+    ensures { out.new ≡ record out.old { items = out.old.items ++ bits.now } }
+{
+    for bit in bits {
+        out.push_reserved(*bit);
     }
 }

@@ -18,10 +18,18 @@ pub fn encode<C: LineCode>(trext: bool, bits: &Bits, out: &mut Levels)
     out.fill_zeros(at + chips * (bits.len() as usize + 1));
     out.overwrite(0, lead);
     let mut mark = C::after_lead();
-    for bit in bits.as_slice() {
-        out.overwrite(at, C::block(mark, *bit));
-        mark = C::after(mark, *bit);
-        at += chips;
+    let bits = bits.as_slice();
+    let mut next = 0;
+    while bits.len() - next >= 2 {
+        let (first, second) = (bits[next], bits[next + 1]);
+        out.overwrite(at, C::two_blocks(mark, first, second));
+        mark = C::after(C::after(mark, first), second);
+        at += 2 * chips;
+        next += 2;
     }
-    out.overwrite(at, C::block(mark, true));
+    if next < bits.len() {
+        out.overwrite(at, C::two_blocks(mark, bits[next], true));
+    } else {
+        out.overwrite(at, C::block(mark, true));
+    }
 }

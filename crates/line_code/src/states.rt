@@ -1,7 +1,7 @@
 //! The decoder as three typed states, which take one level at a time: [`Seeking`] before the
 //! data, [`Inside`] in the data, and [`Ended`] behind a whole stream. None of them keeps the levels.
-ghost use Rattle.std.specs.Prelude.{◌≡◌, ◌<◌, ◌≤◌, List, Bool, true, [], ◌∷◌, ◌++◌, length, take, IfErr, OnErr, IfSome, IsSome, IsTrue, ◌↔◌, slice_get};
-ghost use Rattle.line_code.specs.States.{Seeks, Reads, Ends};
+ghost use Rattle.std.specs.Prelude.{◌≡◌, ◌<◌, ◌≤◌, List, Bool, true, [], ◌∷◌, ◌++◌, length, take, IfErr, OnErr, IsSome, IsTrue, ◌↔◌, slice_get};
+ghost use Rattle.line_code.specs.States.{Seeks, Reads, HasBlocks, Ends};
 ghost use Rattle.line_code.specs.Stream.{Streams};
 ghost use Rattle.line_code.specs.Refusal.{RefusesStream};
 ghost use Rattle.line_code.specs.AfterSeeking.{AfterSeeking};
@@ -197,7 +197,7 @@ impl<C: LineCode> Inside<C> {
     pub fn push(self, level: bool, out: &mut Bits) -> Within<C>
         requires room { length out.old.items < out.old.capacity }
         requires few { self.taken < most_counted }
-        ensures answer { (trext : Bool) (levels bits stood : List Bool) → Reads C.table trext self levels bits → out.old.items ≡ stood ++ bits → AfterInside C.table trext levels level stood out.old.items out.new.items result }
+        ensures answer { (trext : Bool) (levels bits stood : List Bool) → Reads C.table trext self levels bits → out.old.items ≡ stood ++ bits → AfterInside C.table trext levels level (record { stood = stood; old = out.old.items; new = out.new.items }) result }
         ensures capacity { out.new.capacity ≡ out.old.capacity }
     {
         let Inside {
@@ -239,46 +239,19 @@ impl<C: LineCode> Inside<C> {
         })
     }
 
-    /// The bit whose block the first of these levels are. None exactly where a block is begun already,
-    /// where fewer levels than a block's are there, or where they are the block of neither bit.
-    pub(crate) fn next_bit(&self, levels: &[bool]) -> Option<bool>
-        ensures some { IfSome result (λ bit. (self.now.place ≡ 0) × (C.CHIPS ≤ length levels.now) × (take C.CHIPS levels.now ≡ C.table.block self.now.context bit)) }
-        ensures only { (bit : Bool) → self.now.place ≡ 0 → C.CHIPS ≤ length levels.now → take C.CHIPS levels.now ≡ C.table.block self.now.context bit → IsSome result }
+    /// The decoder between two blocks, or between the lead and the first block, where this many levels were taken and `out` has their bits.
+    pub(crate) fn between_blocks(mark: C::Mark, taken: u32, out: &Bits) -> Inside<C>
+        requires { length out.now.items ≤ taken }
+        ensures { (trext : Bool) (levels : List Bool) → taken ≡ length levels → HasBlocks C.table trext (C.context_of mark) levels out.now.items → Reads C.table trext result levels out.now.items }
     {
-        let chips = C::CHIPS as usize;
-        if self.place > 0 || levels.len() < chips {
-            return None;
-        }
-        C::block_bit(self.mark, &levels[..chips])
-    }
-
-    /// Takes the whole block of a bit at once, as pushes of its levels would, where none of it was
-    /// taken before. `out` is to be the buffer of what was taken.
-    pub(crate) fn take_block(self, bit: bool, out: &mut Bits) -> Inside<C>
-        requires room { length out.old.items < out.old.capacity }
-        requires few { self.taken < most_counted }
-        requires fresh { self.place ≡ 0 }
-        ensures reads { (trext : Bool) (levels : List Bool) → Reads C.table trext self levels out.old.items → Reads C.table trext result (levels ++ C.table.block self.context bit) out.new.items }
-        ensures capacity { out.new.capacity ≡ out.old.capacity }
-    {
-        let Inside {
-            mark,
-            place: _,
-            zero_fits: _,
-            one_fits: _,
-            taken,
-            put,
-            last: _,
-        } = self;
-        out.push_reserved(bit);
         Inside {
-            mark: C::after(mark, bit),
+            mark,
             place: 0,
             zero_fits: true,
             one_fits: true,
-            taken: taken + C::CHIPS,
-            put: put + 1,
-            last: Some(bit),
+            taken,
+            put: out.len(),
+            last: out.last(),
         }
     }
 
@@ -286,7 +259,7 @@ impl<C: LineCode> Inside<C> {
     /// `Unfinished`, with the number of levels, comes exactly where they are no whole stream, and
     /// `out` is then as before.
     pub fn end(self, out: &mut Bits) -> Result<Ended<C>, LineRefusal>
-        ensures answer { (trext : Bool) (levels bits stood : List Bool) → Reads C.table trext self levels bits → out.old.items ≡ stood ++ bits → AfterEnd C.table trext levels stood out.old.items out.new.items result }
+        ensures answer { (trext : Bool) (levels bits stood : List Bool) → Reads C.table trext self levels bits → out.old.items ≡ stood ++ bits → AfterEnd C.table trext levels (record { stood = stood; old = out.old.items; new = out.new.items }) result }
         ensures count { IfErr result (λ refusal. refusal ≡ LineRefusal.Unfinished self.taken) }
         ensures err { OnErr result (out.new ≡ out.old) }
         ensures capacity { out.new.capacity ≡ out.old.capacity }

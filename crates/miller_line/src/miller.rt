@@ -48,6 +48,14 @@ impl LineCode for Miller2 {
         subcarrier::block_bit(2, mark, levels)
     }
 
+    fn two_blocks(mark: SymbolBefore, first: bool, second: bool) -> &'static [bool] {
+        subcarrier::two_blocks(2, mark, first, second)
+    }
+
+    fn four_bits(mark: SymbolBefore, levels: &[bool]) -> Option<([bool; 4], SymbolBefore)> {
+        subcarrier::four_bits(2, mark, levels)
+    }
+
     fn after(mark: SymbolBefore, bit: bool) -> SymbolBefore {
         subcarrier::after(mark, bit)
     }
@@ -90,6 +98,14 @@ impl LineCode for Miller4 {
         subcarrier::block_bit(4, mark, levels)
     }
 
+    fn two_blocks(mark: SymbolBefore, first: bool, second: bool) -> &'static [bool] {
+        subcarrier::two_blocks(4, mark, first, second)
+    }
+
+    fn four_bits(mark: SymbolBefore, levels: &[bool]) -> Option<([bool; 4], SymbolBefore)> {
+        subcarrier::four_bits(4, mark, levels)
+    }
+
     fn after(mark: SymbolBefore, bit: bool) -> SymbolBefore {
         subcarrier::after(mark, bit)
     }
@@ -130,6 +146,14 @@ impl LineCode for Miller8 {
 
     fn block_bit(mark: SymbolBefore, levels: &[bool]) -> Option<bool> {
         subcarrier::block_bit(8, mark, levels)
+    }
+
+    fn two_blocks(mark: SymbolBefore, first: bool, second: bool) -> &'static [bool] {
+        subcarrier::two_blocks(8, mark, first, second)
+    }
+
+    fn four_bits(mark: SymbolBefore, levels: &[bool]) -> Option<([bool; 4], SymbolBefore)> {
+        subcarrier::four_bits(8, mark, levels)
     }
 
     fn after(mark: SymbolBefore, bit: bool) -> SymbolBefore {

@@ -1,8 +1,10 @@
 //! What the three codes share. The number `m` is M of the standard: a symbol has `2 * m` levels, two
 //! halves of `m` levels each, and the subcarrier inverts at each level.
-ghost use Rattle.std.specs.Prelude.{◌≡◌, ◌≢◌, ◌↔◌, ◌*◌, ◌<◌, ◌≤◌, Bool, false, true, ◌++◌, Some, IfSome, IfNone, IsTrue, length};
+ghost use Rattle.std.specs.Prelude.{◌≡◌, ◌≢◌, ◌↔◌, ◌*◌, ◌<◌, ◌≤◌, Bool, false, true, ◌++◌, [], ◌∷◌, Some, IfSome, IfNone, IsTrue, length};
 ghost use Rattle.line_code.specs.TableFacts.{longest_lead};
-ghost use Rattle.miller_line.specs.Miller.{IsOneOfThree, symbol, start_phase, middle_phase, miller_lead, miller_block, miller_next};
+ghost use Rattle.miller_line.specs.Miller.{miller, IsOneOfThree, symbol, start_phase, middle_phase, miller_lead, miller_block, miller_next};
+ghost use Rattle.line_code.specs.Stream.{blocks};
+ghost use Rattle.line_code.specs.States.{context_after};
 ghost use Rattle.miller_line.specs.SymbolContext.{context};
 
 /// The symbol before a bit's block.
@@ -51,6 +53,134 @@ const SYMBOLS_8: [[[bool; 16]; 2]; 2] = [
         [
             false, true, false, true, false, true, false, true, true, false, true, false, true,
             false, true, false,
+        ],
+    ],
+];
+
+/// The levels of two symbols, one behind the other, with M = 2, by the phase at the start of the first and by their bits.
+const TWO_SYMBOLS_2: [[[[bool; 8]; 2]; 2]; 2] = [
+    [
+        [
+            [true, false, true, false, false, true, false, true],
+            [true, false, true, false, true, false, false, true],
+        ],
+        [
+            [true, false, false, true, false, true, false, true],
+            [true, false, false, true, false, true, true, false],
+        ],
+    ],
+    [
+        [
+            [false, true, false, true, true, false, true, false],
+            [false, true, false, true, false, true, true, false],
+        ],
+        [
+            [false, true, true, false, true, false, true, false],
+            [false, true, true, false, true, false, false, true],
+        ],
+    ],
+];
+
+/// The levels of two symbols, one behind the other, with M = 4, by the phase at the start of the first and by their bits.
+const TWO_SYMBOLS_4: [[[[bool; 16]; 2]; 2]; 2] = [
+    [
+        [
+            [
+                true, false, true, false, true, false, true, false, false, true, false, true,
+                false, true, false, true,
+            ],
+            [
+                true, false, true, false, true, false, true, false, true, false, true, false,
+                false, true, false, true,
+            ],
+        ],
+        [
+            [
+                true, false, true, false, false, true, false, true, false, true, false, true,
+                false, true, false, true,
+            ],
+            [
+                true, false, true, false, false, true, false, true, false, true, false, true, true,
+                false, true, false,
+            ],
+        ],
+    ],
+    [
+        [
+            [
+                false, true, false, true, false, true, false, true, true, false, true, false, true,
+                false, true, false,
+            ],
+            [
+                false, true, false, true, false, true, false, true, false, true, false, true, true,
+                false, true, false,
+            ],
+        ],
+        [
+            [
+                false, true, false, true, true, false, true, false, true, false, true, false, true,
+                false, true, false,
+            ],
+            [
+                false, true, false, true, true, false, true, false, true, false, true, false,
+                false, true, false, true,
+            ],
+        ],
+    ],
+];
+
+/// The levels of two symbols, one behind the other, with M = 8, by the phase at the start of the first and by their bits.
+const TWO_SYMBOLS_8: [[[[bool; 32]; 2]; 2]; 2] = [
+    [
+        [
+            [
+                true, false, true, false, true, false, true, false, true, false, true, false, true,
+                false, true, false, false, true, false, true, false, true, false, true, false,
+                true, false, true, false, true, false, true,
+            ],
+            [
+                true, false, true, false, true, false, true, false, true, false, true, false, true,
+                false, true, false, true, false, true, false, true, false, true, false, false,
+                true, false, true, false, true, false, true,
+            ],
+        ],
+        [
+            [
+                true, false, true, false, true, false, true, false, false, true, false, true,
+                false, true, false, true, false, true, false, true, false, true, false, true,
+                false, true, false, true, false, true, false, true,
+            ],
+            [
+                true, false, true, false, true, false, true, false, false, true, false, true,
+                false, true, false, true, false, true, false, true, false, true, false, true, true,
+                false, true, false, true, false, true, false,
+            ],
+        ],
+    ],
+    [
+        [
+            [
+                false, true, false, true, false, true, false, true, false, true, false, true,
+                false, true, false, true, true, false, true, false, true, false, true, false, true,
+                false, true, false, true, false, true, false,
+            ],
+            [
+                false, true, false, true, false, true, false, true, false, true, false, true,
+                false, true, false, true, false, true, false, true, false, true, false, true, true,
+                false, true, false, true, false, true, false,
+            ],
+        ],
+        [
+            [
+                false, true, false, true, false, true, false, true, true, false, true, false, true,
+                false, true, false, true, false, true, false, true, false, true, false, true,
+                false, true, false, true, false, true, false,
+            ],
+            [
+                false, true, false, true, false, true, false, true, true, false, true, false, true,
+                false, true, false, true, false, true, false, true, false, true, false, false,
+                true, false, true, false, true, false, true,
+            ],
         ],
     ],
 ];
@@ -220,6 +350,66 @@ pub fn block_bit(m: u32, before: SymbolBefore, levels: &[bool]) -> Option<bool>
     let bit = bit_of_symbol(m, levels);
     if is_block(levels, block(m, before, bit)) {
         Some(bit)
+    } else {
+        None
+    }
+}
+
+/// The levels of two symbols, one behind the other, by the phase at the start of the first and by their bits.
+fn two_symbols(m: u32, start: bool, first: bool, second: bool) -> &'static [bool]
+    requires { IsOneOfThree m }
+    ensures { result.now ≡ symbol m start (middle_phase start first) ++ miller_block m (record { before = first; phase = middle_phase start first }) second ++ [] }
+{
+    match m {
+        2 => &TWO_SYMBOLS_2[start as usize][first as usize][second as usize],
+        4 => &TWO_SYMBOLS_4[start as usize][first as usize][second as usize],
+        _ => &TWO_SYMBOLS_8[start as usize][first as usize][second as usize],
+    }
+}
+
+/// The levels of the blocks of two bits, one behind the other.
+pub fn two_blocks(m: u32, before: SymbolBefore, first: bool, second: bool) -> &'static [bool]
+    requires { IsOneOfThree m }
+    ensures { result.now ≡ blocks (miller m) (context before) (first ∷ second ∷ []) }
+{
+    two_symbols(m, phase_at_start(before, first), first, second)
+}
+
+/// Whether the levels are those of two lists, one behind the other.
+fn are_both(levels: &[bool], front: &[bool], back: &[bool]) -> bool
+    requires same { length front.now ≡ length back.now }
+    requires whole { length levels.now ≡ 2 * length front.now }
+    ensures { IsTrue result ↔ (levels.now ≡ front.now ++ back.now) }
+{
+    let (one, other) = levels.split_at(front.len());
+    let mut same = true;
+    for (at, level) in one.iter().enumerate() {
+        same &= (*level == front[at]) & (other[at] == back[at]);
+    }
+    same
+}
+
+/// The four bits whose blocks, one behind the other, the levels are, and what stands before the bit that follows them; none exactly where
+/// they are no such blocks.
+pub fn four_bits(m: u32, before: SymbolBefore, levels: &[bool]) -> Option<([bool; 4], SymbolBefore)>
+    requires factor { IsOneOfThree m }
+    requires whole { length levels.now ≡ 4 * (2 * m) }
+    ensures some { IfSome result (λ it. (levels.now ≡ blocks (miller m) (context before) it.0) × (context it.1 ≡ context_after (miller m) (context before) it.0)) }
+    ensures none { IfNone result ((first second third fourth : Bool) → levels.now ≢ blocks (miller m) (context before) (first ∷ second ∷ third ∷ fourth ∷ [])) }
+{
+    let size = (2 * m) as usize;
+    let first = bit_of_symbol(m, &levels[..size]);
+    let second = bit_of_symbol(m, &levels[size..2 * size]);
+    let third = bit_of_symbol(m, &levels[2 * size..3 * size]);
+    let fourth = bit_of_symbol(m, &levels[3 * size..]);
+    let middle = after(after(before, first), second);
+    if are_both(
+        levels,
+        two_blocks(m, before, first, second),
+        two_blocks(m, middle, third, fourth),
+    ) {
+        let last = after(after(middle, third), fourth);
+        Some(([first, second, third, fourth], last))
     } else {
         None
     }

@@ -1,6 +1,6 @@
-use Rattle.std.specs.Prelude.{ℕ, List}
+use Rattle.bounded_list.specs.ItemList.{ItemList}
+use Rattle.std.specs.Prelude.{ℕ}
 
--- Profile: what a contract sees of a list of intervals, in nanoseconds. The capacity never changes after the list is made.
-pub record IntervalList : Type 0 where
-  pub items : List ℕ
-  pub capacity : ℕ
+-- Profile: what a contract sees of a list of intervals, in nanoseconds.
+abbrev pub IntervalList : Type 0
+IntervalList = ItemList ℕ

@@ -1,5 +1,5 @@
 //! Bits to frames.
-ghost use Rattle.std.specs.Prelude.{◌≡◌, ◌+◌, ◌-◌, ◌*◌, ◌<◌, ◌≤◌, ◌++◌, ◌∷◌, [], length, All, slice_get, IfSome, if◌then◌else◌};
+ghost use Rattle.std.specs.Prelude.{◌≡◌, ◌+◌, ◌-◌, ◌*◌, ◌<◌, ◌≤◌, ◌++◌, ◌∷◌, [], length, All, if◌then◌else◌};
 ghost use Rattle.pie_line.specs.Link.{IsLegalLink};
 ghost use Rattle.pie_line.specs.Pie.{IsFrame, pair_of, sum_of, header_of, wave_of, kind_of, longest_interval};
 
@@ -8,9 +8,6 @@ use bit_strings::Bits;
 
 /// How long a delimiter lasts that is written, in nanoseconds.
 const DELIMITER: u32 = 12_500;
-
-/// How many intervals the longest header has: the delimiter, and a pair each for Tari, RTcal and TRcal (6.3.1.2.8).
-const LONGEST_HEADER: u32 = 7;
 
 /// Writes the one frame of these bits (6.3.1.2.3, 6.3.1.2.8) in place of what `out` had: the delimiter,
 /// the header, and a symbol for each bit. Each low lasts PW.
@@ -31,26 +28,6 @@ pub fn encode_frame(link: &Link, lead: Lead, bits: &Bits, out: &mut Intervals)
     }
 }
 
-/// The interval of the header at a place, counted from 0, in nanoseconds (6.3.1.2.8): the delimiter at
-/// place 0, and then the highs and lows of the data-0, of RTcal, and in a preamble of TRcal. None behind
-/// the header.
-fn header_interval(link: &Link, lead: Lead, place: u32) -> Option<u32>
-    ensures interval { result ≡ slice_get (12500 ∷ header_of link.now lead) place }
-    ensures bounded { IfSome result (λ interval. interval ≤ longest_interval) }
-    ensures legal { IsLegalLink link.now }
-{
-    let low = link.pw();
-    match place {
-        0 => Some(DELIMITER),
-        1 => Some(link.tari() - low),
-        3 => Some(link.rtcal() - low),
-        5 if lead == Lead::Preamble => Some(link.trcal() - low),
-        2 | 4 => Some(low),
-        6 if lead == Lead::Preamble => Some(low),
-        _ => None,
-    }
-}
-
 /// The high and the low of the symbol of a bit, in nanoseconds (6.3.1.2.3).
 fn symbol_intervals(link: &Link, bit: bool) -> (u32, u32)
     ensures pair { result.0 ∷ result.1 ∷ [] ≡ pair_of link.now (sum_of link.now bit) }
@@ -63,7 +40,17 @@ fn symbol_intervals(link: &Link, bit: bool) -> (u32, u32)
     (sum - link.pw(), link.pw())
 }
 
-/// Writes the delimiter and the header in place of what `out` had.
+/// Adds a pair that lasts `sum` nanoseconds: a high, and a low of PW.
+fn put_pair(link: &Link, sum: u32, out: &mut Intervals)
+    requires low { link.now.pw ≤ sum }
+    requires room { length out.old.items + 2 ≤ out.old.capacity }
+    ensures { out.new ≡ record out.old { items = out.old.items ++ pair_of link.now sum } }
+{
+    out.push_reserved(sum - link.pw());
+    out.push_reserved(link.pw());
+}
+
+/// Writes the delimiter and the header (6.3.1.2.8) in place of what `out` had.
 fn put_header(link: &Link, lead: Lead, out: &mut Intervals)
     requires room { 7 ≤ out.old.capacity }
     ensures header { out.new.items ≡ 12500 ∷ header_of link.now lead }
@@ -72,9 +59,10 @@ fn put_header(link: &Link, lead: Lead, out: &mut Intervals)
     ensures capacity { out.new.capacity ≡ out.old.capacity }
 {
     out.clear();
-    for place in 0..LONGEST_HEADER {
-        if let Some(interval) = header_interval(link, lead, place) {
-            out.push_reserved(interval);
-        }
+    out.push_reserved(DELIMITER);
+    put_pair(link, link.tari(), out);
+    put_pair(link, link.rtcal(), out);
+    if lead == Lead::Preamble {
+        put_pair(link, link.trcal(), out);
     }
 }

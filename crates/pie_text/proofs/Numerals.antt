@@ -118,22 +118,28 @@ pub record HoldsBefore (most_items most : ℕ) (fields rest : List (List ℕ)) (
   pub numbers : All (IsNumber most) fields ↔ All (IsNumber most) rest
   pub filled : All (λ field. field ≢ []) fields ↔ All (λ field. field ≢ []) rest
 
+-- the next field spells a number, for which there is room
+pub record IsNextNumber (most_items most : ℕ) (field items : List ℕ) : Type 0 where
+  pub small : most < 2 ^ 32
+  pub room : length items < most_items
+  pub number : IsNumber most field
+
 -- one number more
-pub holds_next : (most_items most : ℕ) (fields rest : List (List ℕ)) (field items : List ℕ) → most < 2 ^ 32 → HoldsBefore most_items most fields (field ∷ rest) items
-    → length items < most_items → IsNumber most field → HoldsBefore most_items most fields rest (items ++ decimal_value field ∷ [])
-holds_next most_items most fields rest field items small holds room number =
+pub holds_next : (most_items most : ℕ) (fields rest : List (List ℕ)) (field items : List ℕ) → HoldsBefore most_items most fields (field ∷ rest) items
+    → IsNextNumber most_items most field items → HoldsBefore most_items most fields rest (items ++ decimal_value field ∷ [])
+holds_next most_items most fields rest field items holds next =
     let longer : length (items ++ decimal_value field ∷ []) ≡ length items + 1 = length-append items (decimal_value field ∷ []) in
     record {
       count = omega (arith, holds.count, longer);
-      few = omega (arith, longer, room);
+      few = omega (arith, longer, next.room);
       values = holds.values ∙ sym (append_assoc items (decimal_value field ∷ []) (map decimal_value rest));
       numbers = (
         λ all. All-tail (IsNumber most) field rest (holds.numbers.0 all),
-        λ are. holds.numbers.1 (All-cons (IsNumber most) field rest number are),
+        λ are. holds.numbers.1 (All-cons (IsNumber most) field rest next.number are),
       );
       filled = (
         λ all. All-tail IsFilled field rest (holds.filled.0 all),
-        λ are. holds.filled.1 (All-cons IsFilled field rest (number_is_filled most field small number) are),
+        λ are. holds.filled.1 (All-cons IsFilled field rest (number_is_filled most field next.small next.number) are),
       );
     }
 

@@ -3,10 +3,12 @@
 #![tactic(auto)]
 
 mod frames;
+mod kept_intervals;
 mod laws;
 mod leading;
 mod numbers;
 
 pub use frames::{push_frame, push_pie_refusal};
+pub use kept_intervals::KeptIntervals;
 pub use laws::numbers_or_refused;
 pub use numbers::{NotNumbers, Numbers, read_numbers};

@@ -30,18 +30,20 @@ use Rattle.scenario_lines.specs.declared.line.Line.{Line}
 use Rattle.scenario_lines.specs.declared.line.Line.TheVariants as lines
 use Rattle.scenario_lines.specs.declared.version.Version.{Version}
 use Rattle.scenario_lines.specs.declared.version.Version.TheVariants.{One, Two}
-use Rattle.portal_text.specs.PortalFault.{captures, first_refused, head_length, is_refused, lines_of_steps, next_behind, portal_fault}
+use Rattle.portal_text.specs.PortalFault.{captures, first_refused, head_length, lines_of_steps, portal_fault}
 
 -- lines of tags are passed over
-group-passes : (count : Bool) (next number : ℕ) (one other : Line) (later : List Line) → is_refused next one ≡ false → is_refused next other ≡ false → next_behind next one ≡ next → next_behind next other ≡ next
-    → first_refused number next ((if count then one else other) ∷ later) ≡ first_refused (number + 1) next later
-group-passes true next number one other later passes passes2 stays stays2 = rw (passes, stays) refl
-group-passes false next number one other later passes passes2 stays stays2 = rw (passes2, stays2) refl
+group-passes : (number next : ℕ) (group : TagGroup) (later : List Line) → first_refused number next (group_line group ∷ later) ≡ first_refused (number + 1) next later
+group-passes number next group later = of_one (group.count == 1)
+  where
+    of_one : (one : Bool) → first_refused number next ((if one then lines.Tag group.spec else lines.Copies group.count group.spec) ∷ later) ≡ first_refused (number + 1) next later
+    of_one true = refl
+    of_one false = refl
 
 groups-pass : (number next : ℕ) (groups : List TagGroup) (later : List Line) → first_refused number next (map group_line groups ++ later) ≡ first_refused (number + length groups) next later
 groups-pass number next [] later = ap (λ n. first_refused n next later) (omega arith)
 groups-pass number next (group ∷ groups) later =
-    group-passes (group.count == 1) next number (lines.Tag group.spec) (lines.Copies group.count group.spec) (map group_line groups ++ later) refl refl refl refl
+    group-passes number next group (map group_line groups ++ later)
     ∙ groups-pass (number + 1) next groups later ∙ ap (λ n. first_refused n next later) (omega arith)
 
 -- a line of an exchange is not

@@ -11,7 +11,7 @@ use Rattle.probe_lines.specs.declared.fault.Fault.TheVariants.{Extra, End, Versi
 use Rattle.probe_lines.specs.declared.line.ProbeLine.TheVariants as lines
 use Rattle.probe_lines.specs.declared.line.Stimulus.{Stimulus}
 use Rattle.probe_lines.specs.LineFaults.{IsFaultyProbeLine}
-use Rattle.probe_lines.specs.LineLaws.{LineLaws}
+use Rattle.probe_lines.specs.laws.LineLaws.{LineLaws}
 use Rattle.probe_lines.specs.ProbeLine.{SpellsProbeLine, SpellsTag, version_line}
 use Rattle.probe_lines.specs.ProbeText.{AreStimuli, GoesTo, IsFaultyBefore, IsFaultyBehind, IsFaultyHere, IsFirstFault, IsFirstFaultFrom, SayStimuli, Standing, begun, ended, most_stimuli, start, within}
 

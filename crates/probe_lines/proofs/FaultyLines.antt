@@ -6,7 +6,7 @@ use Rattle.probe_lines.specs.declared.line.LineWord.{LineWord}
 use Rattle.probe_lines.specs.declared.line.LineWord.TheVariants as words
 use Rattle.text_fields.specs.declared.fields_fault.FieldsFault.TheVariants as reasons
 use Rattle.probe_lines.specs.LineFaults.{AreFaultyBehind, BeginsWith, IsFaultyProbeLine}
-use Rattle.probe_lines.specs.LineLaws.{LineLaws}
+use Rattle.probe_lines.specs.laws.LineLaws.{LineLaws}
 use Rattle.probe_lines.specs.ProbeText.{IsTooMuch, most_stimuli}
 use Rattle.probe_lines.specs.declared.line.ProbeLine.TheVariants as lines
 use Rattle.probe_lines.specs.declared.line.Stimulus.{Stimulus}

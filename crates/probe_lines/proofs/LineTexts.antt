@@ -19,7 +19,7 @@ use Rattle.probe_lines.specs.declared.line.ProbeLine.TheVariants as lines
 use Rattle.probe_lines.specs.declared.line.Stimulus.{Stimulus}
 use Rattle.probe_lines.specs.declared.line.Stimulus.TheVariants as stimuli
 use Rattle.probe_lines.specs.LineFaults.{AreFaultyBehind, BeginsWith, IsFaultyProbeLine, MisspellsCommand, MisspellsWord}
-use Rattle.probe_lines.specs.LineLaws.{LineLaws}
+use Rattle.probe_lines.specs.laws.LineLaws.{LineLaws}
 use Rattle.probe_lines.specs.ProbeLine.{IsProbeEvent, SpellsProbeLine, line_word, probe_events, probe_line_fields}
 use Rattle.probe_lines.proofs.EventTexts.{event_told, events_are}
 

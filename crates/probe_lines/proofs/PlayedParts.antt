@@ -8,7 +8,7 @@ use Rattle.report_lines.specs.declared.mode.PlayFault.{PlayFault}
 use Rattle.report_lines.specs.declared.mode.PlayFault.TheVariants.{Write, OutOfMemory}
 use Rattle.tag_machine.specs.TagValue.{TagValue}
 use Rattle.text_fields.specs.Lines.{text_with}
-use Rattle.probe_lines.specs.declared.effect.Effect.{Effect}
+use Rattle.probe_lines.specs.declared.effect.StimulusEffect.{StimulusEffect}
 use Rattle.probe_lines.specs.declared.line.Stimulus.{Stimulus}
 use Rattle.probe_lines.specs.Answers.{HasEffect, first_number, last_text, lines_behind, outcome_of, text_from}
 use Rattle.probe_lines.specs.Played.{AddsFrontOf, HasPlayed, StopsAt, StopsIn, TellsNext, WritesPart, WritesText}
@@ -16,11 +16,11 @@ use Rattle.probe_lines.specs.ProbeText.{SayStimuli}
 
 -- whatever is done to a tag has an effect
 abbrev pub HaveEffects : Type 0
-HaveEffects = (said : List Stimulus) → (effects : List Effect) × AllZip HasEffect said effects
+HaveEffects = (said : List Stimulus) → (effects : List StimulusEffect) × AllZip HasEffect said effects
 
 -- the text of all effects is what was written, and then that of the effects that are left
-pub record GoesBy (first : TagValue) (said : List Stimulus) (text : List ℕ) (number : ℕ) (tag : TagValue) (effects : List Effect) : Type 0 where
-  pub all : List Effect
+pub record GoesBy (first : TagValue) (said : List Stimulus) (text : List ℕ) (number : ℕ) (tag : TagValue) (effects : List StimulusEffect) : Type 0 where
+  pub all : List StimulusEffect
   pub each : AllZip HasEffect said all
   pub told : text_from first_number first all ≡ text ++ text_from number tag effects
 
@@ -45,7 +45,7 @@ pub record PlayedTo (begun : Beginning) (to : Place) : Type 0 where
   pub left : List Stimulus
   pub say : SayStimuli to.left left
   pub count : to.number + length left ≡ first_number + length begun.said
-  pub goes : (effects : List Effect) → AllZip HasEffect left effects → GoesBy begun.first begun.said text to.number to.tag effects
+  pub goes : (effects : List StimulusEffect) → AllZip HasEffect left effects → GoesBy begun.first begun.said text to.number to.tag effects
 
 pub none_played : (begun : Beginning) (behind : List (List ℕ)) → SayStimuli behind begun.said
     → PlayedTo begun (record { number = first_number; tag = begun.first; left = behind; written = begun.written })
@@ -89,7 +89,7 @@ one_played begun from tag after so_far next told =
     }
 
 -- a part of the text was written, of what comes of the next line or of nothing more
-part_of : (begun : Beginning) (from : Place) (after : Option (List ℕ)) (effects : List Effect) (so_far : PlayedTo begun from) → AllZip HasEffect so_far.left effects
+part_of : (begun : Beginning) (from : Place) (after : Option (List ℕ)) (effects : List StimulusEffect) (so_far : PlayedTo begun from) → AllZip HasEffect so_far.left effects
     → AddsFrontOf (text_from from.number from.tag effects) from.written after → WritesPart begun.first begun.said begun.written after
 part_of begun from after effects so_far each adds =
     let by = so_far.goes effects each in
@@ -105,7 +105,7 @@ part_of begun from after effects so_far each adds =
     }
 
 -- a part of what comes of the next line was
-part_of_next : HaveEffects → (begun : Beginning) (from : Place) (after : Option (List ℕ)) (so_far : PlayedTo begun from) (next : Next so_far.left) (effect : Effect)
+part_of_next : HaveEffects → (begun : Beginning) (from : Place) (after : Option (List ℕ)) (so_far : PlayedTo begun from) (next : Next so_far.left) (effect : StimulusEffect)
     → HasEffect next.stimulus effect → AddsFrontOf (text_with (lines_behind from.number effect from.tag)) from.written after
     → WritesPart begun.first begun.said begun.written after
 part_of_next have begun from after so_far next effect has adds =
@@ -153,7 +153,7 @@ pub no_memory : {T : Type 0} (result : Result T PlayFault) (text : List ℕ) (wr
 no_memory result text written faults is = kept result OutOfMemory (StopsIn text written written faults faults) is (refl, nothing_of text written)
 
 pub no_memory_next : {T : Type 0} (result : Result T PlayFault) (number : ℕ) (tag : TagValue) (stimulus : Stimulus) (written : Option (List ℕ)) (faults : ℕ)
-    → IsErrAnd result (λ fault. fault ≡ OutOfMemory) → (effect : Effect) × HasEffect stimulus effect → IfErr result (StopsAt number tag stimulus written written faults faults)
+    → IsErrAnd result (λ fault. fault ≡ OutOfMemory) → (effect : StimulusEffect) × HasEffect stimulus effect → IfErr result (StopsAt number tag stimulus written written faults faults)
 no_memory_next result number tag stimulus written faults is some =
     kept result OutOfMemory (StopsAt number tag stimulus written written faults faults) is
     (record { effect = some.0; has = some.1; stops = (refl, nothing_of (text_with (lines_behind number some.0 tag)) written) })

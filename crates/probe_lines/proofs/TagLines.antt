@@ -14,7 +14,7 @@ use Rattle.text_fields.specs.NamedFields.{AreFilled}
 use Rattle.text_fields.specs.laws.NamedFieldLaws.{same_behind}
 use Rattle.probe_lines.specs.declared.fault.Fault.{Fault}
 use Rattle.probe_lines.specs.declared.fault.Fault.TheVariants.{Extra, End, Version, Word, Limit, Shape, Number, Pc}
-use Rattle.probe_lines.specs.LineLaws.{TagLineLaws}
+use Rattle.probe_lines.specs.laws.LineLaws.{TagLineLaws}
 use Rattle.probe_lines.specs.ProbeLine.{SpellsTag}
 use Rattle.probe_lines.specs.ProbeText.{BeginsAsTag, IsFaultyTagLine}
 

@@ -9,7 +9,7 @@ use Rattle.probe_lines.specs.declared.line.ProbeLine.{ProbeLine}
 use Rattle.probe_lines.specs.declared.line.ProbeLine.TheVariants as lines
 use Rattle.probe_lines.specs.FaultWords.{fault_of}
 use Rattle.probe_lines.specs.LineFaults.{IsFaultyProbeLine}
-use Rattle.probe_lines.specs.LineLaws.{LineLaws, TagLineLaws}
+use Rattle.probe_lines.specs.laws.LineLaws.{LineLaws, TagLineLaws}
 use Rattle.probe_lines.specs.ProbeLine.{SpellsProbeLine}
 use Rattle.probe_lines.specs.ProbeText.{GoesTo, HasRoom, IsFaultyBefore, IsFaultyBehind, IsFaultyHere, IsTooMuch, Standing, after, begun, ended, start, within}
 

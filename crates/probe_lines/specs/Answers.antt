@@ -21,13 +21,13 @@ use Rattle.tag_machine.specs.Names.{name_of}
 use Rattle.tag_machine.specs.Numbers.{numbers_of}
 use Rattle.tag_machine.specs.Step.{step}
 use Rattle.tag_machine.specs.TagValue.{TagValue}
-use Rattle.probe_lines.specs.declared.effect.Effect.{Effect}
-use Rattle.probe_lines.specs.declared.effect.Effect.TheVariants.{Hears, Befalls, Nothing}
+use Rattle.probe_lines.specs.declared.effect.StimulusEffect.{StimulusEffect}
+use Rattle.probe_lines.specs.declared.effect.StimulusEffect.TheVariants.{Hears, Befalls, Nothing}
 use Rattle.probe_lines.specs.declared.line.Stimulus.{Stimulus}
 use Rattle.probe_lines.specs.declared.line.Stimulus.TheVariants as stimuli
 
 -- What a line does to the tag. Bits are the command that they spell; where they spell none, the tag hears nothing.
-abbrev pub HasEffect : Stimulus → Effect → Type 0
+abbrev pub HasEffect : Stimulus → StimulusEffect → Type 0
 HasEffect (stimuli.Command command) effect = effect ≡ Hears command
 HasEffect (stimuli.Event event) effect = effect ≡ Befalls event
 HasEffect (stimuli.Bits bits) (Hears command) = SpellsCommand command bits
@@ -35,7 +35,7 @@ HasEffect (stimuli.Bits bits) Nothing = (command : Command) → ¬ SpellsCommand
 HasEffect (stimuli.Bits bits) (Befalls event) = ⊥
 
 -- the tag after it, and what it answers
-abbrev pub outcome_of : Effect → TagValue → Outcome
+abbrev pub outcome_of : StimulusEffect → TagValue → Outcome
 outcome_of (Hears command) tag = step command tag.state tag.body
 outcome_of (Befalls event) tag = record { tag = tag_after_event event tag.state tag.body; answer = None }
 outcome_of Nothing tag = silent tag.state tag.body
@@ -79,7 +79,7 @@ state_line number tag =
     ++ fields_behind (number_fields (numbers_of tag.state))
 
 -- the lines that tell of one line: an event has no answer
-abbrev pub lines_behind : ℕ → Effect → TagValue → List (List ℕ)
+abbrev pub lines_behind : ℕ → StimulusEffect → TagValue → List (List ℕ)
 lines_behind number (Hears command) tag =
     answer_line number (outcome_of (Hears command) tag).answer ∷ state_line number (outcome_of (Hears command) tag).tag ∷ []
 lines_behind number (Befalls event) tag = state_line number (outcome_of (Befalls event) tag).tag ∷ []
@@ -91,7 +91,7 @@ last_text tag = report_text (TagLine 0 tag ∷ DoneLine ∷ [])
 
 -- The text behind the line before this number: what each effect makes of the tag, one after another, and then the tag as a report
 -- tells it, and that this was all.
-abbrev pub text_from : ℕ → TagValue → List Effect → List ℕ
+abbrev pub text_from : ℕ → TagValue → List StimulusEffect → List ℕ
 text_from number tag [] = last_text tag
 text_from number tag (effect ∷ effects) =
     text_with (lines_behind number effect tag) ++ text_from (number + 1) (outcome_of effect tag).tag effects
@@ -106,6 +106,6 @@ tag_of tag = tag_of_image tag.image tag.locks tag.words
 
 -- the text tells what comes of this, done to the tag
 pub record Tells (tag : TagValue) (said : List Stimulus) (text : List ℕ) : Type 0 where
-  pub effects : List Effect
+  pub effects : List StimulusEffect
   pub each : AllZip HasEffect said effects
   pub told : text ≡ text_from first_number tag effects

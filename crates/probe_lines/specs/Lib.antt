@@ -2,7 +2,7 @@ pub mod ProbeLine
 pub mod LineFaults
 pub mod ProbeText
 pub mod FaultWords
-pub mod LineLaws
 pub mod Answers
 pub mod Heard
 pub mod Played
+pub mod laws

@@ -6,7 +6,7 @@ use Rattle.report_lines.specs.declared.mode.PlayFault.TheVariants.{Write, OutOfM
 use Rattle.tag_machine.specs.TagValue.{TagValue}
 use Rattle.probe_lines.specs.declared.line.Stimulus.{Stimulus}
 use Rattle.text_fields.specs.Lines.{text_with}
-use Rattle.probe_lines.specs.declared.effect.Effect.{Effect}
+use Rattle.probe_lines.specs.declared.effect.StimulusEffect.{StimulusEffect}
 use Rattle.probe_lines.specs.Answers.{HasEffect, Tells, lines_behind, outcome_of}
 
 -- the text that tells what comes of this, done to the tag, was written whole
@@ -36,14 +36,14 @@ StopsIn text written written' faults faults' OutOfMemory = (faults' ≡ faults) 
 
 -- what comes of what is done next was written, and the tag is this behind it
 pub record TellsNext (number : ℕ) (tag : TagValue) (stimulus : Stimulus) (tag' : TagValue) (written written' : Option (List ℕ)) : Type 0 where
-  pub effect : Effect
+  pub effect : StimulusEffect
   pub has : HasEffect stimulus effect
   pub becomes : tag' ≡ (outcome_of effect tag).tag
   pub added : Adds written written' (text_with (lines_behind number effect tag))
 
 -- ... or a front of it was
 pub record StopsAt (number : ℕ) (tag : TagValue) (stimulus : Stimulus) (written written' : Option (List ℕ)) (faults faults' : ℕ) (fault : PlayFault) : Type 0 where
-  pub effect : Effect
+  pub effect : StimulusEffect
   pub has : HasEffect stimulus effect
   pub stops : StopsIn (text_with (lines_behind number effect tag)) written written' faults faults' fault
 

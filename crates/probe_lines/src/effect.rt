@@ -11,7 +11,7 @@ use command_grammar::{Command, CommandRefusal, decode_command_to};
 
 /// What a line does to the tag.
 #[derive(Drop)]
-pub enum Effect {
+pub enum StimulusEffect {
     /// It hears a command.
     Hears(Command),
     /// This befalls it.
@@ -22,23 +22,23 @@ pub enum Effect {
 
 /// What is done to the tag, where bits are looked at: they are the command that they spell, and none where the last of them leaves a
 /// command unfinished, or some bit fits none. The room for bits is lent.
-pub(crate) fn effect_of(stimulus: Stimulus<'_>, bits: &mut Bits) -> Effect
+pub(crate) fn effect_of(stimulus: Stimulus<'_>, bits: &mut Bits) -> StimulusEffect
     requires legal { IsProbeLine (ProbeLine.Stimulus stimulus) }
     requires room { most_bits ≤ bits.old.capacity }
     ensures effect { HasEffect stimulus.entry result }
     ensures capacity { bits.new.capacity ≡ bits.old.capacity }
 {
     match stimulus {
-        Stimulus::Command(command) => Effect::Hears(command),
-        Stimulus::Event(event) => Effect::Befalls(event),
+        Stimulus::Command(command) => StimulusEffect::Hears(command),
+        Stimulus::Event(event) => StimulusEffect::Befalls(event),
         Stimulus::Bits(digits) => {
             digits.copy_to(bits);
             // What no bits are.
             let mut command = Err(CommandRefusal::Short(0));
             decode_command_to(bits.as_slice(), &mut command);
             match command {
-                Ok(command) => Effect::Hears(command),
-                Err(_) => Effect::Nothing,
+                Ok(command) => StimulusEffect::Hears(command),
+                Err(_) => StimulusEffect::Nothing,
             }
         }
     }

@@ -4,11 +4,11 @@ ghost use Rattle.std.specs.Prelude.{◌≡◌, ℕ, List};
 ghost use Rattle.std.specs.List.{AllZip};
 ghost use Rattle.scenario_lines.specs.declared.tag.TagSpec.{TagSpec};
 ghost use Rattle.tag_machine.specs.TagValue.{TagValue};
-ghost use Rattle.probe_lines.specs.declared.effect.Effect.{Effect};
+ghost use Rattle.probe_lines.specs.declared.effect.StimulusEffect.{StimulusEffect};
 ghost use Rattle.probe_lines.specs.declared.fault.Fault.{Fault};
 ghost use Rattle.probe_lines.specs.declared.line.Stimulus.{Stimulus};
 ghost use Rattle.probe_lines.specs.Answers.{HasEffect, Tells};
-ghost use Rattle.probe_lines.specs.LineLaws.{LineLaws, TagLineLaws};
+ghost use Rattle.probe_lines.specs.laws.LineLaws.{LineLaws, TagLineLaws};
 ghost use Rattle.probe_lines.specs.ProbeText.{IsFirstFault, IsProbe};
 
 use command_grammar::spelling_laws;
@@ -34,8 +34,8 @@ pub(crate) fn line_laws()
 
 /// Whatever is done to a tag has an effect on it, and one only.
 pub fn stimuli_have_one_effect()
-    ensures some { (said : List Stimulus) → (effects : List Effect) × AllZip HasEffect said effects }
-    ensures one { (said : List Stimulus) (one other : List Effect) → AllZip HasEffect said one → AllZip HasEffect said other → one ≡ other }
+    ensures some { (said : List Stimulus) → (effects : List StimulusEffect) × AllZip HasEffect said effects }
+    ensures one { (said : List Stimulus) (one other : List StimulusEffect) → AllZip HasEffect said one → AllZip HasEffect said other → one ≡ other }
 {
     spelling_laws();
 }

@@ -13,7 +13,7 @@ mod probe;
 mod reading;
 mod stimuli;
 
-pub use effect::Effect;
+pub use effect::StimulusEffect;
 pub use fault::{Fault, ProbeFault, fault_text};
 pub use laws::{
     probe_texts_are_not_faulty, probe_texts_have_one_fault, probes_are_told_apart,

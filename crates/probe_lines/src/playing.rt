@@ -1,12 +1,12 @@
 //! A probe, played: what the tag answers and what it is behind each line, written as it is made.
 ghost use Rattle.std.specs.Prelude.{◌≡◌, ◌≤◌, ◌++◌, List, IfOk, IfErr, OnOk};
 ghost use Rattle.std.specs.String.{string_bytes};
-ghost use Rattle.air_io.specs.Flow.{Adds, FaultsRose};
+ghost use Rattle.air_io.specs.Flow.{Adds};
 ghost use Rattle.text_fields.specs.Lines.{text_with};
 ghost use Rattle.reply_grammar.specs.Table.{reply_room};
 ghost use Rattle.scenario_lines.specs.TagForm.{IsTag};
 ghost use Rattle.tag_machine.specs.Hearing.{tag_value_of};
-ghost use Rattle.probe_lines.specs.declared.effect.Effect.{Effect};
+ghost use Rattle.probe_lines.specs.declared.effect.StimulusEffect.{StimulusEffect};
 ghost use Rattle.probe_lines.specs.declared.line.Stimulus.{Stimulus};
 ghost use Rattle.probe_lines.specs.Answers.{last_text, lines_behind, outcome_of, tag_of};
 ghost use Rattle.probe_lines.specs.declared.line.ProbeLine.{ProbeLine};
@@ -14,7 +14,7 @@ ghost use Rattle.probe_lines.specs.Played.{HasPlayed, StopsAt, StopsIn, TellsNex
 ghost use Rattle.probe_lines.specs.ProbeLine.{IsProbeLine};
 ghost use Rattle.probe_lines.specs.ProbeText.{AreStimuli};
 
-use crate::effect::{Effect, effect_of};
+use crate::effect::{StimulusEffect, effect_of};
 use crate::laws::stimuli_have_one_effect;
 use crate::line::Stimulus;
 use crate::printing::{push_answer_line, push_silence, push_state_line};
@@ -47,8 +47,8 @@ fn hear<L: Ledger>(
     steps: &mut Steps<L>,
 ) -> Result<AnyTag, OutOfMemory>
     requires room { reply_room ≤ bits.old.capacity }
-    ensures tag { IfOk result (λ it. tag_value_of it ≡ (outcome_of (Effect.Hears command.now) (tag_value_of tag)).tag) }
-    ensures text { OnOk result (string_bytes text.new ≡ string_bytes text.old ++ text_with (lines_behind number (Effect.Hears command.now) (tag_value_of tag))) }
+    ensures tag { IfOk result (λ it. tag_value_of it ≡ (outcome_of (StimulusEffect.Hears command.now) (tag_value_of tag)).tag) }
+    ensures text { OnOk result (string_bytes text.new ≡ string_bytes text.old ++ text_with (lines_behind number (StimulusEffect.Hears command.now) (tag_value_of tag))) }
     ensures capacity { bits.new.capacity ≡ bits.old.capacity }
 {
     // By this law the bits of an answer are a reply that is expected.
@@ -66,7 +66,7 @@ fn hear<L: Ledger>(
 fn respond<L: Ledger>(
     number: u32,
     tag: AnyTag,
-    effect: Effect,
+    effect: StimulusEffect,
     bits: &mut Bits,
     text: &mut String,
     steps: &mut Steps<L>,
@@ -77,13 +77,13 @@ fn respond<L: Ledger>(
     ensures capacity { bits.new.capacity ≡ bits.old.capacity }
 {
     match effect {
-        Effect::Hears(command) => hear(number, tag, &command, bits, text, steps),
-        Effect::Befalls(event) => {
+        StimulusEffect::Hears(command) => hear(number, tag, &command, bits, text, steps),
+        StimulusEffect::Befalls(event) => {
             let befallen = tag.event(event);
             push_state_line(text, number, &befallen)?;
             Ok(befallen)
         }
-        Effect::Nothing => {
+        StimulusEffect::Nothing => {
             push_silence(text, number)?;
             push_state_line(text, number, &tag)?;
             Ok(tag)

@@ -10,7 +10,7 @@ ghost use Rattle.reply_grammar.specs.laws.Reading.{ReadTo};
 
 use crate::expected::{Expect, Reply, ReplyRefusal};
 use crate::reply_words::{EpcWords, ReadWords};
-use bit_strings::Bits;
+use bit_strings::{Bits, word_of};
 use gen2_crc::residue_ok;
 
 /// The length of an error: header, code, handle and CRC-16, in bits.
@@ -151,7 +151,8 @@ fn word_at(bits: &Bits, at: u32) -> u16
     requires { at + 16 ≤ length bits.now.items }
     ensures { result ≡ value_of (part_of bits.now.items at 16) }
 {
-    bits.word(at).unwrap()
+    let from = at as usize;
+    word_of(&bits.as_slice()[from..from + 16])
 }
 
 /// The reply that bits are which pass.

@@ -47,7 +47,7 @@ pub fn encode_epc(pc: u16, epc: &EpcWords, out: &mut Bits)
 {
     out.clear();
     out.put_u16_reserved(pc);
-    put_words(out, epc.as_slice());
+    out.put_words_reserved(epc.as_slice());
     put_check(out);
 }
 
@@ -69,7 +69,7 @@ fn write_reply(reply: &Reply, handle: u16, out: &mut Bits)
         }
         Reply::Words(words) => {
             out.push_reserved(false);
-            put_words(out, words.as_slice());
+            out.put_words_reserved(words.as_slice());
             out.put_u16_reserved(handle);
             put_check(out);
         }
@@ -93,16 +93,6 @@ fn put_code(out: &mut Bits, code: u8)
     ensures { out.new ≡ record out.old { items = out.old.items ++ field_of code 8 } }
 {
     out.put_field_reserved(u32::from(code), 8);
-}
-
-/// Adds words, for which there is room.
-fn put_words(out: &mut Bits, words: &[u16])
-    requires { length out.old.items + 16 * length words.now ≤ out.old.capacity }
-    ensures { out.new ≡ record out.old { items = out.old.items ++ bits_of_words words.now } }
-{
-    for word in words {
-        out.put_u16_reserved(*word);
-    }
 }
 
 /// Adds the CRC-16 of the bits, for which there is room.

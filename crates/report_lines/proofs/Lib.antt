@@ -1,5 +1,6 @@
 pub mod Adding
 pub mod Digits
+pub mod Members
 pub mod Pieces
 pub mod Raising
 pub mod OneName

@@ -1,6 +1,7 @@
 pub mod ReportLine
 pub mod Line
 pub mod JsonLines
+pub mod JsonObject
 pub mod Unescaped
 pub mod Names
 pub mod Kept

@@ -6,7 +6,6 @@ use Rattle.wave_dump.specs.Waves.{dump_behind, end_text, exchange_text, head_tex
 use Rattle.report_lines.specs.Kept.{kept_line_text, line_text_of}
 use Rattle.report_lines.specs.ReportLine.{ReportLine, BlfLine, GivenLine, DoneLine, text_by}
 use Rattle.report_lines.specs.declared.mode.Mode.{Mode}
-use Rattle.report_lines.specs.declared.mode_spelling.ModeSpelling.{ModeSpelling}
 use Rattle.report_lines.specs.declared.mode.Mode.TheVariants.{Vcd}
 
 -- What a line brings to a dump: the first one its head, an exchange that is over its waves, and the last one the end.
@@ -40,15 +39,20 @@ abbrev pub drawing_behind : Mode → DrawingValue → ReportLine → DrawingValu
 drawing_behind Vcd drawing line = drawing_after drawing line
 drawing_behind mode drawing line = drawing
 
+-- a report of a mode, and where its dump stands
+pub record SpellingValue : Type 0 where
+  pub mode : Mode
+  pub dump : DrawingValue
+
 -- nothing was told yet, of a run over a link
-abbrev pub new_spelling : Mode → LinkValue → ModeSpelling
+abbrev pub new_spelling : Mode → LinkValue → SpellingValue
 new_spelling mode link = record { mode = mode; dump = record { link = link; dump = new_dump link } }
 
 -- ... of a spelling that stands so
-abbrev pub line_of_mode : ModeSpelling → ReportLine → List ℕ
+abbrev pub line_of_mode : SpellingValue → ReportLine → List ℕ
 line_of_mode spelling line = spelled_line spelling.mode spelling.dump line
 
-abbrev pub mode_behind : ModeSpelling → ReportLine → ModeSpelling
+abbrev pub mode_behind : SpellingValue → ReportLine → SpellingValue
 mode_behind spelling line = record spelling { dump = drawing_behind spelling.mode spelling.dump line }
 
 -- The text of a report of a mode, of a run over a link: its lines, each as the mode spells it; a dump is drawn of them.

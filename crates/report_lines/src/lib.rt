@@ -4,10 +4,12 @@
 
 mod exchange_lines;
 mod json_lines;
+mod json_objects;
 mod laws;
 mod line;
 mod lines;
 mod listener;
+mod member_texts;
 mod mode;
 mod mode_spelling;
 mod naming;
@@ -26,6 +28,7 @@ pub use lines::{
     push_tx_line,
 };
 pub use listener::Listener;
+pub use member_texts::MemberTexts;
 pub use mode::{Mode, PlayFault};
 pub use mode_spelling::ModeSpelling;
 pub use naming::named;

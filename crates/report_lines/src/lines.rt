@@ -7,11 +7,12 @@ ghost use Rattle.text_fields.specs.Lines.{line_feed, line_with, space};
 ghost use Rattle.report_lines.specs.ReportLine.{BlfLine, DoneLine, ListLine, RoundLine, RxLine, SeenLine, TxLine, end_word, report_line_text};
 
 use bit_strings::OutOfMemory;
+use pie_text::KeptIntervals;
 use q_round::RoundEnd;
 use reply_grammar::EpcWords;
 use text_fields::{
-    push_next_bits, push_next_long_number, push_next_name, push_next_number, push_next_numbers,
-    push_next_word, push_next_words, push_number,
+    push_next_bits, push_next_long_number, push_next_name, push_next_number, push_next_word,
+    push_next_words, push_number,
 };
 
 /// Ends a line.
@@ -34,13 +35,18 @@ pub fn push_blf_line(text: &mut String, numerator: u32, denominator: u32) -> Res
 }
 
 /// Writes `tx E INTERVALS`: the intervals of the frame that was sent in the exchange of this number, in
-/// nanoseconds.
-pub fn push_tx_line(text: &mut String, exchange: u64, intervals: &[u32]) -> Result<(), OutOfMemory>
+/// nanoseconds, with the texts of intervals that are kept.
+pub fn push_tx_line(
+    text: &mut String,
+    kept: &mut KeptIntervals,
+    exchange: u64,
+    intervals: &[u32],
+) -> Result<(), OutOfMemory>
     ensures { OnOk result (string_bytes text.new ≡ string_bytes text.old ++ report_line_text (TxLine exchange intervals.now)) }
 {
     text.push_str("tx")?;
     push_next_long_number(text, exchange)?;
-    push_next_numbers(text, intervals)?;
+    kept.push_next(text, intervals)?;
     end_line(text)
 }
 

@@ -5,18 +5,30 @@ ghost use Rattle.report_lines.specs.Line.{line_of};
 ghost use Rattle.report_lines.specs.Spelled.{drawing_after, drawn_line, new_spelling};
 
 use crate::line::Line;
+use crate::member_texts::MemberTexts;
 use crate::mode::Mode;
-use crate::spelling::Spelling;
+use crate::spelling::{Shared, Spelling};
 use bit_strings::OutOfMemory;
 use pie_line::Link;
+use pie_text::KeptIntervals;
 use std::alloc::Global;
+use std::marker::Model;
 use wave_dump::{Dump, push_head};
 
-/// The report of a mode, and where its dump stands, if it is one.
+/// The report of a mode, and where its dump stands, if it is one. A contract sees these two alone.
 #[derive(Drop)]
 pub struct ModeSpelling {
     mode: Mode,
     dump: Dump,
+    shared: Shared,
+}
+
+impl Model for ModeSpelling {
+    ghost use Rattle.report_lines.specs.Spelled.{SpellingValue};
+
+    ghost Value = { SpellingValue };
+
+    ghost view = { λ a. record { mode = a.mode; dump = a.dump } };
 }
 
 impl ModeSpelling {
@@ -25,7 +37,14 @@ impl ModeSpelling {
         ensures { IfOk result (λ spelling. spelling ≡ new_spelling mode link) }
     {
         let dump = Dump::new(alloc, link)?;
-        Ok(ModeSpelling { mode, dump })
+        Ok(ModeSpelling {
+            mode,
+            dump,
+            shared: Shared {
+                intervals: KeptIntervals::new(),
+                members: MemberTexts::new(alloc),
+            },
+        })
     }
 }
 
@@ -39,7 +58,7 @@ impl Spelling for ModeSpelling {
     fn spell(&mut self, line: &Line<'_>, text: &mut String) -> Result<(), OutOfMemory> {
         match self.mode {
             Mode::Vcd => draw(&mut self.dump, line, text),
-            mode => mode.push_kept(text, line),
+            mode => mode.push_kept(text, &mut self.shared, line),
         }
     }
 

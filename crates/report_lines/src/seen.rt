@@ -6,7 +6,7 @@ ghost use Rattle.report_lines.specs.SeenCounts.{count_of, seen_in, seen_line, se
 use bit_strings::OutOfMemory;
 use indexmap::IndexMap;
 use reply_grammar::EpcWords;
-use std::alloc::Global;
+use std::alloc::{AllocError, Global};
 use std::marker::Model;
 
 /// What an EPC reply brings of a tag.
@@ -50,9 +50,8 @@ impl SeenCounts {
         }
     }
 
-    /// Counts one more of this pair. After an error nothing is changed.
+    /// Counts one more of this pair. After an error nothing is changed; it is one too where the count has no room for one more.
     pub fn count(&mut self, pc: u16, epc: &EpcWords) -> Result<(), OutOfMemory>
-        requires { count_of self.old (pc, epc.now) < 2 ^ 63 }
         ensures more { OnOk result (self.new ≡ seen_more self.old (pc, epc.now)) }
         ensures listed { (pairs : List (ℕ × List ℕ)) → self.old ≡ seen_in pairs → OnOk result (self.new ≡ seen_in (pairs ++ (pc, epc.now) ∷ [])) }
         ensures err { OnErr result (self.new ≡ self.old) }
@@ -63,12 +62,14 @@ impl SeenCounts {
 
     /// Counts one more of this pair.
     fn raise(&mut self, listed: Listed) -> Result<(), OutOfMemory>
-        requires { count_of self.old (listed.pc, listed.epc) < 2 ^ 63 }
         ensures more { OnOk result (self.new ≡ seen_more self.old (listed.pc, listed.epc)) }
         ensures err { OnErr result (self.new ≡ self.old) }
     {
         let before = self.count_of(&listed);
-        self.counts.insert(listed, before + 1)?;
+        let Some(count) = before.checked_add(1) else {
+            return Err(AllocError);
+        };
+        self.counts.insert(listed, count)?;
         Ok(())
     }
 

@@ -14,10 +14,12 @@ use crate::lines::{
     push_blf_line, push_done_line, push_list_line, push_round_line, push_rx_line, push_seen_line,
     push_tx_line,
 };
+use crate::member_texts::MemberTexts;
 use crate::mode::Mode;
 use crate::results::push_op_line;
 use crate::tags::push_tag_line;
 use bit_strings::OutOfMemory;
+use pie_text::KeptIntervals;
 
 /// How lines are spelled, one after another.
 pub trait Spelling {
@@ -37,8 +39,19 @@ pub trait Spelling {
         ensures { IsFalse result → (line : ReportLine) → is_of_exchanges line ≡ true → (text_of self.now line ≡ []) × (behind self.now line ≡ self.now) };
 }
 
-/// Writes a line of a report.
-pub fn push_line(text: &mut String, line: &Line<'_>) -> Result<(), OutOfMemory>
+/// What the lines of a report share: the intervals that were written, with their texts, and room for the texts of an object.
+#[derive(Drop)]
+pub(crate) struct Shared {
+    pub(crate) intervals: KeptIntervals,
+    pub(crate) members: MemberTexts,
+}
+
+/// Writes a line of a report, with the texts of intervals that are kept.
+pub fn push_line(
+    text: &mut String,
+    kept: &mut KeptIntervals,
+    line: &Line<'_>,
+) -> Result<(), OutOfMemory>
     ensures { OnOk result (string_bytes text.new ≡ string_bytes text.old ++ report_line_text (line_of line.now)) }
 {
     match *line {
@@ -57,7 +70,7 @@ pub fn push_line(text: &mut String, line: &Line<'_>) -> Result<(), OutOfMemory>
         Line::Tx {
             exchange,
             intervals,
-        } => push_tx_line(text, exchange, intervals),
+        } => push_tx_line(text, kept, exchange, intervals),
         Line::Rx {
             exchange,
             count,
@@ -114,22 +127,36 @@ impl Mode {
     }
 
     /// Writes a line that the report of this mode has.
-    fn push_line(self, text: &mut String, line: &Line<'_>) -> Result<(), OutOfMemory>
+    fn push_line(
+        self,
+        text: &mut String,
+        shared: &mut Shared,
+        line: &Line<'_>,
+    ) -> Result<(), OutOfMemory>
         ensures { OnOk result (string_bytes text.new ≡ string_bytes text.old ++ line_text_of self (line_of line.now)) }
     {
         match self {
-            Mode::Plain | Mode::Trace | Mode::Exchanges => push_line(text, line),
-            Mode::Json => push_json_line(text, line),
+            Mode::Plain | Mode::Trace | Mode::Exchanges => push_line(
+                text,
+                &mut shared.intervals,
+                line,
+            ),
+            Mode::Json => push_json_line(text, &mut shared.members, line),
             Mode::Vcd => Ok(()),
         }
     }
 
     /// Writes a line, if the report of this mode has it.
-    pub(crate) fn push_kept(self, text: &mut String, line: &Line<'_>) -> Result<(), OutOfMemory>
+    pub(crate) fn push_kept(
+        self,
+        text: &mut String,
+        shared: &mut Shared,
+        line: &Line<'_>,
+    ) -> Result<(), OutOfMemory>
         ensures { OnOk result (string_bytes text.new ≡ string_bytes text.old ++ kept_line_text self (line_of line.now)) }
     {
         if self.keeps(line) {
-            self.push_line(text, line)
+            self.push_line(text, shared, line)
         } else {
             Ok(())
         }

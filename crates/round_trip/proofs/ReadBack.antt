@@ -1,8 +1,8 @@
 -- What is written is a line of `decode`, and what was read is its answer.
-use Rattle.std.proofs.Common.{◌≡◌, ◌⊎◌, ◌≤◌, ◌<◌, ◌^◌, ◌+◌, ◌*◌, ℕ, Bool, List, [], ◌∷◌, ◌++◌, length, map, refl, sym, ◌∙◌, ap, arith, inl, inr, subst, length-append}
+use Rattle.std.proofs.Common.{◌≡◌, ◌⊎◌, ◌≤◌, ◌<◌, ◌^◌, ◌+◌, ◌*◌, ℕ, Bool, List, [], ◌∷◌, ◌++◌, length, map, refl, sym, ◌∙◌, ap, arith, inl, inr, subst}
 use Rattle.std.specs.Prelude.{Ok}
 use Rattle.std.specs.Prelude.{All, codes}
-use Rattle.std.specs.List.{AllZip, flat_map}
+use Rattle.std.specs.List.{AllZip}
 use Rattle.std.specs.Fmt.{decimal}
 use Rattle.std.proofs.lemmas.List.{append-nil}
 use Rattle.std.proofs.lemmas.List.Elements.{All-cons, All-head, All-nil, All-tail, All-weaker}
@@ -15,10 +15,9 @@ use Rattle.text_fields.specs.laws.LineLaws.{fields_come_back, line_lacks, lines_
 use Rattle.line_code.specs.Stream.{stream_of}
 use Rattle.line_codes.specs.Codes.{table_of}
 use Rattle.line_codes.specs.laws.Codes.{stream_most}
-use Rattle.pie_line.specs.Pie.{header_of, kind_of, longest_interval, pair_of, sum_of, wave_of, IsFrame}
+use Rattle.pie_line.specs.Pie.{kind_of, longest_interval, wave_of, IsFrame}
 use Rattle.pie_line.specs.Link.{IsLegalLink, LinkValue}
 use Rattle.pie_line.specs.declared.frame.Lead.{Lead}
-use Rattle.pie_line.specs.declared.frame.Lead.TheVariants.{Preamble, FrameSync}
 use Rattle.pie_text.specs.laws.WaveLength.{length-wave}
 use Rattle.command_grammar.specs.Commands.{spelling_of, IsLegalCommand, SpellsCommand}
 use Rattle.command_grammar.specs.declared.commands.Command.{Command as OneCommand}

@@ -12,7 +12,7 @@ use Rattle.runs.specs.Listed.{is_of_round, is_of_slot, tags_listed_in, tags_list
 use Rattle.runs.specs.Moments.{Ending, ending_of, past_after_query, tag_after_query, is_matched_in, flags_after_query}
 use Rattle.runs.specs.TagAtEnd.{StandsAtQuiet, StandsAtEnd, IsListedOnce}
 use Rattle.runs.specs.TagInRound.{is_matched, flags_in_round}
-use Rattle.runs.proofs.Others.{AllRecords, records-at, records-behind, records-all, AreOfOthers, of-others, listed-others, query-others, ending-others, records-others, Adds, step-adds, steps-add}
+use Rattle.runs.proofs.OtherRounds.{AllRecords, records-at, records-behind, records-all, AreOfOthers, of-others, listed-others, query-others, ending-others, records-others, Adds, step-adds, steps-add}
 use Rattle.runs.specs.laws.Growth.{RoundsKeepLimit}
 use Rattle.runs.specs.laws.PlayedRounds.{PlayedRound, number_of, past_behind_played}
 use Rattle.runs.proofs.Members.{Member, StandsBefore}

@@ -7,10 +7,10 @@ use Rattle.air_model.specs.Past.{Start, Record, Item, exchanged, tags_behind}
 use Rattle.runs.specs.Headline.{is_round_line, is_list_line}
 use Rattle.runs.specs.Listing.{Listed, listed_by, listing_of}
 use Rattle.runs.specs.Said.{answer_line, exchanged_by}
-use Rattle.runs.specs.Report.{exchange_lines, first_lines, list_line, item_lines, past_lines, tag_lines, last_lines}
+use Rattle.runs.specs.Report.{exchange_lines, list_line, item_lines, past_lines, tag_lines, last_lines}
 use Rattle.report_lines.specs.Kept.{is_plain}
-use Rattle.pie_line.specs.Link.{LinkValue, blf_of}
-use Rattle.report_lines.specs.ReportLine.{ReportLine, BlfLine, ExchangeLine, MissedLine, GivenLine, TxLine, RxLine, ListLine, OpLine, RoundLine, SeenLine, TagLine, DoneLine}
+use Rattle.pie_line.specs.Link.{LinkValue}
+use Rattle.report_lines.specs.ReportLine.{ReportLine, ExchangeLine, MissedLine, GivenLine, TxLine, RxLine, ListLine, OpLine, RoundLine, SeenLine, TagLine, DoneLine}
 use Rattle.report_lines.specs.SeenCounts.{Seen, seen_in}
 use Rattle.tag_machine.specs.TagValue.{TagValue}
 
@@ -72,9 +72,6 @@ no-exchange test none link sent =
     ∙ none-made test (MissedLine sent.exchange) (λ tag. none (MissedLine sent.exchange tag) refl) sent.entry.missed (map (answer_line sent.exchange) sent.replies ++ over)
     ∙ none-made test (answer_line sent.exchange) (λ replied. none (answer_line sent.exchange replied) refl) sent.replies over
     ∙ fails)
-
-pub no-first : (test : ReportLine → Bool) → PassesNoTrace test → (link : LinkValue) → filter test (first_lines link) ≡ []
-no-first test none link = rw (none (BlfLine (blf_of link).0 (blf_of link).1) refl) refl
 
 -- of an exchange those that list something may pass
 pub sent-passes : (test : ReportLine → Bool) → PassesFew test → (link : LinkValue) (sent : Record) (past : List Item)

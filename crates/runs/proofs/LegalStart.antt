@@ -20,7 +20,7 @@ use Rattle.scenario.specs.declared.values.Step.TheVariants as steps
 use Rattle.scenario.specs.declared.values.TagGroup.{TagGroup}
 use Rattle.scenario_lines.specs.declared.version.Version.{Version}
 use Rattle.scenario_lines.specs.TagForm.{IsTag}
-use Rattle.scenario_lines.specs.TagLaws.{banks-legal}
+use Rattle.scenario_lines.specs.laws.TagLaws.{banks-legal}
 use Rattle.scenario_lines.specs.declared.tag.TagSpec.{TagSpec}
 use Rattle.tag_machine.specs.TagValue.{IsLegalTag}
 use Rattle.tag_memory.specs.Image.{banks_of, image_banks}

@@ -27,7 +27,7 @@ pub mod TagEnds
 pub mod Honesty
 pub mod Population
 pub mod Heard
-pub mod Others
+pub mod OtherRounds
 pub mod ListLines
 pub mod TagSteps
 pub mod TagQuery

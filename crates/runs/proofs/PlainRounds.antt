@@ -1,5 +1,5 @@
 -- A round of a plain run depends on what is past through its tags alone.
-use Rattle.std.proofs.Common.{◌≡◌, ℕ, zero, suc, ◌+◌, ◌≤◌, Bool, true, false, List, [], ◌∷◌, ◌++◌, length, map, refl, ap, sym, ◌∙◌, subst, arith}
+use Rattle.std.proofs.Common.{◌≡◌, ℕ, zero, suc, ◌+◌, ◌≤◌, true, false, List, [], ◌∷◌, ◌++◌, length, map, refl, ap, sym, ◌∙◌, subst, arith}
 use Rattle.std.specs.List.{AllZip}
 use Rattle.std.proofs.lemmas.List.{map-append}
 use Rattle.access_ops.specs.Operations.{Dialogue}
@@ -10,12 +10,10 @@ use Rattle.air_events.specs.declared.Several.TheVariants as severals
 use Rattle.air_model.specs.Channel.{Given, default_given}
 use Rattle.air_model.specs.Past.{Start, Record, Item, ended, next_record, past_behind_command, rounds_in, tags_behind, tags_behind_from}
 use Rattle.air_model.specs.Reception.{reception_of}
-use Rattle.bit_strings.specs.declared.code.Code.{Code}
-use Rattle.command_fields.specs.declared.choices.Sel.{Sel}
-use Rattle.command_fields.specs.declared.choices.Side.{Side}
 use Rattle.command_fields.specs.declared.choices.UpDn.{UpDn}
 use Rattle.command_grammar.specs.declared.commands.Command.{Command}
 use Rattle.command_grammar.specs.declared.commands.Command.TheVariants as commands
+use Rattle.pie_line.specs.Link.{LinkValue}
 use Rattle.q_round.specs.SpecValue.{SpecValue, IsLegalSpec}
 use Rattle.q_round.specs.Rounds.{Turn, query, adjust, rep, quiet, limit, ends as over, AreOutcomes, answer_of, is_over, turn_of}
 use Rattle.q_round.specs.declared.frame.Outcome.{Outcome}
@@ -41,42 +39,55 @@ use Rattle.runs.specs.EveryTag.{pairs_listed}
 use Rattle.runs.proofs.Keeping.{Keeps, ack-keeps, keeps-on, query-keeps, query_adjust-keeps, query_rep-keeps}
 use Rattle.runs.proofs.Turns.{nothing-begun}
 
--- Two commands of a round without operations that tags can't tell apart: they are one, or both are a Query, and differ in the form of
--- the replies.
-data AreOne : Command → Command → Type 0 where
-  acks : (rn : ℕ) → AreOne (commands.Ack rn) (commands.Ack rn)
-  reps : (session : ℕ) → AreOne (commands.QueryRep session) (commands.QueryRep session)
-  adjusts : (session : ℕ) (updn : UpDn) → AreOne (commands.QueryAdjust session updn) (commands.QueryAdjust session updn)
-  queries : (dr dr2 : Bool) (code code2 : Code) (trext trext2 : Bool) (sel : Sel) (session : ℕ) (target : Side) (q : ℕ)
-      → AreOne (commands.Query dr code trext sel session target q) (commands.Query dr2 code2 trext2 sel session target q)
+-- What two rounds without operations send alike, so that tags can't tell it apart: one command, or a Query each, in which the form of
+-- the replies differs.
+data Sent : Type 0 where
+  acks : (rn : ℕ) → Sent
+  reps : (session : ℕ) → Sent
+  adjusts : (session : ℕ) (updn : UpDn) → Sent
+  queries : (spec : SpecValue) (link link2 : LinkValue) → Sent
 
-queries-one : (dr dr2 : Bool) (code code2 : Code) (trext trext2 : Bool) (sel : Sel) (session : ℕ) (target : Side) (q number : ℕ) (entry : Entry) (tags : List TagValue)
-    → outcomes_from number (commands.Query dr code trext sel session target q) entry tags ≡ outcomes_from number (commands.Query dr2 code2 trext2 sel session target q) entry tags
-queries-one dr dr2 code code2 trext trext2 sel session target q number entry [] = refl
-queries-one dr dr2 code code2 trext trext2 sel session target q number entry (tag ∷ tags) =
-    ap (λ (outcomes : List TagOutcome). outcome_in number (commands.Query dr code trext sel session target q) entry tag ∷ outcomes)
-    (queries-one dr dr2 code code2 trext trext2 sel session target q (number + 1) entry tags)
+abbrev query_of : SpecValue → LinkValue → Command
+query_of spec link = commands.Query link.dr link.code link.trext spec.sel spec.session spec.target spec.q
 
-outcomes-one : (command command2 : Command) → AreOne command command2 → (entry : Entry) (tags : List TagValue) → outcomes_from 0 command entry tags ≡ outcomes_from 0 command2 entry tags
-outcomes-one command command2 (acks rn) entry tags = refl
-outcomes-one command command2 (reps session) entry tags = refl
-outcomes-one command command2 (adjusts session updn) entry tags = refl
-outcomes-one command command2 (queries dr dr2 code code2 trext trext2 sel session target q) entry tags = queries-one dr dr2 code code2 trext trext2 sel session target q 0 entry tags
+-- the command of the one round ..
+abbrev command_of : Sent → Command
+command_of (acks rn) = commands.Ack rn
+command_of (reps session) = commands.QueryRep session
+command_of (adjusts session updn) = commands.QueryAdjust session updn
+command_of (queries spec link link2) = query_of spec link
+
+-- ... and of the other
+abbrev command2_of : Sent → Command
+command2_of (acks rn) = commands.Ack rn
+command2_of (reps session) = commands.QueryRep session
+command2_of (adjusts session updn) = commands.QueryAdjust session updn
+command2_of (queries spec link link2) = query_of spec link2
+
+queries-one : (spec : SpecValue) (link link2 : LinkValue) (number : ℕ) (entry : Entry) (tags : List TagValue)
+    → outcomes_from number (query_of spec link) entry tags ≡ outcomes_from number (query_of spec link2) entry tags
+queries-one spec link link2 number entry [] = refl
+queries-one spec link link2 number entry (tag ∷ tags) =
+    ap (λ (outcomes : List TagOutcome). outcome_in number (query_of spec link) entry tag ∷ outcomes) (queries-one spec link link2 (number + 1) entry tags)
+
+outcomes-one : (sent : Sent) (entry : Entry) (tags : List TagValue) → outcomes_from 0 (command_of sent) entry tags ≡ outcomes_from 0 (command2_of sent) entry tags
+outcomes-one (acks rn) entry tags = refl
+outcomes-one (reps session) entry tags = refl
+outcomes-one (adjusts session updn) entry tags = refl
+outcomes-one (queries spec link link2) entry tags = queries-one spec link link2 0 entry tags
 
 -- what such a command keeps of each tag
-step-keeps : (command command2 : Command) → AreOne command command2 → (state : StateValue) (body : BodyValue) → Keeps (record { state = state; body = body }) (step command state body).tag
-step-keeps command command2 (acks rn) state body = ack-keeps rn state body
-step-keeps command command2 (reps session) state body = query_rep-keeps session state body
-step-keeps command command2 (adjusts session updn) state body = query_adjust-keeps session updn state body
-step-keeps command command2 (queries dr dr2 code code2 trext trext2 sel session target q) state body = query-keeps sel session target q state body
+step-keeps : (sent : Sent) (state : StateValue) (body : BodyValue) → Keeps (record { state = state; body = body }) (step (command_of sent) state body).tag
+step-keeps (acks rn) state body = ack-keeps rn state body
+step-keeps (reps session) state body = query_rep-keeps session state body
+step-keeps (adjusts session updn) state body = query_adjust-keeps session updn state body
+step-keeps (queries spec link link2) state body = query-keeps spec.sel spec.session spec.target spec.q state body
 
-all-keep : (command command2 : Command) → AreOne command command2 → (number : ℕ) (first tags : List TagValue) → AllZip Keeps first tags
-    → AllZip Keeps first (tags_after (outcomes_from number command no_entry tags))
-all-keep command command2 same number [] [] kept = tt
-all-keep command command2 same number [] (tag ∷ tags) kept = absurd kept
-all-keep command command2 same number (first ∷ firsts) [] kept = absurd kept
-all-keep command command2 same number (first ∷ firsts) (tag ∷ tags) kept =
-    (keeps-on first tag _ kept.0 (step-keeps command command2 same tag.state tag.body), all-keep command command2 same (number + 1) firsts tags kept.1)
+all-keep : (sent : Sent) (number : ℕ) (first tags : List TagValue) → AllZip Keeps first tags → AllZip Keeps first (tags_after (outcomes_from number (command_of sent) no_entry tags))
+all-keep sent number [] [] kept = tt
+all-keep sent number [] (tag ∷ tags) kept = absurd kept
+all-keep sent number (first ∷ firsts) [] kept = absurd kept
+all-keep sent number (first ∷ firsts) (tag ∷ tags) kept = (keeps-on first tag _ kept.0 (step-keeps sent tag.state tag.body), all-keep sent (number + 1) firsts tags kept.1)
 
 -- what a plain channel gives of a command
 abbrev given_plainly : Command → List TagValue → Given
@@ -113,11 +124,11 @@ senders-from sent sent2 (whole_reply replies.Header) given = refl
 senders-from sent sent2 (whole_reply (replies.Error code)) given = refl
 
 -- what is received of an ACK goes by what was given
-heard-one : (sent sent2 : Record) (command command2 : Command) → AreOne command command2 → sent.given ≡ sent2.given → reception_of_ack sent command ≡ reception_of_ack sent2 command2
-heard-one sent sent2 command command2 (acks rn) given = ap (reception_of expects.Epc) given
-heard-one sent sent2 command command2 (reps session) given = refl
-heard-one sent sent2 command command2 (adjusts session updn) given = refl
-heard-one sent sent2 command command2 (queries dr dr2 code code2 trext trext2 sel session target q) given = refl
+heard-one : (record1 record2 : Record) (sent : Sent) → record1.given ≡ record2.given → reception_of_ack record1 (command_of sent) ≡ reception_of_ack record2 (command2_of sent)
+heard-one record1 record2 (acks rn) given = ap (reception_of expects.Epc) given
+heard-one record1 record2 (reps session) given = refl
+heard-one record1 record2 (adjusts session updn) given = refl
+heard-one record1 record2 (queries spec link link2) given = refl
 
 -- two pasts, each behind a start of its own: the tags stand alike, and alike was listed since the last round ended; what the rounds
 -- before told stands still; of the first tags each one keeps what it keeps; and in the second past no round ended
@@ -146,48 +157,52 @@ record Both : Type 0 where
   first : List TagValue
   told : List Played
   told2 : List Played
+  spec : SpecValue
+  legal : IsLegalSpec spec
 
 abbrev AreBoth : Both → List Item → List Item → Type 0
 AreBoth b past past2 = AreAlike b.start b.start2 b.first b.told b.told2 past past2
 
-given-alike : (b : Both) (slot slot2 : ℕ) (command command2 : Command) (past past2 : List Item) → AreOne command command2 → AreBoth b past past2
-    → (next_record b.start b.round slot command past).given ≡ (next_record b.start2 b.round2 slot2 command2 past2).given
-given-alike b slot slot2 command command2 past past2 same alike =
-    given-plain b.start b.round slot command past b.plain
-    ∙ ap (given_plainly command) alike.tags
-    ∙ ap (λ (outcomes : List TagOutcome). default_given severals.Break (replies_from 0 outcomes)) (outcomes-one command command2 same no_entry (tags_behind b.start2 past2))
-    ∙ sym (given-plain b.start2 b.round2 slot2 command2 past2 b.plain2)
+given-alike : (b : Both) (slot slot2 : ℕ) (sent : Sent) (past past2 : List Item) → AreBoth b past past2
+    → (next_record b.start b.round slot (command_of sent) past).given ≡ (next_record b.start2 b.round2 slot2 (command2_of sent) past2).given
+given-alike b slot slot2 sent past past2 alike =
+    given-plain b.start b.round slot (command_of sent) past b.plain
+    ∙ ap (given_plainly (command_of sent)) alike.tags
+    ∙ ap (λ (outcomes : List TagOutcome). default_given severals.Break (replies_from 0 outcomes)) (outcomes-one sent no_entry (tags_behind b.start2 past2))
+    ∙ sym (given-plain b.start2 b.round2 slot2 (command2_of sent) past2 b.plain2)
 
-command-alike : (b : Both) (slot slot2 : ℕ) (command command2 : Command) (past past2 : List Item) → AreOne command command2 → AreBoth b past past2
-    → AreBoth b (past_behind_command b.start b.round slot command past) (past_behind_command b.start2 b.round2 slot2 command2 past2)
-command-alike b slot slot2 command command2 past past2 same alike =
-    let sent = next_record b.start b.round slot command past in
-    let sent2 = next_record b.start2 b.round2 slot2 command2 past2 in
-    let given = given-alike b slot slot2 command command2 past past2 same alike in
-    let heard = heard-one sent sent2 command command2 same given in
+command-alike : (b : Both) (slot slot2 : ℕ) (sent : Sent) (past past2 : List Item) → AreBoth b past past2
+    → AreBoth b (past_behind_command b.start b.round slot (command_of sent) past) (past_behind_command b.start2 b.round2 slot2 (command2_of sent) past2)
+command-alike b slot slot2 sent past past2 alike =
+    let command = command_of sent in
+    let command2 = command2_of sent in
+    let record1 = next_record b.start b.round slot command past in
+    let record2 = next_record b.start2 b.round2 slot2 command2 past2 in
+    let given = given-alike b slot slot2 sent past past2 alike in
+    let heard = heard-one record1 record2 sent given in
     record {
       tags =
           tags-plain b.start b.round slot command past b.plain
           ∙ ap (λ (tags : List TagValue). tags_after (outcomes_from 0 command no_entry tags)) alike.tags
-          ∙ ap tags_after (outcomes-one command command2 same no_entry (tags_behind b.start2 past2))
+          ∙ ap tags_after (outcomes-one sent no_entry (tags_behind b.start2 past2))
           ∙ sym (tags-plain b.start2 b.round2 slot2 command2 past2 b.plain2);
       pairs =
-          ap (λ (pairs : List (ℕ × List ℕ)). pairs ++ pairs_listed_by sent) alike.pairs
+          ap (λ (pairs : List (ℕ × List ℕ)). pairs ++ pairs_listed_by record1) alike.pairs
           ∙ ap (λ (pairs : List (ℕ × List ℕ)). pairs_since past2 ++ pairs)
-          (pairs-from sent sent2 (reception_of_ack sent command)
-          ∙ ap (λ (reception : Reception). map pair_listed (listed_from sent2 reception)) heard);
+          (pairs-from record1 record2 (reception_of_ack record1 command)
+          ∙ ap (λ (reception : Reception). map pair_listed (listed_from record2 reception)) heard);
       senders =
-          ap (λ (senders : List ℕ). senders ++ sender_listed_by sent) alike.senders
+          ap (λ (senders : List ℕ). senders ++ sender_listed_by record1) alike.senders
           ∙ ap (λ (senders : List ℕ). senders_since past2 ++ senders)
-          (senders-from sent sent2 (reception_of_ack sent command) sent.given
-          ∙ ap (λ (reception : Reception). sender_where (listed_from sent2 reception) sent.given) heard
-          ∙ ap (λ (each : Given). sender_where (listed_by sent2) each) given);
+          (senders-from record1 record2 (reception_of_ack record1 command) record1.given
+          ∙ ap (λ (reception : Reception). sender_where (listed_from record2 reception) record1.given) heard
+          ∙ ap (λ (each : Given). sender_where (listed_by record2) each) given);
       before = alike.before;
       before2 = alike.before2;
-      kept = subst (AllZip Keeps b.first) (sym (tags-plain b.start b.round slot command past b.plain)) (all-keep command command2 same 0 b.first (tags_behind b.start past) alike.kept);
+      kept = subst (AllZip Keeps b.first) (sym (tags-plain b.start b.round slot command past b.plain)) (all-keep sent 0 b.first (tags_behind b.start past) alike.kept);
       all_pairs =
-          map-append pair_listed (listing_of past2) (listed_by sent2) ∙ ap (λ (pairs : List (ℕ × List ℕ)). pairs ++ pairs_listed_by sent2) alike.all_pairs;
-      all_senders = ap (λ (senders : List ℕ). senders ++ sender_listed_by sent2) alike.all_senders;
+          map-append pair_listed (listing_of past2) (listed_by record2) ∙ ap (λ (pairs : List (ℕ × List ℕ)). pairs ++ pairs_listed_by record2) alike.all_pairs;
+      all_senders = ap (λ (senders : List ℕ). senders ++ sender_listed_by record2) alike.all_senders;
     }
 
 -- behind an ACK nothing is done
@@ -201,7 +216,7 @@ ack-alike b slot slot2 rn past past2 alike =
     subst (λ (dialogue : Dialogue). AreBoth b (past_behind_dialogue b.start b.round slot 1 dialogue behind)
     (past_behind_ack b.start2 b.operations2 b.round2 slot2 rn past2)) (sym done1)
     (subst (λ (dialogue : Dialogue). AreBoth b behind (past_behind_dialogue b.start2 b.round2 slot2 1 dialogue behind2)) (sym done2)
-    (command-alike b slot slot2 (commands.Ack rn) (commands.Ack rn) past past2 (acks rn) alike))
+    (command-alike b slot slot2 (acks rn) past past2 alike))
 
 answer-alike : (b : Both) (slot slot2 : ℕ) (reception : Reception) (past past2 : List Item) → AreBoth b past past2
     → AreBoth b (past_behind_answer b.start b.operations b.round slot reception past) (past_behind_answer b.start2 b.operations2 b.round2 slot2 reception past2)
@@ -214,18 +229,18 @@ answer-alike b slot slot2 (whole_reply (replies.Words words)) past past2 alike =
 answer-alike b slot slot2 (whole_reply replies.Header) past past2 alike = alike
 answer-alike b slot slot2 (whole_reply (replies.Error code)) past past2 alike = alike
 
-received-alike : (b : Both) (slot slot2 : ℕ) (command command2 : Command) (past past2 : List Item) → AreOne command command2 → AreBoth b past past2
-    → slot_reception b.start b.round slot command past ≡ slot_reception b.start2 b.round2 slot2 command2 past2
-received-alike b slot slot2 command command2 past past2 same alike = ap (reception_of expects.Rn16) (given-alike b slot slot2 command command2 past past2 same alike)
+received-alike : (b : Both) (slot slot2 : ℕ) (sent : Sent) (past past2 : List Item) → AreBoth b past past2
+    → slot_reception b.start b.round slot (command_of sent) past ≡ slot_reception b.start2 b.round2 slot2 (command2_of sent) past2
+received-alike b slot slot2 sent past past2 alike = ap (reception_of expects.Rn16) (given-alike b slot slot2 sent past past2 alike)
 
-slot-alike : (b : Both) (slot slot2 : ℕ) (command command2 : Command) (past past2 : List Item) → AreOne command command2 → AreBoth b past past2
-    → AreBoth b (past_behind_slot b.start b.operations b.round slot command past) (past_behind_slot b.start2 b.operations2 b.round2 slot2 command2 past2)
-slot-alike b slot slot2 command command2 past past2 same alike =
-    let behind = past_behind_command b.start b.round slot command past in
-    let behind2 = past_behind_command b.start2 b.round2 slot2 command2 past2 in
-    subst (λ (reception : Reception). AreBoth b (past_behind_slot b.start b.operations b.round slot command past)
-    (past_behind_answer b.start2 b.operations2 b.round2 slot2 reception behind2)) (received-alike b slot slot2 command command2 past past2 same alike)
-    (answer-alike b slot slot2 (slot_reception b.start b.round slot command past) behind behind2 (command-alike b slot slot2 command command2 past past2 same alike))
+slot-alike : (b : Both) (slot slot2 : ℕ) (sent : Sent) (past past2 : List Item) → AreBoth b past past2
+    → AreBoth b (past_behind_slot b.start b.operations b.round slot (command_of sent) past) (past_behind_slot b.start2 b.operations2 b.round2 slot2 (command2_of sent) past2)
+slot-alike b slot slot2 sent past past2 alike =
+    let behind = past_behind_command b.start b.round slot (command_of sent) past in
+    let behind2 = past_behind_command b.start2 b.round2 slot2 (command2_of sent) past2 in
+    subst (λ (reception : Reception). AreBoth b (past_behind_slot b.start b.operations b.round slot (command_of sent) past)
+    (past_behind_answer b.start2 b.operations2 b.round2 slot2 reception behind2)) (received-alike b slot slot2 sent past past2 alike)
+    (answer-alike b slot slot2 (slot_reception b.start b.round slot (command_of sent) past) behind behind2 (command-alike b slot slot2 sent past past2 alike))
 
 -- both rounds ended, and are told alike: as the end of the second says
 record AreTold (b : Both) (now now2 : List Item) : Type 0 where
@@ -257,52 +272,51 @@ end-alike b end slots past past2 alike = record {
 }
 
 -- the turns that are left
-abbrev Goes : Both → SpecValue → ℕ → List Outcome → List Item → List Item → Type 0
-Goes b spec left outcomes past past2 =
-    AreTold b (past_behind_turns left b.start b.operations b.round spec outcomes past) (past_behind_turns left b.start2 b.operations2 b.round2 spec outcomes past2)
+abbrev Goes : Both → ℕ → List Outcome → List Item → List Item → Type 0
+Goes b left outcomes past past2 =
+    AreTold b (past_behind_turns left b.start b.operations b.round b.spec outcomes past) (past_behind_turns left b.start2 b.operations2 b.round2 b.spec outcomes past2)
 
-send-alike : (b : Both) (spec : SpecValue) (left : ℕ) (outcomes : List Outcome) (past past2 : List Item) (command command2 : Command) → AreOne command command2 → AreBoth b past past2
-    → ((outcome : Outcome) (behind behind2 : List Item) → AreBoth b behind behind2 → Goes b spec left (outcome ∷ outcomes) behind behind2)
-    → AreTold b (past_behind_turn (past_behind_turns left b.start b.operations b.round spec) b.start b.operations b.round outcomes past (nexts.Send command))
-    (past_behind_turn (past_behind_turns left b.start2 b.operations2 b.round2 spec) b.start2 b.operations2 b.round2 outcomes past2 (nexts.Send command2))
-send-alike b spec left outcomes past past2 command command2 same alike later =
+send-alike : (b : Both) (left : ℕ) (outcomes : List Outcome) (sent : Sent) (past past2 : List Item) → AreBoth b past past2
+    → ((outcome : Outcome) (behind behind2 : List Item) → AreBoth b behind behind2 → Goes b left (outcome ∷ outcomes) behind behind2)
+    → AreTold b (past_behind_turn (past_behind_turns left b.start b.operations b.round b.spec) b.start b.operations b.round outcomes past (nexts.Send (command_of sent)))
+    (past_behind_turn (past_behind_turns left b.start2 b.operations2 b.round2 b.spec) b.start2 b.operations2 b.round2 outcomes past2 (nexts.Send (command2_of sent)))
+send-alike b left outcomes sent past past2 alike later =
     let slot : ℕ = length outcomes + 1 in
-    let behind = past_behind_slot b.start b.operations b.round slot command past in
-    let behind2 = past_behind_slot b.start2 b.operations2 b.round2 slot command2 past2 in
-    subst (λ (reception : Reception). AreTold b (past_behind_turns left b.start b.operations b.round spec (outcome_of (slot_reception b.start b.round slot command past) ∷ outcomes) behind)
-    (past_behind_turns left b.start2 b.operations2 b.round2 spec (outcome_of reception ∷ outcomes) behind2)) (received-alike b slot slot command command2 past past2 same alike)
-    (later (outcome_of (slot_reception b.start b.round slot command past)) behind behind2 (slot-alike b slot slot command command2 past past2 same alike))
+    let received = slot_reception b.start b.round slot (command_of sent) past in
+    let behind = past_behind_slot b.start b.operations b.round slot (command_of sent) past in
+    let behind2 = past_behind_slot b.start2 b.operations2 b.round2 slot (command2_of sent) past2 in
+    subst (λ (reception : Reception). AreTold b (past_behind_turns left b.start b.operations b.round b.spec (outcome_of received ∷ outcomes) behind)
+    (past_behind_turns left b.start2 b.operations2 b.round2 b.spec (outcome_of reception ∷ outcomes) behind2)) (received-alike b slot slot sent past past2 alike)
+    (later (outcome_of received) behind behind2 (slot-alike b slot slot sent past past2 alike))
 
-turn-alike : (b : Both) (spec : SpecValue) (left : ℕ) (outcomes : List Outcome) (past past2 : List Item) (turn : Turn) → turn_of spec outcomes ≡ turn → AreBoth b past past2
-    → ((outcome : Outcome) (behind behind2 : List Item) → is_over spec outcomes ≡ false → AreBoth b behind behind2 → Goes b spec left (outcome ∷ outcomes) behind behind2)
-    → AreTold b (past_behind_turn (past_behind_turns left b.start b.operations b.round spec) b.start b.operations b.round outcomes past (answer_of spec b.start.link turn))
-    (past_behind_turn (past_behind_turns left b.start2 b.operations2 b.round2 spec) b.start2 b.operations2 b.round2 outcomes past2 (answer_of spec b.start2.link turn))
-turn-alike b spec left outcomes past past2 query is alike later =
-    send-alike b spec left outcomes past past2 _ _
-    (queries b.start.link.dr b.start2.link.dr b.start.link.code b.start2.link.code b.start.link.trext b.start2.link.trext spec.sel spec.session spec.target spec.q) alike
-    (λ outcome behind behind2 more. later outcome behind behind2 (ap over is) more)
-turn-alike b spec left outcomes past past2 (adjust updn) is alike later =
-    send-alike b spec left outcomes past past2 _ _ (adjusts spec.session updn) alike (λ outcome behind behind2 more. later outcome behind behind2 (ap over is) more)
-turn-alike b spec left outcomes past past2 rep is alike later =
-    send-alike b spec left outcomes past past2 _ _ (reps spec.session) alike (λ outcome behind behind2 more. later outcome behind behind2 (ap over is) more)
-turn-alike b spec left outcomes past past2 quiet is alike later = end-alike b round_ends.Quiet (length outcomes) past past2 alike
-turn-alike b spec left outcomes past past2 limit is alike later = end-alike b round_ends.Limit (length outcomes) past past2 alike
+turn-alike : (b : Both) (left : ℕ) (outcomes : List Outcome) (past past2 : List Item) (turn : Turn) → turn_of b.spec outcomes ≡ turn → AreBoth b past past2
+    → ((outcome : Outcome) (behind behind2 : List Item) → is_over b.spec outcomes ≡ false → AreBoth b behind behind2 → Goes b left (outcome ∷ outcomes) behind behind2)
+    → AreTold b (past_behind_turn (past_behind_turns left b.start b.operations b.round b.spec) b.start b.operations b.round outcomes past (answer_of b.spec b.start.link turn))
+    (past_behind_turn (past_behind_turns left b.start2 b.operations2 b.round2 b.spec) b.start2 b.operations2 b.round2 outcomes past2 (answer_of b.spec b.start2.link turn))
+turn-alike b left outcomes past past2 query is alike later =
+    send-alike b left outcomes (queries b.spec b.start.link b.start2.link) past past2 alike (λ outcome behind behind2 more. later outcome behind behind2 (ap over is) more)
+turn-alike b left outcomes past past2 (adjust updn) is alike later =
+    send-alike b left outcomes (adjusts b.spec.session updn) past past2 alike (λ outcome behind behind2 more. later outcome behind behind2 (ap over is) more)
+turn-alike b left outcomes past past2 rep is alike later =
+    send-alike b left outcomes (reps b.spec.session) past past2 alike (λ outcome behind behind2 more. later outcome behind behind2 (ap over is) more)
+turn-alike b left outcomes past past2 quiet is alike later = end-alike b round_ends.Quiet (length outcomes) past past2 alike
+turn-alike b left outcomes past past2 limit is alike later = end-alike b round_ends.Limit (length outcomes) past past2 alike
 
-turns-alike : RoundsKeepLimit → (b : Both) (spec : SpecValue) → IsLegalSpec spec → (left : ℕ) (outcomes : List Outcome) (past past2 : List Item) → left + length outcomes ≡ spec.limit + 1
-    → AreOutcomes spec outcomes → AreBoth b past past2 → Goes b spec left outcomes past past2
-turns-alike keeps b spec legal zero outcomes past past2 count are alike =
-    absurd (let few : length outcomes ≤ spec.limit = few-outcomes keeps spec outcomes legal are in omega arith)
-turns-alike keeps b spec legal (suc left) outcomes past past2 count are alike =
-    turn-alike b spec left outcomes past past2 (turn_of spec outcomes) refl alike
-    (λ outcome behind behind2 underway more. turns-alike keeps b spec legal left (outcome ∷ outcomes) behind behind2 (omega arith) (underway, are) more)
+turns-alike : RoundsKeepLimit → (b : Both) (left : ℕ) (outcomes : List Outcome) (past past2 : List Item) → left + length outcomes ≡ b.spec.limit + 1
+    → AreOutcomes b.spec outcomes → AreBoth b past past2 → Goes b left outcomes past past2
+turns-alike keeps b zero outcomes past past2 count are alike =
+    absurd (let few : length outcomes ≤ b.spec.limit = few-outcomes keeps b.spec outcomes b.legal are in omega arith)
+turns-alike keeps b (suc left) outcomes past past2 count are alike =
+    turn-alike b left outcomes past past2 (turn_of b.spec outcomes) refl alike
+    (λ outcome behind behind2 underway more. turns-alike keeps b left (outcome ∷ outcomes) behind behind2 (omega arith) (underway, are) more)
 
 pub tags-from-none : (number : ℕ) (tags : List TagValue) → tags_behind_from number tags [] ≡ tags
 tags-from-none number [] = refl
 tags-from-none number (tag ∷ tags) = ap (λ (l : List TagValue). tag ∷ l) (tags-from-none (number + 1) tags)
 
 -- a round behind a past, beside the round of a history that begins with its tags
-abbrev both-of : (start : Start) (operations : OpList) (past : List Item) → IsPlain start → operations.ops ≡ [] → Both
-both-of start operations past plain none =
+abbrev both-of : (start : Start) (operations : OpList) (spec : SpecValue) (past : List Item) → IsPlain start → operations.ops ≡ [] → IsLegalSpec spec → Both
+both-of start operations spec past plain none legal =
     let tags = tags_behind start past in
     record {
       start = start;
@@ -318,19 +332,21 @@ both-of start operations past plain none =
       first = tags;
       told = rounds_told start past;
       told2 = [];
+      spec = spec;
+      legal = legal;
     }
 
 all-kept : (tags : List TagValue) → AllZip Keeps tags tags
 all-kept [] = tt
 all-kept (tag ∷ tags) = (record { memory = refl; locks = refl; present = λ is. is }, all-kept tags)
 
-told-beside : RoundsKeepLimit → (start : Start) (operations : OpList) (spec : SpecValue) (past : List Item) (plain : IsPlain start) (none : operations.ops ≡ []) → IsLegalSpec spec
+told-beside : RoundsKeepLimit → (start : Start) (operations : OpList) (spec : SpecValue) (past : List Item) (plain : IsPlain start) (none : operations.ops ≡ []) (legal : IsLegalSpec spec)
     → IsBetweenRounds past
-    → AreTold (both-of start operations past plain none) (past_behind_round start operations spec past)
+    → AreTold (both-of start operations spec past plain none legal) (past_behind_round start operations spec past)
     (past_behind_round (start_with (tags_behind start past)) no_operations spec [])
 told-beside keeps start operations spec past plain none legal between =
     let tags = tags_behind start past in
-    turns-alike keeps (both-of start operations past plain none) spec legal (suc spec.limit) [] past [] (omega arith) tt
+    turns-alike keeps (both-of start operations spec past plain none legal) (suc spec.limit) [] past [] (omega arith) tt
     (record {
       tags = sym (tags-from-none 0 tags);
       pairs = between.pairs;

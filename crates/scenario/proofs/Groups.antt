@@ -1,10 +1,8 @@
 -- The copies of a tag that may stand in a scenario may stand there too, and are as many as their group says.
-use Rattle.std.proofs.Common.{◌≡◌, ◌≢◌, ℕ, zero, suc, ◌+◌, ◌-◌, ◌%◌, ◌^◌, ◌<◌, ◌≤◌, true, List, [], ◌∷◌, ◌++◌, map, length, get_or, refl, sym, ap, ◌∙◌, subst, arith, mod-lt, append_assoc}
+use Rattle.std.proofs.Common.{◌≡◌, ◌≢◌, ℕ, zero, suc, ◌+◌, ◌-◌, ◌%◌, ◌^◌, ◌<◌, ◌≤◌, List, [], ◌∷◌, ◌++◌, map, length, get_or, refl, sym, ap, ◌∙◌, arith, mod-lt, append_assoc}
 use Rattle.std.specs.Prelude.{All}
-use Rattle.std.specs.List.{slice_set}
-use Rattle.std.proofs.lemmas.List.{append-nil, get_or-set_other, length-append, length-map, length-set}
+use Rattle.std.proofs.lemmas.List.{append-nil, get_or-set_other, length-map, length-set}
 use Rattle.std.proofs.lemmas.List.Elements.{All-append, All-cons, All-head, All-map, All-nil, All-set, All-tail}
-use Rattle.tag_memory.specs.Image.{pc_fits}
 use Rattle.tag_memory.specs.Memory.{epc_fits}
 use Rattle.text_fields.specs.WordLists.{IsWordList}
 use Rattle.scenario_lines.specs.declared.tag.TagSpec.{TagSpec}

@@ -81,7 +81,7 @@ abbrev pub Behind : {A V W : Type 0} → (V → A) → (V → Type 0) → (W →
 Behind {V = V} {W = W} one May others Might texts = Spelled (λ (value : V × W). one value.0 ∷ others value.1) (λ value. May value.0 × Might value.1) texts
 
 pub behind_decided : {A V W : Type 0} {one : V → A} {May : V → Type 0} {others : W → List A} {Might : W → Type 0}
-    → EachDecided one May → EachDecided others Might → (texts : List A) → Decided (Behind one May others Might texts)
+    → EachDecided one May → EachDecided others Might → EachDecided (λ (value : V × W). one value.0 ∷ others value.1) (λ value. May value.0 × Might value.1)
 behind_decided first rest [] = inr (λ some. let same = some.2 in cc)
 behind_decided {one = one} {others = others} first rest (text ∷ texts) = elim (first text) [
   | inl found ↦ elim (rest texts) [

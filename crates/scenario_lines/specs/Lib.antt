@@ -1,9 +1,9 @@
 pub mod Names
 pub mod Choices
 pub mod TagForm
-pub mod TagLaws
 pub mod LineForm
 pub mod Spelling
 pub mod LineFaults
 pub mod LineBeginnings
 pub mod Reading
+pub mod laws

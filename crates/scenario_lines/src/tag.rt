@@ -34,7 +34,7 @@ pub struct TagText<'a> {
 }
 
 impl<'a> Model for TagText<'a> {
-    ghost use Rattle.std.specs.Prelude.{◌≡◌, true};
+    ghost use Rattle.std.specs.Prelude.{◌≡◌};
     ghost use Rattle.scenario_lines.specs.declared.tag.TagSpec.{TagSpec};
     ghost use Rattle.scenario_lines.specs.TagForm.{IsTag, tag_of};
 

@@ -9,7 +9,7 @@ use Rattle.scenario.specs.ScenarioText.{scenario_lines}
 use Rattle.scenario_text.specs.Standing.{Leads, Standing, ended, start}
 use Rattle.scenario_text.specs.Draft.{scenario_of}
 use Rattle.scenario_text.specs.Faults.{IsFirstFault, Settles}
-use Rattle.scenario_text.specs.LineLaws.{LineLaws}
+use Rattle.scenario_text.specs.laws.LineLaws.{LineLaws}
 use Rattle.scenario_text.specs.Beginnings.{BeginsScenario, BeginsText, FirstLinesBegin}
 use Rattle.scenario_text.proofs.Endings.{can_end}
 use Rattle.scenario_text.proofs.Leading.{leads_on}

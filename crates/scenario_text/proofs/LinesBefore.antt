@@ -418,30 +418,19 @@ tells-one before draft (lines.Round version spec) follows told =
 tells-one before draft (lines.Only epc) follows told =
     let line = lines.Only epc in
     let grows = draft_after draft line in
+    let count = last-same draft.steps.closed draft.steps.round grows.steps.operations draft.steps.operations in
+    let rounds = rounds-kept line draft.steps grows.steps refl refl (λ is_bare. some-epc epc is_bare.only) (λ round. round) in
     tells-more before draft line grows told
-    (record {
-      head = refl;
-      tags = omega arith;
-      airs = omega arith;
-      steps = omega (arith, last-same draft.steps.closed draft.steps.round grows.steps.operations draft.steps.operations);
-      ops = refl;
-      goes_on = tt;
-      rounds = rounds-kept line draft.steps grows.steps refl refl (λ is_bare. some-epc epc is_bare.only) (λ round. round);
-    })
+    (record { head = refl; tags = omega arith; airs = omega arith; steps = omega (arith, count); ops = refl; goes_on = tt; rounds = rounds })
     (airs-kept before draft.air.exchange draft.air.latest line (λ exchange happening. tt) (λ exchange. tt) told.exchanges)
 tells-one before draft (lines.Op op) follows told =
     let line = lines.Op op in
     let grows = draft_after draft line in
+    let count = last-same draft.steps.closed draft.steps.round grows.steps.operations draft.steps.operations in
+    let rounds = rounds-kept line draft.steps grows.steps refl refl (λ is_bare. not-none draft.steps.operations.ops op is_bare.ops) (λ round. round) in
+    let ops = length-push draft.steps.operations.ops op in
     tells-more before draft line grows told
-    (record {
-      head = refl;
-      tags = omega arith;
-      airs = omega arith;
-      steps = omega (arith, last-same draft.steps.closed draft.steps.round grows.steps.operations draft.steps.operations);
-      ops = length-push draft.steps.operations.ops op;
-      goes_on = tt;
-      rounds = rounds-kept line draft.steps grows.steps refl refl (λ is_bare. not-none draft.steps.operations.ops op is_bare.ops) (λ round. round);
-    })
+    (record { head = refl; tags = omega arith; airs = omega arith; steps = omega (arith, count); ops = ops; goes_on = tt; rounds = rounds })
     (airs-kept before draft.air.exchange draft.air.latest line (λ exchange happening. tt) (λ exchange. tt) told.exchanges)
 tells-one before draft lines.End follows told = λ all. all-last IsNoEnd before lines.End all
 

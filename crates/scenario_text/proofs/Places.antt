@@ -2,7 +2,7 @@
 use Rattle.std.proofs.Common.{◌≡◌, ◌≢◌, ℕ, List, [], ◌∷◌, ◌++◌, map, ◌⊎◌, inl, inr, refl, sym, ◌∙◌, subst}
 use Rattle.scenario_lines.specs.declared.line.Line.{Line}
 use Rattle.scenario_lines.specs.Spelling.{line_text}
-use Rattle.scenario_text.specs.LineLaws.{LineLaws}
+use Rattle.scenario_text.specs.laws.LineLaws.{LineLaws}
 use Rattle.scenario_text.specs.Standing.{Follows, Leads, Standing, after}
 use Rattle.scenario_text.proofs.ToldApart.{line_told}
 

@@ -23,7 +23,7 @@ use Rattle.scenario_text.specs.Standing.{Follows, Leads, Standing, after, begun,
 use Rattle.scenario_text.specs.StepLines.{IsBareRound, line_count, steps_of, with_last}
 use Rattle.scenario_text.specs.Faults.{IsFaultyBefore, IsFaultyHere, IsFirstFault, IsRefused}
 use Rattle.scenario.specs.Limits.{IsScenario, no_operations}
-use Rattle.scenario_text.specs.LineLaws.{LineLaws}
+use Rattle.scenario_text.specs.laws.LineLaws.{LineLaws}
 use Rattle.scenario.specs.declared.values.Step.{Step}
 use Rattle.scenario.specs.declared.values.TagGroup.{TagGroup}
 use Rattle.scenario.specs.declared.values.Step.TheVariants as steps

@@ -13,7 +13,7 @@ use Rattle.scenario_text.specs.declared.fault.Fault.TheVariants.{Line as LineRea
 use Rattle.scenario_text.specs.Standing.{AgreesWith, Follows, HasRoom, IsOfVersion, MayCopy, MayStand, NamesTag, Standing, begun, ended, linked, start, within}
 use Rattle.scenario_text.specs.Draft.{DraftValue, tag_count}
 use Rattle.scenario_text.specs.AirLines.{ChoosesOnce, KeepsOrder}
-use Rattle.scenario_text.specs.LineLaws.{LineLaws}
+use Rattle.scenario_text.specs.laws.LineLaws.{LineLaws}
 use Rattle.scenario_text.specs.Faults.{Disagrees, DisagreesAt, DisagreesBy, HasPlace, IsFaultyAt, IsFaultyBefore, IsTooMuch, SaysNothing}
 use Rattle.scenario_text.proofs.Places.{GoesOn}
 use Rattle.scenario_lines.specs.LineBeginnings.{spelled_begins}

@@ -12,7 +12,7 @@ use Rattle.scenario_lines.specs.LineFaults.{SpellsLine}
 use Rattle.scenario_text.specs.declared.fault.Fault.{Fault}
 use Rattle.scenario_text.specs.declared.fault.Fault.TheVariants.{Extra, End, Version, Line as LineReason, Limit, Copies, Tag, Order, Twice}
 use Rattle.scenario.specs.ScenarioText.{IsText}
-use Rattle.scenario_text.specs.LineLaws.{LineLaws}
+use Rattle.scenario_text.specs.laws.LineLaws.{LineLaws}
 use Rattle.scenario_text.specs.Standing.{Agrees, Follows, HasRoom, Leads, MayStand, Standing, after, begun, ended, linked, start, within}
 use Rattle.scenario_text.specs.Draft.{DraftValue, scenario_of, tag_count}
 use Rattle.scenario_text.specs.Faults.{DisagreesBy, HasPlace, IsFaultyAt, IsFaultyBefore, IsFirstFault, Settles}

@@ -10,7 +10,7 @@ use Rattle.scenario_lines.specs.declared.line.Line.{Line}
 use Rattle.scenario_lines.specs.LineForm.{IsLine}
 use Rattle.scenario_lines.specs.Spelling.{line_fields, line_text}
 use Rattle.scenario_lines.specs.LineFaults.{SpellsLine}
-use Rattle.scenario_text.specs.LineLaws.{LineLaws}
+use Rattle.scenario_text.specs.laws.LineLaws.{LineLaws}
 use Rattle.scenario_text.specs.Standing.{Leads, Standing, after}
 
 -- the fields of a line that is spelled

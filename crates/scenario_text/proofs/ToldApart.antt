@@ -8,7 +8,7 @@ use Rattle.scenario_lines.specs.Spelling.{line_text}
 use Rattle.scenario.specs.declared.values.Scenario.{Scenario}
 use Rattle.scenario.specs.ScenarioText.{scenario_lines, scenario_text}
 use Rattle.scenario.specs.Limits.{IsScenario}
-use Rattle.scenario_text.specs.LineLaws.{LineLaws}
+use Rattle.scenario_text.specs.laws.LineLaws.{LineLaws}
 use Rattle.scenario_text.specs.Draft.{DraftValue, scenario_of}
 use Rattle.scenario_text.specs.Standing.{Leads, Standing, after, ended, start}
 use Rattle.scenario_text.proofs.Spoken.{scenario_is_said}

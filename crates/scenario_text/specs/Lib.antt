@@ -8,7 +8,6 @@ pub mod FaultWords
 pub mod Taking
 pub mod Rest
 pub mod Beginnings
-pub mod LineLaws
 pub mod LinesBefore
 pub use Rattle.scenario.specs.Limits
 pub use Rattle.scenario.specs.ScenarioText
@@ -16,3 +15,4 @@ pub use Rattle.scenario_lines.specs.Spelling
 pub use Rattle.scenario_lines.specs.LineForm
 pub use Rattle.scenario_lines.specs.LineFaults
 pub use Rattle.air_events.specs.Entries
+pub mod laws

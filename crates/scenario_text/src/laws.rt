@@ -7,7 +7,7 @@ ghost use Rattle.scenario.specs.declared.values.Scenario.{Scenario};
 ghost use Rattle.scenario_text.specs.declared.fault.Fault.{Fault};
 ghost use Rattle.scenario.specs.ScenarioText.{scenario_lines, scenario_text, IsText};
 ghost use Rattle.scenario.specs.Limits.{IsScenario};
-ghost use Rattle.scenario_text.specs.LineLaws.{LineLaws};
+ghost use Rattle.scenario_text.specs.laws.LineLaws.{LineLaws};
 ghost use Rattle.scenario_text.specs.Faults.{DisagreesBy, IsFirstFault};
 ghost use Rattle.scenario_text.specs.LinesBefore.{DisagreesWith, IsFullBefore, MayStandBehind};
 ghost use Rattle.scenario_text.specs.Beginnings.{BeginsScenario, FirstLinesBegin};

@@ -1,2 +1,1 @@
 pub mod AllWords
-pub mod WordBits

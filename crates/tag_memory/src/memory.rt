@@ -1,8 +1,8 @@
 //! The banks of a tag.
-ghost use Rattle.std.specs.Prelude.{◌≡◌, ◌/◌, ◌%◌, ◌^◌, ◌<◌, ◌≤◌, ◌↔◌, List, Bool, ◌∷◌, ◌++◌, length, take, true, false, Err, IsNone, IfOk, slice_get};
-ghost use Rattle.bit_strings.specs.Numbers.{field_of, value_of};
+ghost use Rattle.std.specs.Prelude.{◌≡◌, ◌/◌, ◌%◌, ◌^◌, ◌<◌, ◌≤◌, ◌↔◌, ◌∷◌, length, true, false, Err, IsNone, IfOk, slice_get};
+ghost use Rattle.bit_strings.specs.Numbers.{value_of};
 ghost use Rattle.bit_strings.specs.Words.{bits_of_words};
-ghost use Rattle.gen2_crc.specs.Crc.{RegisterStandsFor, crc16_of};
+ghost use Rattle.gen2_crc.specs.Crc.{crc16_of};
 ghost use Rattle.reply_grammar.specs.Table.{AreWords};
 ghost use Rattle.tag_memory.specs.Memory.{IsLegalMemory, AreSound, bank_of, bank_named, pc_of, epc_of, kill_word_of, access_word_of, length_in, epc_fits, with_stored_crc};
 ghost use Rattle.tag_memory.specs.Image.{sizes_fit, pc_fits, image_banks, banks_of};
@@ -70,25 +70,12 @@ fn halves(password: u32) -> (u16, u16)
     ((password >> 16) as u16, (password % 0x1_0000) as u16)
 }
 
-/// Lets the check number take in the 16 bits of a word.
-fn push_word(crc: &mut Crc16, word: u16)
-    ensures { (bits : List Bool) → RegisterStandsFor crc.old bits → RegisterStandsFor crc.new (bits ++ field_of word 16) }
-{
-    let mut places = 16u32;
-    while places > 0 {
-        places -= 1;
-        crc.push((word >> places) % 2 == 1);
-    }
-}
-
 /// The CRC-16 of words.
 fn crc16_of_words(words: &[u16]) -> u16
     ensures { result ≡ value_of (crc16_of (bits_of_words words.now)) }
 {
     let mut crc = Crc16::new();
-    for word in words {
-        push_word(&mut crc, *word);
-    }
+    crc.push_words(words);
     crc.value()
 }
 

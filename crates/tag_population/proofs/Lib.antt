@@ -7,3 +7,5 @@ pub mod HeardByCalled
 pub mod QueryRepCalls
 pub mod TagsAtRest
 pub mod HeardByEach
+pub mod OneExchange
+pub mod HeardInSeats

@@ -17,7 +17,7 @@ use Rattle.tag_machine.specs.TagValue.{StateValue, ReadyState, ArbitrateState, R
 use Rattle.tag_population.proofs.HeardByCalled.{participation_of_tag, sum-zero, zero-sum, later}
 use Rattle.tag_population.proofs.SeatedTags.{length-tags_of, tag_at}
 use Rattle.tag_population.proofs.SlotPlaces.{same_waits}
-use Rattle.tag_machine.specs.Exchange.{AreLegalTags, outcome_unless, is_missed, is_busy, busy_from}
+use Rattle.tag_machine.specs.Exchange.{outcome_unless, is_missed, is_busy, busy_from}
 use Rattle.tag_population.specs.Hearing.{hearing_from}
 use Rattle.tag_population.specs.Seated.{with_slot, tag_seated, tags_of, participation_in, participations_of, called_in, outcome_called, outcomes_called, AreAtRest, AreCalledFor, CallsTags, IsMissedCalled, IsDueCalled}
 use Rattle.tag_population.specs.Seats.{no_tag}

@@ -3,7 +3,7 @@ use Rattle.std.proofs.Common.{◌≡◌, ◌≢◌, ℕ, zero, suc, ◌+◌, ◌
 use Rattle.std.specs.Prelude.{slice_get}
 use Rattle.std.proofs.lemmas.Bool.Decides.{eqb_tells}
 use Rattle.std.proofs.lemmas.Option.{same_Some}
-use Rattle.std.proofs.lemmas.List.{get_or-set_same, get_or-set_other, get_or_default, set-get_or, length-set, map-set, take-append-le, ext_get_or, length-map}
+use Rattle.std.proofs.lemmas.List.{get_or-set_same, get_or-set_other, get_or_default, set-get_or, set-set, length-set, map-set, take-append-le, ext_get_or, length-map}
 use Rattle.air_events.specs.TagNumbers.{most_tags}
 use Rattle.air_events.specs.declared.Event.{Event}
 use Rattle.tag_machine.specs.Events.{tag_after_event}
@@ -100,11 +100,6 @@ pub back_steps : (participation : Option Participation) → steps_back participa
 back_steps participation = omega (arith, back_and_called participation)
 
 -- an event befalls a called tag
-set_twice : (list : List (Option Participation)) (number : ℕ) (first second : Option Participation) → set (set list number first) number second ≡ set list number second
-set_twice [] number first second = refl
-set_twice (item ∷ list) zero first second = refl
-set_twice (item ∷ list) (suc number) first second = ap (λ (l : List (Option Participation)). item ∷ l) (set_twice list number first second)
-
 pub record Befalls : Type 0 where
   -- how tags take part before, once the tag is called, and after the event
   pub participations : List (Option Participation)
@@ -180,7 +175,7 @@ befalls_rest b =
     ∙ ap (λ (t : TagValue). set (tags_of b.called b.seated) b.number t) (seated_as_is b.new)
     ∙ ap (λ (l : List TagValue). set l b.number b.new) tags in
     let after_stands : b.after ≡ set b.participations b.number b.participation =
-    b.after_is ∙ ap (λ (l : List (Option Participation)). set l b.number b.participation) b.called_is ∙ set_twice b.participations b.number (Some Called) b.participation in
+    b.after_is ∙ ap (λ (l : List (Option Participation)). set l b.number b.participation) b.called_is ∙ set-set b.participations b.number (Some Called) b.participation in
     subst (λ (l : List TagValue). AreAtRest b.after (set l b.number b.new)) (sym full)
     (record {
       few = rw (length-set b.seated b.number b.new, seated_long) b.rest.few;
@@ -207,18 +202,6 @@ pub record SettledBelow (seats : List TagValue) (number : ℕ) (participations :
 
 pub settled_none : (seats : List TagValue) (participations : List (Option Participation)) → length participations ≡ length seats → SettledBelow seats 0 participations
 settled_none seats participations same = record { whole = same; each = λ other below. absurd (omega (arith, below)) }
-
--- ... where the next one takes part as its state says already
-pub settled_more : (seats : List TagValue) (number : ℕ) (participations : List (Option Participation)) → SettledBelow seats number participations
-    → participation_at participations number ≡ participation_in (get_or seats number no_tag).state → SettledBelow seats (number + 1) participations
-settled_more seats number participations so_far is = record {
-  whole = so_far.whole;
-  each = λ other below.
-      elim (eqb_tells other number) [
-        | inl same ↦ rw same.1 is
-        | inr apart ↦ so_far.each other (omega (arith, below, apart.1))
-      ];
-}
 
 -- ... where the next one has become another, and is put where it takes part
 pub record SettlesNext (seats : List TagValue) (number : ℕ) (participations : List (Option Participation)) : Type 0 where

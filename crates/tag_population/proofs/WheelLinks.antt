@@ -1,8 +1,8 @@
 -- The links of tags that stand on places, where one is put on a place or taken from it.
-use Rattle.std.proofs.Common.{◌≡◌, ◌≢◌, ℕ, zero, suc, ◌+◌, ◌<◌, ◌≤◌, ◌==◌, ◌⊎◌, inl, inr, List, [], ◌∷◌, length, Option, Some, None, get_or, set, replicate, refl, sym, ap, ◌∙◌, subst, arith, if◌then◌else◌, is_some, true, false}
+use Rattle.std.proofs.Common.{◌≡◌, ◌≢◌, ℕ, zero, suc, ◌+◌, ◌<◌, ◌≤◌, ◌==◌, ◌⊎◌, inl, inr, List, length, Option, Some, None, get_or, set, replicate, refl, sym, ap, ◌∙◌, subst, arith, if◌then◌else◌, is_some, true}
 use Rattle.std.proofs.lemmas.Bool.{cases_lt}
 use Rattle.std.proofs.lemmas.Bool.Decides.{eqb_tells}
-use Rattle.std.proofs.lemmas.List.{get_or-set_same, get_or-set_other, get_or_past, get_or_default, get_or-replicate, length-replicate, length-set}
+use Rattle.std.proofs.lemmas.List.{get_or-set_same, get_or-set_other, get_or_past, get_or_default, get_or-replicate, length-replicate, length-set, set-set}
 use Rattle.std.proofs.lemmas.Option.{same_Some}
 use Rattle.std.proofs.lemmas.Grind.{get_or_default_zero}
 use Rattle.air_events.specs.TagNumbers.{most_tags}
@@ -513,10 +513,6 @@ pub has_place : (stands : Option ℕ) → is_some stands ≡ true → (place : �
 has_place None some = absurd cc
 has_place (Some place) some = (place, refl)
 
-no_place : (stands : Option ℕ) → is_some stands ≡ false → stands ≡ None
-no_place None none = refl
-no_place (Some place) none = absurd cc
-
 -- what is read where a tag that stands on a place is taken from it
 pub record TakenRead (w : Linking) : Type 0 where
   pub number : ℕ
@@ -564,10 +560,5 @@ put_on old w number place first nowhere room below read =
       first_is = sym (read ∙ get_or_default_zero w.links place first (omega (arith, w.linked.size, below)));
     }
 
-set_twice : (places : List (Option ℕ)) (number : ℕ) (first second : Option ℕ) → set (set places number first) number second ≡ set places number second
-set_twice [] number first second = refl
-set_twice (place ∷ places) zero first second = refl
-set_twice (place ∷ places) (suc number) first second = ap (λ (l : List (Option ℕ)). place ∷ l) (set_twice places number first second)
-
 pub put_again : (old places : List (Option ℕ)) (number : ℕ) (stands : Option ℕ) → places ≡ set old number None → set places number stands ≡ set old number stands
-put_again old places number stands nowhere = ap (λ (l : List (Option ℕ)). set l number stands) nowhere ∙ set_twice old number None stands
+put_again old places number stands nowhere = ap (λ (l : List (Option ℕ)). set l number stands) nowhere ∙ set-set old number None stands

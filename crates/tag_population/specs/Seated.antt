@@ -4,7 +4,7 @@ use Rattle.std.specs.Prelude.{slice_set}
 use Rattle.air_events.specs.TagNumbers.{most_tags}
 use Rattle.air_events.specs.declared.Entry.{Entry}
 use Rattle.command_grammar.specs.declared.commands.Command.{Command}
-use Rattle.tag_machine.specs.TagValue.{StateValue, ReadyState, ArbitrateState, ReplyState, AcknowledgedState, OpenState, SecuredState, KilledState, UnpoweredState, TagValue}
+use Rattle.tag_machine.specs.TagValue.{StateValue, ReadyState, ArbitrateState, ReplyState, AcknowledgedState, OpenState, SecuredState, KilledState, UnpoweredState, TagValue, IsLegalTag}
 use Rattle.tag_machine.specs.Answers.{Outcome, silent}
 use Rattle.tag_machine.specs.Exchange.{AreLegalTags, outcome_unless, is_missed, tags_after}
 use Rattle.tag_population.specs.Hearing.{hearing_from}
@@ -71,6 +71,16 @@ outcomes_called number command entry (participation ∷ participations) (tag ∷
 abbrev pub seats_written_back : List (Option Participation) → ℕ → List TagValue → List TagValue
 seats_written_back participations number seats = slice_set seats number (tag_seated (participation_at participations number) (get_or seats number no_tag))
 
+-- what comes of a command for the tag of a number, with its slot counter written back
+abbrev pub outcome_seated : Bool → Command → ℕ → List (Option Participation) → List TagValue → Outcome
+outcome_seated misses command number participations seats = outcome_unless misses command (tag_seated (participation_at participations number) (get_or seats number no_tag))
+
+-- that tag heard the command, or missed it, and takes part as its state says
+pub record HearsSeated (command : Command) (misses : Bool) (number : ℕ) (participations : List (Option Participation)) (seats : List TagValue) (after : List (Option Participation)) (seated : List TagValue) : Type 0 where
+  pub seats_are : seated ≡ slice_set seats number (outcome_seated misses command number participations seats).tag
+  pub participations_are : after ≡ slice_set participations number (participation_in (outcome_seated misses command number participations seats).tag.state)
+  pub legal : IsLegalTag (outcome_seated misses command number participations seats).tag
+
 -- how many steps it takes to write the slot counter of a tag back
 abbrev pub steps_back : Option Participation → ℕ
 steps_back None = 0
@@ -103,6 +113,10 @@ IsDueCalled session before after =
 -- the tags that aren't called take part as their states say
 abbrev pub AreUncalledSettled : List (Option Participation) → List TagValue → Type 0
 AreUncalledSettled participations tags = (number : ℕ) → participation_at participations number ≢ Some Called → participation_at participations number ≡ participation_in (get_or tags number no_tag).state
+
+-- where the tag of a number takes no part, its state says so
+abbrev pub IsIdleSettled : ℕ → List (Option Participation) → List TagValue → Type 0
+IsIdleSettled number participations seats = participation_at participations number ≡ None → participation_in (get_or seats number no_tag).state ≡ None
 
 -- tags were called for a command: what comes of it for all tags comes of it for those that are called
 pub record AreCalledFor (command : Command) (entry : Entry) (tags : List TagValue) (participations : List (Option Participation)) (seats : List TagValue) : Type 0 where

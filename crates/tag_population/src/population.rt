@@ -1,5 +1,5 @@
 //! Tags with numbers.
-ghost use Rattle.std.specs.Prelude.{◌≡◌, ℕ, ◌+◌, ◌*◌, ◌<◌, ◌≤◌, true, List, [], All, Some, None, map, length, vec_len, slice_get, slice_set, IfOk};
+ghost use Rattle.std.specs.Prelude.{◌≡◌, ℕ, ◌+◌, ◌*◌, ◌<◌, ◌≤◌, ◌++◌, true, false, if◌then◌else◌, List, [], All, Some, None, map, length, vec_len, slice_get, slice_set, IfOk};
 ghost use Rattle.std.specs.Borrow.{sem};
 ghost use Rattle.air_events.specs.TagNumbers.{most_tags};
 ghost use Rattle.reply_grammar.specs.Table.{reply_room};
@@ -7,10 +7,11 @@ ghost use Rattle.tag_machine.specs.Answers.{silent};
 ghost use Rattle.tag_machine.specs.Hearing.{tag_value_of};
 ghost use Rattle.tag_machine.specs.Step.{step};
 ghost use Rattle.tag_machine.specs.TagValue.{BodyValue, IsLegalTag, StateValue};
-ghost use Rattle.tag_machine.specs.Exchange.{AreLegalTags, IsQueryRep, busy_from, is_missed, replies_from, tags_after, tags_after_event};
+ghost use Rattle.tag_machine.specs.Exchange.{AreLegalTags, IsQueryRep, Replied, busy_from, is_missed, replies_from, reply_of, tags_after, tags_after_event};
+ghost use Rattle.tag_population.specs.AnswersTaken.{TookFew};
 ghost use Rattle.tag_population.specs.Hearing.{hearing_from, tags_after_events};
 ghost use Rattle.tag_population.specs.Lent.{KeepsPopulation};
-ghost use Rattle.tag_population.specs.Seated.{AreAtRest, AreCalledFor, AreUncalledSettled, CallsTags, HearsAtRest, IsDueCalled, IsMissedCalled, called_in, outcomes_called, seats_written_back, participation_in, participations_of, steps_back, tags_of};
+ghost use Rattle.tag_population.specs.Seated.{AreAtRest, AreCalledFor, AreUncalledSettled, CallsTags, HearsAtRest, HearsSeated, IsDueCalled, IsIdleSettled, IsMissedCalled, called_in, outcome_seated, outcomes_called, seats_written_back, participation_in, participations_of, steps_back, tags_of};
 ghost use Rattle.tag_population.specs.TagSets.{IsSetOf};
 ghost use Rattle.tag_population.specs.Waiting.{participation_at};
 
@@ -311,8 +312,8 @@ fn call_due<L: Ledger>(
     }
 }
 
-/// Lets each tag hear a command, unless it misses it, in the order of their numbers, with its slot counter written back.
-/// Each takes part afterwards as its state says. A QueryAdjust passes by the tags that take no part.
+/// Lets each tag hear a command, unless it misses it, in the order of their numbers. Each takes part afterwards as its state
+/// says.
 fn hear_all<A: AnswerTaker, L: Ledger>(
     seats: &mut [Seat],
     waiting: &mut Waiting,
@@ -333,14 +334,81 @@ fn hear_all<A: AnswerTaker, L: Ledger>(
 {
     for at in 0..seats.len() {
         let number = TagNumber::from_index(at);
-        if !is_passed(waiting, number, command) {
-            write_back(seats, waiting, number, steps);
-            let misses = is_missed(number, entry, missed);
-            let seat = &mut seats[at];
-            hear(seat, number, misses, command, room, answers, steps);
-            waiting.put(number, seat.participation());
-        }
+        let misses = is_missed(number, entry, missed);
+        hear_seated(
+            seats, waiting, number, misses, command, room, answers, steps,
+        );
     }
+}
+
+/// Lets a tag hear a command, unless it misses it. It takes part afterwards as its state says. A QueryAdjust passes by the tags that take no
+/// part.
+fn hear_seated<A: AnswerTaker, L: Ledger>(
+    seats: &mut [Seat],
+    waiting: &mut Waiting,
+    number: TagNumber,
+    misses: bool,
+    command: &Command,
+    room: &mut Bits,
+    answers: &mut A,
+    steps: &mut Steps<L>,
+)
+    requires whole { length waiting.old ≡ length seats.old }
+    requires number { number < length seats.old }
+    requires legal { AreLegalTags seats.old }
+    requires idle { IsIdleSettled number waiting.old seats.old }
+    requires room { reply_room ≤ room.old.capacity }
+    requires few { TookFew A.took answers.old }
+    ensures heard { HearsSeated command.now misses number waiting.old seats.old waiting.new seats.new }
+    ensures took { (first : A) (replies : List Replied) → A.took first replies answers.old
+        → A.took first (replies ++ reply_of number (outcome_seated misses command.now number waiting.old seats.old).answer) answers.new }
+    ensures counted { steps.new ≤ steps.old + 2 }
+    ensures room { reply_room ≤ room.new.capacity }
+{
+    // At a QueryAdjust most tags draw another slot, and wait for it.
+    if draw_again(seats, waiting, number, misses, command, steps) {
+        return;
+    }
+    if is_passed(waiting, number, command) {
+        return;
+    }
+    write_back(seats, waiting, number, steps);
+    let at = number.index();
+    let seat = &mut seats[at];
+    hear(seat, number, misses, command, room, answers, steps);
+    waiting.put(number, seat.participation());
+}
+
+/// Lets a tag that waits hear a QueryAdjust of its session in its place, where it doesn't miss it and draws another slot than 0, and
+/// answers whether it did. Else all is as it was.
+#[inline(always)]
+fn draw_again<L: Ledger>(
+    seats: &mut [Seat],
+    waiting: &mut Waiting,
+    number: TagNumber,
+    misses: bool,
+    command: &Command,
+    steps: &mut Steps<L>,
+) -> bool
+    requires whole { length waiting.old ≡ length seats.old }
+    requires number { number < length seats.old }
+    ensures heard { result ≡ true → HearsSeated command.now misses number waiting.old seats.old waiting.new seats.new }
+    ensures silent { result ≡ true → (outcome_seated misses command.now number waiting.old seats.old).answer ≡ None }
+    ensures left { result ≡ false → (waiting.new ≡ waiting.old) × (seats.new ≡ seats.old) }
+    ensures counted { steps.new ≡ steps.old + (if result then 1 else 0) }
+{
+    let Command::QueryAdjust { session, updn } = command else {
+        return false;
+    };
+    if misses || !waiting.waits_in(number, *session) {
+        return false;
+    }
+    let at = number.index();
+    let Some(slot) = seats[at].draw_again(*session, *updn, steps) else {
+        return false;
+    };
+    waiting.wait_for(number, *session, slot);
+    true
 }
 
 /// Whether a tag stays as it is at a command since it takes no part in a round.

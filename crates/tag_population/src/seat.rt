@@ -1,9 +1,11 @@
 //! One place in a population, which has a tag.
-ghost use Rattle.std.specs.Prelude.{◌≡◌, ◌+◌, ◌<◌, ◌≤◌, Some, true, false, if◌then◌else◌};
+ghost use Rattle.std.specs.Prelude.{◌≡◌, ℕ, ◌+◌, ◌<◌, ◌≤◌, Some, None, true, false, if◌then◌else◌};
+ghost use Rattle.std.specs.Option.{is_some};
 ghost use Rattle.reply_grammar.specs.Table.{reply_room};
 ghost use Rattle.tag_machine.specs.Answers.{IsSent, bits_sent, silent};
 ghost use Rattle.tag_machine.specs.Events.{tag_after_event};
 ghost use Rattle.tag_machine.specs.Hearing.{mark_of, tag_value_of, typed_name_of};
+ghost use Rattle.tag_machine.specs.Reach.{DrawsAgain};
 ghost use Rattle.tag_machine.specs.Step.{step};
 ghost use Rattle.tag_machine.specs.TagValue.{IsLegalTag};
 ghost use Rattle.tag_machine.specs.Exchange.{outcome_unless};
@@ -11,8 +13,8 @@ ghost use Rattle.tag_population.specs.Seated.{participation_in, with_slot};
 ghost use Rattle.tag_population.specs.Waiting.{IsLegalParticipation};
 
 use crate::waiting::Participation;
-use bit_strings::Bits;
-use command_grammar::Command;
+use bit_strings::{Bits, Session};
+use command_grammar::{Command, UpDn};
 use std::marker::Model;
 use std::sync::ledger::Ledger;
 use tag_machine::{Answered, AnyTag, Event, StateName, Steps};
@@ -119,6 +121,26 @@ impl Seat {
             return true;
         }
         tag.hear_in_place(command, steps)
+    }
+
+    /// Lets the tag hear a QueryAdjust in its place, where it waits in a round of this session and draws another slot than 0, and
+    /// answers the slot; else it has heard nothing yet.
+    #[inline]
+    pub(crate) fn draw_again<L: Ledger>(
+        &mut self,
+        session: Session,
+        updn: UpDn,
+        steps: &mut Steps<L>,
+    ) -> Option<u16>
+        ensures drawn { (slot : ℕ) → result ≡ Some slot → DrawsAgain session updn self.old slot self.new }
+        ensures left { result ≡ None → self.new ≡ self.old }
+        ensures counted { steps.new ≡ steps.old + (if is_some result then 1 else 0) }
+        ensures legal { IsLegalTag self.new }
+    {
+        let Some(tag) = &mut self.tag else {
+            unreachable!()
+        };
+        tag.draw_again(session, updn, steps)
     }
 
     /// Lets the tag hear a command. The bits of its answer stand in `out` afterwards, and none where it sends nothing.

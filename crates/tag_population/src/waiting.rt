@@ -1,5 +1,5 @@
 //! Which tags wait for their slots, and which are called.
-ghost use Rattle.std.specs.Prelude.{◌≡◌, ◌↔◌, ℕ, ◌+◌, ◌<◌, ◌≤◌, false, Some, None, length, map, replicate, slice_set, IfOk};
+ghost use Rattle.std.specs.Prelude.{◌≡◌, ◌↔◌, ℕ, ◌+◌, ◌<◌, ◌≤◌, true, false, Some, None, length, map, replicate, slice_set, IfOk};
 ghost use Rattle.air_events.specs.TagNumbers.{most_tags};
 ghost use Rattle.tag_population.specs.Waiting.{AreSlots, IsDue, IsLegalParticipation, IsNextCalled, counted_down, slot_in, slot_place, participation_at, waits_in};
 
@@ -132,6 +132,19 @@ impl Waiting {
                 self.called.insert(number);
             }
         }
+    }
+
+    /// Lets a tag that waits in a session wait there for another slot.
+    #[inline]
+    pub(crate) fn wait_for(&mut self, number: TagNumber, session: Session, slot: u16)
+        requires number { number < length self.old }
+        requires waits { waits_in session (participation_at self.old number) ≡ true }
+        requires slot { slot < 32768 }
+        ensures { self.new ≡ slice_set self.old number (Some (Participation.Waits session slot)) }
+    {
+        let session = session.get();
+        let place = slot_place(self.bases[usize::from(session)], session, slot);
+        self.wheel.put(number, place);
     }
 
     /// The first tag that is called, in the order of their numbers.

@@ -1,3 +1,4 @@
+mod ByteDigits
 mod UpperHexadecimal
 pub mod DecimalDigits
 pub mod EachByte

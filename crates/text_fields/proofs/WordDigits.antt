@@ -3,9 +3,9 @@ use Rattle.std.proofs.Common.{◌≡◌, ◌≢◌, ◌<◌, ◌^◌, ◌/◌, �
 use Rattle.std.specs.Prelude.{All}
 use Rattle.std.specs.List.{AllPass, IsSplitAt, flat_map}
 use Rattle.std.proofs.lemmas.Bool.Decides.{nat_tests}
-use Rattle.std.proofs.lemmas.List.Elements.{All-head, All-tail, All-cons, All-nil}
+use Rattle.std.proofs.lemmas.List.Elements.{All-append, All-head, All-tail, All-cons, All-nil}
 use Rattle.text_fields.specs.Binary.{hyphen}
-use Rattle.text_fields.specs.Hexadecimal.{hex_digit, hex_word}
+use Rattle.text_fields.specs.Hexadecimal.{hex_byte, hex_digit, hex_word}
 use Rattle.text_fields.specs.WordLists.{AreWordDigits, digit_number, is_upper_hex_digit, word_number, words_of_digits}
 
 -- the fact of `AllPass is_upper_hex_digit`
@@ -58,6 +58,36 @@ word_back word small =
     let third = number_back (word % 256 / 16) (omega arith) in
     let fourth = number_back (word % 256 % 16) (omega arith) in
     rw (first, second, third, fourth) (omega arith)
+
+-- two digits are the digits of a byte
+pub one_byte : (digits : List ℕ) → AllPass is_upper_hex_digit digits → length digits ≡ 2 → (byte : ℕ) × (byte < 2 ^ 8) × (digits ≡ hex_byte byte)
+one_byte [] are two = absurd (omega arith)
+one_byte (a ∷ []) are two = absurd (omega arith)
+one_byte (a ∷ b ∷ []) are two =
+    let a_small = number_small a in
+    let b_small = number_small b in
+    let byte = digit_number a * 16 + digit_number b in
+    let first : byte / 16 ≡ digit_number a = omega arith in
+    let second : byte % 16 ≡ digit_number b = omega arith in
+    let b_is = All-head IsDigit b [] (All-tail IsDigit a (b ∷ []) are) in
+    (byte, omega arith, rw (first, second, digit_back a (All-head IsDigit a (b ∷ []) are), digit_back b b_is) refl)
+one_byte (a ∷ b ∷ c ∷ digits) are two = absurd (omega arith)
+
+-- four digits are the digits of a word
+pub one_word : (digits : List ℕ) → AllPass is_upper_hex_digit digits → length digits ≡ 4 → (word : ℕ) × (word < 2 ^ 16) × (digits ≡ hex_word word)
+one_word [] are four = absurd (omega arith)
+one_word (a ∷ []) are four = absurd (omega arith)
+one_word (a ∷ b ∷ []) are four = absurd (omega arith)
+one_word (a ∷ b ∷ c ∷ []) are four = absurd (omega arith)
+one_word (a ∷ b ∷ c ∷ d ∷ []) are four =
+    let bs = All-tail IsDigit a (b ∷ c ∷ d ∷ []) are in
+    let cs = All-tail IsDigit b (c ∷ d ∷ []) bs in
+    let ds = All-tail IsDigit c (d ∷ []) cs in (
+      word_number a b c d,
+      word_small a b c d,
+      sym (word_spelled a b c d (All-head IsDigit a (b ∷ c ∷ d ∷ []) are) (All-head IsDigit b (c ∷ d ∷ []) bs) (All-head IsDigit c (d ∷ []) cs) (All-head IsDigit d [] ds)),
+    )
+one_word (a ∷ b ∷ c ∷ d ∷ e ∷ digits) are four = absurd (omega arith)
 
 pub words_spelled : (digits : List ℕ) → AllPass is_upper_hex_digit digits → length digits % 4 ≡ 0 → digits ≡ flat_map hex_word (words_of_digits digits)
 words_spelled [] are four = refl
@@ -113,20 +143,22 @@ pub digits_length : (words : List ℕ) → length (flat_map hex_word words) ≡ 
 digits_length [] = refl
 digits_length (word ∷ words) = omega (arith, digits_length words)
 
-pub digits_pass : (words : List ℕ) → All (λ word. word < 2 ^ 16) words → AllPass is_upper_hex_digit (flat_map hex_word words)
-digits_pass [] small = All-nil IsDigit
-digits_pass (word ∷ words) small =
-    let fits = All-head IsSmall word words small in
-    let rest = digits_pass words (All-tail IsSmall word words small) in
-    let digits = flat_map hex_word words in
+pub word_passes : (word : ℕ) → IsSmall word → AllPass is_upper_hex_digit (hex_word word)
+word_passes word fits =
     let d = hex_digit (word % 256 % 16) in
     let c = hex_digit (word % 256 / 16) in
     let b = hex_digit (word / 256 % 16) in
     let a = hex_digit (word / 256 / 16) in
-    All-cons IsDigit a (b ∷ c ∷ d ∷ digits) (hex_digit_is_digit (word / 256 / 16) (omega arith))
-    (All-cons IsDigit b (c ∷ d ∷ digits) (hex_digit_is_digit (word / 256 % 16) (omega arith))
-    (All-cons IsDigit c (d ∷ digits) (hex_digit_is_digit (word % 256 / 16) (omega arith))
-    (All-cons IsDigit d digits (hex_digit_is_digit (word % 256 % 16) (omega arith)) rest)))
+    All-cons IsDigit a (b ∷ c ∷ d ∷ []) (hex_digit_is_digit (word / 256 / 16) (omega arith))
+    (All-cons IsDigit b (c ∷ d ∷ []) (hex_digit_is_digit (word / 256 % 16) (omega arith))
+    (All-cons IsDigit c (d ∷ []) (hex_digit_is_digit (word % 256 / 16) (omega arith))
+    (All-cons IsDigit d [] (hex_digit_is_digit (word % 256 % 16) (omega arith)) (All-nil IsDigit))))
+
+pub digits_pass : (words : List ℕ) → All (λ word. word < 2 ^ 16) words → AllPass is_upper_hex_digit (flat_map hex_word words)
+digits_pass [] small = All-nil IsDigit
+digits_pass (word ∷ words) small =
+    let first = word_passes word (All-head IsSmall word words small) in
+    All-append IsDigit (hex_word word) (flat_map hex_word words) first (digits_pass words (All-tail IsSmall word words small))
 
 -- the digits of words are not the hyphen
 pub digits_no_hyphen : (words : List ℕ) → flat_map hex_word words ≢ hyphen ∷ []

@@ -144,7 +144,7 @@ fn push_part(text: &mut String, bits: &[bool]) -> Result<(), OutOfMemory>
     let mut room = [b'0'; PART];
     let digits = &mut room[..bits.len()];
     write_digits(bits, digits);
-    match str::from_utf8(digits) {
+    match simdutf8::basic::from_utf8(digits) {
         Ok(digits) => text.push_str(digits),
         // Digits are ASCII.
         Err(_) => unreachable!(),

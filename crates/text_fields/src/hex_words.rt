@@ -5,28 +5,9 @@ ghost use Rattle.std.specs.String.{string_bytes};
 ghost use Rattle.text_fields.specs.Hexadecimal.{hex_byte, hex_digit, hex_word, hex_words};
 ghost use Rattle.text_fields.specs.WordLists.{is_upper_hex_digit};
 
+use crate::word_lists::is_upper_hexadecimal;
 use bit_strings::OutOfMemory;
-
-/// The number that one upper-case hexadecimal digit stands for; none exactly where the byte is no such
-/// digit.
-fn digit_value(digit: u8) -> Option<u8>
-    ensures value { IfSome result (λ n. (digit ≡ hex_digit n) × (n < 16)) }
-    ensures only { (n : ℕ) → n < 16 → digit ≡ hex_digit n → result ≡ Some n }
-{
-    match digit {
-        b'0'..=b'9' => Some(digit - b'0'),
-        b'A'..=b'F' => Some(digit - b'A' + 10),
-        _ => None,
-    }
-}
-
-/// The byte that two upper-case hexadecimal digits stand for.
-fn byte_value(high: u8, low: u8) -> Option<u8>
-    ensures value { IfSome result (λ n. high ∷ low ∷ [] ≡ hex_byte n) }
-    ensures only { (n : ℕ) → n < 256 → high ∷ low ∷ [] ≡ hex_byte n → result ≡ Some n }
-{
-    Some(digit_value(high)? * 16 + digit_value(low)?)
-}
+use hex::FromHex;
 
 /// The byte that a field spells in two upper-case hexadecimal digits; none exactly where the field isn't
 /// the spelling of a byte.
@@ -34,10 +15,21 @@ pub fn byte(field: &[u8]) -> Option<u8>
     ensures value { IfSome result (λ n. field.now ≡ hex_byte n) }
     ensures only { (n : ℕ) → n < 2 ^ 8 → field.now ≡ hex_byte n → result ≡ Some n }
 {
-    let [high, low] = field else {
+    if !is_upper_hexadecimal(field) {
         return None;
-    };
-    byte_value(*high, *low)
+    }
+    let [byte] = <[u8; 1] as FromHex>::from_hex(field).ok()?;
+    Some(byte)
+}
+
+/// The word that upper-case hexadecimal digits spell; none exactly where they aren't four.
+pub(crate) fn read_word(digits: &[u8]) -> Option<u16>
+    requires { AllPass is_upper_hex_digit digits.now }
+    ensures value { IfSome result (λ n. digits.now ≡ hex_word n) }
+    ensures only { (n : ℕ) → n < 2 ^ 16 → digits.now ≡ hex_word n → result ≡ Some n }
+{
+    let bytes = <[u8; 2] as FromHex>::from_hex(digits).ok()?;
+    Some(u16::from_be_bytes(bytes))
 }
 
 /// The word that a field spells in four upper-case hexadecimal digits; none exactly where the field
@@ -46,50 +38,38 @@ pub fn word(field: &[u8]) -> Option<u16>
     ensures value { IfSome result (λ n. field.now ≡ hex_word n) }
     ensures only { (n : ℕ) → n < 2 ^ 16 → field.now ≡ hex_word n → result ≡ Some n }
 {
-    let [first, second, third, fourth] = field else {
+    if !is_upper_hexadecimal(field) {
         return None;
-    };
-    let high = byte_value(*first, *second)?;
-    let low = byte_value(*third, *fourth)?;
-    Some(u16::from_be_bytes([high, low]))
+    }
+    read_word(field)
 }
 
 /// How many words are written at once.
 const PART: usize = 16;
 
-/// The digit of a number below 16.
-fn digit_of(value: u8) -> u8
-    requires { value < 16 }
-    ensures { result ≡ hex_digit value }
+/// Writes the digits of bytes over others.
+fn write_bytes(bytes: &[u8], digits: &mut [u8])
+    requires { length digits.old ≡ 2 * length bytes.now }
+    ensures { digits.new ≡ flat_map hex_byte bytes.now }
 {
-    if value < 10 {
-        b'0' + value
-    } else {
-        b'A' + (value - 10)
+    match hex::encode_to_slice(bytes, digits) {
+        Ok(()) => digits.make_ascii_uppercase(),
+        // There is room for two digits of each byte.
+        Err(_) => unreachable!(),
     }
-}
-
-/// The four digits of a word.
-fn word_digits(word: u16) -> [u8; 4]
-    ensures { result ≡ hex_word word }
-{
-    let [high, low] = word.to_be_bytes();
-    [
-        digit_of(high / 16),
-        digit_of(high % 16),
-        digit_of(low / 16),
-        digit_of(low % 16),
-    ]
 }
 
 /// Writes the digits of words over others.
 fn write_words(words: &[u16], digits: &mut [u8])
-    requires { length digits.old ≡ 4 * length words.now }
+    requires part { length words.now ≤ PART }
+    requires room { length digits.old ≡ 4 * length words.now }
     ensures { digits.new ≡ flat_map hex_word words.now }
 {
+    let mut bytes = [0_u8; 2 * PART];
     for (at, word) in words.iter().enumerate() {
-        digits[4 * at..4 * at + 4].copy_from_slice(&word_digits(*word));
+        bytes[2 * at..2 * at + 2].copy_from_slice(&word.to_be_bytes());
     }
+    write_bytes(&bytes[..2 * words.len()], digits);
 }
 
 /// Writes upper-case hexadecimal digits at the end of the text.
@@ -97,7 +77,7 @@ fn push_upper_hexadecimal(text: &mut String, digits: &[u8]) -> Result<(), OutOfM
     requires { AllPass is_upper_hex_digit digits.now }
     ensures { OnOk result (string_bytes text.new ≡ string_bytes text.old ++ digits.now) }
 {
-    match str::from_utf8(digits) {
+    match simdutf8::basic::from_utf8(digits) {
         Ok(digits) => text.push_str(digits),
         // Digits are ASCII.
         Err(_) => unreachable!(),
@@ -133,7 +113,9 @@ pub fn push_hex_digit(text: &mut String, value: u8) -> Result<(), OutOfMemory>
     requires { value < 16 }
     ensures { OnOk result (string_bytes text.new ≡ string_bytes text.old ++ hex_digit value ∷ []) }
 {
-    text.push(char::from(digit_of(value)))
+    let mut digits = [b'0'; 2];
+    write_bytes(&[value], &mut digits);
+    push_upper_hexadecimal(text, &digits[1..])
 }
 
 /// Writes a byte in two upper-case hexadecimal digits at the end of the text. After an error the text
@@ -141,8 +123,9 @@ pub fn push_hex_digit(text: &mut String, value: u8) -> Result<(), OutOfMemory>
 pub fn push_byte_hex(text: &mut String, byte: u8) -> Result<(), OutOfMemory>
     ensures { OnOk result (string_bytes text.new ≡ string_bytes text.old ++ hex_byte byte) }
 {
-    push_hex_digit(text, byte / 16)?;
-    push_hex_digit(text, byte % 16)
+    let mut digits = [b'0'; 2];
+    write_bytes(&[byte], &mut digits);
+    push_upper_hexadecimal(text, &digits)
 }
 
 /// Writes a word in four upper-case hexadecimal digits at the end of the text. After an error the text
@@ -150,7 +133,9 @@ pub fn push_byte_hex(text: &mut String, byte: u8) -> Result<(), OutOfMemory>
 pub fn push_word(text: &mut String, word: u16) -> Result<(), OutOfMemory>
     ensures { OnOk result (string_bytes text.new ≡ string_bytes text.old ++ hex_word word) }
 {
-    push_upper_hexadecimal(text, &word_digits(word))
+    let mut digits = [b'0'; 4];
+    write_bytes(&word.to_be_bytes(), &mut digits);
+    push_upper_hexadecimal(text, &digits)
 }
 
 /// Writes words in hexadecimal digits without anything between them, or a hyphen for none, at the end

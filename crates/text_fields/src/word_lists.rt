@@ -1,12 +1,12 @@
 //! Lists of words as fields.
 ghost use Rattle.std.specs.Prelude.{◌≡◌, ◌≢◌, ◌≤◌, ◌<◌, ◌^◌, ◌%◌, ℕ, ◌↔◌, List, [], ◌∷◌, ◌++◌, length, slice_get, All, IsTrue, IfOk, OnOk, IfSome, IfNone, IsSomeAnd};
 ghost use Rattle.std.specs.List.{AllPass};
-ghost use Rattle.text_fields.specs.Binary.{hyphen, or_hyphen};
+ghost use Rattle.text_fields.specs.Binary.{hyphen};
 ghost use Rattle.text_fields.specs.Hexadecimal.{hex_word, hex_words};
 ghost use Rattle.text_fields.specs.WordLists.{AreWordDigits, is_upper_hex_digit, words_of_digits};
 
 use crate::digits::list_digits;
-use crate::hex_words::word;
+use crate::hex_words::read_word;
 use bit_strings::OutOfMemory;
 use std::alloc::Global;
 use std::marker::Model;
@@ -37,7 +37,7 @@ fn is_upper_hex_digit(byte: u8) -> bool
 }
 
 /// Whether each byte is an upper-case hexadecimal digit.
-fn is_upper_hexadecimal(digits: &[u8]) -> bool
+pub(crate) fn is_upper_hexadecimal(digits: &[u8]) -> bool
     ensures { IsTrue result ↔ AllPass is_upper_hex_digit digits.now }
 {
     // The loop goes on to the end, so that the compiler can look at many digits at once.
@@ -58,7 +58,7 @@ fn split_word(digits: &[u8]) -> Option<(u16, &[u8])>
     ensures none { IfNone result (words_of_digits digits.now ≡ []) }
 {
     let (first, behind) = digits.split_at_checked(4)?;
-    Some((word(first)?, behind))
+    Some((read_word(first)?, behind))
 }
 
 impl<'a> Words<'a> {

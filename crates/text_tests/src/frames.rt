@@ -1,7 +1,7 @@
 //! Lists of intervals as fields, and frames and the refusals of intervals as texts written out by hand.
 use bit_strings::Bits;
 use pie_line::{FrameKind, Intervals, PieRefusal};
-use pie_text::{NotNumbers, Numbers, push_frame, push_pie_refusal, read_numbers};
+use pie_text::{KeptIntervals, NotNumbers, Numbers, push_frame, push_pie_refusal, read_numbers};
 use std::alloc::Global;
 use text_fields::Fields;
 
@@ -86,6 +86,22 @@ fn frames_are_written(rt: HostRuntime) {
             "{wanted}"
         );
     }
+}
+
+/// Whether the intervals of a frame, written twice, have this text: the second time their pairs are copied.
+fn is_kept_text(alloc: Global, wanted: &str) -> Option<bool> {
+    let frame = [12_500, 18_750, 6_250, 56_250, 6_250, 18_750, 6_250];
+    let mut kept = KeptIntervals::new();
+    let mut text = String::new(alloc);
+    kept.push_next(&mut text, &frame).ok()?;
+    kept.push_next(&mut text, &frame).ok()?;
+    Some(text.as_str() == wanted)
+}
+
+#[test]
+fn intervals_are_written_again(rt: HostRuntime) {
+    let twice = " 12500 18750 6250 56250 6250 18750 6250 12500 18750 6250 56250 6250 18750 6250";
+    assert_eq!(rt; is_kept_text(rt.alloc(), twice), Some(true));
 }
 
 /// Refusals, and their texts.

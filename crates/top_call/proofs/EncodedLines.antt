@@ -12,13 +12,12 @@ use Rattle.encode_lines.specs.Request.{AsksForRequest}
 use Rattle.encode_lines.specs.Written.{AreWritten}
 use Rattle.encode_lines.specs.declared.request.Request.{Request}
 use Rattle.top_call.specs.Job.{Defines}
-use Rattle.top_call.specs.Outcome.{AddsFront}
+use Rattle.top_call.specs.Outcome.{AddsFront, EndsSo, SinkChange}
 use Rattle.top_call.specs.UnwrittenBytes.{Loses}
 use Rattle.top_call.specs.declared.ending.Wrote.{Wrote}
 use Rattle.top_call.specs.declared.ending.WriteEnd.{WriteEnd}
 use Rattle.top_call.specs.declared.ending.WriteEnd.TheVariants.{Fault, OutOfMemory}
 use Rattle.top_call.specs.words.Encoded.{encode_job}
-use Rattle.top_call.proofs.SinkChanges.{SinkChange, EndsWith}
 
 -- what the law of requests says
 abbrev pub HaveLines : Type 0
@@ -103,8 +102,8 @@ defined_front input written written' front = record { front = front.front; rest 
 -- the writing ended where a write failed, or for want of memory
 pub encode_failed : (input : List ℕ) (sink : SinkChange) (why : WriteEnd) (end : Result Wrote WriteEnd) → end ≡ Err why
     → (IsErrOf {T = Unit {0}} (Err why) Fault → FaultsRose sink.writes sink.writes') → (IsErrOf {T = Unit {0}} (Err why) OutOfMemory → sink.writes' ≡ sink.writes)
-    → AddsFront (Encodes input) sink.written sink.written' → EndsWith encode_job input sink end
+    → AddsFront (Encodes input) sink.written sink.written' → EndsSo encode_job input sink end
 encode_failed input sink Fault end is rose steady front =
-    subst (EndsWith encode_job input sink) (sym is) (rose refl, defined_front input sink.written sink.written' front)
+    subst (EndsSo encode_job input sink) (sym is) (rose refl, defined_front input sink.written sink.written' front)
 encode_failed input sink OutOfMemory end is rose steady front =
-    subst (EndsWith encode_job input sink) (sym is) (steady refl, inr (defined_front input sink.written sink.written' front))
+    subst (EndsSo encode_job input sink) (sym is) (steady refl, inr (defined_front input sink.written sink.written' front))

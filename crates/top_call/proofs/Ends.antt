@@ -3,7 +3,7 @@ use Rattle.std.proofs.Common.{◌≡◌, ◌⊎◌, ℕ, ◌+◌, ◌≤◌, ◌
 use Rattle.std.proofs.lemmas.List.{take-append-drop, append-nil}
 use Rattle.air_io.specs.Flow.{Reads, Adds, AtEnd, FaultsRose}
 use Rattle.top_call.specs.Job.{Job, Defines, IsLawful}
-use Rattle.top_call.specs.Outcome.{input_limit, ReadsWithin, TakesInput, AddsFront, EndsSo, Tells, WritesWhole}
+use Rattle.top_call.specs.Outcome.{input_limit, ReadsWithin, TakesInput, AddsFront, EndsSo, SinkChange, Tells, WritesWhole}
 use Rattle.top_call.specs.declared.ending.Wrote.{Wrote}
 use Rattle.top_call.specs.declared.ending.WriteEnd.{WriteEnd}
 use Rattle.top_call.specs.declared.ending.WriteEnd.TheVariants.{Fault}
@@ -15,17 +15,16 @@ abbrev pub AddsSome : Option (List ℕ) → Option (List ℕ) → List ℕ → T
 AddsSome written written' text = (count : ℕ) × (count ≤ length text) × Adds written written' (take count text)
 
 -- the writing of a word's text ended where a write of it failed
-pub write_failed : (job : Job) (bytes : List ℕ) (written written' : Option (List ℕ)) (writes writes' : ℕ) (text piece : List ℕ) (end : Result Wrote WriteEnd)
-    → end ≡ Err Fault → Defines job bytes text → piece ≡ text → FaultsRose writes writes' → AddsSome written written' piece
-    → EndsSo job bytes written written' writes writes' end
-write_failed job bytes written written' writes writes' text piece end is named same rose added =
-    let front : AddsFront (Defines job bytes) written written' = record {
-      front = take added.0 piece;
-      rest = drop added.0 piece;
-      named = subst (Defines job bytes) (sym same ∙ sym (take-append-drop added.0 piece)) named;
+pub write_failed : (job : Job) (bytes : List ℕ) (sink : SinkChange) (text : List ℕ) (end : Result Wrote WriteEnd)
+    → end ≡ Err Fault → Defines job bytes text → FaultsRose sink.writes sink.writes' → AddsSome sink.written sink.written' text → EndsSo job bytes sink end
+write_failed job bytes sink text end is named rose added =
+    let front : AddsFront (Defines job bytes) sink.written sink.written' = record {
+      front = take added.0 text;
+      rest = drop added.0 text;
+      named = subst (Defines job bytes) (sym (take-append-drop added.0 text)) named;
       added = added.2;
     } in
-    subst (EndsSo job bytes written written' writes writes') (sym is) (rose, front)
+    subst (EndsSo job bytes sink) (sym is) (rose, front)
 
 -- what was read of a source that tells what it has left is a front of that
 front_read : (told : List ℕ) (left' : Option (List ℕ)) (bytes : List ℕ) → Reads (Some told) left' bytes → (rest : List ℕ) × (told ≡ bytes ++ rest) × (left' ≡ Some rest)
@@ -75,27 +74,24 @@ not_told_bad job lawful told left' bytes text taken allowed refused =
       | inr none ↦ lawful.unread none told text refused
     ]
 
--- the devices of a word: what its source told, what it tells then, what its sink had written and has written then, how many faults
--- each had met and has met then, and that the sink is untouched
+-- the devices of a word: what its source told, what it tells then, how many faults it had met and has met then, its sink, and that the
+-- sink is untouched
 pub record Devices : Type 1 where
   pub told : List ℕ
   pub left' : Option (List ℕ)
-  pub written : Option (List ℕ)
-  pub written' : Option (List ℕ)
   pub reads : ℕ
   pub reads' : ℕ
-  pub writes : ℕ
-  pub writes' : ℕ
+  pub sink : SinkChange
   pub untouched : Type 0
 
 -- what a status says of them
 abbrev pub TellsOf : Job → Devices → Status → Type 0
-TellsOf job of status = Tells job (Some of.told) of.left' of.written of.written' of.reads of.reads' of.writes of.writes' of.untouched status
+TellsOf job of status = Tells job (record { left = Some of.told; left' = of.left'; reads = of.reads; reads' = of.reads' }) of.sink of.untouched status
 
 -- no read and no write failed
 pub record NoneFailed (of : Devices) : Type 0 where
   pub read : ¬ FaultsRose of.reads of.reads'
-  pub write : ¬ FaultsRose of.writes of.writes'
+  pub write : ¬ FaultsRose of.sink.writes of.sink.writes'
 
 -- an input within the limit that the grammar allows ends so, or memory ran out
 pub completes : (job : Job) → IsLawful job → (of : Devices) (status : Status) → TellsOf job of status → length of.told ≤ input_limit → job.allows of.told → NoneFailed of

@@ -9,4 +9,3 @@ pub mod EncodedLines
 pub mod Waits
 pub mod ToldForms
 pub mod SummaryLines
-pub mod SinkChanges

@@ -8,7 +8,7 @@ use Rattle.epc_sgtin.specs.SgtinValue.{SgtinValue}
 use Rattle.sgtin_text.specs.SgtinText.{name_line}
 use Rattle.report_lines.specs.Names.{IsNamed, HasName, BecomesLines, AreWithNames}
 use Rattle.top_call.specs.Job.{Defines}
-use Rattle.top_call.specs.Outcome.{AddsFront, EndsSo}
+use Rattle.top_call.specs.Outcome.{AddsFront, EndsSo, SinkChange}
 use Rattle.top_call.specs.UnwrittenBytes.{Sends, Loses}
 use Rattle.top_call.specs.declared.ending.Wrote.{Wrote}
 use Rattle.top_call.specs.declared.ending.WriteEnd.{WriteEnd}
@@ -189,8 +189,8 @@ becomes_lost line bytes page written written' becomes loses =
     (becomes.lines, becomes.becomes, subst (λ (t : List ℕ). Loses (page ++ t) written written') becomes.is loses)
 
 -- the writing of names ended where a write failed
-pub names_failed : (bytes : List ℕ) (written written' : Option (List ℕ)) (writes writes' : ℕ) (end : Result Wrote WriteEnd) → end ≡ Err Fault → FaultsRose writes writes'
-    → AddsFront (AddsNames bytes) written written' → EndsSo names_job bytes written written' writes writes' end
-names_failed bytes written written' writes writes' end is rose front =
-    let part : AddsFront (Defines names_job bytes) written written' = record { front = front.front; rest = front.rest; named = inl front.named; added = front.added } in
-    subst (EndsSo names_job bytes written written' writes writes') (sym is) (rose, part)
+pub names_failed : (bytes : List ℕ) (sink : SinkChange) (end : Result Wrote WriteEnd) → end ≡ Err Fault → FaultsRose sink.writes sink.writes'
+    → AddsFront (AddsNames bytes) sink.written sink.written' → EndsSo names_job bytes sink end
+names_failed bytes sink end is rose front =
+    let part : AddsFront (Defines names_job bytes) sink.written sink.written' = record { front = front.front; rest = front.rest; named = inl front.named; added = front.added } in
+    subst (EndsSo names_job bytes sink) (sym is) (rose, part)

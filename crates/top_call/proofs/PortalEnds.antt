@@ -1,5 +1,5 @@
 -- The texts of `portals`, by the laws of scenarios.
-use Rattle.std.proofs.Common.{◌≡◌, ◌⊎◌, inl, inr, ℕ, List, Option, Some, None, refl, sym, ◌∙◌, ap, subst, codes}
+use Rattle.std.proofs.Common.{◌≡◌, ◌⊎◌, inl, inr, ℕ, List, Option, Some, None, refl, sym, ◌∙◌, ap, codes}
 use Rattle.std.specs.Prelude.{All, true}
 use Rattle.portal_text.specs.PortalFault.{portal_fault}
 use Rattle.portal_text.specs.PortalText.{portals_text}

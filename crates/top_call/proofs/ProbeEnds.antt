@@ -13,8 +13,7 @@ use Rattle.probe_lines.specs.Played.{HasPlayed, WritesPart}
 use Rattle.probe_lines.specs.ProbeText.{IsFirstFault, IsProbe, IsProbeText}
 use Rattle.top_call.specs.Ending.{end_of_play}
 use Rattle.top_call.specs.Job.{Defines}
-use Rattle.top_call.specs.Outcome.{AddsFront}
-use Rattle.top_call.proofs.SinkChanges.{SinkChange, EndsWith}
+use Rattle.top_call.specs.Outcome.{AddsFront, EndsSo, SinkChange}
 use Rattle.top_call.specs.declared.ending.Wrote.{Wrote}
 use Rattle.top_call.specs.declared.ending.Wrote.TheVariants.{Text}
 use Rattle.top_call.specs.declared.ending.WriteEnd.{WriteEnd}
@@ -66,14 +65,14 @@ front_of_probe bytes tag said written written' is part = record {
 -- the writing ended where playing was cut off
 pub play_failed : (bytes : List ℕ) (tag : TagSpec) (said : List Stimulus) (sink : SinkChange) (fault : PlayFault) (end : Result Wrote WriteEnd)
     → end ≡ Err (end_of_play fault) → IsProbe bytes tag said → HasPlayed (tag_of tag) said sink.written sink.written' sink.writes sink.writes' (Err fault)
-    → EndsWith probe_job bytes sink end
+    → EndsSo probe_job bytes sink end
 play_failed bytes tag said sink plays.Write end ends is played =
-    subst (EndsWith probe_job bytes sink) (sym ends) (played.0, front_of_probe bytes tag said sink.written sink.written' is played.1)
+    subst (EndsSo probe_job bytes sink) (sym ends) (played.0, front_of_probe bytes tag said sink.written sink.written' is played.1)
 play_failed bytes tag said sink plays.OutOfMemory end ends is played =
-    subst (EndsWith probe_job bytes sink) (sym ends) (played.0, inr (front_of_probe bytes tag said sink.written sink.written' is played.1))
+    subst (EndsSo probe_job bytes sink) (sym ends) (played.0, inr (front_of_probe bytes tag said sink.written sink.written' is played.1))
 
 -- ... and where it wasn't
 pub played_whole : (bytes : List ℕ) (tag : TagSpec) (said : List Stimulus) (sink : SinkChange) (done : Unit {0})
-    → IsProbe bytes tag said → HasPlayed (tag_of tag) said sink.written sink.written' sink.writes sink.writes' (Ok done) → EndsWith probe_job bytes sink (Ok Text)
+    → IsProbe bytes tag said → HasPlayed (tag_of tag) said sink.written sink.written' sink.writes sink.writes' (Ok done) → EndsSo probe_job bytes sink (Ok Text)
 played_whole bytes tag said sink done is played =
     record { text = played.text; named = record { tag = tag; said = said; is = is; tells = played.tells }; added = played.added }

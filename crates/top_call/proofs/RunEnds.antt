@@ -15,8 +15,7 @@ use Rattle.runs.specs.Report.{report_text_of}
 use Rattle.report_lines.specs.declared.mode.PlayFault.TheVariants as plays
 use Rattle.top_call.specs.words.Reported.{Reports, RefusesScenario, run_job}
 use Rattle.top_call.specs.Job.{Defines}
-use Rattle.top_call.specs.Outcome.{AddsFront}
-use Rattle.top_call.proofs.SinkChanges.{SinkChange, EndsWith}
+use Rattle.top_call.specs.Outcome.{AddsFront, EndsSo, SinkChange}
 use Rattle.top_call.specs.Ending.{end_of_play}
 use Rattle.top_call.specs.declared.ending.Wrote.{Wrote}
 use Rattle.top_call.specs.declared.ending.WriteEnd.{WriteEnd}
@@ -72,8 +71,8 @@ pub record LeavesPart (mode : Mode) (scenario : Scenario) (sink : SinkChange) (f
 
 -- the writing of a report ended where its run was cut off
 pub play_failed : (mode : Mode) (bytes : List ℕ) (text : IsText bytes) (sink : SinkChange) (fault : PlayFault) (end : Result Wrote WriteEnd) → end ≡ Err (end_of_play fault)
-    → LeavesPart mode text.0 sink fault → EndsWith (run_job mode) bytes sink end
+    → LeavesPart mode text.0 sink fault → EndsSo (run_job mode) bytes sink end
 play_failed mode bytes text sink plays.Write end is left =
-    subst (EndsWith (run_job mode) bytes sink) (sym is) (left.rose refl, front_of_report mode bytes text.0 sink.written sink.written' text.1 text.2 left.part)
+    subst (EndsSo (run_job mode) bytes sink) (sym is) (left.rose refl, front_of_report mode bytes text.0 sink.written sink.written' text.1 text.2 left.part)
 play_failed mode bytes text sink plays.OutOfMemory end is left =
-    subst (EndsWith (run_job mode) bytes sink) (sym is) (left.steady refl, inr (front_of_report mode bytes text.0 sink.written sink.written' text.1 text.2 left.part))
+    subst (EndsSo (run_job mode) bytes sink) (sym is) (left.steady refl, inr (front_of_report mode bytes text.0 sink.written sink.written' text.1 text.2 left.part))

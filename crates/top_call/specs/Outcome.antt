@@ -69,26 +69,47 @@ pub record ReadsTooMuch (old new : Option (List ℕ)) : Type 0 where
   pub reads : Reads old new bytes
   pub over : length bytes ≡ input_limit + 1
 
--- What the end of a word's writing for these bytes says: of what was written and is written, and of the count of the
--- sink's faults before and after. Where there was no memory, no write failed.
-abbrev pub EndsSo : Job → (bytes : List ℕ) → (written written' : Option (List ℕ)) → (writes writes' : ℕ) → Result Wrote WriteEnd → Type 0
-EndsSo job bytes written written' writes writes' (Ok Text) = AddsWhole (job.writes bytes) written written'
-EndsSo job bytes written written' writes writes' (Ok FaultLine) = AddsWhole (job.refuses bytes) written written'
-EndsSo job bytes written written' writes writes' (Err ends.Fault) = FaultsRose writes writes' × AddsFront (Defines job bytes) written written'
-EndsSo job bytes written written' writes writes' (Err ends.OutOfMemory) = (writes' ≡ writes) × ((written' ≡ written) ⊎ AddsFront (Defines job bytes) written written')
+-- A source before a word and behind it: what it tells that it had left and has left, and how many faults it had met and has met.
+pub record SourceChange : Type 0 where
+  pub left : Option (List ℕ)
+  pub left' : Option (List ℕ)
+  pub reads : ℕ
+  pub reads' : ℕ
 
--- What a status says of a word: of what was left and is left of the source, of what was written and is written, of the
--- two counts of faults before and after, and of the fact that the sink is untouched. Where there was no memory, no read and
--- no write failed.
-abbrev pub Tells : Job → (left left' written written' : Option (List ℕ)) → (reads reads' writes writes' : ℕ) → (untouched : Type 0) → Status → Type 0
-Tells job left left' written written' reads reads' writes writes' untouched Done = WritesWhole job job.writes left left' written written'
-Tells job left left' written written' reads reads' writes writes' untouched BadInput = WritesWhole job job.refuses left left' written written'
-Tells job left left' written written' reads reads' writes writes' untouched ReadFault = FaultsRose reads reads' × ReadsWithin left left' × untouched
-Tells job left left' written written' reads reads' writes writes' untouched WriteFault = FaultsRose writes writes' × WritesFront job left left' written written'
-Tells job left left' written written' reads reads' writes writes' untouched TooLong = ReadsTooMuch left left' × untouched
-Tells job left left' written written' reads reads' writes writes' untouched OutOfMemory =
-    (reads' ≡ reads) × (writes' ≡ writes) × ((ReadsWithin left left' × (written' ≡ written)) ⊎ WritesFront job left left' written written')
-Tells job left left' written written' reads reads' writes writes' untouched BadWords = ⊥
+-- A sink before a word and behind it: what it tells that was written and is written, and how many faults it had met and has met.
+pub record SinkChange : Type 0 where
+  pub written : Option (List ℕ)
+  pub written' : Option (List ℕ)
+  pub writes : ℕ
+  pub writes' : ℕ
+
+-- how a source of any kind changed
+abbrev pub source_change : {A : Type 0} → (left : A → Option (List ℕ)) → (faults : A → ℕ) → (old new : A) → SourceChange
+source_change left faults old new = record { left = left old; left' = left new; reads = faults old; reads' = faults new }
+
+-- how a sink of any kind changed
+abbrev pub sink_change : {A : Type 0} → (written : A → Option (List ℕ)) → (faults : A → ℕ) → (old new : A) → SinkChange
+sink_change written faults old new = record { written = written old; written' = written new; writes = faults old; writes' = faults new }
+
+-- What the end of a word's writing for these bytes says of the sink. Where there was no memory, no write failed.
+abbrev pub EndsSo : Job → (bytes : List ℕ) → SinkChange → Result Wrote WriteEnd → Type 0
+EndsSo job bytes sink (Ok Text) = AddsWhole (job.writes bytes) sink.written sink.written'
+EndsSo job bytes sink (Ok FaultLine) = AddsWhole (job.refuses bytes) sink.written sink.written'
+EndsSo job bytes sink (Err ends.Fault) = FaultsRose sink.writes sink.writes' × AddsFront (Defines job bytes) sink.written sink.written'
+EndsSo job bytes sink (Err ends.OutOfMemory) = (sink.writes' ≡ sink.writes) × ((sink.written' ≡ sink.written) ⊎ AddsFront (Defines job bytes) sink.written sink.written')
+
+-- What a status says of a word: of its source, of its sink, and of the fact that the sink is untouched. Where there was no
+-- memory, no read and no write failed.
+abbrev pub Tells : Job → SourceChange → SinkChange → (untouched : Type 0) → Status → Type 0
+Tells job source sink untouched Done = WritesWhole job job.writes source.left source.left' sink.written sink.written'
+Tells job source sink untouched BadInput = WritesWhole job job.refuses source.left source.left' sink.written sink.written'
+Tells job source sink untouched ReadFault = FaultsRose source.reads source.reads' × ReadsWithin source.left source.left' × untouched
+Tells job source sink untouched WriteFault = FaultsRose sink.writes sink.writes' × WritesFront job source.left source.left' sink.written sink.written'
+Tells job source sink untouched TooLong = ReadsTooMuch source.left source.left' × untouched
+Tells job source sink untouched OutOfMemory =
+    (source.reads' ≡ source.reads) × (sink.writes' ≡ sink.writes)
+    × ((ReadsWithin source.left source.left' × (sink.written' ≡ sink.written)) ⊎ WritesFront job source.left source.left' sink.written sink.written')
+Tells job source sink untouched BadWords = ⊥
 
 -- the status of an end of the writing
 abbrev pub status_of : Result Wrote WriteEnd → Status

@@ -4,7 +4,7 @@ ghost use Rattle.air_io.specs.Flow.{FaultsRose};
 ghost use Rattle.top_call.specs.declared.forms.Form.{Form};
 ghost use Rattle.top_call.specs.Form.{texts, AskFor, HasForm, IsForm};
 ghost use Rattle.top_call.specs.Jobs.{job_of};
-ghost use Rattle.top_call.specs.Outcome.{input_limit, WritesWhole, WritesFront, ReadsWithin, ReadsTooMuch, SpeaksOfNoInput, Tells};
+ghost use Rattle.top_call.specs.Outcome.{input_limit, WritesWhole, WritesFront, ReadsWithin, ReadsTooMuch, SpeaksOfNoInput, Tells, source_change, sink_change};
 ghost use Rattle.top_call.specs.words.Generated.{CountsEveryTag, gen_job};
 ghost use Rattle.top_call.specs.words.Reported.{IsOwnTrace, SaysHeadline, SaysInventory, run_job};
 ghost use Rattle.report_lines.specs.declared.mode.Mode.{Mode};
@@ -122,8 +122,7 @@ pub fn gen2run_surely(
 /// Answers the words of a form.
 fn answer<I: Source, O: Sink>(alloc: Global, form: Form, input: &mut I, output: &mut O) -> Status
     requires { IsForm form }
-    ensures tells { Tells (job_of form) (I.left input.old) (I.left input.new) (O.written output.old) (O.written output.new)
-        (I.faults input.old) (I.faults input.new) (O.faults output.old) (O.faults output.new) (output.new ≡ output.old) result }
+    ensures tells { Tells (job_of form) (source_change I.left I.faults input.old input.new) (sink_change O.written O.faults output.old output.new) (output.new ≡ output.old) result }
     ensures unread { (job_of form).input ≡ false → (input.new ≡ input.old) × SpeaksOfNoInput result }
     ensures names_memory { form ≡ Form.Names → result ≡ Status.OutOfMemory → output.new ≡ output.old }
 {

@@ -36,97 +36,149 @@ AllQuiet lines = All (λ line. line.quiet ≡ true) lines
 abbrev pub AllSame : List PortalLine → Type 0
 AllSame lines = All (λ line. line.same ≡ true) lines
 
--- a portal whose round is played, and the other one: the tags of both alone are twins of those that they share
-pub record Shared (session other : ℕ) (joint alone beside : List TagValue) : Type 0 where
-  pub own : AreAllTwins session joint alone
-  pub others : AreAllTwins other joint beside
+-- how rounds are played, and two portals by the sessions of their rounds
+record Sides : Type 0 where
+  played : Plays
+  laws : Laws played
+  session : ℕ
+  other : ℕ
+  apart : (session == other) ≡ false
+  apart2 : (other == session) ≡ false
+  keeps : KeepsSide session other
+  keeps2 : KeepsSide other session
+
+-- where the rounds of both stand: the tags that they share, those that each reads alone, and the numbers of their next lines
+record PortalsAt : Type 0 where
+  joint : List TagValue
+  alone : List TagValue
+  beside : List TagValue
+  number : ℕ
+  number_beside : ℕ
+
+-- the tags that each portal reads alone are twins of those that they share
+record Shared (sides : Sides) (at : PortalsAt) : Type 0 where
+  own : AreAllTwins sides.session at.joint at.alone
+  others : AreAllTwins sides.other at.joint at.beside
+
+-- a round of the first portal
+record IsOwnRound (sides : Sides) (spec : SpecValue) : Type 0 where
+  legal : IsLegalSpec spec
+  portal : IsOfPortal spec
+  session : spec.session ≡ sides.session
+
+-- where the rounds stand behind such a round
+abbrev behind_own : Sides → SpecValue → PortalsAt → PortalsAt
+behind_own sides spec at =
+    record at { joint = (sides.played at.joint spec).tags; alone = (sides.played at.alone spec).tags; number = at.number + 1 }
 
 -- one round: it lists the same, and leaves the tags shared
-record IsSameRound (played : Plays) (session other : ℕ) (spec : SpecValue) (joint alone beside : List TagValue) : Type 0 where
-  same : (line_of session 0 (played joint spec) (played alone spec)).same ≡ true
-  senders : NameAlike (played joint spec).senders (played alone spec).senders
-  shared : Shared session other (played joint spec).tags (played alone spec).tags beside
+record IsSameRound (sides : Sides) (spec : SpecValue) (at : PortalsAt) : Type 0 where
+  same : (line_of sides.session 0 (sides.played at.joint spec) (sides.played at.alone spec)).same ≡ true
+  senders : NameAlike (sides.played at.joint spec).senders (sides.played at.alone spec).senders
+  shared : Shared sides (behind_own sides spec at)
 
-one-round : (played : Plays) → Laws played → (session other : ℕ) (spec : SpecValue) (joint alone beside : List TagValue) → IsLegalSpec spec → IsOfPortal spec
-    → spec.session ≡ session → KeepsSide session other → Shared session other joint alone beside
-    → (is_quiet (played joint spec).end && is_quiet (played alone spec).end) ≡ true → IsSameRound played session other spec joint alone beside
-one-round played laws session other spec joint alone beside legal portal is keeps shared quiet =
-    let here = is_quiet (played joint spec).end in
-    let there = is_quiet (played alone spec).end in
-    let twins = subst (λ (s : ℕ). AreAllTwins s joint alone) (sym is) shared.own in
-    let round = whole-round played laws joint spec legal (joint-ready spec.session joint alone twins) (first_so here there quiet) in
-    let own = whole-round played laws alone spec legal (alone-ready spec.session joint alone twins) (second_so here there quiet) in
+one-round : (sides : Sides) (spec : SpecValue) (at : PortalsAt) → IsOwnRound sides spec → Shared sides at
+    → (is_quiet (sides.played at.joint spec).end && is_quiet (sides.played at.alone spec).end) ≡ true → IsSameRound sides spec at
+one-round sides spec at is shared quiet =
+    let joint = sides.played at.joint spec in
+    let alone = sides.played at.alone spec in
+    let twins = subst (λ (s : ℕ). AreAllTwins s at.joint at.alone) (sym is.session) shared.own in
+    let round = whole-round sides.played sides.laws at.joint spec is.legal (joint-ready spec.session at.joint at.alone twins) (first_so (is_quiet joint.end) (is_quiet alone.end) quiet) in
+    let own = whole-round sides.played sides.laws at.alone spec is.legal (alone-ready spec.session at.joint at.alone twins) (second_so (is_quiet joint.end) (is_quiet alone.end) quiet) in
     record {
-      same = round-same spec joint alone (played joint spec) (played alone spec) twins round own;
-      senders = names-alike spec joint alone (played joint spec) (played alone spec) twins round own;
+      same = round-same spec at.joint at.alone joint alone twins round own;
+      senders = names-alike spec at.joint at.alone joint alone twins round own;
       shared = record {
-        own = subst (λ (s : ℕ). AreAllTwins s (played joint spec).tags (played alone spec).tags) is
-            (own-round spec joint alone (played joint spec).tags (played alone spec).tags portal twins round.quiet.left own.quiet.left);
-        others = other-round spec other joint beside (played joint spec).tags portal (subst (λ (s : ℕ). KeepsSide s other) (sym is) keeps) shared.others round.quiet.left;
+        own = subst (λ (s : ℕ). AreAllTwins s joint.tags alone.tags) is.session
+            (own-round spec at.joint at.alone joint.tags alone.tags is.portal twins round.quiet.left own.quiet.left);
+        others = other-round spec sides.other at.joint at.beside joint.tags is.portal (subst (λ (s : ℕ). KeepsSide s sides.other) (sym is.session) sides.keeps) shared.others round.quiet.left;
       };
     }
 
--- the lines of both portals, from where their halls stand, and where the one whose round comes next is meant by the first session
-record AreSame (played : Plays) (session other n m : ℕ) (joint alone beside : List TagValue) (specs : List SpecValue) : Type 0 where
-  own : AllSame (lines_from played session n joint alone specs)
-  others : AllSame (lines_from played other m joint beside specs)
-  senders : SendersAgree played session joint alone specs
-  others_senders : SendersAgree played other joint beside specs
+-- the lines of both portals, from where their rounds stand
+record AreSame (sides : Sides) (at : PortalsAt) (specs : List SpecValue) : Type 0 where
+  own : AllSame (lines_from sides.played sides.session at.number at.joint at.alone specs)
+  others : AllSame (lines_from sides.played sides.other at.number_beside at.joint at.beside specs)
+  senders : SendersAgree sides.played sides.session at.joint at.alone specs
+  others_senders : SendersAgree sides.played sides.other at.joint at.beside specs
 
-record AreQuiet (played : Plays) (session other n m : ℕ) (joint alone beside : List TagValue) (specs : List SpecValue) : Type 0 where
-  own : AllQuiet (lines_from played session n joint alone specs)
-  others : AllQuiet (lines_from played other m joint beside specs)
+record AreQuiet (sides : Sides) (at : PortalsAt) (specs : List SpecValue) : Type 0 where
+  own : AllQuiet (lines_from sides.played sides.session at.number at.joint at.alone specs)
+  others : AllQuiet (lines_from sides.played sides.other at.number_beside at.joint at.beside specs)
+
+-- where all rounds end quiet, each lists the same
+abbrev SameWhereQuiet : Sides → PortalsAt → List SpecValue → Type 0
+SameWhereQuiet sides at specs = Shared sides at → AreQuiet sides at specs → AreSame sides at specs
 
 -- a round of the first portal, behind which all lines are the same
-own-round-first : (played : Plays) → Laws played → (session other n m : ℕ) (spec : SpecValue) (specs : List SpecValue) (joint alone beside : List TagValue) → IsLegalSpec spec → IsOfPortal spec
-    → spec.session ≡ session → (session == other) ≡ false → KeepsSide session other → Shared session other joint alone beside
-    → ((joint alone : List TagValue) → Shared session other joint alone beside → AreQuiet played session other (n + 1) m joint alone beside specs → AreSame played session other (n + 1) m joint alone beside specs)
-    → AreQuiet played session other n m joint alone beside (spec ∷ specs) → AreSame played session other n m joint alone beside (spec ∷ specs)
-own-round-first played laws session other n m spec specs joint alone beside legal portal is apart keeps shared go_on quiet =
-    let mine = eq-eqb spec.session session is in
-    let theirs : is_of other spec ≡ false = ap (λ (s : ℕ). s == other) is ∙ apart in
-    let line = line_of session n (played joint spec) (played alone spec) in
-    let rest = lines_from played session (n + 1) (played joint spec).tags (played alone spec).tags specs in
-    let lines = own-line played session n joint alone spec specs mine in
-    let lines2 = other-line played other m joint beside spec specs theirs in
+own-round-first : (sides : Sides) (at : PortalsAt) (spec : SpecValue) (specs : List SpecValue) → IsOwnRound sides spec
+    → SameWhereQuiet sides (behind_own sides spec at) specs → SameWhereQuiet sides at (spec ∷ specs)
+own-round-first sides at spec specs is go_on shared quiet =
+    let played = sides.played in
+    let mine = eq-eqb spec.session sides.session is.session in
+    let theirs : is_of sides.other spec ≡ false = ap (λ (s : ℕ). s == sides.other) is.session ∙ sides.apart in
+    let line = line_of sides.session at.number (played at.joint spec) (played at.alone spec) in
+    let rest = lines_from played sides.session (at.number + 1) (played at.joint spec).tags (played at.alone spec).tags specs in
+    let lines = own-line played sides.session at.number at.joint at.alone spec specs mine in
+    let lines2 = other-line played sides.other at.number_beside at.joint at.beside spec specs theirs in
     let told = subst AllQuiet lines quiet.own in
-    let round = one-round played laws session other spec joint alone beside legal portal is keeps shared (All-head (λ (each : PortalLine). each.quiet ≡ true) line rest told) in
-    let later = go_on (played joint spec).tags (played alone spec).tags round.shared (record {
+    let round = one-round sides spec at is shared (All-head (λ (each : PortalLine). each.quiet ≡ true) line rest told) in
+    let later = go_on round.shared (record {
       own = All-tail (λ (each : PortalLine). each.quiet ≡ true) line rest told;
       others = subst AllQuiet lines2 quiet.others;
     }) in
     record {
       own = subst AllSame (sym lines) (All-cons (λ (each : PortalLine). each.same ≡ true) line rest round.same later.own);
       others = subst AllSame (sym lines2) later.others;
-      senders = own-senders played session joint alone spec specs mine round.senders later.senders;
-      others_senders = other-senders played other joint beside spec specs theirs later.others_senders;
+      senders = own-senders played sides.session at.joint at.alone spec specs mine round.senders later.senders;
+      others_senders = other-senders played sides.other at.joint at.beside spec specs theirs later.others_senders;
     }
 
-both-same : (played : Plays) → Laws played → (specs : List SpecValue) (n m : ℕ) (joint alone2 alone3 : List TagValue) → All IsLegalSpec specs → All IsOfPortal specs
-    → Shared 2 3 joint alone2 alone3 → AreQuiet played 2 3 n m joint alone2 alone3 specs → AreSame played 2 3 n m joint alone2 alone3 specs
-both-same played laws [] n m joint alone2 alone3 legal portal shared quiet = record {
+-- portal 2 as the first
+abbrev sides_of : (played : Plays) → Laws played → Sides
+sides_of played laws = record { played = played; laws = laws; session = 2; other = 3; apart = refl; apart2 = refl; keeps = two-keeps; keeps2 = three-keeps }
+
+-- the other portal as the first
+abbrev turned : Sides → Sides
+turned sides = record {
+  played = sides.played;
+  laws = sides.laws;
+  session = sides.other;
+  other = sides.session;
+  apart = sides.apart2;
+  apart2 = sides.apart;
+  keeps = sides.keeps2;
+  keeps2 = sides.keeps;
+}
+
+abbrev turned_at : PortalsAt → PortalsAt
+turned_at at = record { joint = at.joint; alone = at.beside; beside = at.alone; number = at.number_beside; number_beside = at.number }
+
+same-turned : (sides : Sides) (at : PortalsAt) (specs : List SpecValue) → SameWhereQuiet sides at specs → SameWhereQuiet (turned sides) (turned_at at) specs
+same-turned sides at specs same shared quiet =
+    let told = same (record { own = shared.others; others = shared.own }) (record { own = quiet.others; others = quiet.own }) in
+    record { own = told.others; others = told.own; senders = told.others_senders; others_senders = told.senders }
+
+both-same : (played : Plays) (laws : Laws played) (specs : List SpecValue) (at : PortalsAt) → All IsLegalSpec specs → All IsOfPortal specs → SameWhereQuiet (sides_of played laws) at specs
+both-same played laws [] at legal portal shared quiet = record {
   own = All-nil (λ (each : PortalLine). each.same ≡ true);
   others = All-nil (λ (each : PortalLine). each.same ≡ true);
   senders = tt;
   others_senders = tt;
 }
-both-same played laws (spec ∷ specs) n m joint alone2 alone3 legal portal shared quiet =
+both-same played laws (spec ∷ specs) at legal portal shared quiet =
+    let two = sides_of played laws in
+    let three = turned two in
     let legal_here = All-head IsLegalSpec spec specs legal in
-    let legal_later = All-tail IsLegalSpec spec specs legal in
-    let portal_here = All-head IsOfPortal spec specs portal in
-    let portal_later = All-tail IsOfPortal spec specs portal in
-    elim portal_here [
-      | inl two ↦
-          own-round-first played laws 2 3 n m spec specs joint alone2 alone3 legal_here (inl two) two refl two-keeps shared
-          (λ left own stands still. both-same played laws specs (n + 1) m left own alone3 legal_later portal_later stands still) quiet
-      | inr three ↦
-          let turned = own-round-first played laws 3 2 m n spec specs joint alone3 alone2 legal_here (inr three) three refl three-keeps (record { own = shared.others; others = shared.own })
-          (λ left own stands still.
-          let later = both-same played laws specs n (m + 1) left alone2 own legal_later portal_later (record { own = stands.others; others = stands.own })
-          (record { own = still.others; others = still.own }) in
-          record { own = later.others; others = later.own; senders = later.others_senders; others_senders = later.senders })
-          (record { own = quiet.others; others = quiet.own }) in
-          record { own = turned.others; others = turned.own; senders = turned.others_senders; others_senders = turned.senders }
+    let later : (behind : PortalsAt) → SameWhereQuiet two behind specs =
+    λ behind. both-same played laws specs behind (All-tail IsLegalSpec spec specs legal) (All-tail IsOfPortal spec specs portal) in
+    elim (All-head IsOfPortal spec specs portal) [
+      | inl is ↦ own-round-first two at spec specs (record { legal = legal_here; portal = inl is; session = is }) (later (behind_own two spec at)) shared quiet
+      | inr is ↦
+          let behind = behind_own three spec (turned_at at) in
+          same-turned three (turned_at at) (spec ∷ specs)
+          (own-round-first three (turned_at at) spec specs (record { legal = legal_here; portal = inr is; session = is })
+          (same-turned two (turned_at behind) specs (later (turned_at behind)))) shared quiet
     ]
 
 -- all of a list is all of its front, and of what follows it
@@ -137,11 +189,14 @@ all-front P (line ∷ front) back all =
     (All-cons P line front (All-head P line (front ++ back) all) later.0, later.1)
 
 -- two portals that share new tags
-all-same : (played : Plays) → Laws played → (specs : List SpecValue) (tags : List TagValue) → All IsLegalSpec specs → All IsOfPortal specs → All IsNewTag tags
-    → AllQuiet (portal_lines played tags specs) → AreSame played 2 3 1 1 tags tags tags specs
+abbrev at_first : List TagValue → PortalsAt
+at_first tags = record { joint = tags; alone = tags; beside = tags; number = 1; number_beside = 1 }
+
+all-same : (played : Plays) (laws : Laws played) (specs : List SpecValue) (tags : List TagValue) → All IsLegalSpec specs → All IsOfPortal specs → All IsNewTag tags
+    → AllQuiet (portal_lines played tags specs) → AreSame (sides_of played laws) (at_first tags) specs
 all-same played laws specs tags legal portal fresh quiet =
     let both = all-front (λ (each : PortalLine). each.quiet ≡ true) (lines_of_portal 2 played tags specs) (lines_of_portal 3 played tags specs) quiet in
-    both-same played laws specs 1 1 tags tags tags legal portal (record { own = all-new-twins 2 tags fresh; others = all-new-twins 3 tags fresh }) (record { own = both.0; others = both.1 })
+    both-same played laws specs (at_first tags) legal portal (record { own = all-new-twins 2 tags fresh; others = all-new-twins 3 tags fresh }) (record { own = both.0; others = both.1 })
 
 pub new-tags-same : (played : Plays) → Laws played → (specs : List SpecValue) (tags : List TagValue) → All IsLegalSpec specs → All IsOfPortal specs → All IsNewTag tags
     → AreIndependent (portal_lines played tags specs)

@@ -8,7 +8,6 @@ ghost use Rattle.value_text.specs.ValueText.{locks_text, pair_text};
 
 use bit_strings::OutOfMemory;
 use lock_rules::{Locks, Pair};
-use text_fields::push_bits;
 
 /// The bit of a binary digit.
 fn bit_of(digit: u8) -> Option<bool>
@@ -57,20 +56,25 @@ pub fn locks_of(field: &[u8]) -> Option<Locks>
     })
 }
 
-/// Writes the two bits of a pair, the write bit first.
-fn push_pair(text: &mut String, pair: Pair) -> Result<(), OutOfMemory>
-    ensures { OnOk result (string_bytes text.new ≡ string_bytes text.old ++ pair_text pair) }
+/// The digits of a pair of lock bits, the write bit first.
+fn pair_digits(pair: Pair) -> &'static str
+    ensures { result.now ≡ pair_text pair }
 {
-    push_bits(text, &[pair.write_bit, pair.permalock])
+    match (pair.write_bit, pair.permalock) {
+        (false, false) => "00",
+        (false, true) => "01",
+        (true, false) => "10",
+        (true, true) => "11",
+    }
 }
 
 /// Writes the ten lock bits at the end of the text. After an error the text may hold a part of them.
 pub fn push_locks(text: &mut String, locks: &Locks) -> Result<(), OutOfMemory>
     ensures { OnOk result (string_bytes text.new ≡ string_bytes text.old ++ locks_text locks.now) }
 {
-    push_pair(text, locks.kill_word)?;
-    push_pair(text, locks.access_word)?;
-    push_pair(text, locks.epc)?;
-    push_pair(text, locks.tid)?;
-    push_pair(text, locks.user)
+    text.push_str(pair_digits(locks.kill_word))?;
+    text.push_str(pair_digits(locks.access_word))?;
+    text.push_str(pair_digits(locks.epc))?;
+    text.push_str(pair_digits(locks.tid))?;
+    text.push_str(pair_digits(locks.user))
 }

@@ -1,5 +1,5 @@
 //! Vectors from outside, and each call once.
-use bit_strings::{Bits, Count1, Ebv, EbvFront, EbvStep, Full, List, Session, xor16};
+use bit_strings::{Bits, Count1, Ebv, EbvFront, EbvStep, Full, List, Session, word_of, xor16};
 use std::alloc::Global;
 
 /// The list of bits that a text of the digits 0 and 1 shows, with some room to spare.
@@ -130,6 +130,23 @@ fn are_written(alloc: Global) -> Option<bool> {
 #[test]
 fn fields_are_written_and_read(rt: HostRuntime) {
     assert_eq!(rt; are_written(rt.alloc()), Some(true));
+}
+
+/// Whether two words are written at once as their bits, and the bits of the second are read as a word.
+fn words_are_written(alloc: Global) -> Option<bool> {
+    let mut bits = Bits::new(alloc, 32).ok()?;
+    if bits.capacity() < 32 {
+        return None;
+    }
+    bits.put_words_reserved(&[0xa1b2, 0x8001]);
+    let wanted = bits_of(alloc, "10100001101100101000000000000001")?;
+    let second = bits.as_slice().get(16..32)?;
+    Some(bits.as_slice() == wanted.as_slice() && word_of(second) == 0x8001)
+}
+
+#[test]
+fn words_are_written_and_read(rt: HostRuntime) {
+    assert_eq!(rt; words_are_written(rt.alloc()), Some(true));
 }
 
 /// Four zeros, of which the two in the middle are written over, and a 1 behind them.

@@ -45,3 +45,11 @@ fn reply_checks(alloc: Global) -> Option<(u16, bool)> {
 fn a_reply_has_this_check(rt: HostRuntime) {
     assert_eq!(rt; reply_checks(rt.alloc()), Some((0xed3a, true)));
 }
+
+#[test]
+fn words_have_the_check_of_their_bits(rt: HostRuntime) {
+    let mut crc = Crc16::new();
+    crc.push_word(0x0800);
+    crc.push_words(&[0x1234]);
+    assert_eq!(rt; crc.value(), 0xed3a);
+}

@@ -12,12 +12,7 @@ use Rattle.wave_dump.specs.Waves.{DumpValue, Signals, answer_begin, answer_momen
 pub text_with-append : (lines more : List (List ℕ)) → text_with (lines ++ more) ≡ text_with lines ++ text_with more
 text_with-append lines more = flat_map-append (λ (line : List ℕ). line ++ line_feed ∷ []) lines more
 
--- where nothing changes there is no text
-pub at-no_change : (time : ℕ) (lines : List (List ℕ)) → lines ≡ [] → text_at time lines ≡ []
-at-no_change time [] none = refl
-at-no_change time (line ∷ lines) none = absurd (cc)
-
--- ... and else the time and the changes
+-- where something changes the text is the time and the changes
 pub at-change : (time : ℕ) (lines : List (List ℕ)) → lines ≢ [] → text_at time lines ≡ text_with (time_line time ∷ []) ++ text_with lines
 at-change time [] some = absurd (some refl)
 at-change time (line ∷ lines) some = text_with-append (time_line time ∷ []) (line ∷ lines)

@@ -1,7 +1,6 @@
 //! The waves of a run as a value change dump, written as they are told.
-ghost use Rattle.std.specs.Prelude.{◌≡◌, ◌++◌, [], ◌∷◌, IfOk, OnOk, codes};
+ghost use Rattle.std.specs.Prelude.{◌≡◌, ◌++◌, [], ◌∷◌, IfOk, OnOk};
 ghost use Rattle.std.specs.String.{string_bytes};
-ghost use Rattle.pie_line.specs.Link.{LinkValue};
 ghost use Rattle.wave_dump.specs.Waves.{answer_begin, answer_moments, begin_behind, dump_behind, end_text, exchange_text, head_text, heard_signals, moments_text, new_dump, sent_signals};
 ghost use Rattle.wave_dump.specs.Borrowed.{exchanged_of, signals_of};
 

@@ -1,5 +1,5 @@
 //! The signals of a dump, and how they change.
-ghost use Rattle.std.specs.Prelude.{◌≡◌, ◌++◌, ◌↔◌, ◌==◌, IsTrue, OnOk, [], ◌∷◌, codes};
+ghost use Rattle.std.specs.Prelude.{◌≡◌, ◌++◌, ◌↔◌, ◌==◌, IsTrue, OnOk, [], ◌∷◌};
 ghost use Rattle.std.specs.String.{string_bytes};
 ghost use Rattle.text_fields.specs.Lines.{text_with};
 ghost use Rattle.wave_dump.specs.Waves.{change_line, change_lines, command_value_line, exchange_line, level_digit, reader_line, replies_line, reply_value_line, same_bool, same_level, same_text, tag_line, text_at, time_line};

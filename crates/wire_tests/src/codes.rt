@@ -68,10 +68,19 @@ fn has_block<C: LineCode>(mark: C::Mark, bit: bool, text: &str) -> bool {
         && C::block_bit(mark, block) == Some(bit)
 }
 
+/// Whether the two blocks of 1 and 0 behind a mark are these levels.
+fn has_two_blocks<C: LineCode>(mark: C::Mark, one: &str, zero: &str) -> bool {
+    let levels = C::two_blocks(mark, true, false);
+    let chips = C::CHIPS as usize;
+    levels.len() == 2 * chips && shows(one, &levels[..chips]) && shows(zero, &levels[chips..])
+}
+
 /// Whether the 1 behind the lead and the 0 behind that have these blocks.
 fn has_blocks<C: LineCode>(one: &str, zero: &str) -> bool {
     let first = C::after_lead();
-    has_block::<C>(first, true, one) && has_block::<C>(C::after(first, true), false, zero)
+    has_block::<C>(first, true, one)
+        && has_block::<C>(C::after(first, true), false, zero)
+        && has_two_blocks::<C>(first, one, zero)
 }
 
 #[test]
@@ -83,4 +92,18 @@ fn blocks(rt: HostRuntime) {
         has_blocks::<Miller8>("1010101001010101", "0101010101010101"),
     ];
     assert!(rt; have == [true; 4]);
+}
+
+/// The four bits behind the lead of FM0 whose blocks the levels of a text are.
+fn four_of_fm0(text: &[bool; 8]) -> Option<[bool; 4]> {
+    let (bits, _) = Fm0::four_bits(Fm0::after_lead(), text)?;
+    Some(bits)
+}
+
+#[test]
+fn four_blocks_at_once(rt: HostRuntime) {
+    let good = [false, false, true, false, true, true, false, true];
+    assert!(rt; four_of_fm0(&good) == Some([true, false, true, false]));
+    let broken = [false, false, true, false, true, true, true, true];
+    assert!(rt; four_of_fm0(&broken) == None);
 }

@@ -34,6 +34,11 @@ fn masks_end_at_255(rt: HostRuntime) {
 }
 
 #[test]
+fn a_block_is_made_of_its_words(rt: HostRuntime) {
+    assert!(rt; BlockWords::of(&[0xA1B2, 0x1234]).as_slice() == [0xA1B2, 0x1234].as_slice());
+}
+
+#[test]
 fn blocks_end_at_255(rt: HostRuntime) {
     assert!(rt; full_block() == Some(([Some(0xA1B2), Some(0x1234), None], true)));
 }

@@ -200,7 +200,7 @@ fn ends_at_two(alloc: Global) -> Option<bool> {
     }
     list.push_reserved(9);
     let is_full = list.push(8) == Err(Full) && list.as_slice() == [7, 9].as_slice();
-    let ends = (list.get(1), list.get(2)) == (Some(9), None);
+    let ends = (list.get(1).copied(), list.get(2)) == (Some(9), None);
     list.clear();
     Some(is_full && ends && list.is_empty())
 }

@@ -111,14 +111,21 @@ fn is_stream(alloc: Global, air: &Air, levels: &[u8]) -> Option<bool> {
     Some(air.stream().as_slice() == stream.as_slice())
 }
 
-/// Whether the first exchange of the scenario goes as the row says.
+/// Whether the first exchange of the scenario goes as the row says, and exchanges are counted from 0 again behind it.
 fn goes_as(alloc: Global, scenario: &Scenario, air: &mut Air, row: &Row) -> Option<bool> {
     let (_, replies, levels) = *row;
     let got = send_query(alloc, scenario, air)?;
     let counts = (air.replies(), air.intervals().len(), air.exchanges());
     let is_silence = got == Got::Silence;
     let is_stream = is_stream(alloc, air, levels)?;
-    Some(is_silence == levels.is_empty() && is_stream && counts == (replies, 51, 1))
+    air.count_anew();
+    let is_counted_anew = air.exchanges() == 0;
+    Some(
+        is_silence == levels.is_empty()
+            && is_stream
+            && is_counted_anew
+            && counts == (replies, 51, 1),
+    )
 }
 
 /// Whether the exchange of a row goes so, with two tags that reply at once.

@@ -1,5 +1,6 @@
 //! Lines of a report, against lines written out by hand.
 
+use pie_text::KeptIntervals;
 use q_round::RoundEnd;
 use reply_grammar::EpcWords;
 use report_lines::{
@@ -18,9 +19,16 @@ fn epc_words() -> EpcWords {
 
 /// The lines of exchanges.
 fn exchange_lines(alloc: Global) -> Result<String, AllocError> {
+    let mut kept = KeptIntervals::new();
     let mut text = String::new(alloc);
     push_blf_line(&mut text, 64, 150000)?;
-    push_tx_line(&mut text, 18446744073709551615, &[12500, 6250, 6250])?;
+    push_tx_line(
+        &mut text,
+        &mut kept,
+        18446744073709551615,
+        &[12500, 6250, 6250],
+    )?;
+    push_tx_line(&mut text, &mut kept, 0, &[12500, 6250, 6250, 12500, 6250])?;
     push_rx_line(&mut text, 1, 0, &[])?;
     push_rx_line(&mut text, 2, 3, &[true, true, false, true])?;
     Ok(text)
@@ -52,7 +60,7 @@ fn lines_are_written(rt: HostRuntime) {
     assert!(rt;
         is_text(
             exchange_lines(rt.alloc()),
-            "blf 64/150000\ntx 18446744073709551615 12500 6250 6250\nrx 1 0 -\nrx 2 3 1101\n"
+            "blf 64/150000\ntx 18446744073709551615 12500 6250 6250\ntx 0 12500 6250 6250 12500 6250\nrx 1 0 -\nrx 2 3 1101\n"
         )
     );
     assert!(rt;

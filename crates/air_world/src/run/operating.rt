@@ -3,7 +3,7 @@ ghost use Rattle.std.specs.Prelude.{◌≡◌, ◌++◌, ◌||◌, ◌≤◌, �
 ghost use Rattle.access_ops.specs.Operations.{IsAnswerFor, dialogue_of, reception_in};
 ghost use Rattle.access_ops.specs.laws.OperationLaws.{Expects};
 ghost use Rattle.air_model.specs.Past.{Item, Start, next_record, past_behind_command};
-ghost use Rattle.air_world.specs.Playing.{PlaysAt, IsAt, StandsAt, IsUnderway};
+ghost use Rattle.air_world.specs.Playing.{IsAt, StandsAt, IsUnderway};
 ghost use Rattle.air_world.specs.Telling.{Passes, lines_behind};
 ghost use Rattle.runs.specs.Report.{exchange_lines};
 ghost use Rattle.report_lines.specs.ReportLine.{ReportLine, OpLine};
@@ -67,13 +67,13 @@ impl<'a, L: Ledger> Run<'a, L> {
     ) -> Answer
         requires underway { IsUnderway 1 air.old self.old }
         requires expects { Expects command.now expect.now extended }
-        ensures plays { (start : Start) (past : List Item) (round slot : ℕ) → PlaysAt start past air.old self.old
-            → PlaysAt start (past_behind_command start round slot command.now past) air.new self.new }
+        ensures plays { (start : Start) (past : List Item) (round slot : ℕ) → IsAt start past air.old self.old
+            → IsAt start (past_behind_command start round slot command.now past) air.new self.new }
         ensures rest { self.new ≡ record self.old { entries = self.new.entries } }
         ensures expected { IsAnswerFor expect.now result }
-        ensures heard { (start : Start) (past : List Item) (round slot : ℕ) → PlaysAt start past air.old self.old
+        ensures heard { (start : Start) (past : List Item) (round slot : ℕ) → IsAt start past air.old self.old
             → reception_in result ≡ operation_reception start round slot command.now expect.now extended past }
-        ensures told { (start : Start) (past : List Item) (round slot : ℕ) (before : List ReportLine) → PlaysAt start past air.old self.old
+        ensures told { (start : Start) (past : List Item) (round slot : ℕ) (before : List ReportLine) → IsAt start past air.old self.old
             → Passes R.hears before report.old report.new (before ++ exchange_lines start.link (next_record start round slot command.now past)) }
     {
         answers_are_replies();

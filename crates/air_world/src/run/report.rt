@@ -8,7 +8,7 @@ ghost use Rattle.tag_machine.specs.TagValue.{TagValue};
 
 use crate::run::Run;
 use air_channel::Air;
-use report_lines::{Line, Listener};
+use report_lines::{Line, Listener, SeenCounts};
 use std::sync::ledger::Ledger;
 
 /// Tells of the backscatter link frequency.
@@ -24,34 +24,13 @@ pub(crate) fn tell_link<R: Listener>(air: &Air, report: &mut R)
 
 impl<'a, L: Ledger> Run<'a, L> {
     /// Tells how often each pair of PC and EPC was listed, what each tag is, and that this is all.
-    pub(crate) fn finish<R: Listener>(&mut self, air: &mut Air, report: &mut R)
+    pub(crate) fn finish<R: Listener>(&mut self, air: &mut Air, seen: &SeenCounts, report: &mut R)
         ensures air { air.new ≡ air.old }
-        ensures told { (before : List ReportLine) → Passes R.hears before report.old report.new (before ++ (map seen_line self.old.seen ++ tag_lines 0 air.old.tags ++ DoneLine ∷ [])) }
+        ensures told { (before : List ReportLine) → Passes R.hears before report.old report.new (before ++ (map seen_line seen.now ++ tag_lines 0 air.old.tags ++ DoneLine ∷ [])) }
     {
-        self.tell_counts(report);
+        tell_counts(seen, report);
         self.tell_tags(air, report);
         report.tell(&Line::Done);
-    }
-
-    /// Tells how often each pair of PC and EPC was listed.
-    fn tell_counts<R: Listener>(&self, report: &mut R)
-        ensures { (before : List ReportLine) → Passes R.hears before report.old report.new (before ++ map seen_line self.now.seen) }
-    {
-        for at in 0..self.seen.len() {
-            self.tell_count(at, report);
-        }
-    }
-
-    /// Tells how often the pair with this number was listed.
-    fn tell_count<R: Listener>(&self, at: usize, report: &mut R)
-        requires { at < length self.now.seen }
-        ensures { (before : List ReportLine) (seen : Seen) → slice_get self.now.seen at ≡ Some seen
-            → Passes R.hears before report.old report.new (before ++ seen_line seen ∷ []) }
-    {
-        let Some((count, pc, epc)) = self.seen.get(at) else {
-            unreachable!();
-        };
-        report.tell(&Line::Seen { count, pc, epc });
     }
 
     /// Tells what each tag is.
@@ -74,4 +53,25 @@ impl<'a, L: Ledger> Run<'a, L> {
         let tag = air.tag(number, &mut self.steps);
         report.tell(&Line::Tag { number, tag });
     }
+}
+
+/// Tells how often each pair of PC and EPC was listed.
+fn tell_counts<R: Listener>(seen: &SeenCounts, report: &mut R)
+    ensures { (before : List ReportLine) → Passes R.hears before report.old report.new (before ++ map seen_line seen.now) }
+{
+    for at in 0..seen.len() {
+        tell_count(seen, at, report);
+    }
+}
+
+/// Tells how often the pair with this number was listed.
+fn tell_count<R: Listener>(seen: &SeenCounts, at: usize, report: &mut R)
+    requires { at < length seen.now }
+    ensures { (before : List ReportLine) (count : Seen) → slice_get seen.now at ≡ Some count
+        → Passes R.hears before report.old report.new (before ++ seen_line count ∷ []) }
+{
+    let Some((count, pc, epc)) = seen.get(at) else {
+        unreachable!();
+    };
+    report.tell(&Line::Seen { count, pc, epc });
 }

@@ -7,7 +7,7 @@ ghost use Rattle.air_world.specs.Saying.{HasSaid, exchanged_on, gave_by, kept_of
 ghost use Rattle.air_world.specs.Telling.{Passes};
 ghost use Rattle.pie_line.specs.Link.{LinkValue};
 ghost use Rattle.report_lines.specs.ReportLine.{ReportLine, ExchangeLine, GivenLine, MissedLine};
-ghost use Rattle.runs.specs.Said.{answer_line, gave_of};
+ghost use Rattle.runs.specs.Said.{gave_of};
 ghost use Rattle.tag_machine.specs.Exchange.{AreLegalTags, Replied, replies_in};
 
 use air_channel::{Air, AnswerListener, Giving, Got, Unheard, giving_of, wanted_by};
@@ -215,31 +215,6 @@ fn tell_over<R: Listener>(
     }));
 }
 
-/// Sends a command, and tells who said what.
-fn send_and_tell<L: Ledger, R: Listener>(
-    air: &mut Air,
-    command: &Command,
-    entry: &Entry,
-    steps: &mut Steps<L>,
-    report: &mut R,
-) -> Got
-    requires named { NamesTags (length air.old.tags) entry.now }
-    requires few { HasFewLevels entry.now.choice }
-    requires legal { AreLegalTags air.old.tags }
-    requires room { air.old.exchanges + 1 ≤ 18446744073709551615 }
-    ensures air { air.new ≡ air_after air.old command.now entry.now }
-    ensures got { result ≡ got_of (given_in air.old.link air.old.several command.now entry.now air.old.tags) }
-    ensures legal { AreLegalTags air.new.tags }
-    ensures told { (before : List ReportLine) → Passes R.hears before report.old report.new (before ++ said_of air.old command.now entry.now) }
-{
-    let exchange = air.exchanges() + 1;
-    tell_command(exchange, command, entry, report);
-    let mut kept = None;
-    let got = hear_answers(air, exchange, command, entry, steps, report, &mut kept);
-    tell_over(air, exchange, command, entry, kept, report);
-    got
-}
-
 /// Sends a command, as `Air::exchange` does, and tells who said what to a listener that wants it.
 pub(crate) fn say<L: Ledger, R: Listener>(
     air: &mut Air,
@@ -257,8 +232,13 @@ pub(crate) fn say<L: Ledger, R: Listener>(
     ensures legal { AreLegalTags air.new.tags }
     ensures told { (before : List ReportLine) → Passes R.hears before report.old report.new (before ++ said_of air.old command.now entry.now) }
 {
-    if report.wants_exchanges() {
-        return send_and_tell(air, command, entry, steps, report);
+    if !report.wants_exchanges() {
+        return air.exchange(command, entry, &mut Unheard, steps);
     }
-    air.exchange(command, entry, &mut Unheard, steps)
+    let exchange = air.exchanges() + 1;
+    tell_command(exchange, command, entry, report);
+    let mut kept = None;
+    let got = hear_answers(air, exchange, command, entry, steps, report, &mut kept);
+    tell_over(air, exchange, command, entry, kept, report);
+    got
 }

@@ -1,12 +1,12 @@
 //! The steps of a run.
-ghost use Rattle.std.specs.Prelude.{◌≡◌, List, None, false, OnOk, All, length};
+ghost use Rattle.std.specs.Prelude.{◌≡◌, List, None, All, length};
 ghost use Rattle.air_model.specs.Past.{Item, Start, past_behind_command};
 ghost use Rattle.air_world.specs.Playing.{IsAt, IsPlayable, StandsAt, IsBetweenSteps};
 ghost use Rattle.air_world.specs.Telling.{Ends, IsCutOff, Passes, lines_behind};
 ghost use Rattle.runs.specs.History.{past_behind, past_behind_step};
 ghost use Rattle.runs.specs.NextItem.{expectation_of};
 
-use crate::run::Run;
+use crate::run::{Run, check};
 use air_channel::Air;
 use command_grammar::Command;
 use q_round::round_laws;
@@ -23,12 +23,10 @@ impl<'a, L: Ledger> Run<'a, L> {
         report: &mut R,
     ) -> Result<(), PlayFault>
         requires between { IsBetweenSteps (length steps.now) air.old self.old }
-        requires enough { self.old.out_of_memory ≡ false }
         requires steps { All (IsPlayable (length air.old.tags)) steps.now }
-        ensures ends { (start : Start) (past : List Item) → IsAt start past air.old self.old
+        ensures { (start : Start) (past : List Item) → IsAt start past air.old self.old
             → Ends result (StandsAt (Passes R.hears (lines_behind start past) report.old report.new) start (past_behind start steps.now past) air.new self.new)
             (IsCutOff R.hears R.failed (lines_behind start past) report.old report.new (lines_behind start (past_behind start steps.now past))) }
-        ensures enough { OnOk result (self.new.out_of_memory ≡ false) }
     {
         round_laws();
         for step in steps {
@@ -45,12 +43,10 @@ impl<'a, L: Ledger> Run<'a, L> {
         report: &mut R,
     ) -> Result<(), PlayFault>
         requires between { IsBetweenSteps 1 air.old self.old }
-        requires enough { self.old.out_of_memory ≡ false }
         requires step { IsPlayable (length air.old.tags) step.now }
-        ensures ends { (start : Start) (past : List Item) → IsAt start past air.old self.old
+        ensures { (start : Start) (past : List Item) → IsAt start past air.old self.old
             → Ends result (StandsAt (Passes R.hears (lines_behind start past) report.old report.new) start (past_behind_step start step.now past) air.new self.new)
             (IsCutOff R.hears R.failed (lines_behind start past) report.old report.new (lines_behind start (past_behind_step start step.now past))) }
-        ensures enough { OnOk result (self.new.out_of_memory ≡ false) }
     {
         match step {
             Step::Select(command) => self.send_alone(air, command, report),
@@ -59,7 +55,10 @@ impl<'a, L: Ledger> Run<'a, L> {
                 air.event(*event, *tag);
                 Ok(())
             }
-            Step::Round(spec, operations) => self.play_round(air, spec, operations, report),
+            Step::Round(spec, operations) => {
+                self.play_round(air, spec, operations, report)?;
+                Ok(())
+            }
         }
     }
 
@@ -72,12 +71,11 @@ impl<'a, L: Ledger> Run<'a, L> {
     ) -> Result<(), PlayFault>
         requires between { IsBetweenSteps 1 air.old self.old }
         requires unanswered { expectation_of command.now ≡ None }
-        ensures ends { (start : Start) (past : List Item) → IsAt start past air.old self.old
+        ensures { (start : Start) (past : List Item) → IsAt start past air.old self.old
             → Ends result (StandsAt (Passes R.hears (lines_behind start past) report.old report.new) start (past_behind_command start 0 0 command.now past) air.new self.new)
             (IsCutOff R.hears R.failed (lines_behind start past) report.old report.new (lines_behind start (past_behind_command start 0 0 command.now past))) }
-        ensures enough { OnOk result (self.new.out_of_memory ≡ false) }
     {
         self.send(air, command, report);
-        self.check(report)
+        check(report)
     }
 }

@@ -4,7 +4,7 @@ ghost use Rattle.command_grammar.specs.Commands.{command_room};
 ghost use Rattle.command_grammar.specs.Writing.{Writes};
 ghost use Rattle.command_grammar.specs.declared.commands.Command.TheVariants.{Ack};
 
-use crate::writing::{begin_with_code, put};
+use crate::writing::{begin_with_code, put_word};
 use bit_strings::Bits;
 
 /// Its code (6.3.2.11, Table 6.18).
@@ -16,5 +16,5 @@ pub(crate) fn spell(out: &mut Bits, rn: u16)
     ensures { Writes (Ack rn) out.old out.new }
 {
     begin_with_code(out, CODE);
-    put(out, u32::from(rn), 16);
+    put_word(out, rn);
 }

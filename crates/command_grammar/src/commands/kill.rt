@@ -4,7 +4,7 @@ ghost use Rattle.command_grammar.specs.Commands.{command_room};
 ghost use Rattle.command_grammar.specs.Writing.{Writes};
 ghost use Rattle.command_grammar.specs.declared.commands.Command.TheVariants.{Kill};
 
-use crate::writing::{begin_with_code, put, put_bits, put_handle};
+use crate::writing::{begin_with_code, put_bits, put_handle, put_word};
 use bit_strings::Bits;
 
 /// Its code (6.3.2.11, Table 6.18).
@@ -16,7 +16,7 @@ pub(crate) fn spell(out: &mut Bits, covered: u16, rn: u16)
     ensures { Writes (Kill covered rn) out.old out.new }
 {
     begin_with_code(out, CODE);
-    put(out, u32::from(covered), 16);
+    put_word(out, covered);
     put_bits(out, &[false, false, false]);
     put_handle(out, rn);
 }

@@ -5,7 +5,7 @@ ghost use Rattle.command_grammar.specs.Writing.{Writes};
 ghost use Rattle.command_grammar.specs.declared.commands.Command.TheVariants.{Write};
 
 use crate::choices::bank_bits;
-use crate::writing::{begin_with_code, put, put_handle, put_pointer};
+use crate::writing::{begin_with_code, put_handle, put_pointer, put_word};
 use bit_strings::{Bits, Pointer};
 use command_fields::Bank;
 
@@ -19,6 +19,6 @@ pub(crate) fn spell(out: &mut Bits, bank: Bank, pointer: Pointer, covered: u16, 
 {
     begin_with_code(out, CODE);
     put_pointer(out, bank_bits(bank), pointer);
-    put(out, u32::from(covered), 16);
+    put_word(out, covered);
     put_handle(out, rn);
 }

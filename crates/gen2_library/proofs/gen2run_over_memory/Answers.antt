@@ -1,10 +1,9 @@
-use Rattle.std.proofs.Common.{◌≡◌, ◌≢◌, ◌⊎◌, ◌≤◌, ◌<◌, ℕ, List, length, refl, sym, ◌∙◌, ap, subst, inl, inr, arith}
+use Rattle.std.proofs.Common.{◌≡◌, ◌≢◌, ◌⊎◌, ◌≤◌, ◌<◌, length, sym, ◌∙◌, ap, subst, inl, inr, arith}
 use Rattle.gen2_library.proofs.InRoom.{Call, Leaves, Says, kept, whole, no-room, no-memory, no-count, empty-kept, ends-so, behind, status-is, number-below, number-not-1}
 use Rattle.gen2_library.proofs.Readable.{readable, read}
 use Rattle.gen2_library.specs.Called.{input_of}
 use Rattle.text_fields.specs.Lines.{fields_of}
 use Rattle.top_call.specs.Form.{AskFor, texts}
-use Rattle.top_call.specs.Job.{Job}
 use Rattle.top_call.specs.Jobs.{job_of}
 use Rattle.top_call.specs.Outcome.{input_limit, SpeaksOfNoInput}
 use Rattle.top_call.specs.StatusNumber.{status_number}

@@ -4,10 +4,10 @@ use Rattle.std.proofs.lemmas.List.{append_cancel_left, append-nil, nil_from_leng
 use Rattle.bit_strings.specs.Family.{Begins, IsBadAt, IsShortAt}
 use Rattle.line_code.specs.Table.{Context, Table}
 use Rattle.line_code.specs.Stream.{blocks, IsStream, Streams}
-use Rattle.line_code.specs.States.{InsideValue, context_after, fits_of, LastIs, Reads}
+use Rattle.line_code.specs.States.{InsideValue, context_after, fits_of, LastIs, Reads, HasBlocks}
 use Rattle.line_code.specs.TableFacts.{IsEven, CodeTable}
 use Rattle.line_code.specs.laws.Streams.{blocks_split}
-use Rattle.line_code.specs.laws.Splits.{blocks-append, context_after-push, front_of, front_more}
+use Rattle.line_code.specs.laws.Splits.{blocks-append, context_after-append, context_after-push, front_of, front_more}
 
 -- what stands behind the blocks read, where the levels and more are a stream
 pub record Rest (t : Table) (context : Context) (bits part more : List Bool) : Type 0 where
@@ -164,38 +164,36 @@ reads_bit code trext state levels bits bit level r ends =
       last_is = (bits, refl);
     }
 
--- the state after the whole block of a bit
-abbrev pub behind_block : Table → ℕ → InsideValue → Bool → InsideValue
-behind_block t chips state bit =
-    record { context = t.next state.context bit; place = 0; zero_fits = true; one_fits = true; taken = state.taken + chips; put = state.put + 1; last = Some bit }
+-- more blocks behind those before
+pub has_more : (t : Table) (trext : Bool) (context : Context) (levels bits more : List Bool) → HasBlocks t trext context levels bits
+    → HasBlocks t trext (context_after t context more) (levels ++ blocks t context more) (bits ++ more)
+has_more t trext context levels bits more h = record {
+  levels_are =
+      ap (λ ls. ls ++ blocks t context more) h.levels_are ∙ append_assoc (t.lead trext) (blocks t t.start bits) (blocks t context more)
+      ∙ ap (λ c. t.lead trext ++ (blocks t t.start bits ++ blocks t c more)) h.context_is ∙ ap (λ ls. t.lead trext ++ ls) (sym (blocks-append t bits more t.start));
+  context_is = ap (λ c. context_after t c more) h.context_is ∙ sym (context_after-append t bits more t.start);
+}
 
--- the next levels are the whole block of a bit, of which none was taken
-pub reads_block : (code : CodeTable) (trext : Bool) (state : InsideValue) (levels bits : List Bool) (bit : Bool)
-    → Reads code.table trext state levels bits → state.place ≡ 0
-    → Reads code.table trext (behind_block code.table code.chips state bit) (levels ++ code.table.block state.context bit) (bits ++ bit ∷ [])
-reads_block code trext state levels bits bit r fresh =
+-- the state between two blocks
+abbrev pub between : Context → ℕ → ℕ → Option Bool → InsideValue
+between context taken put last = record { context = context; place = 0; zero_fits = true; one_fits = true; taken = taken; put = put; last = last }
+
+pub reads_between : (code : CodeTable) (trext : Bool) (context : Context) (levels bits : List Bool) (last : Option Bool)
+    → HasBlocks code.table trext context levels bits → LastIs bits last → Reads code.table trext (between context (length levels) (length bits) last) levels bits
+reads_between code trext context levels bits last h is =
     let t = code.table in
-    let lead = t.lead trext in
-    let before = blocks t t.start bits in
-    let block = t.block state.context bit in
-    let old = r.place_is in
-    let none : r.part ≡ [] = nil_from_length r.part (omega arith) in
-    let all : before ++ (r.part ++ block) ≡ blocks t t.start (bits ++ bit ∷ []) =
-    ap (λ ls. before ++ ls) (ap (λ ls. ls ++ block) none ∙ sym (append-nil block) ∙ ap (λ c. blocks t c (bit ∷ [])) r.context_is) ∙ sym (blocks-append t bits (bit ∷ []) t.start) in
     record {
       part = [];
-      levels_are =
-          ap (λ ls. ls ++ block) r.levels_are ∙ append_assoc lead (before ++ r.part) block
-          ∙ ap (λ ls. lead ++ ls) (append_assoc before r.part block ∙ all ∙ sym (append-nil (blocks t t.start (bits ++ bit ∷ []))));
-      context_is = ap (λ c. t.next c bit) r.context_is ∙ sym (context_after-push t bits bit t.start);
+      levels_are = h.levels_are ∙ ap (λ ls. t.lead trext ++ ls) (sym (append-nil (blocks t t.start bits)));
+      context_is = h.context_is;
       place_is = refl;
-      begun = λ b. let least = code.even.least in let long = code.even.blocks_even (t.next state.context bit) b in omega arith;
-      fits_is = all_fit t (behind_block t code.chips state bit) refl refl refl;
+      begun = λ b. let least = code.even.least in let long = code.even.blocks_even context b in omega arith;
+      fits_is = all_fit t (between context (length levels) (length bits) last) refl refl refl;
       some_bit = true;
       some_fits = refl;
-      taken_is = let size = code.even.blocks_even state.context bit in let more = length-append levels block in let old = r.taken_is in omega arith;
-      put_is = let more = length-append bits (bit ∷ []) in let old = r.put_is in omega arith;
-      last_is = (bits, refl);
+      taken_is = refl;
+      put_is = refl;
+      last_is = is;
     }
 
 -- the state behind the lead

@@ -12,6 +12,10 @@ blocks-append t [] ys c = refl
 blocks-append t (x ∷ xs) ys c =
     ap (λ ls. t.block c x ++ ls) (blocks-append t xs ys (t.next c x)) ∙ sym (append_assoc (t.block c x) (blocks t (t.next c x) xs) (blocks t (context_after t (t.next c x) xs) ys))
 
+pub context_after-append : (t : Table) (xs ys : List Bool) (c : Context) → context_after t c (xs ++ ys) ≡ context_after t (context_after t c xs) ys
+context_after-append t [] ys c = refl
+context_after-append t (x ∷ xs) ys c = context_after-append t xs ys (t.next c x)
+
 pub context_after-push : (t : Table) (bits : List Bool) (bit : Bool) (c : Context) → context_after t c (bits ++ bit ∷ []) ≡ t.next (context_after t c bits) bit
 context_after-push t [] bit c = refl
 context_after-push t (x ∷ xs) bit c = context_after-push t xs bit (t.next c x)

@@ -6,13 +6,12 @@ use Rattle.wave_dump.specs.Drawing.{DrawingValue}
 use Rattle.wave_dump.specs.Waves.{new_dump}
 use Rattle.report_lines.specs.Kept.{keeps, kept_line_text, kept_text, line_text_of}
 use Rattle.report_lines.specs.ReportLine.{ReportLine, text_by}
-use Rattle.report_lines.specs.Spelled.{drawing_after, drawn_line, drawn_text, line_of_mode, mode_behind, new_spelling, text_in}
+use Rattle.report_lines.specs.Spelled.{drawing_after, drawn_line, drawn_text, line_of_mode, mode_behind, new_spelling, text_in, SpellingValue}
 use Rattle.report_lines.specs.TextReport.{text_from}
 use Rattle.report_lines.specs.declared.mode.Mode.{Mode}
 use Rattle.report_lines.specs.declared.mode.Mode.TheVariants.{Plain, Trace, Json, Exchanges, Vcd}
-use Rattle.report_lines.specs.declared.mode_spelling.ModeSpelling.{ModeSpelling}
 
-abbrev spelling_of : Mode → DrawingValue → ModeSpelling
+abbrev spelling_of : Mode → DrawingValue → SpellingValue
 spelling_of mode drawing = record { mode = mode; dump = drawing }
 
 split : (b : Bool) → (b ≡ true) ⊎ (b ≡ false)

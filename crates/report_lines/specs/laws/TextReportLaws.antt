@@ -1,9 +1,8 @@
 -- What is told as text grows by the text of one line more.
 use Rattle.std.proofs.Common.{◌≡◌, ℕ, List, [], ◌∷◌, ◌++◌, Option, refl, sym, ◌∙◌, ap, append_assoc, arith}
 use Rattle.std.proofs.lemmas.List.{append-nil}
-use Rattle.std.proofs.lemmas.Grind.{flat_map-append}
 use Rattle.air_io.specs.laws.Flow.{Adds-nothing}
-use Rattle.report_lines.specs.ReportLine.{ReportLine, text_by}
+use Rattle.report_lines.specs.ReportLine.{ReportLine}
 use Rattle.report_lines.specs.TextReport.{HearsText, spelling_behind, text_from}
 use Rattle.report_lines.specs.declared.mode.PlayFault.{PlayFault}
 
@@ -44,7 +43,3 @@ pub text_from-more : {S : Type 0} (text_of : S → ReportLine → List ℕ) (beh
 text_from-more text_of behind spelling lines line =
     text_from-append text_of behind spelling lines (line ∷ [])
     ∙ ap (λ (text : List ℕ). text_from text_of behind spelling lines ++ text) (append-nil (text_of (spelling_behind behind spelling lines) line))
-
--- the text of lines, and of lines behind them
-pub text_by-append : (text_of : ReportLine → List ℕ) (lines more : List ReportLine) → text_by text_of (lines ++ more) ≡ text_by text_of lines ++ text_by text_of more
-text_by-append text_of lines more = flat_map-append text_of lines more

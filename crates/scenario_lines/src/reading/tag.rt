@@ -11,12 +11,10 @@ ghost use Rattle.text_fields.specs.NamedFields.{AreFilled};
 ghost use Rattle.scenario_lines.specs.Reading.{Misreads, MisreadsCopies, MisreadsTag, tag_value};
 
 use crate::{LineFault, TagText};
+use air_events::MOST_TAGS;
 use lock_rules::Locks;
 use text_fields::{Fields, Words, number_from, seven_fields, words_from};
 use value_text::{locks_of, password_of};
-
-/// The greatest number of copies in a line, which are as many as there may be tags.
-const MOST_COPIES: u32 = 4_096;
 
 /// The lists of words of a tag.
 #[derive(Drop)]
@@ -132,7 +130,7 @@ pub(crate) fn read_copies<'a>(mut others: Fields<'a>) -> Result<(u32, TagText<'a
         return Err(LineFault::Shape);
     }
     let parts = read_parts(others)?;
-    let Some(count) = number_from(count, 2, MOST_COPIES) else {
+    let Some(count) = number_from(count, 2, u32::from(MOST_TAGS)) else {
         return Err(LineFault::Number);
     };
     Ok((count, whole_tag(parts)?))

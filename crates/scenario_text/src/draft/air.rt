@@ -53,7 +53,7 @@ impl AirLines {
     /// How many air lines there are.
     pub(crate) fn count(&self) -> u32
         ensures count { result ≡ self.now.count }
-        ensures small { result ≤ 4096 }
+        ensures small { result ≤ most_air_lines }
     {
         self.count
     }

@@ -1,10 +1,12 @@
 //! What the tag and copies lines of a scenario have said so far.
 ghost use Rattle.std.specs.Prelude.{◌≡◌, ◌+◌, ◌<◌, ◌≤◌, ◌↔◌, ◌++◌, [], ◌∷◌, length, IsTrue, OnOk};
+ghost use Rattle.air_events.specs.TagNumbers.{most_tags};
 ghost use Rattle.scenario.specs.Groups.{tags_of};
 ghost use Rattle.scenario.specs.Limits.{most_tags_of};
 ghost use Rattle.scenario_lines.specs.declared.version.Version.TheVariants.{Two};
 ghost use Rattle.scenario_text.specs.Standing.{MayCopy};
 
+use air_events::MOST_TAGS;
 use bit_strings::{List, OutOfMemory};
 use scenario::TagGroup;
 use scenario_lines::{Line, TagText, Version};
@@ -14,16 +16,13 @@ use std::marker::Model;
 /// How many tags a scenario of version 1 may have.
 const MOST_TAGS_OF_ONE: u32 = 256;
 
-/// How many tags a scenario of version 2 may have.
-const MOST_TAGS_OF_TWO: u32 = 4096;
-
 /// How many tags a scenario of this version may have.
 fn most_tags(version: Version) -> u32
     ensures { result ≡ most_tags_of version }
 {
     match version {
         Version::One => MOST_TAGS_OF_ONE,
-        Version::Two => MOST_TAGS_OF_TWO,
+        Version::Two => u32::from(MOST_TAGS),
     }
 }
 
@@ -62,7 +61,7 @@ impl TagLines {
     /// How many tags there are.
     pub(crate) fn count(&self) -> u32
         ensures count { result ≡ length (tags_of self.now) }
-        ensures small { result ≤ 4096 }
+        ensures small { result ≤ most_tags }
     {
         self.count
     }
@@ -70,7 +69,7 @@ impl TagLines {
     /// How many lines say them.
     pub(crate) fn line_count(&self) -> u32
         ensures count { result ≡ length self.now }
-        ensures small { result ≤ 4096 }
+        ensures small { result ≤ most_tags }
     {
         self.groups.len() as u32
     }
@@ -88,7 +87,7 @@ impl TagLines {
     {
         match line {
             Line::Copies(count, tag) => {
-                tag.epc_length() > 0 && *count <= MOST_TAGS_OF_TWO - self.count
+                tag.epc_length() > 0 && *count <= u32::from(MOST_TAGS) - self.count
             }
             _ => true,
         }

@@ -2,7 +2,7 @@
 ghost use Rattle.std.specs.Prelude.{◌≡◌, ◌≤◌, ◌⊎◌, IfOk, length};
 ghost use Rattle.scenario.specs.Limits.{IsScenario};
 ghost use Rattle.top_call.specs.Job.{IsLawful};
-ghost use Rattle.top_call.specs.Outcome.{EndsSo, Tells, input_limit};
+ghost use Rattle.top_call.specs.Outcome.{EndsSo, Tells, input_limit, source_change, sink_change};
 ghost use Rattle.top_call.specs.words.Audited.{SaysEvent, SaysVerdict, audit_job};
 
 use crate::ending::{MOST_INPUT_BYTES, WriteEnd, Wrote, status_of, unread_status};
@@ -24,8 +24,7 @@ use std::alloc::Global;
 
 /// Reads the input to its end, and writes what is defined for it. The whole input is read before anything is written.
 pub fn answer<I: Source, O: Sink>(alloc: Global, input: &mut I, output: &mut O) -> Status
-    ensures { Tells audit_job (I.left input.old) (I.left input.new) (O.written output.old) (O.written output.new)
-        (I.faults input.old) (I.faults input.new) (O.faults output.old) (O.faults output.new) (output.new ≡ output.old) result }
+    ensures { Tells audit_job (source_change I.left I.faults input.old input.new) (sink_change O.written O.faults output.old output.new) (output.new ≡ output.old) result }
 {
     match read_to_end(alloc, input, MOST_INPUT_BYTES) {
         Ok(bytes) => status_of(write_audited(alloc, bytes.as_slice(), output)),
@@ -37,7 +36,7 @@ pub fn answer<I: Source, O: Sink>(alloc: Global, input: &mut I, output: &mut O) 
 /// the first faulty line of the scenario.
 fn write_audited<O: Sink>(alloc: Global, input: &[u8], output: &mut O) -> Result<Wrote, WriteEnd>
     requires { length input.now ≤ input_limit }
-    ensures { EndsSo audit_job input.now (O.written output.old) (O.written output.new) (O.faults output.old) (O.faults output.new) result }
+    ensures { EndsSo audit_job input.now (sink_change O.written O.faults output.old output.new) result }
 {
     let (text, trace) = split_scenario(input);
     match read_scenario(alloc, text) {

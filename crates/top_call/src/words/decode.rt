@@ -3,7 +3,7 @@ ghost use Rattle.std.specs.Prelude.{◌≡◌, ℕ, List, IfOk, IfErr};
 ghost use Rattle.std.specs.String.{string_bytes};
 ghost use Rattle.decode_lines.specs.DecodeLines.{Decodes, IsFirstFault};
 ghost use Rattle.top_call.specs.Job.{IsLawful};
-ghost use Rattle.top_call.specs.Outcome.{EndsSo, Tells};
+ghost use Rattle.top_call.specs.Outcome.{EndsSo, Tells, source_change, sink_change};
 ghost use Rattle.top_call.specs.words.Decoded.{decode_job};
 
 use crate::ending::{MOST_INPUT_BYTES, WriteEnd, Wrote, status_of, unread_status};
@@ -17,8 +17,7 @@ use std::alloc::Global;
 /// Answers the lines of the input as they come, and then writes what is defined for it. Nothing is written
 /// before the input is read to its end.
 pub fn answer<I: Source, O: Sink>(alloc: Global, input: &mut I, output: &mut O) -> Status
-    ensures { Tells decode_job (I.left input.old) (I.left input.new) (O.written output.old) (O.written output.new)
-        (I.faults input.old) (I.faults input.new) (O.faults output.old) (O.faults output.new) (output.new ≡ output.old) result }
+    ensures { Tells decode_job (source_change I.left I.faults input.old input.new) (sink_change O.written O.faults output.old output.new) (output.new ≡ output.old) result }
 {
     match answer_source(alloc, input, MOST_INPUT_BYTES) {
         Ok(answered) => status_of(write_answered(&answered, output)),
@@ -32,7 +31,7 @@ fn write_answered<O: Sink>(
     output: &mut O,
 ) -> Result<Wrote, WriteEnd>
     ensures { (input : List ℕ) → IfOk answered.now (λ text. Decodes input (string_bytes text)) → IfErr answered.now (IsFirstFault input)
-        → EndsSo decode_job input (O.written output.old) (O.written output.new) (O.faults output.old) (O.faults output.new) result }
+        → EndsSo decode_job input (sink_change O.written O.faults output.old output.new) result }
 {
     match answered {
         Ok(text) => {

@@ -4,8 +4,8 @@ ghost use Rattle.air_io.specs.Flow.{FaultsRose};
 ghost use Rattle.encode_lines.specs.EncodeLines.{Encodes, EncodesLine, IsGrammatical};
 ghost use Rattle.encode_lines.specs.Request.{AsksForRequest};
 ghost use Rattle.encode_lines.specs.declared.request.Request.{Request};
-ghost use Rattle.top_call.specs.Job.{Defines, IsLawful};
-ghost use Rattle.top_call.specs.Outcome.{input_limit, AddsWhole, AddsFront, EndsSo, Tells};
+ghost use Rattle.top_call.specs.Job.{IsLawful};
+ghost use Rattle.top_call.specs.Outcome.{input_limit, AddsWhole, AddsFront, EndsSo, Tells, source_change, sink_change};
 ghost use Rattle.top_call.specs.UnwrittenBytes.{Sends, Loses};
 ghost use Rattle.top_call.specs.words.Encoded.{encode_job};
 
@@ -24,8 +24,7 @@ use text_fields::split_line;
 /// Reads the input to its end, and writes what is defined for it. The whole input is checked before a line is written;
 /// then each line is written as it is made.
 pub fn answer<I: Source, O: Sink>(alloc: Global, input: &mut I, output: &mut O) -> Status
-    ensures { Tells encode_job (I.left input.old) (I.left input.new) (O.written output.old) (O.written output.new)
-        (I.faults input.old) (I.faults input.new) (O.faults output.old) (O.faults output.new) (output.new ≡ output.old) result }
+    ensures { Tells encode_job (source_change I.left I.faults input.old input.new) (sink_change O.written O.faults output.old output.new) (output.new ≡ output.old) result }
 {
     match read_to_end(alloc, input, MOST_INPUT_BYTES) {
         Ok(bytes) => status_of(write_encoded(alloc, bytes.as_slice(), output)),
@@ -37,7 +36,7 @@ pub fn answer<I: Source, O: Sink>(alloc: Global, input: &mut I, output: &mut O) 
 /// faulty line.
 fn write_encoded<O: Sink>(alloc: Global, input: &[u8], output: &mut O) -> Result<Wrote, WriteEnd>
     requires { length input.now ≤ input_limit }
-    ensures { EndsSo encode_job input.now (O.written output.old) (O.written output.new) (O.faults output.old) (O.faults output.new) result }
+    ensures { EndsSo encode_job input.now (sink_change O.written O.faults output.old output.new) result }
 {
     match check_lines(input) {
         Ok(()) => {

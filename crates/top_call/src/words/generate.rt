@@ -3,7 +3,7 @@ ghost use Rattle.std.specs.Prelude.{◌≡◌, ◌+◌, ◌≤◌, ℕ, [], ◌�
 ghost use Rattle.std.specs.Fmt.{decimal};
 ghost use Rattle.top_call.specs.Job.{IsLawful};
 ghost use Rattle.top_call.specs.words.Generated.{end_line, summary_text, gen_job};
-ghost use Rattle.top_call.specs.Outcome.{EndsSo, SpeaksOfNoInput, Tells};
+ghost use Rattle.top_call.specs.Outcome.{EndsSo, SpeaksOfNoInput, Tells, source_change, sink_change};
 ghost use Rattle.made_scenario.specs.Made.{most_made_tags};
 ghost use Rattle.text_fields.specs.Lines.{line_feed};
 
@@ -27,8 +27,7 @@ pub fn answer<I: Source, O: Sink>(
     output: &mut O,
 ) -> Status
     requires { tags ≤ most_made_tags }
-    ensures tells { Tells (gen_job seed tags) (I.left _input.old) (I.left _input.new) (O.written output.old) (O.written output.new)
-        (I.faults _input.old) (I.faults _input.new) (O.faults output.old) (O.faults output.new) (output.new ≡ output.old) result }
+    ensures tells { Tells (gen_job seed tags) (source_change I.left I.faults _input.old _input.new) (sink_change O.written O.faults output.old output.new) (output.new ≡ output.old) result }
     ensures unread { (_input.new ≡ _input.old) × SpeaksOfNoInput result }
 {
     status_of(write_summary(alloc, seed, tags, output))
@@ -42,7 +41,7 @@ fn write_summary<O: Sink>(
     output: &mut O,
 ) -> Result<Wrote, WriteEnd>
     requires { tags ≤ most_made_tags }
-    ensures { EndsSo (gen_job seed tags) [] (O.written output.old) (O.written output.new) (O.faults output.old) (O.faults output.new) result }
+    ensures { EndsSo (gen_job seed tags) [] (sink_change O.written O.faults output.old output.new) result }
 {
     let scenario = made_scenario(alloc, seed, tags)?;
     let summary = summarise(alloc, &scenario)?;

@@ -6,7 +6,7 @@ ghost use Rattle.report_lines.specs.Names.{BecomesLines};
 ghost use Rattle.sgtin_text.specs.SgtinText.{name_line};
 ghost use Rattle.top_call.specs.Job.{Defines, IsLawful};
 ghost use Rattle.top_call.specs.words.Named.{IsOfLines, AddsNames, IsCutAt, names_job};
-ghost use Rattle.top_call.specs.Outcome.{input_limit, AddsWhole, AddsFront, EndsSo, Tells};
+ghost use Rattle.top_call.specs.Outcome.{input_limit, AddsWhole, AddsFront, EndsSo, Tells, source_change, sink_change};
 ghost use Rattle.top_call.specs.UnwrittenBytes.{Sends, Loses};
 
 use crate::ending::{MOST_INPUT_BYTES, WriteEnd, Wrote, status_of, unread_status};
@@ -22,8 +22,7 @@ use text_fields::{fault_line, push_bytes, split_line};
 /// Reads the input to its end, and writes what is defined for it. The whole input is checked before a line is
 /// written.
 pub fn answer<I: Source, O: Sink>(alloc: Global, input: &mut I, output: &mut O) -> Status
-    ensures tells { Tells names_job (I.left input.old) (I.left input.new) (O.written output.old) (O.written output.new)
-        (I.faults input.old) (I.faults input.new) (O.faults output.old) (O.faults output.new) (output.new ≡ output.old) result }
+    ensures tells { Tells names_job (source_change I.left I.faults input.old input.new) (sink_change O.written O.faults output.old output.new) (output.new ≡ output.old) result }
     ensures memory { result ≡ Status.OutOfMemory → output.new ≡ output.old }
 {
     match read_to_end(alloc, input, MOST_INPUT_BYTES) {
@@ -36,7 +35,7 @@ pub fn answer<I: Source, O: Sink>(alloc: Global, input: &mut I, output: &mut O) 
 /// reports that the last line has no line feed. It takes no memory.
 fn write_with_names<O: Sink>(input: &[u8], output: &mut O) -> Result<Wrote, WriteEnd>
     requires { length input.now ≤ input_limit }
-    ensures ends { EndsSo names_job input.now (O.written output.old) (O.written output.new) (O.faults output.old) (O.faults output.new) result }
+    ensures ends { EndsSo names_job input.now (sink_change O.written O.faults output.old output.new) result }
     ensures memory { result ≢ Err WriteEnd.OutOfMemory }
 {
     match cut_line(input) {

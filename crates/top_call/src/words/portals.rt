@@ -6,7 +6,7 @@ ghost use Rattle.portal_text.specs.PortalText.{portals_text};
 ghost use Rattle.runs.specs.Portals.{portals_told};
 ghost use Rattle.scenario.specs.Limits.{IsScenario};
 ghost use Rattle.top_call.specs.Job.{Defines, IsLawful};
-ghost use Rattle.top_call.specs.Outcome.{EndsSo, Tells};
+ghost use Rattle.top_call.specs.Outcome.{EndsSo, Tells, source_change, sink_change};
 ghost use Rattle.top_call.specs.words.Compared.{portals_job};
 
 use crate::ending::{MOST_INPUT_BYTES, WriteEnd, Wrote, status_of, unread_status};
@@ -25,8 +25,7 @@ use text_fields::fault_line;
 
 /// Reads the input to its end, and writes what is defined for it.
 pub fn answer<I: Source, O: Sink>(alloc: Global, input: &mut I, output: &mut O) -> Status
-    ensures { Tells portals_job (I.left input.old) (I.left input.new) (O.written output.old) (O.written output.new)
-        (I.faults input.old) (I.faults input.new) (O.faults output.old) (O.faults output.new) (output.new ≡ output.old) result }
+    ensures { Tells portals_job (source_change I.left I.faults input.old input.new) (sink_change O.written O.faults output.old output.new) (output.new ≡ output.old) result }
 {
     match read_to_end(alloc, input, MOST_INPUT_BYTES) {
         Ok(bytes) => status_of(write_portals(alloc, bytes.as_slice(), output)),
@@ -37,7 +36,7 @@ pub fn answer<I: Source, O: Sink>(alloc: Global, input: &mut I, output: &mut O) 
 /// Writes what is defined for the bytes of an input: the lines of the two portals of the scenario that they spell, or the
 /// one line that reports the first faulty line.
 fn write_portals<O: Sink>(alloc: Global, input: &[u8], output: &mut O) -> Result<Wrote, WriteEnd>
-    ensures { EndsSo portals_job input.now (O.written output.old) (O.written output.new) (O.faults output.old) (O.faults output.new) result }
+    ensures { EndsSo portals_job input.now (sink_change O.written O.faults output.old output.new) result }
 {
     match read_scenario(alloc, input) {
         Ok(scenario) => match portal_fault(&scenario) {

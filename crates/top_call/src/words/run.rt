@@ -2,7 +2,7 @@
 ghost use Rattle.std.specs.Prelude.{◌≡◌, ℕ, List};
 ghost use Rattle.report_lines.specs.declared.mode.Mode.{Mode};
 ghost use Rattle.top_call.specs.Job.{Defines, IsLawful};
-ghost use Rattle.top_call.specs.Outcome.{EndsSo, Tells};
+ghost use Rattle.top_call.specs.Outcome.{EndsSo, Tells, source_change, sink_change};
 ghost use Rattle.top_call.specs.words.Reported.{run_job};
 
 use crate::ending::{MOST_INPUT_BYTES, WriteEnd, Wrote, status_of, unread_status};
@@ -24,8 +24,7 @@ pub fn answer<I: Source, O: Sink>(
     input: &mut I,
     output: &mut O,
 ) -> Status
-    ensures { Tells (run_job mode) (I.left input.old) (I.left input.new) (O.written output.old) (O.written output.new)
-        (I.faults input.old) (I.faults input.new) (O.faults output.old) (O.faults output.new) (output.new ≡ output.old) result }
+    ensures { Tells (run_job mode) (source_change I.left I.faults input.old input.new) (sink_change O.written O.faults output.old output.new) (output.new ≡ output.old) result }
 {
     match read_to_end(alloc, input, MOST_INPUT_BYTES) {
         Ok(bytes) => status_of(write_report(alloc, mode, bytes.as_slice(), output)),
@@ -41,7 +40,7 @@ fn write_report<O: Sink>(
     input: &[u8],
     output: &mut O,
 ) -> Result<Wrote, WriteEnd>
-    ensures { EndsSo (run_job mode) input.now (O.written output.old) (O.written output.new) (O.faults output.old) (O.faults output.new) result }
+    ensures { EndsSo (run_job mode) input.now (sink_change O.written O.faults output.old output.new) result }
 {
     match read_scenario(alloc, input) {
         Ok(scenario) => {

@@ -1,10 +1,8 @@
-use Rattle.std.proofs.Common.{refl, sym, subst, ◌∙◌}
+use Rattle.std.proofs.Common.{sym, subst, ◌∙◌}
 use Rattle.air_world.proofs.Passing.{listening}
 use Rattle.air_world.proofs.Written.{run-written, spelling_for, told_text}
-use Rattle.report_lines.specs.Spelled.{line_of_mode, mode_behind}
 use Rattle.report_lines.specs.TextReport.{IsAdded}
 use Rattle.report_lines.specs.declared.mode_spelling.ModeSpelling.{ModeSpelling}
-use Rattle.report_lines.specs.laws.TextReportLaws.{hears-nothing}
 use Rattle.air_world.proofs.playing.write_run.Goals as goal
 
 pub returns : goal.returns
@@ -16,8 +14,7 @@ returns g c = λ mode fresh.
     let back = c.out-1.given in
     run-written (listening _ _ old later) c.tell_scenario.result mode scenario
     (record { first = sink.written c.args.out.now; written = sink.written back.0; before = sink.faults c.args.out.now; after = sink.faults back.0 }) _ c.tell_scenario.ensures
-    (λ lines passes.
-    let heard = passes.on old (refl, hears-nothing line_of_mode mode_behind old.spelling.now old.fault (sink.written old.out.now) (sink.faults old.out.now)) in
+    (λ lines heard.
     let spelled = c.new-report.ensures.spelling ∙ fresh in
     let added = subst (λ (spelling : ModeSpelling). IsAdded (told_text spelling lines) (sink.written old.out.now) (sink.written later.out.now) (sink.faults old.out.now) (sink.faults later.out.now) later.fault)
     spelled (heard.1.text c.new-report.ensures.fault) in

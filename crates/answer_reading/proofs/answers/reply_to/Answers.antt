@@ -1,6 +1,5 @@
 use Rattle.std.proofs.Common.{◌≡◌, Option, None, Some, subst}
 use Rattle.std.specs.Option.{IsSomeAnd}
-use Rattle.command_grammar.specs.declared.commands.Command.{Command}
 use Rattle.reply_grammar.specs.Table.{AnswersExpected}
 use Rattle.reply_grammar.specs.declared.expected.Expect.{Expect}
 use Rattle.answer_reading.proofs.ByLength.{read-by-length, tested-length}

@@ -7,5 +7,5 @@ use Rattle.encode_lines.proofs.output.push_wave.Goals as goal
 
 pub returns : goal.returns
 returns c =
-    let numbers = numbers_written _ _ _ _ c.in_ok-push_next_numbers.ensures c.as_slice.ensures.value in
+    let numbers = numbers_written _ _ _ _ c.in_ok-push_next.ensures c.as_slice.ensures.value in
     if_ok_then c.push_str-2.result _ _ _ _ c.push_str-2.ensures.bytes (fields_written _ _ _ _ (codes "pie") (map decimal c.args.intervals.now.items) c.in_ok-push_str.ensures.bytes numbers refl)

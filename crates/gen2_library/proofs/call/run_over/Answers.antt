@@ -1,33 +1,33 @@
-use Rattle.std.proofs.Common.{◌≡◌, ◌⊎◌, ◌≤◌, Some, inl, inr, refl, ap, arith}
+use Rattle.std.proofs.Common.{◌≡◌, ◌⊎◌, ◌≤◌, ◌<◌, ℕ, List, Some, length, inl, inr, ap, arith, subst, sym}
 use Rattle.gen2_library.proofs.Over.{whole, front, too-long, not-taken, none-rose, completes}
+use Rattle.top_call.specs.Outcome.{input_limit}
 use Rattle.top_call.specs.Jobs.{job_of}
-use Rattle.top_call.specs.declared.forms.Form.TheVariants.{Run, Gen}
 use Rattle.top_call.specs.words.Generated.{CountsEveryTag, gen_job}
 use Rattle.top_call.specs.words.Reported.{SaysHeadline, SaysInventory, run_job}
 use Rattle.gen2_library.proofs.call.run_over.Goals as goal
 
 pub returns-clause-done : goal.returns-clause-done
 returns-clause-done c form asks done =
-    whole (job_of form) (job_of form).writes _ _ _ _ _ c.new-source.ensures c.requires (c.gen2run.ensures.done form asks done)
+    whole (job_of form) (job_of form).writes _ _ _ _ _ (record { told_is = c.new-source.ensures; unwritten = c.requires }) (c.gen2run.ensures.done form asks done)
 
 pub returns-clause-promises : goal.returns-clause-promises
 returns-clause-promises c form asks done =
-    whole (job_of form) (job_of form).promises _ _ _ _ _ c.new-source.ensures c.requires (c.gen2run.ensures.promises form asks done)
+    whole (job_of form) (job_of form).promises _ _ _ _ _ (record { told_is = c.new-source.ensures; unwritten = c.requires }) (c.gen2run.ensures.promises form asks done)
 
 pub returns-clause-headline : goal.returns-clause-headline
 returns-clause-headline c mode asks done =
-    whole (run_job mode) (SaysHeadline mode) _ _ _ _ _ c.new-source.ensures c.requires (c.gen2run.ensures.headline mode asks done)
+    whole (run_job mode) (SaysHeadline mode) _ _ _ _ _ (record { told_is = c.new-source.ensures; unwritten = c.requires }) (c.gen2run.ensures.headline mode asks done)
 
 pub returns-clause-inventory : goal.returns-clause-inventory
 returns-clause-inventory c = (
-  λ mode asks done. whole (run_job mode) (SaysInventory mode) _ _ _ _ _ c.new-source.ensures c.requires (c.gen2run.ensures.inventory.0 mode asks done),
-  λ seed tags asks done. whole (gen_job seed tags) (λ bytes text. CountsEveryTag seed tags text) _ _ _ _ _ c.new-source.ensures c.requires
+  λ mode asks done. whole (run_job mode) (SaysInventory mode) _ _ _ _ _ (record { told_is = c.new-source.ensures; unwritten = c.requires }) (c.gen2run.ensures.inventory.0 mode asks done),
+  λ seed tags asks done. whole (gen_job seed tags) (λ bytes text. CountsEveryTag seed tags text) _ _ _ _ _ (record { told_is = c.new-source.ensures; unwritten = c.requires })
       (c.gen2run.ensures.inventory.1 seed tags asks done),
 )
 
 pub returns-clause-bad_input : goal.returns-clause-bad_input
 returns-clause-bad_input c form asks bad =
-    whole (job_of form) (job_of form).refuses _ _ _ _ _ c.new-source.ensures c.requires (c.gen2run.ensures.bad_input form asks bad)
+    whole (job_of form) (job_of form).refuses _ _ _ _ _ (record { told_is = c.new-source.ensures; unwritten = c.requires }) (c.gen2run.ensures.bad_input form asks bad)
 
 pub returns-clause-too_long : goal.returns-clause-too_long
 returns-clause-too_long c many =
@@ -36,7 +36,7 @@ returns-clause-too_long c many =
 
 pub returns-clause-write_fault : goal.returns-clause-write_fault
 returns-clause-write_fault c form asks fault =
-    front (job_of form) _ _ _ _ _ c.new-source.ensures c.requires (c.gen2run.ensures.write_fault form asks fault).1
+    front (job_of form) _ _ _ _ _ (record { told_is = c.new-source.ensures; unwritten = c.requires }) (c.gen2run.ensures.write_fault form asks fault).1
 
 pub returns-clause-no_read_fault : goal.returns-clause-no_read_fault
 returns-clause-no_read_fault c failed = none-rose (c.gen2run.ensures.read_fault failed).0
@@ -48,7 +48,7 @@ returns-clause-complete c form asks few allowed =
     (λ failed. none-rose (c.gen2run.ensures.read_fault failed).0)
     (λ many. let long = too-long _ _ _ c.new-source.ensures (c.gen2run.ensures.too_long many).0 in omega (arith, few, long))
     (λ bad. c.grammatical_inputs_are_not_refused.ensures form _ _ allowed
-    (whole (job_of form) (job_of form).refuses _ _ _ _ _ c.new-source.ensures c.requires (c.gen2run.ensures.bad_input form asks bad)))
+    (whole (job_of form) (job_of form).refuses _ _ _ _ _ (record { told_is = c.new-source.ensures; unwritten = c.requires }) (c.gen2run.ensures.bad_input form asks bad)))
 
 pub returns-clause-unread : goal.returns-clause-unread
 returns-clause-unread c form asks none = (c.gen2run.ensures.unread form asks none).1
@@ -62,7 +62,7 @@ returns-clause-passes_limit c form asks reads many =
         | inl long ↦ let same = (c.gen2run.ensures.too_long long).1 in cc
         | inr memory ↦ elim (c.gen2run.ensures.out_of_memory form asks memory) [
           | inl within ↦ let same = within.1 in cc
-          | inr writes ↦ absurd (not-taken (job_of form) _ _ _ _ _ c.new-source.ensures reads many writes)
+          | inr writes ↦ absurd (not-taken (job_of form) _ _ _ _ reads (subst (λ (told : List ℕ). input_limit < length told) (sym c.new-source.ensures) many) writes)
         ]
       ],
     )

@@ -1,40 +1,118 @@
 -- The levels in the data: whole blocks, then what is left, level by level.
-use Rattle.std.proofs.Common.{◌≡◌, ◌∙◌, ◌+◌, ◌-◌, [], List, Bool, length, take, drop, arith, ap, refl, sym, subst}
+use Rattle.std.proofs.Common.{◌≡◌, ◌∙◌, ◌+◌, ◌*◌, ◌-◌, ◌++◌, ℕ, [], ◌∷◌, List, Bool, length, take, drop, arith, ap, refl, sym, subst}
 use Rattle.std.proofs.lemmas.Result.{err_from_is_err_and}
-use Rattle.std.proofs.lemmas.List.{length-take-le, length-drop, take_all}
-use Rattle.line_code.specs.States.{Reads}
-use Rattle.line_code.specs.Stream.{Streams, stream_of}
+use Rattle.std.proofs.lemmas.List.{length-take-le, length-drop, take_all, append-nil}
+use Rattle.line_code.specs.States.{Reads, HasBlocks, context_after}
+use Rattle.line_code.specs.Stream.{Streams, stream_of, blocks}
+use Rattle.line_code.specs.Table.{Context, Table}
+use Rattle.line_code.specs.laws.Reading.{has_more}
+use Rattle.line_code.proofs.Writing.{capacity_of, one_block}
 use Rattle.line_code.proofs.Steps.{one_more, block_more}
 use Rattle.bit_strings.specs.laws.Family.{bad-in_front}
-use Rattle.line_code.proofs.Whole.{bits_within}
+use Rattle.line_code.proofs.Whole.{bits_within, has_within}
 use Rattle.line_code.proofs.decoder.read.Goals as goal
 
-pub take_block-inside-requires-clause-room : goal.take_block-inside-requires-clause-room
-take_block-inside-requires-clause-room g c =
+-- the next levels, so many, are the blocks of more bits
+record BlocksAt (t : Table) (context : Context) (levels : List Bool) (at : ℕ) : Type 0 where
+  count : ℕ
+  more : List Bool
+  levels_are : take count (drop at levels) ≡ blocks t context more
+
+-- these blocks go on behind the blocks before
+goes_on : (t : Table) (trext : Bool) (context : Context) (levels bits : List Bool) (at : ℕ) → HasBlocks t trext context (take at levels) bits
+    → (next : BlocksAt t context levels at) → HasBlocks t trext (context_after t context next.more) (take (at + next.count) levels) (bits ++ next.more)
+goes_on t trext context levels bits at has next =
+    let P : List Bool → Type 0 = λ ls. HasBlocks t trext (context_after t context next.more) ls (bits ++ next.more) in
+    subst P (block_more levels (blocks t context next.more) at next.count next.levels_are) (has_more t trext context (take at levels) bits next.more has)
+
+-- all the levels that follow
+behind : (levels : List Bool) (at : ℕ) → take (length levels - at) (drop at levels) ≡ drop at levels
+behind levels at = take_all (length levels - at) (drop at levels) (omega (arith, length-drop at levels))
+
+pub loop-four-init : goal.loop-four-init
+loop-four-init g c =
+    let t = g.C.LineCode.table in
+    let found = c.in_ok-at.ensures.found in
+    record {
+      within = found.0;
+      has = rw c.requires.empty (record { levels_are = found.1 ∙ sym (append-nil (t.lead c.args.trext)); context_is = c.after_lead-mark.ensures });
+      same = refl;
+    }
+
+pub put_bits-requires : goal.put_bits-requires
+put_bits-requires g c =
+    let front = take c.loop-four.at c.args.levels.now in
+    let put = has_within g.C.LineCode.table g.C.LineCode.CHIPS g.met.C.LineCode.even c.args.trext _ front c.loop-four.out.items c.loop-four.invariant.has in
+    let within = c.loop-four.invariant.within in
+    let least = g.met.C.LineCode.even.least in
+    let some = c.in-Some.ensures in
+    let same = c.loop-four.invariant.same in
+    let room = c.requires.room in
+    let size = length-take-le c.loop-four.at c.args.levels.now within in
+    omega (arith, some.0, some.1, length-drop c.loop-four.at c.args.levels.now)
+
+pub loop-four-preserved : goal.loop-four-preserved
+loop-four-preserved g c =
+    let t = g.C.LineCode.table in
+    let levels = c.args.levels.now in
+    let at = c.loop-four.at in
+    let some = c.in-Some.ensures in
+    let context = g.C.LineCode.context_of c.loop-four.mark in
+    let count = 4 * g.C.LineCode.CHIPS in
+    let next : BlocksAt t context levels at = record { count = count; more = c.in-Some.four.0; levels_are = ap (take count) (sym (behind levels at)) ∙ some.2 } in
+    let put = c.put_bits.ensures in
+    record {
+      within = let whole = some.1 in let within = c.loop-four.invariant.within in omega (arith, c.CHIPS.ensures, length-drop at levels);
+      has = rw (c.CHIPS.ensures, some.3, put) (goes_on t c.args.trext context levels c.loop-four.out.items at c.loop-four.invariant.has next);
+      same = capacity_of c.put_bits.new.out c.loop-four.out _ put ∙ c.loop-four.invariant.same;
+    }
+
+pub push_reserved-requires : goal.push_reserved-requires
+push_reserved-requires g c =
     let front = take c.loop-bit.at c.args.levels.now in
-    let put = bits_within g.C.LineCode.table g.C.LineCode.CHIPS g.met.C.LineCode.even c.args.trext c.loop-bit.inside front c.loop-bit.out.items c.loop-bit.invariant.reads in
+    let put = has_within g.C.LineCode.table g.C.LineCode.CHIPS g.met.C.LineCode.even c.args.trext _ front c.loop-bit.out.items c.loop-bit.invariant.has in
     let within = c.loop-bit.invariant.within in
     let least = g.met.C.LineCode.even.least in
-    let whole = c.in-Some.ensures.some.1 in
+    let some = c.in-Some-next_bit.ensures in
     let same = c.loop-bit.invariant.same in
+    let before = c.loop-four.invariant.same in
     let room = c.requires.room in
     let size = length-take-le c.loop-bit.at c.args.levels.now within in
-    omega arith
+    omega (arith, some.0, length-drop c.loop-bit.at c.args.levels.now)
 
 pub loop-bit-preserved : goal.loop-bit-preserved
 loop-bit-preserved g c =
     let t = g.C.LineCode.table in
     let levels = c.args.levels.now in
     let at = c.loop-bit.at in
-    let block = c.in-Some.ensures.some.2 in
-    let read = c.take_block-inside.ensures.reads c.args.trext (take at levels) c.loop-bit.invariant.reads in
-    let chips = c.CHIPS.ensures in
-    let rest : take (length levels - at) (drop at levels) ≡ drop at levels = take_all (length levels - at) (drop at levels) (omega (arith, length-drop at levels)) in
-    let is : take g.C.LineCode.CHIPS (drop at levels) ≡ t.block c.loop-bit.inside.context c.in-Some.bit = ap (take g.C.LineCode.CHIPS) (sym rest) ∙ block in
+    let some = c.in-Some-next_bit.ensures in
+    let context = g.C.LineCode.context_of c.loop-bit.mark in
+    let count = g.C.LineCode.CHIPS in
+    let bit = c.in-Some-next_bit.bit in
+    let next : BlocksAt t context levels at =
+    record { count = count; more = bit ∷ []; levels_are = ap (take count) (sym (behind levels at)) ∙ one_block t context bit _ some.1 } in
+    let put = c.push_reserved.ensures in
     record {
-      within = let whole = c.in-Some.ensures.some.1 in let within = c.loop-bit.invariant.within in omega (arith, length-drop at levels);
-      reads = rw (chips, ← block_more levels (t.block c.loop-bit.inside.context c.in-Some.bit) at g.C.LineCode.CHIPS is) read;
-      same = c.take_block-inside.ensures.capacity ∙ c.loop-bit.invariant.same;
+      within = let whole = some.0 in let within = c.loop-bit.invariant.within in omega (arith, c.CHIPS-in-Some-next_bit.ensures, length-drop at levels);
+      has =
+          rw (c.CHIPS-in-Some-next_bit.ensures, c.after-mark.ensures, put)
+          (goes_on t c.args.trext context levels c.loop-bit.out.items at c.loop-bit.invariant.has next);
+      same = capacity_of c.push_reserved.new.self c.loop-bit.out _ put ∙ c.loop-bit.invariant.same;
+    }
+
+pub between_blocks-inside-requires : goal.between_blocks-inside-requires
+between_blocks-inside-requires g c =
+    let front = take c.loop-bit.at c.args.levels.now in
+    let put = has_within g.C.LineCode.table g.C.LineCode.CHIPS g.met.C.LineCode.even c.args.trext _ front c.loop-bit.out.items c.loop-bit.invariant.has in
+    let size = length-take-le c.loop-bit.at c.args.levels.now c.loop-bit.invariant.within in
+    omega arith
+
+pub loop-place-init : goal.loop-place-init
+loop-place-init g c =
+    let size = length-take-le c.loop-bit.at c.args.levels.now c.loop-bit.invariant.within in
+    record {
+      reads = c.between_blocks-inside.ensures c.args.trext (take c.loop-bit.at c.args.levels.now) (sym size) c.loop-bit.invariant.has;
+      same = refl;
     }
 
 pub push-requires-clause-room : goal.push-requires-clause-room

@@ -1,12 +1,12 @@
 -- The list holds one number more.
-use Rattle.std.proofs.Common.{◌≡◌, ◌-◌, ◌<◌, ◌∷◌, [], eqb, length, take, All, arith, ap, ◌∙◌}
+use Rattle.std.proofs.Common.{◌≡◌, ◌-◌, ◌∷◌, [], eqb, length, take, All, arith, ap, ◌∙◌}
 use Rattle.std.specs.Option.{option_map_or}
 use Rattle.std.proofs.lemmas.List.Splits.{length-slice_split}
 use Rattle.pie_line.specs.IntervalList.{IntervalList}
 use Rattle.text_fields.specs.Lines.{fields_of, space}
 use Rattle.pie_text.specs.Spelling.{IsNumber}
 use Rattle.pie_text.proofs.LeadingNumbers.{first_end, first_number, lacks_space}
-use Rattle.pie_text.proofs.Numerals.{holds_next, refused_for, shape_behind}
+use Rattle.pie_text.proofs.Numerals.{IsNextNumber, holds_next, refused_for, shape_behind}
 use Rattle.pie_text.proofs.numbers.push_numbers.Goals as goal
 
 pub returns-then-len-most_items-clause-all : goal.returns-then-len-most_items-clause-all
@@ -63,10 +63,14 @@ loop-rest-preserved c =
     let next : option_map_or (λ text. fields_of text.now) c.loop-rest.rest [] ≡ field ∷ rest =
     ap (λ rest. option_map_or (λ text. fields_of text.now) rest []) c.in-Some.is
     ∙ c.behind_field-rest.ensures.fields (lacks_space c.args.most field (omega arith) reads.0) in
-    let room : length c.loop-rest.out.items < c.args.most_items = omega (arith, so_far.few, c.if-len-most_items.false, c.len.ensures.count) in
+    let has : IsNextNumber c.args.most_items c.args.most field c.loop-rest.out.items = record {
+      small = omega arith;
+      room = omega (arith, so_far.few, c.if-len-most_items.false, c.len.ensures.count);
+      number = reads.0;
+    } in
     let pushed = c.push_reserved.ensures in
     let items = ap (λ (list : IntervalList). list.items) pushed in
     record {
-      holds = rw (items, reads.1) (holds_next c.args.most_items c.args.most (fields_of c.args.line.now) rest field c.loop-rest.out.items (omega arith) (rw next at so_far) room reads.0);
+      holds = rw (items, reads.1) (holds_next c.args.most_items c.args.most (fields_of c.args.line.now) rest field c.loop-rest.out.items (rw next at so_far) has);
       capacity = ap (λ (list : IntervalList). list.capacity) pushed ∙ c.loop-rest.invariant.capacity;
     }

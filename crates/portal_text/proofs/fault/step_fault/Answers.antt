@@ -1,4 +1,4 @@
-use Rattle.std.proofs.Common.{◌≡◌, ◌≢◌, inl, inr, ℕ, ◌+◌, ◌≤◌, Bool, true, false, List, [], drop, length, Option, Some, None, refl, sym, ap, ◌∙◌, arith, eq-eqb}
+use Rattle.std.proofs.Common.{◌≡◌, ◌≢◌, inl, inr, ℕ, ◌+◌, ◌≤◌, Bool, true, false, List, [], drop, length, Option, Some, None, refl, sym, ap, ◌∙◌, subst, arith, eq-eqb}
 use Rattle.std.specs.Prelude.{◌==◌, IsTrue}
 use Rattle.std.specs.Option.{is_some}
 use Rattle.std.proofs.lemmas.List.{drop_all}
@@ -42,40 +42,34 @@ pub returns-then-get-next : goal.returns-then-get-next
 returns-then-get-next c = λ version.
     let l = c.loop-step in
     let round = c.in-Round in
-    let step : Step = steps.Round round.spec round.operations in
-    let at : IsStepAt c.args.steps.now l.step-index step = record { inside = omega arith; is = (let is = c.step-item.is in let same = round.is in rw same at is) } in
-    let is : c.get.result ≡ round.spec.session = c.get.ensures.value ∙ c.session.ensures.value in
-    let other : (round.spec.session == l.next) ≡ false = differs round.spec.session l.next (λ same. c.if-get-next.true (is ∙ same)) in
-    sym (no-turn version (l.number + 1) l.next step (drop (l.step-index + 1) c.args.steps.now) (others round.spec round.operations other))
-    ∙ sym (from-place version (l.number + 1) l.next c.args.steps.now l.step-index step at) ∙ l.invariant.rest version
+    let at = subst (IsStepAt c.args.steps.now l.step-index) round.is (record { inside = omega arith; is = c.step-item.is }) in
+    let other = differs round.spec.session l.next (λ same. c.if-get-next.true (c.get.ensures.value ∙ c.session.ensures.value ∙ same)) in
+    sym (no-turn version (l.number + 1) l.next (steps.Round round.spec round.operations) (drop (l.step-index + 1) c.args.steps.now) (others round.spec round.operations other))
+    ∙ sym (from-place version (l.number + 1) l.next c.args.steps.now l.step-index (steps.Round round.spec round.operations) at) ∙ l.invariant.rest version
 
 pub returns-then-is_some : goal.returns-then-is_some
 returns-then-is_some c = λ version.
     let l = c.loop-step in
     let round = c.in-Round in
-    let step : Step = steps.Round round.spec round.operations in
-    let at : IsStepAt c.args.steps.now l.step-index step = record { inside = omega arith; is = (let is = c.step-item.is in let same = round.is in rw same at is) } in
-    let is : c.get.result ≡ round.spec.session = c.get.ensures.value ∙ c.session.ensures.value in
-    let own : (round.spec.session == l.next) ≡ true = eq-eqb round.spec.session l.next (sym is ∙ c.if-get-next.false) in
+    let at = subst (IsStepAt c.args.steps.now l.step-index) round.is (record { inside = omega arith; is = c.step-item.is }) in
+    let own = eq-eqb round.spec.session l.next (sym (c.get.ensures.value ∙ c.session.ensures.value) ∙ c.if-get-next.false) in
     elim c.then-is_some.branch [
       | then-is_some-via-then-is_some w ↦
           sym (operates version (l.number + 1) l.next round.spec round.operations.only round.operations.ops (drop (l.step-index + 1) c.args.steps.now) own
           (inl (named round.operations.only (sym c.is_some.ensures ∙ w.if-is_some.true))))
-          ∙ sym (from-place version (l.number + 1) l.next c.args.steps.now l.step-index step at) ∙ l.invariant.rest version
+          ∙ sym (from-place version (l.number + 1) l.next c.args.steps.now l.step-index (steps.Round round.spec round.operations) at) ∙ l.invariant.rest version
       | then-is_some-via-else-is_some+then-not-is_empty w ↦
           sym (operates version (l.number + 1) l.next round.spec round.operations.only round.operations.ops (drop (l.step-index + 1) c.args.steps.now) own
           (inr (λ none. not-both w.is_empty.result w.if-not-is_empty.true (w.is_empty.ensures.1 none))))
-          ∙ sym (from-place version (l.number + 1) l.next c.args.steps.now l.step-index step at) ∙ l.invariant.rest version
+          ∙ sym (from-place version (l.number + 1) l.next c.args.steps.now l.step-index (steps.Round round.spec round.operations) at) ∙ l.invariant.rest version
     ]
 
 pub loop-step-preserved : goal.loop-step-preserved
 loop-step-preserved c =
     let l = c.loop-step in
     let round = c.in-Round in
-    let step : Step = steps.Round round.spec round.operations in
-    let at : IsStepAt c.args.steps.now l.step-index step = record { inside = omega arith; is = (let is = c.step-item.is in let same = round.is in rw same at is) } in
-    let is : c.get.result ≡ round.spec.session = c.get.ensures.value ∙ c.session.ensures.value in
-    let own : (round.spec.session == l.next) ≡ true = eq-eqb round.spec.session l.next (sym is ∙ c.if-get-next.false) in
+    let at = subst (IsStepAt c.args.steps.now l.step-index) round.is (record { inside = omega arith; is = c.step-item.is }) in
+    let own = eq-eqb round.spec.session l.next (sym (c.get.ensures.value ∙ c.session.ensures.value) ∙ c.if-get-next.false) in
     let none : round.operations.ops ≡ [] = c.is_empty.ensures.0 c.if-not-is_empty.false in
     record {
       number = omega (arith, l.invariant.number);
@@ -83,7 +77,7 @@ loop-step-preserved c =
           ap (λ n. first_refused (l.number + 1 + 1) n (lines_of_steps version (drop (l.step-index + 1) c.args.steps.now))) c.other_portal-next.ensures
           ∙ sym (turn version (l.number + 1) l.next round.spec round.operations (drop (l.step-index + 1) c.args.steps.now) own
           (unnamed round.operations.only (sym c.is_some.ensures ∙ c.if-is_some.false)) none)
-          ∙ sym (from-place version (l.number + 1) l.next c.args.steps.now l.step-index step at) ∙ l.invariant.rest version;
+          ∙ sym (from-place version (l.number + 1) l.next c.args.steps.now l.step-index (steps.Round round.spec round.operations) at) ∙ l.invariant.rest version;
     }
 
 pub returns : goal.returns

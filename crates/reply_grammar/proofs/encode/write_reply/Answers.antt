@@ -22,14 +22,14 @@ put_check-requires c =
 pub put_u16_reserved-requires-in-Words : goal.put_u16_reserved-requires-in-Words
 put_u16_reserved-requires-in-Words c =
     let first = wrote c.clear.new.self c.push_reserved.new.self [] _ _ c.clear.ensures c.push_reserved.ensures in
-    room_left c.put_words.new.out _ _ 16 (wrote c.push_reserved.new.self c.put_words.new.out _ _ _ first c.put_words.ensures)
+    room_left c.put_words_reserved.new.self _ _ 16 (wrote c.push_reserved.new.self c.put_words_reserved.new.self _ _ _ first c.put_words_reserved.ensures)
     (omega (arith, length-bits_of_words c.as_slice.result.now, ap length c.as_slice.ensures.value, c.as_slice.ensures.most, c.requires.room))
 
 pub put_check-requires-in-Words : goal.put_check-requires-in-Words
 put_check-requires-in-Words c =
     let first = wrote c.clear.new.self c.push_reserved.new.self [] _ _ c.clear.ensures c.push_reserved.ensures in
-    let second = wrote c.push_reserved.new.self c.put_words.new.out _ _ _ first c.put_words.ensures in
-    room_left c.put_u16_reserved-in-Words.new.self _ _ 16 (wrote c.put_words.new.out c.put_u16_reserved-in-Words.new.self _ _ _ second c.put_u16_reserved-in-Words.ensures)
+    let second = wrote c.push_reserved.new.self c.put_words_reserved.new.self _ _ _ first c.put_words_reserved.ensures in
+    room_left c.put_u16_reserved-in-Words.new.self _ _ 16 (wrote c.put_words_reserved.new.self c.put_u16_reserved-in-Words.new.self _ _ _ second c.put_u16_reserved-in-Words.ensures)
     (omega (arith, length-append (bits_of_words c.as_slice.result.now) (field_of c.args.handle 16), length-field_of c.args.handle 16, length-bits_of_words c.as_slice.result.now, ap length c.as_slice.ensures.value, c.as_slice.ensures.most, c.requires.room))
 
 pub put_check-requires-in-Header : goal.put_check-requires-in-Header
@@ -76,9 +76,9 @@ pub returns-in-Words-clause-bits : goal.returns-in-Words-clause-bits
 unfolding spelling
 returns-in-Words-clause-bits c =
     let first = wrote c.clear.new.self c.push_reserved.new.self [] _ _ c.clear.ensures c.push_reserved.ensures in
-    let second = wrote c.push_reserved.new.self c.put_words.new.out _ _ _ first c.put_words.ensures
+    let second = wrote c.push_reserved.new.self c.put_words_reserved.new.self _ _ _ first c.put_words_reserved.ensures
     ∙ words_lent c.args.out.now.capacity (false ∷ []) c.as_slice.result.now _ c.as_slice.ensures.value in
-    let third = wrote c.put_words.new.out c.put_u16_reserved-in-Words.new.self _ _ _ second c.put_u16_reserved-in-Words.ensures in
+    let third = wrote c.put_words_reserved.new.self c.put_u16_reserved-in-Words.new.self _ _ _ second c.put_u16_reserved-in-Words.ensures in
     checked c.put_u16_reserved-in-Words.new.self c.put_check-in-Words.new.out _ _ third c.put_check-in-Words.ensures
     ∙ spelled_as c.args.out.now.capacity c.args.handle c.args.reply.now (Words c.in-Words.words) c.in-Words.is
 

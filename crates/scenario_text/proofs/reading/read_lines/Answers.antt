@@ -6,7 +6,7 @@ use Rattle.scenario_text.specs.declared.fault.ScenarioFault.TheVariants as fault
 use Rattle.scenario_text.specs.Draft.{scenario_of}
 use Rattle.scenario_text.specs.Faults.{IsRefused}
 use Rattle.scenario_text.specs.Rest.{IsExtra, SaysScenario}
-use Rattle.scenario_text.specs.Standing.{after, ended}
+use Rattle.scenario_text.specs.Standing.{after}
 use Rattle.scenario_text.specs.Taking.{standing_of}
 use Rattle.scenario_text.proofs.Reader.{NextLine, end_finishes, end_read, end_said, extra_behind, fault_here, fault_last, leads_as, leads_end, no_extra, not_faulty, read_more, read_none, says_more, takes_as}
 use Rattle.scenario_text.proofs.reading.read_lines.Goals as goal

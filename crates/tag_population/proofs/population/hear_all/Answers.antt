@@ -1,14 +1,11 @@
-use Rattle.std.proofs.Common.{◌≡◌, ◌<◌, ◌≤◌, ◌∙◌, ◌+◌, ◌++◌, ap, arith, get_or, length, refl, set, subst, sym, List, Option}
+use Rattle.std.proofs.Common.{◌≡◌, ◌<◌, ◌≤◌, ◌∙◌, ◌+◌, ◌++◌, ap, arith, length, refl, subst, List}
 use Rattle.tag_population.proofs.HeardByCalled.{BeforeHearing, HeardSoFar, few_replies}
-use Rattle.tag_population.proofs.HeardByEach.{EachHearsNext, IsIdle, each_none, each_next, each_idle, each_tags, each_settled, idle_stands, back_same, left_by_put, replied_below, replied_more, replied_idle, replied_by_each}
-use Rattle.tag_population.proofs.TagsAtRest.{settled_none, settled_more, settled_all, new_tags, new_rest}
-use Rattle.tag_machine.specs.Exchange.{Replied, is_missed, outcome_unless, reply_of}
+use Rattle.tag_population.proofs.HeardByEach.{EachHearsNext, each_idle, each_left, each_next, each_none, each_settled, each_tags, replied_below, replied_by_each, replied_more}
+use Rattle.tag_population.proofs.TagsAtRest.{settled_none, settled_all, new_tags, new_rest}
+use Rattle.tag_machine.specs.Exchange.{Replied, is_missed, reply_of}
 use Rattle.tag_population.specs.Hearing.{hearing_from}
-use Rattle.tag_population.specs.Seated.{tags_of, seats_written_back, steps_back}
-use Rattle.tag_population.specs.Waiting.{participation_at}
-use Rattle.tag_population.specs.declared.waiting.Participation.{Participation}
+use Rattle.tag_population.specs.Seated.{HearsSeated, outcome_seated, tags_of}
 use Rattle.tag_population.proofs.population.hear_all.Goals as goal
-use Rattle.tag_population.proofs.population.hear_all.Goals.{then-not-is_passed, else-not-is_passed}
 
 pub loop-at-init : goal.loop-at-init
 loop-at-init g c = record {
@@ -19,8 +16,8 @@ loop-at-init g c = record {
   left = λ other past. refl;
 }
 
-pub hear-requires-clause-few : goal.hear-requires-clause-few
-hear-requires-clause-few g c =
+pub hear_seated-requires-clause-few : goal.hear_seated-requires-clause-few
+hear_seated-requires-clause-few g c =
     let before : BeforeHearing = record { command = c.args.command.now; entry = c.args.entry.now; participations = c.args.waiting.now; seats = c.args.seats.now; steps = c.args.steps.now } in
     record {
       first = c.args.answers.now;
@@ -30,79 +27,40 @@ hear-requires-clause-few g c =
           omega (arith, few_replies 0 c.loop-at.at (hearing_from 0 before.command before.entry (tags_of before.participations before.seats)), c.loop-at-test.true, c.requires.rest.few);
     }
 
+pub hear_seated-requires-clause-idle : goal.hear_seated-requires-clause-idle
+hear_seated-requires-clause-idle g c =
+    let before : BeforeHearing = record { command = c.args.command.now; entry = c.args.entry.now; participations = c.args.waiting.now; seats = c.args.seats.now; steps = c.args.steps.now } in
+    let heard_now : HeardSoFar = record { participations = c.loop-at.waiting; seats = c.loop-at.seats; steps = c.loop-at.steps } in
+    let now = c.loop-at.invariant in
+    rw c.from_index-number.ensures (each_idle before c.loop-at.at heard_now c.requires.rest c.loop-at-test.true now.heard (now.left c.loop-at.at (omega arith)))
+
 pub loop-at-preserved : goal.loop-at-preserved
 loop-at-preserved g c =
     let before : BeforeHearing = record { command = c.args.command.now; entry = c.args.entry.now; participations = c.args.waiting.now; seats = c.args.seats.now; steps = c.args.steps.now } in
     let heard_now : HeardSoFar = record { participations = c.loop-at.waiting; seats = c.loop-at.seats; steps = c.loop-at.steps } in
-    elim c.if-not-is_passed.branch [
-      | then-not-is_passed w ↦
-          let now = c.loop-at.invariant in
-          let number = c.loop-at.at in
-          let within : number < length c.args.seats.now = c.loop-at-test.true in
-          let same = now.left number (omega arith) in
-          let one : c.from_index-number.result ≡ number = c.from_index-number.ensures in
-          let after : HeardSoFar = record { participations = w.put.new.self; seats = c.loop-at.seats; steps = w.hear.new.steps } in
-          let wrote : w.write_back.new.seats ≡ seats_written_back c.loop-at.waiting number c.loop-at.seats = w.write_back.ensures.seats ∙ ap (λ n. seats_written_back c.loop-at.waiting n c.loop-at.seats) one in
-          let put : w.put.new.self ≡ set c.loop-at.waiting number w.participation.result = w.put.ensures.participations ∙ ap (λ n. set c.loop-at.waiting n w.participation.result) one in
-          let back = back_same c.args.waiting.now c.loop-at.waiting number c.loop-at.seats w.write_back.new.seats same wrote in
-          let steps : steps_back (participation_at c.loop-at.waiting c.from_index-number.result) ≡ steps_back (participation_at c.args.waiting.now number) =
-          ap (λ n. steps_back (participation_at c.loop-at.waiting n)) one ∙ ap (λ (s : Option Participation). steps_back s) same in
-          let next : EachHearsNext before number heard_now after = record {
-            between = w.write_back.new.seats;
-            stepped = w.write_back.new.steps;
-            misses = w.is_missed-misses.result;
-            seat = get_or w.write_back.new.seats number w.index-seats-at.result;
-            other = w.index-seats-at.result;
-            new = w.hear.new.seat;
-            back = back;
-            back_steps = omega (arith, w.write_back.ensures.counted, steps);
-            back_legal = w.write_back.ensures.legal;
-            at = refl;
-            missed = w.is_missed-misses.ensures ∙ ap (λ n. is_missed n c.args.entry.now) one;
-            is = w.hear.ensures.tag;
-            legal = w.hear.ensures.legal;
-            counts = w.hear.ensures.counted;
-          } in
-          let replied : replied_below before number ++ reply_of c.from_index-number.result (outcome_unless w.is_missed-misses.result c.args.command.now next.seat).answer ≡ replied_below before (number + 1) =
-          ap (λ n. replied_below before number ++ reply_of n (outcome_unless w.is_missed-misses.result c.args.command.now next.seat).answer) one
-          ∙ replied_more before number heard_now after c.requires.rest.whole within now.heard next in
-          rw (w.seats-is, w.waiting-is, w.room-is, w.answers-is, w.steps-is)
-          (record {
-            heard = each_next before number heard_now after c.requires.rest.whole within now.heard next;
-            taken = subst (λ (l : List Replied). g.A.AnswerTaker.took c.args.answers.now l w.hear.new.answers) replied (w.hear.ensures.took c.args.answers.now (replied_below before number) now.taken);
-            room = w.hear.ensures.room;
-            settled =
-                each_settled c.args.waiting.now c.loop-at.waiting number c.loop-at.seats now.settled
-                (record {
-                  between = w.write_back.new.seats;
-                  new = w.hear.new.seat;
-                  participation = w.participation.result;
-                  after = w.put.new.self;
-                  within = omega (arith, within, now.heard.seats_whole);
-                  back = back;
-                  is = w.participation.ensures.value;
-                  put = put;
-                });
-            left = left_by_put c.args.waiting.now c.loop-at.waiting w.put.new.self number w.participation.result put now.left;
-          })
-      | else-not-is_passed w ↦
-          let now = c.loop-at.invariant in
-          let number = c.loop-at.at in
-          let within : number < length c.args.seats.now = c.loop-at-test.true in
-          let same = now.left number (omega arith) in
-          let idle = ap (λ n. participation_at c.loop-at.waiting n) (sym c.from_index-number.ensures) ∙ c.is_passed.ensures.idle w.if-not-is_passed.false in
-          let is : IsIdle before number = record { rest = c.requires.rest; within = within; idle = sym same ∙ idle; stays = c.is_passed.ensures.stays w.if-not-is_passed.false } in
-          rw (w.seats-is, w.waiting-is, w.room-is, w.answers-is, w.steps-is)
-          (record {
-            heard = each_idle before number heard_now is now.heard;
-            taken = subst (λ (l : List Replied). g.A.AnswerTaker.took c.args.answers.now l c.loop-at.answers) (replied_idle before number is) now.taken;
-            room = now.room;
-            settled =
-                settled_more c.loop-at.seats number c.loop-at.waiting now.settled
-                (idle_stands _ number _ c.requires.rest within now.heard same idle);
-            left = λ other past. now.left other (omega (arith, past));
-          })
-    ]
+    let after : HeardSoFar = record { participations = c.hear_seated.new.waiting; seats = c.hear_seated.new.seats; steps = c.hear_seated.new.steps } in
+    let now = c.loop-at.invariant in
+    let number = c.loop-at.at in
+    let within : number < length c.args.seats.now = c.loop-at-test.true in
+    let one : c.from_index-number.result ≡ number = c.from_index-number.ensures in
+    let misses = c.is_missed-misses.result in
+    let next : EachHearsNext before number heard_now after = record {
+      misses = misses;
+      missed = c.is_missed-misses.ensures ∙ ap (λ n. is_missed n c.args.entry.now) one;
+      same = now.left number (omega arith);
+      heard = subst (λ n. HearsSeated c.args.command.now misses n c.loop-at.waiting c.loop-at.seats c.hear_seated.new.waiting c.hear_seated.new.seats) one c.hear_seated.ensures.heard;
+      counted = c.hear_seated.ensures.counted;
+    } in
+    let replied : replied_below before number ++ reply_of c.from_index-number.result (outcome_seated misses c.args.command.now c.from_index-number.result c.loop-at.waiting c.loop-at.seats).answer ≡ replied_below before (number + 1) =
+    ap (λ n. replied_below before number ++ reply_of n (outcome_seated misses c.args.command.now n c.loop-at.waiting c.loop-at.seats).answer) one
+    ∙ replied_more before number heard_now after c.requires.rest.whole within now.heard next in
+    record {
+      heard = each_next before number heard_now after c.requires.rest.whole within now.heard next;
+      taken = subst (λ (l : List Replied). g.A.AnswerTaker.took c.args.answers.now l c.hear_seated.new.answers) replied (c.hear_seated.ensures.took c.args.answers.now (replied_below before number) now.taken);
+      room = c.hear_seated.ensures.room;
+      settled = each_settled before number heard_now after (omega (arith, within, now.heard.seats_whole)) next now.settled;
+      left = each_left before number heard_now after next now.left;
+    }
 
 pub returns-clause-heard : goal.returns-clause-heard
 returns-clause-heard g c =

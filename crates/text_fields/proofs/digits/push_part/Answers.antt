@@ -5,4 +5,4 @@ use Rattle.text_fields.proofs.digits.push_part.Goals as goal
 
 pub unreachable-requires : goal.unreachable-requires
 unreachable-requires c =
-    c.in-Err.ensures.cases.0 (rw c.write_digits.ensures (IsUtf8-from_ascii _ (IsAscii-digits c.args.bits.now)))
+    c.in-Err.ensures (rw c.write_digits.ensures (IsUtf8-from_ascii _ (IsAscii-digits c.args.bits.now)))

@@ -10,7 +10,7 @@ use Rattle.top_call.proofs.program.gen2run.Goals as goal
 pub returns-in-Some-clause-complete : goal.returns-in-Some-clause-complete
 returns-in-Some-clause-complete g c form spelled bytes told few allowed no_read no_write =
     let same : c.in-Some.form ≡ form = cc (c.in-Some.ensures.only form spelled) in
-    completes (job_of form) (c.jobs_are_lawful.ensures form) (record { told = bytes; left' = _; written = _; written' = _; reads = _; reads' = _; writes = _; writes' = _; untouched = _ })
+    completes (job_of form) (c.jobs_are_lawful.ensures form) (record { told = bytes; left' = _; reads = _; reads' = _; sink = _; untouched = _ })
     c.answer.result (rw (told, same) at c.answer.ensures.tells) few allowed (record { read = no_read; write = no_write })
 
 pub returns-in-Some-clause-promises : goal.returns-in-Some-clause-promises
@@ -46,11 +46,11 @@ returns-in-Some-clause-unread g c form spelled none =
 pub returns-in-Some-clause-refused : goal.returns-in-Some-clause-refused
 returns-in-Some-clause-refused g c form spelled bytes told few text refused no_read no_write =
     let same : c.in-Some.form ≡ form = cc (c.in-Some.ensures.only form spelled) in
-    refuses (job_of form) (c.jobs_are_lawful.ensures form) (record { told = bytes; left' = _; written = _; written' = _; reads = _; reads' = _; writes = _; writes' = _; untouched = _ })
+    refuses (job_of form) (c.jobs_are_lawful.ensures form) (record { told = bytes; left' = _; reads = _; reads' = _; sink = _; untouched = _ })
     text c.answer.result (rw (told, same) at c.answer.ensures.tells) few refused (record { read = no_read; write = no_write })
 
 pub returns-in-Some-clause-passes_limit : goal.returns-in-Some-clause-passes_limit
 returns-in-Some-clause-passes_limit g c form spelled has bytes told many no_read =
     let same : c.in-Some.form ≡ form = cc (c.in-Some.ensures.only form spelled) in
-    passes_limit (job_of form) has (record { told = bytes; left' = _; written = _; written' = _; reads = _; reads' = _; writes = _; writes' = _; untouched = _ })
+    passes_limit (job_of form) has (record { told = bytes; left' = _; reads = _; reads' = _; sink = _; untouched = _ })
     c.answer.result (rw (told, same) at c.answer.ensures.tells) many no_read

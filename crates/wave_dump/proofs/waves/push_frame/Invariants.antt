@@ -1,4 +1,4 @@
-use Rattle.std.proofs.Common.{◌≡◌, List, ◌++◌, false, drop}
+use Rattle.std.proofs.Common.{◌≡◌, ◌++◌, false, drop}
 use Rattle.std.specs.String.{string_bytes}
 use Rattle.wave_dump.specs.Waves.{frame_end, frame_moments, moments_text}
 use Rattle.wave_dump.specs.Borrowed.{signals_of}

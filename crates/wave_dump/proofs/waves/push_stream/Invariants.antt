@@ -1,4 +1,4 @@
-use Rattle.std.proofs.Common.{◌≡◌, List, ◌++◌, drop}
+use Rattle.std.proofs.Common.{◌≡◌, ◌++◌, drop}
 use Rattle.std.specs.String.{string_bytes}
 use Rattle.wave_dump.specs.Waves.{moments_text, stream_moments}
 use Rattle.wave_dump.specs.Borrowed.{signals_of}

@@ -12,7 +12,8 @@ use Rattle.air_audit.specs.Auditing.{AuditorValue}
 use Rattle.air_audit.specs.LineRefusals.{IsNoTxLine}
 use Rattle.air_audit.specs.Standing.{Place}
 use Rattle.air_audit.specs.TraceLines.{Sends}
-use Rattle.air_audit.proofs.Exchanges.{Parts, parts-of, events-there, handed-on, hearing, left-before, missed-there, next-known, next-number, outcomes-heard, same-next}
+use Rattle.air_audit.proofs.Exchanges.{Parts, parts-of, events-there, handed-on, hearing, left-before, missed-there, next-known, next-number, same-next}
+use Rattle.tag_population.proofs.OneExchange.{one_exchange}
 use Rattle.air_audit.proofs.auditor.Auditor.send.Goals as goal
 
 pub befall_all-requires : goal.befall_all-requires
@@ -62,7 +63,7 @@ returns-clause-sends g c = λ ok start past keeps.
         entry_is = next.is;
         outcomes_are =
             subst (λ (tags : List TagValue). hearing_from 0 command c.next_entry-entry.result.now c.befall_all.new.self ≡ outcomes_in command c.next_entry-entry.result.now tags) parts.tags_are
-            (outcomes-heard command c.next_entry-entry.result.now c.self.inside.population c.befall_all.new.self c.as_slice.result.now c.as_slice.ensures.value c.befall_all.ensures.tags);
+            (one_exchange command c.next_entry-entry.result.now c.self.inside.population c.befall_all.new.self c.as_slice.result.now c.as_slice.ensures.value c.befall_all.ensures.tags);
         tags = c.hear.ensures.tags;
         legal = c.hear.ensures.legal;
         count = c.hear.ensures.replies.count_is;

@@ -1,26 +1,26 @@
-use Rattle.std.proofs.Common.{◌≡◌, List, [], ◌∷◌, Some, ◌++◌, refl, sym, ◌∙◌, ap, map, subst}
+use Rattle.std.proofs.Common.{◌≡◌, List, [], ◌∷◌, Some, ◌++◌, refl, sym, ◌∙◌, ap, subst}
 use Rattle.air_model.specs.Channel.{got_of}
 use Rattle.tag_machine.specs.Exchange.{AreLegalTags}
 use Rattle.air_model.specs.Past.{Start, Item, Record, next_record, past_behind_command}
 use Rattle.air_model.specs.laws.ReceptionLaws.{silent_reception}
 use Rattle.air_model.specs.declared.got.Got.TheVariants.{Silence}
 use Rattle.air_world.proofs.Passing.{listening, passes-then}
-use Rattle.air_world.proofs.Slots.{asked-reception, plays-kept, seen-behind, room-behind, ack-with, ack-without, count-fits, some-room, stands-unlisted, stands-listed, stands-same, stands-then, whole-listed, other-unlisted, plays-listed}
+use Rattle.air_world.proofs.Slots.{asked-reception, run-kept, room-behind, ack-with, ack-without, stands-unlisted, stands-listed, stands-same, stands-then, whole-listed, other-unlisted}
 use Rattle.air_world.specs.Heard.{pair_received}
-use Rattle.air_world.specs.Playing.{RunValue, PlaysAt, IsAt, StandsAt, pair_of}
+use Rattle.air_world.specs.Playing.{IsAt, StandsAt}
 use Rattle.air_world.specs.Telling.{Passes, lines_behind}
 use Rattle.runs.specs.Report.{exchange_lines}
 use Rattle.command_grammar.specs.declared.commands.Command.TheVariants as commands
 use Rattle.reply_grammar.specs.declared.expected.Expect.TheVariants as expects
 use Rattle.report_lines.specs.ReportLine.{ReportLine, ListLine}
 use Rattle.runs.specs.History.{ack_reception}
-use Rattle.runs.specs.Listing.{Listed, listed_by, listing_of}
+use Rattle.runs.specs.Listing.{Listed, listed_by}
 use Rattle.air_world.proofs.run.Run.acknowledge.Given.{Over}
-use Rattle.air_world.proofs.run.Run.acknowledge.Goals.{After-hear_epc, After-list}
+use Rattle.air_world.proofs.run.Run.acknowledge.Goals.{After-hear_epc, After-tell_listed}
 use Rattle.air_world.proofs.run.Run.acknowledge.Goals as goal
 
 -- the PC and the EPC that are heard of the stream of the ACK are those of the record
-heard : (g : Over) (c : After-hear_epc g) (start : Start) (past : List Item) → PlaysAt start past c.args.air.now c.args.self.now
+heard : (g : Over) (c : After-hear_epc g) (start : Start) (past : List Item) → IsAt start past c.args.air.now c.args.self.now
     → pair_received (ack_reception start c.args.round c.args.slot c.args.rn past) ≡ c.hear_epc.result
 heard g c start past plays =
     let came_as = c.hear_epc.ensures.received in
@@ -39,57 +39,45 @@ heard g c start past plays =
     ap pair_received (sym same) ∙ sym came_as.2
 
 -- the run behind the ACK, once what it brought is listed
-stands : (g : Over) (c : After-list g) (start : Start) (past : List Item) → IsAt start past c.args.air.now c.args.self.now
+stands : (g : Over) (c : After-tell_listed g) (start : Start) (past : List Item) → IsAt start past c.args.air.now c.args.self.now
     → pair_received (ack_reception start c.args.round c.args.slot c.args.rn past) ≡ Some (c.in-Some.pc, c.in-Some.epc)
-    → StandsAt (Passes g.R.Listener.hears (lines_behind start past) c.args.report.now c.list.new.report) start
-    (past_behind_command start c.args.round c.args.slot (commands.Ack c.args.rn) past) c.send.new.air c.list.new.self
+    → StandsAt (Passes g.R.Listener.hears (lines_behind start past) c.args.report.now c.tell_listed.new.report) start
+    (past_behind_command start c.args.round c.args.slot (commands.Ack c.args.rn) past) c.send.new.air c.hear_epc.new.self
 stands g c start past at pair =
     let sent : Record = next_record start c.args.round c.args.slot (commands.Ack c.args.rn) past in
-    let behind = c.send.ensures.plays start past c.args.round c.args.slot at.plays in
     let listed : Listed = record { round = c.args.round; slot = c.args.slot; pc = c.in-Some.pc; epc = c.in-Some.epc } in
     let one : listed_by sent ≡ listed ∷ [] = whole-listed sent (ack_reception start c.args.round c.args.slot c.args.rn past) (c.in-Some.pc, c.in-Some.epc) pair in
-    let same = c.hear_epc.ensures.same ∙ c.send.ensures.rest in
-    let was = ap (λ (run : RunValue). run.out_of_memory) same ∙ c.requires.enough in
-    let plays = plays-listed start _ _ _ c.list.new.self _ _ c.list.ensures.rest (plays-kept start _ _ _ _ c.hear_epc.ensures.same behind) in
     let before : List ReportLine = lines_behind start past ++ exchange_lines start.link sent in
     let told = passes-then (listening g.R.Listener.hears g.R.Listener.failed _ _) _ (lines_behind start past) before
     (before ++ ListLine c.args.round c.args.slot c.in-Some.pc c.in-Some.epc ∷ [])
-    (c.send.ensures.told start past c.args.round c.args.slot (lines_behind start past) at.plays) (c.list.ensures.told before) in
-    stands-listed (Passes g.R.Listener.hears (lines_behind start past) c.args.report.now c.list.new.report) (record { start = start; past = past; air = _; run = _ }) sent listed plays
-    (λ enough. c.list.ensures.seen (map pair_of (listing_of past)) (seen-behind start past _ _ _ _ same at was) enough) told one
+    (c.send.ensures.told start past c.args.round c.args.slot (lines_behind start past) at) (c.tell_listed.ensures before) in
+    stands-listed (Passes g.R.Listener.hears (lines_behind start past) c.args.report.now c.tell_listed.new.report) (record { start = start; past = past; air = _; run = _ }) sent listed
+    (run-kept start _ _ _ _ c.hear_epc.ensures.same (c.send.ensures.plays start past c.args.round c.args.slot at)) told one
 
 pub returns-in-Silence : goal.returns-in-Silence
 returns-in-Silence g c = λ start past at.
     let sent : Record = next_record start c.args.round c.args.slot (commands.Ack c.args.rn) past in
-    let none : got_of sent.given ≡ Silence = sym (c.send.ensures.got start past c.args.round c.args.slot at.plays) ∙ c.in-Silence.is in
+    let none : got_of sent.given ≡ Silence = sym (c.send.ensures.got start past c.args.round c.args.slot at) ∙ c.in-Silence.is in
     let other = ap pair_received (silent_reception expects.Epc sent.given none) in
     stands-same _ start _ _ _ _ (ack-without start c.args.operations.now c.args.round c.args.slot c.args.rn past other)
-    (stands-unlisted _ (record { start = start; past = past; air = _; run = _ }) sent (c.send.ensures.plays start past c.args.round c.args.slot at.plays) (seen-behind start past _ _ _ _ c.send.ensures.rest at)
-    (c.send.ensures.told start past c.args.round c.args.slot (lines_behind start past) at.plays)
+    (stands-unlisted _ (record { start = start; past = past; air = _; run = _ }) sent (c.send.ensures.plays start past c.args.round c.args.slot at)
+    (c.send.ensures.told start past c.args.round c.args.slot (lines_behind start past) at)
     (other-unlisted sent (ack_reception start c.args.round c.args.slot c.args.rn past) other))
 
 pub returns-in-None : goal.returns-in-None
 returns-in-None g c = λ start past at.
     let sent : Record = next_record start c.args.round c.args.slot (commands.Ack c.args.rn) past in
-    let other = heard g (goal.at.returns-in-None g c).After-hear_epc start past at.plays ∙ c.in-None.is in
+    let other = heard g (goal.at.returns-in-None g c).After-hear_epc start past at ∙ c.in-None.is in
     stands-same _ start _ _ _ _ (ack-without start c.args.operations.now c.args.round c.args.slot c.args.rn past other)
-    (stands-unlisted _ (record { start = start; past = past; air = _; run = _ }) sent (plays-kept start _ _ _ _ c.hear_epc.ensures.same (c.send.ensures.plays start past c.args.round c.args.slot at.plays))
-    (seen-behind start past _ _ _ _ (c.hear_epc.ensures.same ∙ c.send.ensures.rest) at)
-    (c.send.ensures.told start past c.args.round c.args.slot (lines_behind start past) at.plays)
+    (stands-unlisted _ (record { start = start; past = past; air = _; run = _ }) sent (run-kept start _ _ _ _ c.hear_epc.ensures.same (c.send.ensures.plays start past c.args.round c.args.slot at))
+    (c.send.ensures.told start past c.args.round c.args.slot (lines_behind start past) at)
     (other-unlisted sent (ack_reception start c.args.round c.args.slot c.args.rn past) other))
-
-pub list-requires : goal.list-requires
-list-requires g c =
-    let r = c.requires.underway in
-    let same = c.hear_epc.ensures.same ∙ c.send.ensures.rest in
-    let enough = ap (λ (run : RunValue). run.out_of_memory) same ∙ c.requires.enough in
-    count-fits r.past c.hear_epc.new.self _ (seen-behind r.start r.past _ _ _ _ same r.at enough) (some-room r.past 129 r.room)
 
 pub operate-requires-clause-underway : goal.operate-requires-clause-underway
 operate-requires-clause-underway g c =
     let r = c.requires.underway in
-    let pair = heard g (goal.at.operate-requires-clause-underway g c).After-hear_epc r.start r.past r.at.plays ∙ c.in-Some.is in
-    let stood = stands g (goal.at.operate-requires-clause-underway g c).After-list r.start r.past r.at pair in
+    let pair = heard g (goal.at.operate-requires-clause-underway g c).After-hear_epc r.start r.past r.at ∙ c.in-Some.is in
+    let stood = stands g (goal.at.operate-requires-clause-underway g c).After-tell_listed r.start r.past r.at pair in
     record {
       start = r.start;
       past = past_behind_command r.start c.args.round c.args.slot (commands.Ack c.args.rn) r.past;
@@ -99,8 +87,8 @@ operate-requires-clause-underway g c =
 
 pub returns-in-Some : goal.returns-in-Some
 returns-in-Some g c = λ start past at.
-    let pair = heard g (goal.at.returns-in-Some g c).After-hear_epc start past at.plays ∙ c.in-Some.is in
-    let stood = stands g (goal.at.returns-in-Some g c).After-list start past at pair in
+    let pair = heard g (goal.at.returns-in-Some g c).After-hear_epc start past at ∙ c.in-Some.is in
+    let stood = stands g (goal.at.returns-in-Some g c).After-tell_listed start past at pair in
     stands-same _ start _ _ _ _ (ack-with start c.args.operations.now c.args.round c.args.slot c.args.rn past (c.in-Some.pc, c.in-Some.epc) pair)
     (stands-then (listening g.R.Listener.hears g.R.Listener.failed _ _) _ _ _ (record { start = start; past = _; air = _; run = _ })
     stood.told (c.operate.ensures start _ stood.at))

@@ -7,7 +7,7 @@ use Rattle.air_model.specs.Past.{next_record, past_behind_command, next_entry, t
 use Rattle.air_model.specs.Reception.{HoldsOfSent, IsUnmistakable}
 use Rattle.air_model.specs.declared.got.Got.TheVariants.{Silence, Stream}
 use Rattle.air_world.proofs.Operating.{received-answer, heard-awaited}
-use Rattle.air_world.specs.Playing.{RunValue, PlaysAt}
+use Rattle.air_world.specs.Playing.{RunValue, IsAt}
 use Rattle.runs.proofs.Answering.{given-unmistakable}
 use Rattle.air_world.proofs.run.Run.converse.Goals as goal
 
@@ -19,7 +19,7 @@ returns-in-Silence-clause-heard g c = λ start past round slot plays.
 
 pub returns-in-Stream-clause-plays : goal.returns-in-Stream-clause-plays
 returns-in-Stream-clause-plays g c = λ start past round slot plays.
-    subst (λ (run : RunValue). PlaysAt start (past_behind_command start round slot c.args.command.now past) c.send.new.air run) (sym c.hear.ensures.same) (c.send.ensures.plays start past round slot plays)
+    subst (λ (run : RunValue). IsAt start (past_behind_command start round slot c.args.command.now past) c.send.new.air run) (sym c.hear.ensures.same) (c.send.ensures.plays start past round slot plays)
 
 pub returns-in-Stream-clause-expected : goal.returns-in-Stream-clause-expected
 returns-in-Stream-clause-expected g c = received-answer _ _ c.args.expect.now _ c.hear.result c.hear.ensures.received

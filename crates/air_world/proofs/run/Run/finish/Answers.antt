@@ -7,7 +7,7 @@ use Rattle.air_world.proofs.run.Run.finish.Goals as goal
 
 pub returns-clause-told : goal.returns-clause-told
 returns-clause-told g c = λ before.
-    let seen : List ReportLine = map seen_line c.args.self.now.seen in
+    let seen : List ReportLine = map seen_line c.args.seen.now in
     let tags : List ReportLine = tag_lines 0 c.args.air.now.tags in
     passes-then (listening g.R.Listener.hears g.R.Listener.failed _ _) _ before (before ++ seen) _ (c.tell_counts.ensures before)
     (passes-then (listening g.R.Listener.hears g.R.Listener.failed _ _) _ (before ++ seen) ((before ++ seen) ++ tags) _ (c.tell_tags.ensures.told (before ++ seen))

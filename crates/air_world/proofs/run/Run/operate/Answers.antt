@@ -2,7 +2,7 @@ use Rattle.std.proofs.Common.{List, [], ◌∷◌, ◌++◌, ◌∙◌, sym, ari
 use Rattle.air_model.specs.Past.{Record, next_record}
 use Rattle.air_world.proofs.Operating.{Asked, operations-begin, operations-sent, operations-told, operations-end, operation-unlisted, stands-operated, sends-next, sent-expects, sent-one}
 use Rattle.air_world.proofs.Passing.{listening, passes-nothing, passes-then}
-use Rattle.air_world.proofs.Slots.{stands-same, stands-unlisted, seen-behind}
+use Rattle.air_world.proofs.Slots.{stands-same, stands-unlisted}
 use Rattle.air_world.specs.Telling.{Passes, lines_behind}
 use Rattle.runs.specs.Report.{exchange_lines}
 use Rattle.report_lines.specs.ReportLine.{ReportLine, OpLine}
@@ -47,14 +47,14 @@ moves-preserved-in-Send g c = λ start past at.
     let made : Record = next_record start c.args.round c.args.slot c.in-Send.command u.past in
     let lines : List ReportLine = lines_behind start u.past in
     let told = passes-then (listening g.R.Listener.hears g.R.Listener.failed _ _) _ (lines_behind start past) lines (lines ++ exchange_lines start.link made)
-    u.stands.told (c.converse.ensures.told start u.past c.args.round c.args.slot lines u.stands.at.plays) in
+    u.stands.told (c.converse.ensures.told start u.past c.args.round c.args.slot lines u.stands.at) in
     record {
       past = _;
       stands = stands-unlisted (Passes g.R.Listener.hears (lines_behind start past) c.args.report.now c.converse.new.report) (record { start = start; past = u.past; air = _; run = _ }) made
-          (c.converse.ensures.plays start u.past c.args.round c.args.slot u.stands.at.plays) (seen-behind start u.past _ _ _ _ c.converse.ensures.rest u.stands.at) told
+          (c.converse.ensures.plays start u.past c.args.round c.args.slot u.stands.at) told
           (operation-unlisted made c.in-Send.expect c.in-Send.extended expects);
       are = operations-sent _ _ u.past u.are asked
-          (record { answer = c.converse.result; expected = c.converse.ensures.expected; heard = c.converse.ensures.heard start u.past c.args.round c.args.slot u.stands.at.plays })
+          (record { answer = c.converse.result; expected = c.converse.ensures.expected; heard = c.converse.ensures.heard start u.past c.args.round c.args.slot u.stands.at })
           c.next.new.self next c.in-Send.ensures.turns;
     }
 

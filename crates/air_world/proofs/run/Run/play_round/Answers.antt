@@ -13,12 +13,11 @@ use Rattle.air_world.proofs.run.Run.play_round.Goals as goal
 
 pub slots-init : goal.slots-init
 slots-init g c = λ start past at.
-    let number = ap (λ n. n + 1) (ap (λ (run : RunValue). run.rounds) c.self.view_is ∙ at.plays.rounds) in
-    let sends = ap (λ link. next_command c.args.spec.now link []) (sym (c.link.ensures ∙ at.plays.link)) ∙ sym c.start-round.ensures.query in
+    let number = ap (λ n. n + 1) (ap (λ (run : RunValue). run.rounds) c.self.view_is ∙ at.rounds) in
+    let sends = ap (λ link. next_command c.args.spec.now link []) (sym (c.link.ensures ∙ at.link)) ∙ sym c.start-round.ensures.query in
     record {
       past = past;
       stands = record { at = at; told = passes-nothing g.R.Listener.hears (lines_behind start past) c.args.report.now };
-      enough = c.requires.enough;
       is = round-begins (record { start = start; operations = c.args.operations.now; spec = c.args.spec.now; before = past })
           (record { number = _; round = _; command = _ }) c.limit.ensures.legal.limit.0 number c.start-round.ensures.stands sends;
     }
@@ -47,7 +46,6 @@ slots-preserved g c = λ start past at.
     record {
       past = _;
       stands = stands;
-      enough = c.in_ok-check.ensures.enough;
       is = round-goes-on _ _ _ u.is played c.next.new.self c.in-Send.next
           (record { few_operations = c.requires.few; within = λ outcomes are. c.round_laws.ensures.limit c.args.spec.now outcomes c.limit.ensures.legal are }) answers;
     }

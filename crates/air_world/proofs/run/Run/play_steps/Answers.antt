@@ -10,17 +10,17 @@ play_step-requires-clause-step g c =
     let r = c.requires.between in
     let u = c.loop-step.invariant r.start r.past r.at in
     let inside : c.loop-step.step-index < length c.args.steps.now = omega arith in
-    subst (λ n. IsPlayable n c.step-item.result) (sym (same-count r.start r.past u.past _ _ _ _ r.at.plays u.stands.at.plays))
+    subst (λ n. IsPlayable n c.step-item.result) (sym (same-count r.start r.past u.past _ _ _ _ r.at u.stands.at))
     (step-legal (length c.args.air.now.tags) c.args.steps.now c.loop-step.step-index c.step-item.result inside c.step-item.is c.requires.steps)
 
-pub returns-in_err-play_step-clause-ends : goal.returns-in_err-play_step-clause-ends
-returns-in_err-play_step-clause-ends g c = λ start past at.
+pub returns-in_err-play_step : goal.returns-in_err-play_step
+returns-in_err-play_step g c = λ start past at.
     let u = c.loop-step.invariant start past at in
     let inside : c.loop-step.step-index < length c.args.steps.now = omega arith in
     ends-cut c.from_residual.result _ _ _ c.from_residual.ensures.1
     (cut-past (listening g.R.Listener.hears g.R.Listener.failed _ _) _ start _ _ _
     (step-leads _ c.loop-step.step-index c.step-item.result u.past u.are (record { inside = inside; is = c.step-item.is }))
-    (cut-then (listening g.R.Listener.hears g.R.Listener.failed _ _) _ _ _ _ _ u.stands.told (c.in_err-play_step.ensures.ends start u.past u.stands.at)))
+    (cut-then (listening g.R.Listener.hears g.R.Listener.failed _ _) _ _ _ _ _ u.stands.told (c.in_err-play_step.ensures start u.past u.stands.at)))
 
 pub loop-step-preserved : goal.loop-step-preserved
 loop-step-preserved g c = λ start past at.
@@ -30,7 +30,6 @@ loop-step-preserved g c = λ start past at.
     record {
       past = _;
       stands = stands-then (listening g.R.Listener.hears g.R.Listener.failed _ _) _ _ _ (record { start = start; past = _; air = _; run = _ })
-          u.stands.told (c.in_ok-play_step.ensures.ends start u.past u.stands.at);
-      enough = c.in_ok-play_step.ensures.enough;
+          u.stands.told (c.in_ok-play_step.ensures start u.past u.stands.at);
       are = steps-go-on c.round_laws.ensures.limit _ (length c.args.air.now.tags) c.loop-step.step-index c.step-item.result u.past u.are (record { inside = inside; is = c.step-item.is }) legal;
     }

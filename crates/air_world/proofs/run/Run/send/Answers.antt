@@ -3,7 +3,7 @@ use Rattle.air_events.specs.Entries.{entry_at}
 use Rattle.air_model.specs.Past.{Start, Item, next_record}
 use Rattle.air_world.proofs.Passing.{listening, passes-same, passes-then}
 use Rattle.air_world.proofs.Sending.{Sends, cursor-stands, next-number, entry-names, entry-fits, sent-plays, sent-stream, sent-got, sent-lines, sent-said, few-exchanges}
-use Rattle.air_world.specs.Playing.{RunValue, PlaysAt, last_exchange_lines}
+use Rattle.air_world.specs.Playing.{RunValue, IsAt, last_exchange_lines}
 use Rattle.air_world.specs.Saying.{said_of}
 use Rattle.runs.specs.Report.{exchange_lines}
 use Rattle.runs.specs.Said.{said_lines}
@@ -13,7 +13,7 @@ use Rattle.air_world.proofs.run.Run.send.Goals as goal
 pub say-got-requires : goal.say-got-requires
 say-got-requires g c =
     let r = c.requires in
-    let plays = r.at.plays in
+    let plays = r.at in
     let number = next-number r.start r.past c.args.air.now c.args.self.now _ plays (ap (λ n. n + 1) c.exchanges.ensures) in
     let stands = cursor-stands r.start r.past c.args.air.now c.args.self.now _ plays (ap (λ (run : RunValue). run.entries) (sym c.self.view_is)) in
     let entry_is = c.next_entry-entry.ensures.entry _ _ stands number ∙ ap (λ n. entry_at r.start.entries n) number in
@@ -30,10 +30,10 @@ returns g c =
     let air = c.args.air.now in
     let run = c.args.self.now in
     let command = c.args.command.now in
-    let number = λ (start : Start) (past : List Item) (plays : PlaysAt start past air run). next-number start past air run _ plays (ap (λ n. n + 1) c.exchanges.ensures) in
-    let stands = λ (start : Start) (past : List Item) (plays : PlaysAt start past air run).
+    let number = λ (start : Start) (past : List Item) (plays : IsAt start past air run). next-number start past air run _ plays (ap (λ n. n + 1) c.exchanges.ensures) in
+    let stands = λ (start : Start) (past : List Item) (plays : IsAt start past air run).
     cursor-stands start past air run _ plays (ap (λ (run : RunValue). run.entries) (sym c.self.view_is)) in
-    let made : (start : Start) (past : List Item) → PlaysAt start past air run → Sends start past command = λ start past plays. record {
+    let made : (start : Start) (past : List Item) → IsAt start past air run → Sends start past command = λ start past plays. record {
       air = air;
       run = run;
       next = c.say-got.new.air;
@@ -42,7 +42,7 @@ returns g c =
       is = c.say-got.ensures.air;
       entry_is = c.next_entry-entry.ensures.entry _ _ (stands start past plays) (number start past plays) ∙ ap (λ n. entry_at start.entries n) (number start past plays);
       legal = c.say-got.ensures.legal;
-      few = few-exchanges r.start r.past air run 0 r.at.plays r.room;
+      few = few-exchanges r.start r.past air run 0 r.at r.room;
     } in
     record {
       plays = λ start past round slot plays.

@@ -1,14 +1,14 @@
 use Rattle.air_model.specs.Past.{Record, next_record}
 use Rattle.air_world.proofs.Passing.{listening, ends-checked}
-use Rattle.air_world.proofs.Slots.{seen-behind, stands-unlisted}
+use Rattle.air_world.proofs.Slots.{stands-unlisted}
 use Rattle.air_world.proofs.Steps.{alone-unlisted}
 use Rattle.air_world.specs.Telling.{lines_behind}
 use Rattle.air_world.proofs.run.Run.send_alone.Goals as goal
 
-pub returns-clause-ends : goal.returns-clause-ends
-returns-clause-ends g c = λ start past at.
+pub returns : goal.returns
+returns g c = λ start past at.
     let sent : Record = next_record start 0 0 c.args.command.now past in
-    let stands = stands-unlisted _ (record { start = start; past = past; air = _; run = _ }) sent (c.send.ensures.plays start past 0 0 at.plays) (seen-behind start past _ _ _ _ c.send.ensures.rest at)
-    (c.send.ensures.told start past 0 0 (lines_behind start past) at.plays) (alone-unlisted sent c.requires.unanswered) in
+    let stands = stands-unlisted _ (record { start = start; past = past; air = _; run = _ }) sent (c.send.ensures.plays start past 0 0 at)
+    (c.send.ensures.told start past 0 0 (lines_behind start past) at) (alone-unlisted sent c.requires.unanswered) in
     ends-checked (listening g.R.Listener.hears g.R.Listener.failed _ _) _ c.check.result (record { start = start; past = _; air = _; run = _ })
     stands c.check.ensures.cause

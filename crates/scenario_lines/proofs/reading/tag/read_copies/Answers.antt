@@ -26,7 +26,7 @@ pub returns-in_default-number_from-clause-only : goal.returns-in_default-number_
 returns-in_default-number_from-clause-only c = λ count tag number is spells.
     let first : c.args.others ≡ c.in-Some.count.now ∷ c.next.new.self = search rules in
     let same = first_number c.in-Some.count.now c.next.new.self _ count first spells in
-    not_found (c.in_default-number_from.ensures.only count number.0 number.1 same.0)
+    not_found (c.in_default-number_from.ensures.only count number.0 (omega (arith, number.1, c.from.ensures)) same.0)
 
 pub returns-in_default-number_from-clause-refused : goal.returns-in_default-number_from-clause-refused
 returns-in_default-number_from-clause-refused c =
@@ -36,13 +36,13 @@ returns-in_default-number_from-clause-refused c =
     let parts = c.in_ok-parts.ensures.ok in (
       rw first (copies_filled c.in-Some.count.now c.next.new.self _ filled parts.0 parts.1),
       λ count tag number form spells.
-          not_found (c.in_default-number_from.ensures.only count number.0 number.1 (first_number c.in-Some.count.now c.next.new.self _ count first spells).0),
+          not_found (c.in_default-number_from.ensures.only count number.0 (omega (arith, number.1, c.from.ensures)) (first_number c.in-Some.count.now c.next.new.self _ count first spells).0),
     )
 
 pub returns-clause-only : goal.returns-clause-only
 returns-clause-only c = λ count tag number is spells.
     let first : c.args.others ≡ c.in-Some.count.now ∷ c.next.new.self = search rules in
     let same = first_number c.in-Some.count.now c.next.new.self _ count first spells in (
-      some_same (c.in-Some-number_from.ensures.only count number.0 number.1 same.0),
+      some_same (c.in-Some-number_from.ensures.only count number.0 (omega (arith, number.1, c.from.ensures)) same.0),
       c.in_ok-whole_tag.ensures.ok.0 ∙ c.in_ok-parts.ensures.only tag is.form same.1,
     )

@@ -13,5 +13,5 @@ returns-in_err-write_lines-in-Ok g c =
 pub returns-in_err-write_all-in-Err : goal.returns-in_err-write_all-in-Err
 returns-in_err-write_all-in-Err g c =
     let written = c.in_err-write_all-in-Err.ensures in
-    write_failed encode_job _ _ _ _ _ c.fault_text-line.result.items _ _ (search rules)
-    (inr (record { fault = c.in-Err.fault; first = c.in-Err.ensures.refused; line = c.fault_text-line.ensures })) c.as_slice.ensures.value written.failed written.part
+    write_failed encode_job _ _ c.fault_text-line.result.items _ (search rules)
+    (inr (record { fault = c.in-Err.fault; first = c.in-Err.ensures.refused; line = c.fault_text-line.ensures })) written.failed (rw c.as_slice.ensures.value at written.part)

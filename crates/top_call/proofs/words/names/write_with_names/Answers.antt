@@ -8,10 +8,10 @@ use Rattle.top_call.proofs.words.names.write_with_names.Goals as goal
 pub returns-in_err-write_named-in-None-clause-ends : goal.returns-in_err-write_named-in-None-clause-ends
 returns-in_err-write_named-in-None-clause-ends g c =
     let ended = c.in_err-write_named-in-None.ensures in
-    names_failed c.args.input.now _ _ _ _ _ (search rules) ended.failed ended.front
+    names_failed c.args.input.now _ _ (search rules) ended.failed ended.front
 
 pub returns-in_err-write_all-in-Some-clause-ends : goal.returns-in_err-write_all-in-Some-clause-ends
 returns-in_err-write_all-in-Some-clause-ends g c =
     let written = c.in_err-write_all-in-Some.ensures in
-    write_failed names_job _ _ _ _ _ c.fault_line-line.result.items _ _ (search rules)
-    (inr (record { number = c.in-Some.number; at = c.in-Some.ensures.some; line = c.fault_line-line.ensures })) c.as_slice.ensures.value written.failed written.part
+    write_failed names_job _ _ c.fault_line-line.result.items _ (search rules)
+    (inr (record { number = c.in-Some.number; at = c.in-Some.ensures.some; line = c.fault_line-line.ensures })) written.failed (rw c.as_slice.ensures.value at written.part)

@@ -26,5 +26,5 @@ pub returns-in_err-write_all-in-Err : goal.returns-in_err-write_all-in-Err
 returns-in_err-write_all-in-Err g c =
     let fault = c.in-Err.fault in
     let written = c.in_err-write_all-in-Err.ensures in
-    write_failed probe_job _ _ _ _ _ c.fault_text-line.result.items _ _ (search rules)
-    (inr (record { number = fault.line; fault = fault.reason; first = c.in-Err.ensures.refused; line = c.fault_text-line.ensures })) c.as_slice.ensures.value written.failed written.part
+    write_failed probe_job _ _ c.fault_text-line.result.items _ (search rules)
+    (inr (record { number = fault.line; fault = fault.reason; first = c.in-Err.ensures.refused; line = c.fault_text-line.ensures })) written.failed (rw c.as_slice.ensures.value at written.part)

@@ -16,5 +16,5 @@ returns-in_err-write_all-in-Err-Line g c =
     let here = c.in-Err-Line in
     let written = c.in_err-write_all-in-Err-Line.ensures in
     let line = rw c.in-Err-Line.field-0-is at c.fault_text-line.ensures in
-    write_failed (run_job c.args.mode) _ _ _ _ _ c.fault_text-line.result.items _ _ (search rules)
-    (inr (record { number = here.number; fault = here.fault; first = rw c.in-Err-Line.field-0-is at c.in-Err-Line.ensures.refused; line = line })) c.as_slice.ensures.value written.failed written.part
+    write_failed (run_job c.args.mode) _ _ c.fault_text-line.result.items _ (search rules)
+    (inr (record { number = here.number; fault = here.fault; first = rw c.in-Err-Line.field-0-is at c.in-Err-Line.ensures.refused; line = line })) written.failed (rw c.as_slice.ensures.value at written.part)

@@ -1,0 +1,83 @@
+//! Words and the 16 bits of each, all at once (6.3.1.4 Transmission order).
+ghost use Rattle.std.specs.Prelude.{◌≡◌, ◌*◌, length, map};
+ghost use Rattle.bit_strings.specs.Numbers.{digit_of, value_of, field_of};
+ghost use Rattle.bit_strings.specs.Words.{bits_of_words};
+
+use std::simd::prelude::{SimdPartialEq, u8x16};
+
+/// The word that 16 bits are, most significant bit first.
+#[inline]
+pub fn word_of(bits: &[bool]) -> u16
+    requires { length bits.now ≡ 16 }
+    ensures { result ≡ value_of bits.now }
+{
+    mask_of(bits) as u16
+}
+
+/// The number that 16 bits are. They are compared as one vector, of whose mask the first lane gives the lowest bit.
+#[inline]
+fn mask_of(bits: &[bool]) -> u64
+    requires { length bits.now ≡ 16 }
+    ensures { result ≡ value_of bits.now }
+{
+    let lanes = u8x16::from_array([
+        u8::from(bits[15]),
+        u8::from(bits[14]),
+        u8::from(bits[13]),
+        u8::from(bits[12]),
+        u8::from(bits[11]),
+        u8::from(bits[10]),
+        u8::from(bits[9]),
+        u8::from(bits[8]),
+        u8::from(bits[7]),
+        u8::from(bits[6]),
+        u8::from(bits[5]),
+        u8::from(bits[4]),
+        u8::from(bits[3]),
+        u8::from(bits[2]),
+        u8::from(bits[1]),
+        u8::from(bits[0]),
+    ]);
+    lanes.simd_eq(u8x16::splat(1)).to_bitmask()
+}
+
+/// The place value of each bit within its byte, of two bytes.
+const PLACES: [u8; 16] = [128, 64, 32, 16, 8, 4, 2, 1, 128, 64, 32, 16, 8, 4, 2, 1];
+
+/// The 16 bits of a word as digits 0 and 1. All places are tried at once.
+#[inline]
+fn digits_of(word: u16) -> [u8; 16]
+    ensures { result ≡ map digit_of (field_of word 16) }
+{
+    let [high, low] = word.to_be_bytes();
+    let places = u8x16::from_array(PLACES);
+    let bytes = u8x16::from_array([
+        high, high, high, high, high, high, high, high, low, low, low, low, low, low, low, low,
+    ]);
+    (bytes & places)
+        .simd_eq(places)
+        .select(u8x16::splat(1), u8x16::splat(0))
+        .to_array()
+}
+
+/// Writes the 16 bits of a word over others.
+#[inline]
+fn write_word(word: u16, bits: &mut [bool])
+    requires { length bits.old ≡ 16 }
+    ensures { bits.new ≡ field_of word 16 }
+{
+    let digits = digits_of(word);
+    for at in 0..16 {
+        bits[at] = digits[at] == 1;
+    }
+}
+
+/// Writes the bits of words, one word behind the other, over others.
+pub(crate) fn write_words(words: &[u16], bits: &mut [bool])
+    requires { length bits.old ≡ 16 * length words.now }
+    ensures { bits.new ≡ bits_of_words words.now }
+{
+    for (at, word) in words.iter().enumerate() {
+        write_word(*word, &mut bits[16 * at..16 * at + 16]);
+    }
+}

@@ -1,0 +1,61 @@
+-- Where the levels are four blocks, the bits read from their halves are those of the blocks.
+use Rattle.std.proofs.Common.{◌≡◌, ◌∙◌, ◌*◌, ◌-◌, ◌++◌, ◌∷◌, [], ℕ, Bool, List, inl, inr, length, take, drop, ap, sym, refl}
+use Rattle.std.proofs.lemmas.Bool.{false≢true}
+use Rattle.line_code.specs.Table.{Context, Table}
+use Rattle.line_code.specs.Stream.{blocks}
+use Rattle.line_code.specs.States.{context_after}
+use Rattle.line_code.specs.laws.Splits.{blocks-append}
+use Rattle.miller_line.specs.Miller.{miller, IsOneOfThree, start_phase, miller_block, miller_next}
+use Rattle.miller_line.specs.SymbolContext.{context}
+use Rattle.miller_line.proofs.subcarrier.four_bits.Goals as goal
+
+-- the four blocks, one by one
+record Parts (m : ℕ) (c : Context) (first second third fourth : Bool) (levels : List Bool) : Type 0 where
+  first_is : take (2 * m) levels ≡ miller_block m c first
+  second_is : take (2 * (2 * m) - 2 * m) (drop (2 * m) levels) ≡ miller_block m (miller_next c first) second
+  third_is : take (3 * (2 * m) - 2 * (2 * m)) (drop (2 * (2 * m)) levels) ≡ miller_block m (miller_next (miller_next c first) second) third
+  fourth_is : take (length levels - 3 * (2 * m)) (drop (3 * (2 * m)) levels) ≡ miller_block m (miller_next (miller_next (miller_next c first) second) third) fourth
+
+parts : (m : ℕ) (c : Context) (first second third fourth : Bool) (levels : List Bool) → IsOneOfThree m
+    → levels ≡ blocks (miller m) c (first ∷ second ∷ third ∷ fourth ∷ []) → Parts m c first second third fourth levels
+parts m c first second third fourth levels (inl two) e =
+    record { first_is = rw (e, two) refl; second_is = rw (e, two) refl; third_is = rw (e, two) refl; fourth_is = rw (e, two) refl }
+parts m c first second third fourth levels (inr (inl four)) e =
+    record { first_is = rw (e, four) refl; second_is = rw (e, four) refl; third_is = rw (e, four) refl; fourth_is = rw (e, four) refl }
+parts m c first second third fourth levels (inr (inr eight)) e =
+    record { first_is = rw (e, eight) refl; second_is = rw (e, eight) refl; third_is = rw (e, eight) refl; fourth_is = rw (e, eight) refl }
+
+-- blocks, and more blocks behind them
+joined : (t : Table) (c : Context) (bits more front back : List Bool)
+    → front ≡ blocks t c bits → back ≡ blocks t (context_after t c bits) more → front ++ back ≡ blocks t c (bits ++ more)
+joined t c bits more front back front_is back_is =
+    ap (λ ls. ls ++ back) front_is ∙ ap (λ ls. blocks t c bits ++ ls) back_is ∙ sym (blocks-append t bits more c)
+
+pub returns-else-are_both-clause-none : goal.returns-else-are_both-clause-none
+returns-else-are_both-clause-none c = λ first second third fourth e.
+    let m = c.args.m in
+    let start = context c.args.before in
+    let one = c.bit_of_symbol-first.result in
+    let two = c.bit_of_symbol-second.result in
+    let three = c.bit_of_symbol-third.result in
+    let four = c.bit_of_symbol-fourth.result in
+    let p = parts m start first second third fourth c.args.levels.now c.requires.factor e in
+    let at_two = miller_next start first in
+    let at_three = miller_next at_two second in
+    let at_four = miller_next at_three third in
+    let one_is : one ≡ first = c.bit_of_symbol-first.ensures (start_phase start first) first p.first_is in
+    let two_is : two ≡ second = c.bit_of_symbol-second.ensures (start_phase at_two second) second p.second_is in
+    let three_is : three ≡ third = c.bit_of_symbol-third.ensures (start_phase at_three third) third p.third_is in
+    let four_is : four ≡ fourth = c.bit_of_symbol-fourth.ensures (start_phase at_four fourth) fourth p.fourth_is in
+    let all : c.args.levels.now ≡ blocks (miller m) start (one ∷ two ∷ three ∷ four ∷ []) =
+    e
+    ∙ ap (λ b. blocks (miller m) start (b ∷ second ∷ third ∷ fourth ∷ [])) (sym one_is)
+    ∙ ap (λ b. blocks (miller m) start (one ∷ b ∷ third ∷ fourth ∷ [])) (sym two_is)
+    ∙ ap (λ b. blocks (miller m) start (one ∷ two ∷ b ∷ fourth ∷ [])) (sym three_is)
+    ∙ ap (λ b. blocks (miller m) start (one ∷ two ∷ three ∷ b ∷ [])) (sym four_is) in
+    let middle_is = c.after-middle.ensures ∙ ap (λ k. miller_next k two) c.after.ensures in
+    let front : List Bool = one ∷ two ∷ [] in
+    let rest : List Bool = three ∷ four ∷ [] in
+    let rest_is = c.two_blocks-2.ensures ∙ ap (λ k. blocks (miller m) k rest) middle_is in
+    let same = all ∙ sym (joined (miller m) start front rest c.two_blocks.result.now c.two_blocks-2.result.now c.two_blocks.ensures rest_is) in
+    false≢true (c.if-are_both.ensures.1 same)

@@ -1,0 +1,102 @@
+//! Texts of the members of JSON objects.
+ghost use Rattle.std.specs.Prelude.{◌≡◌, OnOk};
+ghost use Rattle.std.specs.String.{string_bytes};
+ghost use Rattle.report_lines.specs.JsonLines.{digits_of, result_value};
+ghost use Rattle.report_lines.specs.ReportLine.{flags_word};
+ghost use Rattle.text_fields.specs.Hexadecimal.{hex_byte, hex_word};
+ghost use Rattle.value_text.specs.ValueText.{locks_text};
+
+use crate::tags::push_flags;
+use access_ops::OpResult;
+use bit_strings::OutOfMemory;
+use lock_rules::Locks;
+use session_flags::Flags;
+use std::alloc::Global;
+use text_fields::{push_byte_hex, push_word, push_words};
+use value_text::push_locks;
+
+/// Room for the texts of an object's members, which one line after another takes.
+#[derive(Drop)]
+pub struct MemberTexts {
+    pub(crate) epc: String,
+    pub(crate) flags: String,
+    pub(crate) locks: String,
+    pub(crate) pc: String,
+    pub(crate) reserved: String,
+    pub(crate) tid: String,
+    pub(crate) user: String,
+    pub(crate) value: String,
+}
+
+impl MemberTexts {
+    /// Room that takes no memory yet.
+    pub fn new(alloc: Global) -> MemberTexts {
+        MemberTexts {
+            epc: String::new(alloc),
+            flags: String::new(alloc),
+            locks: String::new(alloc),
+            pc: String::new(alloc),
+            reserved: String::new(alloc),
+            tid: String::new(alloc),
+            user: String::new(alloc),
+            value: String::new(alloc),
+        }
+    }
+}
+
+/// Makes a text the four hexadecimal digits of a word.
+pub(crate) fn set_word(text: &mut String, word: u16) -> Result<(), OutOfMemory>
+    ensures { OnOk result (string_bytes text.new ≡ hex_word word) }
+{
+    text.clear();
+    push_word(text, word)
+}
+
+/// Makes a text the hexadecimal digits of words, without anything between them: no words are an empty text.
+pub(crate) fn set_words(text: &mut String, words: &[u16]) -> Result<(), OutOfMemory>
+    ensures { OnOk result (string_bytes text.new ≡ digits_of words.now) }
+{
+    text.clear();
+    if words.is_empty() {
+        return Ok(());
+    }
+    push_words(text, words)
+}
+
+/// Makes a text the two hexadecimal digits of an error code.
+fn set_code(text: &mut String, code: u8) -> Result<(), OutOfMemory>
+    ensures { OnOk result (string_bytes text.new ≡ hex_byte code) }
+{
+    text.clear();
+    push_byte_hex(text, code)
+}
+
+/// Makes a text the inventoried flags and SL.
+pub(crate) fn set_flags(text: &mut String, flags: &Flags) -> Result<(), OutOfMemory>
+    ensures { OnOk result (string_bytes text.new ≡ flags_word flags.now) }
+{
+    text.clear();
+    push_flags(text, flags)
+}
+
+/// Makes a text the ten lock bits.
+pub(crate) fn set_locks(text: &mut String, locks: &Locks) -> Result<(), OutOfMemory>
+    ensures { OnOk result (string_bytes text.new ≡ locks_text locks.now) }
+{
+    text.clear();
+    push_locks(text, locks)
+}
+
+/// Makes a text what an operation brought: the words of a Read, the digits of an error code (Annex I), or nothing.
+pub(crate) fn set_result(text: &mut String, ended: &OpResult) -> Result<(), OutOfMemory>
+    ensures { OnOk result (string_bytes text.new ≡ result_value ended.now) }
+{
+    match ended {
+        OpResult::Ok(words) => set_words(text, words.as_slice()),
+        OpResult::TagError(code) => set_code(text, *code),
+        OpResult::Silent | OpResult::Broken | OpResult::Denied => {
+            text.clear();
+            Ok(())
+        }
+    }
+}
